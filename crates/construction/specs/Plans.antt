@@ -1,0 +1,80 @@
+-- A plan and its numbers.
+use Rattle.std.specs.Prelude.{ℕ, ◌+◌, ◌*◌, ◌^◌, List, [], ◌∷◌, length}
+use Rattle.std.specs.Int.{div_ceil}
+use Rattle.construction.specs.Widths.{width}
+
+-- a level: so many blocks, so many faults that it bears, and the modulus that it counts by
+pub record Level : Type 0 where
+  pub blocks : ℕ
+  pub faults : ℕ
+  pub modulus : ℕ
+
+-- a base modulus, and levels, the top one first
+pub record Plan : Type 0 where
+  pub base : ℕ
+  pub levels : List Level
+
+-- leaders: half of the blocks, rounded up
+abbrev pub leaders_of : Level → ℕ
+leaders_of level = div_ceil level.blocks 2
+
+-- beat: three rounds for each of F + 2 kings
+abbrev pub beat_of : Level → ℕ
+beat_of level = 3 * (level.faults + 2)
+
+-- the interval of block i: for how many outputs it keeps its pointer
+abbrev pub interval_of : (beat leaders i : ℕ) → ℕ
+interval_of beat leaders i = beat * (2 * leaders) ^ i
+
+-- span: in so many rounds a level settles, once its blocks count
+abbrev pub span_of : Level → ℕ
+span_of level = interval_of (beat_of level) (leaders_of level) level.blocks
+
+-- nodes: the product of the blocks
+abbrev pub nodes_of : List Level → ℕ
+nodes_of [] = 1
+nodes_of (level ∷ below) = level.blocks * nodes_of below
+
+-- bound: the sum of the spans
+abbrev pub bound_of : List Level → ℕ
+bound_of [] = 0
+bound_of (level ∷ below) = bound_of below + span_of level
+
+-- the faults that the top level bears
+abbrev pub faults_of : List Level → ℕ
+faults_of [] = 0
+faults_of (level ∷ below) = level.faults
+
+-- the modulus of the top level
+abbrev pub modulus_of : ℕ → List Level → ℕ
+modulus_of base [] = base
+modulus_of base (level ∷ below) = level.modulus
+
+-- bits of a state: those of the number, and for each level those of a value, infinity among them, and a mark
+abbrev pub bits_of : ℕ → List Level → ℕ
+bits_of base [] = width base
+bits_of base (level ∷ below) = bits_of base below + (width (level.modulus + 1) + 1)
+
+module _ (plan : Plan) where
+  -- N
+  abbrev pub plan_nodes : ℕ
+  plan_nodes = nodes_of plan.levels
+
+  -- F
+  abbrev pub plan_faults : ℕ
+  plan_faults = faults_of plan.levels
+
+  -- C
+  abbrev pub plan_modulus : ℕ
+  plan_modulus = modulus_of plan.base plan.levels
+
+  -- T
+  abbrev pub plan_bound : ℕ
+  plan_bound = bound_of plan.levels
+
+  abbrev pub plan_bits : ℕ
+  plan_bits = bits_of plan.base plan.levels
+
+  -- how many registers a state has
+  abbrev pub plan_depth : ℕ
+  plan_depth = length plan.levels
