@@ -1,6 +1,6 @@
 -- One write after another.
-use Rattle.std.proofs.Common.{◌≡◌, ℕ, suc, ◌+◌, ◌<◌, length, take, drop, get_or, List, [], ◌∷◌, ◌++◌, Option, Some, None, Result, Ok, Err, refl, sym, ap, ◌∙◌, subst, append_assoc, arith}
-use Rattle.std.specs.Prelude.{OnOk}
+use Rattle.std.proofs.Common.{◌≡◌, ℕ, suc, ◌+◌, ◌<◌, ◌≤◌, length, take, drop, get_or, List, [], ◌∷◌, ◌++◌, Option, Some, None, Result, Ok, Err, refl, sym, ap, ◌∙◌, subst, append_assoc, length-append, length-drop, arith, rules}
+use Rattle.std.specs.Prelude.{OnOk, IsOk}
 use Rattle.std.specs.Result.{IsErrAnd}
 use Rattle.std.proofs.lemmas.Result.{err_from_is_err_and}
 use Rattle.std.specs.List.{flat_map}
@@ -10,10 +10,12 @@ use Rattle.std.specs.Io.KnownBytes.{Appends, Keeps, append_known}
 use Rattle.texts.specs.Causes.{Counted}
 use Rattle.texts.specs.Growth.{Told, gathering, Grows, EachGrows, Follows, AppendsFront, Wrote, Cut, Puts}
 
+-- known bytes grow by nothing
 pub appends_none : (s : Option (List ℕ)) → Appends s s []
 appends_none None = tt
 appends_none (Some xs) = sym (append-nil xs)
 
+-- they grow by one text and then by another
 pub appends_then : (s t u : Option (List ℕ)) (a b : List ℕ) → Appends s t a → Appends t u b → Appends s u (a ++ b)
 appends_then None t u a b p q = tt
 appends_then (Some xs) None u a b p q = absurd p
@@ -32,17 +34,21 @@ each_grows_then (x ∷ xs) [] zs p q = absurd p
 each_grows_then (x ∷ xs) (y ∷ ys) [] p q = absurd q
 each_grows_then (x ∷ xs) (y ∷ ys) (z ∷ zs) p q = (record { more = p.0.more ++ q.0.more; bytes = appends_then x y z p.0.more q.0.more p.0.bytes q.0.bytes }, each_grows_then xs ys zs p.1 q.1)
 
+-- no write
 pub follows_none : (s : Told) → Follows s s
 follows_none s = record { same = refl; grows = each_grows_none s.passed }
 
+-- one change after another
 pub follows_then : (s t u : Told) → Follows s t → Follows t u → Follows s u
 follows_then s t u p q = record { same = q.same ∙ p.same; grows = each_grows_then s.passed t.passed u.passed p.grows q.grows }
 
+-- no text was written
 pub wrote_none : (s : Told) → Wrote [] s s
-wrote_none s = record { bytes = appends_none s.taken; still = refl; follows = follows_none s }
+wrote_none s = record { bytes = appends_none s.taken; still = refl; lasts = omega arith; follows = follows_none s }
 
+-- a text was written and then another
 pub wrote_then : (s t u : Told) (a b : List ℕ) → Wrote a s t → Wrote b t u → Wrote (a ++ b) s u
-wrote_then s t u a b p q = record { bytes = appends_then s.taken t.taken u.taken a b p.bytes q.bytes; still = q.still ∙ p.still; follows = follows_then s t u p.follows q.follows }
+wrote_then s t u a b p q = record { bytes = appends_then s.taken t.taken u.taken a b p.bytes q.bytes; still = q.still ∙ p.still; lasts = omega (arith, length-append a b, p.lasts, q.lasts); follows = follows_then s t u p.follows q.follows }
 
 -- a cut after a whole write
 pub cut_then : (s t u : Told) (a b : List ℕ) → Wrote a s t → Cut b t u → Cut (a ++ b) s u
@@ -54,6 +60,7 @@ cut_then s t u a b p q = record {
     bytes = appends_then s.taken t.taken u.taken a q.front.front p.bytes q.front.bytes;
   };
   cause = subst (λ (x : ℕ). Counted x u.faults) p.still q.cause;
+  uncertain = omega (arith, length-append a b, p.lasts, q.uncertain);
   follows = follows_then s t u p.follows q.follows;
 }
 
@@ -67,9 +74,11 @@ cut_more s t a b q = record {
     bytes = q.front.bytes;
   };
   cause = q.cause;
+  uncertain = omega (arith, length-append a b, q.uncertain);
   follows = q.follows;
 }
 
+-- the text of a list, parted at its i-th part
 pub flat_map_at : {X : Type 0} (f : X → List ℕ) (xs : List X) (i : ℕ) (d : X) → i < length xs → flat_map f xs ≡ flat_map f (take i xs) ++ (f (get_or xs i d) ++ flat_map f (drop (i + 1) xs))
 flat_map_at f xs i d lt = ap (flat_map f) (sym (take-append-drop i xs)) ∙ flat_map-append f (take i xs) (drop i xs) ∙ ap (λ l. flat_map f (take i xs) ++ flat_map f l) (drop_more xs i d lt)
 
@@ -108,6 +117,7 @@ keeps_is (Some xs) (Some ys) front e p = p ∙ ap (λ (l : List ℕ). xs ++ l) e
 pub cut_nothing : (s t : Told) → Cut [] s t → Keeps s.taken t.taken
 cut_nothing s t p = keeps_is s.taken t.taken p.front.front (nothing_before p.front.front p.front.rest p.front.parts) p.front.bytes
 
+-- what is kept grows by nothing
 pub kept_is : (s t : Option (List ℕ)) → Keeps s t → Appends s t []
 kept_is None t p = tt
 kept_is (Some xs) None p = absurd p
@@ -154,6 +164,7 @@ pub cut_behind : (name other : ℕ) (held text : List ℕ) (s u : Told) → Cut 
 cut_behind name other held text s u p = record {
   front = passed_on s.taken u.taken held text p.front p.follows.grows.0;
   cause = p.cause;
+  uncertain = omega (arith, p.uncertain);
   follows = behind_follows name other [] held s u p.follows;
 }
 
@@ -167,22 +178,25 @@ pub wrote_behind : (name other : ℕ) (text : List ℕ) (s u : Told) → Wrote t
 wrote_behind name other text s u p = record {
   bytes = all_passed s.taken u.taken text p.bytes p.follows.grows.0;
   still = p.still;
+  lasts = omega (arith, p.lasts);
   follows = behind_follows name other [] [] s u p.follows;
 }
 
 -- the sink behind took a front of what is held back
-pub passed_more : (name n : ℕ) (held : List ℕ) (s t : Told) → Appends s.taken t.taken (take n held) → t.faults ≡ s.faults → Follows s t → Wrote [] (gathering name held s) (gathering name (drop n held) t)
-passed_more name n held s t bytes still follows = record {
+pub passed_more : (name n : ℕ) (held : List ℕ) (s t : Told) → n ≤ length held → Appends s.taken t.taken (take n held) → t.faults ≡ s.faults → s.certain ≤ t.certain + n → Follows s t → Wrote [] (gathering name held s) (gathering name (drop n held) t)
+passed_more name n held s t most bytes still lasts follows = record {
   bytes = kept_taken s.taken t.taken n held bytes;
   still = still;
+  lasts = omega (arith, length-drop n held);
   follows = gathering_follows name held (drop n held) s t (take n held) bytes follows;
 }
 
 -- the sink behind failed
-pub passed_none : (name : ℕ) (held : List ℕ) (s t : Told) → Keeps s.taken t.taken → Counted s.faults t.faults → Follows s t → Cut [] (gathering name held s) (gathering name held t)
-passed_none name held s t keeps cause follows = record {
+pub passed_none : (name : ℕ) (held : List ℕ) (s t : Told) → Keeps s.taken t.taken → Counted s.faults t.faults → s.certain ≤ length held → Follows s t → Cut [] (gathering name held s) (gathering name held t)
+passed_none name held s t keeps cause uncertain follows = record {
   front = record { front = []; rest = []; parts = refl; bytes = kept_taken s.taken t.taken 0 held (kept_is s.taken t.taken keeps) };
   cause = cause;
+  uncertain = omega arith;
   follows = gathering_follows name held held s t [] (kept_is s.taken t.taken keeps) follows;
 }
 
@@ -191,6 +205,7 @@ pub held_more : (name : ℕ) (held more : List ℕ) (s : Told) → Wrote more (g
 held_more name held more s = record {
   bytes = appends_held s.taken held more;
   still = refl;
+  lasts = omega (arith, length-append held more);
   follows = gathering_follows name held (held ++ more) s s [] (appends_none s.taken) (follows_none s);
 }
 
@@ -210,3 +225,12 @@ puts_lent told (Ok x) lent other held text s now final ends p none =
     rw (ends (sym (ap head_of p.follows.same))) (wrote_behind lent other text s (told now) q)
 puts_lent told (Err e) lent other held text s now final ends p none =
     rw (ends (sym (ap head_of p.follows.same))) (cut_behind lent other held text s (told now) p)
+
+-- a text that is certain to be taken is not cut
+pub never_cut : (s t : Told) (text : List ℕ) → length text < s.certain → Cut text s t → ⊥
+never_cut s t text short cut = omega (arith, cut.uncertain)
+
+-- a call that writes a text that is certain to be taken answers Ok
+pub puts_whole : {T E : Type 0} (r : Result T E) (s t : Told) (text : List ℕ) → length text < s.certain → Puts r text s t → IsOk r
+puts_whole (Ok x) s t text short puts = search rules
+puts_whole (Err e) s t text short puts = absurd (never_cut s t text short puts)
