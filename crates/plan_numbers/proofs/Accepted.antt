@@ -1,7 +1,9 @@
 -- What the levels of an accepted plan meet, and how large their numbers are.
 use Rattle.std.proofs.Common.{◌≡◌, ℕ, ◌+◌, ◌*◌, ◌%◌, ◌<◌, ◌≤◌, ◌^◌, Bool, true, false, List, [], ◌∷◌, ◌++◌, Option, Some, None, refl, arith, inl, inr, length, All}
 use Rattle.std.proofs.lemmas.Bool.{cases_lt}
-use Rattle.std.proofs.Math.Nat.{mod-eq_of_lt, mul-le-mul_right}
+use Rattle.std.proofs.lemmas.Nat.{mul-le}
+use Rattle.std.proofs.lemmas.List.Elements.{All-push}
+use Rattle.std.proofs.Math.Nat.{mod-eq_of_lt, mul-le-mul_right, pow-succ'}
 use Rattle.construction.specs.Widths.{width}
 use Rattle.construction.specs.Plans.{Level, leaders_of, beat_of, span_of, nodes_of}
 use Rattle.plan_numbers.specs.declared.numbers.Below.{Below}
@@ -32,12 +34,10 @@ divisor_most big s some whole = elim (cases_lt big s) [
   | inr le ↦ le
 ]
 
--- a span is at least its beat
+-- a span is not zero
 span_some : (below : Below) (level : Level) → MeetsPremises below level → 1 ≤ span_of level
 span_some below level met =
-    let turns = turns_some level.blocks met.blocks in
-    let most : beat_of level * 1 ≤ span_of level = omega (arith, turns) in
-    omega (arith, most)
+    mul-le 1 1 (beat_of level) ((2 * leaders_of level) ^ level.blocks) (omega arith) (turns_some level.blocks met.blocks)
 
 -- the numbers of a level that meets its premises over numbers that keep the limits keep them too
 pub level_sized : (below : Below) (level : Level) → IsSized below → MeetsPremises below level → IsSizedLevel (numbers_over below level)
@@ -82,9 +82,17 @@ accepted_nodes base [] accepted = omega arith
 accepted_nodes base (level ∷ below) (accepted, none) =
     let met = meets (below_of base below) level none in
     let three : 3 * nodes_of below ≤ level.blocks * nodes_of below = mul-le-mul_right (nodes_of below) met.blocks in
-    omega (arith, accepted_nodes base below accepted, three)
+    rw (pow-succ' 3 (length below)) (omega (arith, accepted_nodes base below accepted, three))
 
 -- an accepted plan has at most five levels
 pub accepted_depth : (base : ℕ) (levels : List Level) → LevelsAccepted base levels → length levels ≤ 5
 accepted_depth base levels accepted =
     depth_most (length levels) (nodes_of levels) (accepted_nodes base levels accepted) (accepted_sized base levels accepted).most
+
+-- the numbers of the levels of an accepted plan keep the limits
+pub numbers_sized : (base : ℕ) (levels : List Level) → LevelsAccepted base levels → All IsSizedLevel (numbers_of base levels)
+numbers_sized base [] accepted = λ k d lt. absurd (omega arith)
+numbers_sized base (level ∷ below) (accepted, none) =
+    All-push IsSizedLevel (numbers_of base below) (numbers_over (below_of base below) level)
+    (numbers_sized base below accepted)
+    (level_sized (below_of base below) level (accepted_sized base below accepted) (meets (below_of base below) level none))
