@@ -9,5 +9,7 @@
 
 pub mod laws;
 mod steps;
+#[cfg(test)]
+mod tests;
 
 pub use steps::{agree_step, king_step};
