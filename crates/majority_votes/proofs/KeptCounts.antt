@@ -1,13 +1,11 @@
 -- What the kept counts say of the list: its majority, its least value above a number, and what one more value does.
-use Rattle.std.proofs.Common.{◌≡◌, ◌≢◌, ◌⊎◌, ℕ, zero, suc, ◌+◌, ◌-◌, ◌<◌, ◌≤◌, ◌*◌, All, List, [], ◌∷◌, ◌++◌, length, if◌then◌else◌, nat_eq, Option, Some, None, refl, sym, ap, subst, ◌∙◌, inl, inr, ⊎_elim, arith}
+use Rattle.std.proofs.Common.{◌≡◌, ℕ, ◌/◌, ◌<◌, ◌≤◌, ◌*◌, List, length, Option, Some, None, sym, ap, subst, ◌∙◌, ⊎_elim, arith}
 use Rattle.std.proofs.lemmas.Bool.{cases_lt}
-use Rattle.std.proofs.lemmas.List.{length_push}
 use Rattle.counting.specs.Values.{count_of, majority_of, least_above}
-use Rattle.counting.proofs.Counts.{count_of-le, count_of_push, count_of_push_same, count_of_push_other}
 use Rattle.counting.proofs.Majority.{majority_is, no_majority}
 use Rattle.counting.proofs.Least.{least_from, no_least}
 use Rattle.majority_votes.specs.declared.counts.Count.{Count}
-use Rattle.majority_votes.specs.Counts.{count_at, value_at, places_of, total_places, IsRising, IsAt, CountsOneMore, IsKept}
+use Rattle.majority_votes.specs.Counts.{count_at, value_at, IsKept}
 use Rattle.majority_votes.proofs.Lookups.{counted_or_none, places_of_value}
 use Rattle.majority_votes.proofs.Edits.{counts_within_total}
 
@@ -15,10 +13,6 @@ module _ (capacity : ℕ) (values : List (Option ℕ)) (counts : List Count) (in
   -- each count has the places of its number
   pub places_at : (i : ℕ) → i < length counts → count_of values (Some (value_at counts i)) ≡ (count_at counts i).places
   places_at i lt = sym (kept.places (value_at counts i)) ∙ places_of_value counts i kept.rising lt
-
-  -- no count has more places than the list
-  pub places_within : (i : ℕ) → i < length counts → (count_at counts i).places ≤ length values
-  places_within i lt = omega (arith, places_at i lt, count_of-le values (Some (value_at counts i)))
 
   -- what holds of no places and of each count's places holds of each number's
   each_number : (P : ℕ → Type 0) → P 0 → ((i : ℕ) → i < length counts → P (count_at counts i).places) → (z : ℕ) → P (count_of values (Some z))
@@ -30,12 +24,12 @@ module _ (capacity : ℕ) (values : List (Option ℕ)) (counts : List Count) (in
       (counted_or_none counts z)
 
   -- a number with more than half of the places is the majority
-  pub majority_found : (i : ℕ) → i < length counts → length values - (count_at counts i).places < (count_at counts i).places → majority_of values ≡ Some (value_at counts i)
+  pub majority_found : (i : ℕ) → i < length counts → length values / 2 < (count_at counts i).places → majority_of values ≡ Some (value_at counts i)
   majority_found i lt more = majority_is values (value_at counts i) (omega (arith, places_at i lt))
 
   -- where no number has them, there is no majority
-  pub majority_absent : ((i : ℕ) → i < length counts → (count_at counts i).places ≤ length values - (count_at counts i).places) → majority_of values ≡ None
-  majority_absent few = no_majority values (each_number (λ n. 2 * n ≤ length values) (omega arith) (λ i lt. omega (arith, few i lt, places_within i lt)))
+  pub majority_absent : ((i : ℕ) → i < length counts → (count_at counts i).places ≤ length values / 2) → majority_of values ≡ None
+  majority_absent few = no_majority values (each_number (λ n. 2 * n ≤ length values) (omega arith) (λ i lt. omega (arith, few i lt)))
 
   -- a number below that of a count is that of an earlier one, or of none
   below_count : (f i : ℕ) → i < length counts → ((k : ℕ) → k < i → (count_at counts k).places ≤ f) → (z : ℕ) → z < value_at counts i → count_of values (Some z) ≤ f
@@ -61,29 +55,3 @@ module _ (capacity : ℕ) (values : List (Option ℕ)) (counts : List Count) (in
   -- while the list is short of its capacity, there is room for one more count
   pub counts_short : length values < capacity → length counts < counts_capacity
   counts_short short = omega (arith, counts_within_total counts kept.positive, kept.total, kept.counts_room)
-
-  -- one more place of a number
-  pub kept_number : (number : ℕ) (new : List Count) (new_values_capacity new_counts_capacity : ℕ) → CountsOneMore counts new number → length values < capacity → values_capacity ≤ new_values_capacity → counts_capacity ≤ new_counts_capacity → IsKept capacity (values ++ Some number ∷ []) new infinities new_values_capacity new_counts_capacity
-  kept_number number new new_values_capacity new_counts_capacity more short room counts_room = record {
-    rising = more.rising;
-    positive = more.positive kept.positive;
-    places = λ z. more.places z ∙ ap (λ n. n + (if nat_eq z number then 1 else 0)) (kept.places z) ∙ sym (count_of_push values (Some number) (Some z));
-    infinite = kept.infinite ∙ sym (count_of_push_other values (Some number) None (λ e. cc));
-    total = omega (arith, more.total, kept.total, length_push values (Some number));
-    within = omega (arith, length_push values (Some number));
-    values_room = omega (arith, kept.values_room);
-    counts_room = omega (arith, kept.counts_room);
-  }
-
-  -- one more place of infinity
-  pub kept_infinity : (new_values_capacity : ℕ) → length values < capacity → values_capacity ≤ new_values_capacity → IsKept capacity (values ++ None ∷ []) counts (infinities + 1) new_values_capacity counts_capacity
-  kept_infinity new_values_capacity short room = record {
-    rising = kept.rising;
-    positive = kept.positive;
-    places = λ z. kept.places z ∙ sym (count_of_push_other values None (Some z) (λ e. cc));
-    infinite = ap (λ n. n + 1) kept.infinite ∙ sym (count_of_push_same values None);
-    total = omega (arith, kept.total, length_push {X = Option ℕ} values None);
-    within = omega (arith, length_push {X = Option ℕ} values None);
-    values_room = omega (arith, kept.values_room);
-    counts_room = kept.counts_room;
-  }
