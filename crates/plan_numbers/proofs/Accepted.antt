@@ -27,6 +27,10 @@ meets below level none = record {
   multiple = grind arith;
 }
 
+-- and a level that meets all of them fails none
+pub meets_none : (below : Below) (level : Level) → MeetsPremises below level → first_premise below level ≡ None
+meets_none below level met = grind arith
+
 -- a divisor of a number that is not zero is at most that number
 divisor_most : (big s : ℕ) → 0 < big → big % s ≡ 0 → s ≤ big
 divisor_most big s some whole = elim (cases_lt big s) [
