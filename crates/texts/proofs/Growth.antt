@@ -1,0 +1,236 @@
+-- One write after another.
+use Rattle.std.proofs.Common.{◌≡◌, ℕ, suc, ◌+◌, ◌<◌, ◌≤◌, length, take, drop, get_or, List, [], ◌∷◌, ◌++◌, Option, Some, None, Result, Ok, Err, refl, sym, ap, ◌∙◌, subst, append_assoc, length-append, length-drop, arith, rules}
+use Rattle.std.specs.Prelude.{OnOk, IsOk}
+use Rattle.std.specs.Result.{IsErrAnd}
+use Rattle.std.proofs.lemmas.Result.{err_from_is_err_and}
+use Rattle.std.specs.List.{flat_map}
+use Rattle.std.proofs.lemmas.List.{append-nil, append_cancel_left, take-append-drop, drop_more, take_more}
+use Rattle.std.proofs.lemmas.List.Concat.{flat_map-append}
+use Rattle.std.specs.Io.KnownBytes.{Appends, Keeps, append_known}
+use Rattle.texts.specs.Causes.{Counted}
+use Rattle.texts.specs.Growth.{Told, gathering, Grows, EachGrows, Follows, AppendsFront, Wrote, Cut, Puts}
+
+-- known bytes grow by nothing
+pub appends_none : (s : Option (List ℕ)) → Appends s s []
+appends_none None = tt
+appends_none (Some xs) = sym (append-nil xs)
+
+-- they grow by one text and then by another
+pub appends_then : (s t u : Option (List ℕ)) (a b : List ℕ) → Appends s t a → Appends t u b → Appends s u (a ++ b)
+appends_then None t u a b p q = tt
+appends_then (Some xs) None u a b p q = absurd p
+appends_then (Some xs) (Some ys) None a b p q = absurd q
+appends_then (Some xs) (Some ys) (Some zs) a b p q = q ∙ ap (λ (l : List ℕ). l ++ b) p ∙ append_assoc xs a b
+
+pub each_grows_none : (xs : List (Option (List ℕ))) → EachGrows xs xs
+each_grows_none [] = tt
+each_grows_none (x ∷ xs) = (record { more = []; bytes = appends_none x }, each_grows_none xs)
+
+pub each_grows_then : (xs ys zs : List (Option (List ℕ))) → EachGrows xs ys → EachGrows ys zs → EachGrows xs zs
+each_grows_then [] [] [] p q = tt
+each_grows_then [] [] (z ∷ zs) p q = absurd q
+each_grows_then [] (y ∷ ys) zs p q = absurd p
+each_grows_then (x ∷ xs) [] zs p q = absurd p
+each_grows_then (x ∷ xs) (y ∷ ys) [] p q = absurd q
+each_grows_then (x ∷ xs) (y ∷ ys) (z ∷ zs) p q = (record { more = p.0.more ++ q.0.more; bytes = appends_then x y z p.0.more q.0.more p.0.bytes q.0.bytes }, each_grows_then xs ys zs p.1 q.1)
+
+-- no write
+pub follows_none : (s : Told) → Follows s s
+follows_none s = record { same = refl; grows = each_grows_none s.passed }
+
+-- one change after another
+pub follows_then : (s t u : Told) → Follows s t → Follows t u → Follows s u
+follows_then s t u p q = record { same = q.same ∙ p.same; grows = each_grows_then s.passed t.passed u.passed p.grows q.grows }
+
+-- no text was written
+pub wrote_none : (s : Told) → Wrote [] s s
+wrote_none s = record { bytes = appends_none s.taken; still = refl; lasts = omega arith; follows = follows_none s }
+
+-- a text was written and then another
+pub wrote_then : (s t u : Told) (a b : List ℕ) → Wrote a s t → Wrote b t u → Wrote (a ++ b) s u
+wrote_then s t u a b p q = record { bytes = appends_then s.taken t.taken u.taken a b p.bytes q.bytes; still = q.still ∙ p.still; lasts = omega (arith, length-append a b, p.lasts, q.lasts); follows = follows_then s t u p.follows q.follows }
+
+-- a cut after a whole write
+pub cut_then : (s t u : Told) (a b : List ℕ) → Wrote a s t → Cut b t u → Cut (a ++ b) s u
+cut_then s t u a b p q = record {
+  front = record {
+    front = a ++ q.front.front;
+    rest = q.front.rest;
+    parts = ap (λ (l : List ℕ). a ++ l) q.front.parts ∙ sym (append_assoc a q.front.front q.front.rest);
+    bytes = appends_then s.taken t.taken u.taken a q.front.front p.bytes q.front.bytes;
+  };
+  cause = subst (λ (x : ℕ). Counted x u.faults) p.still q.cause;
+  uncertain = omega (arith, length-append a b, p.lasts, q.uncertain);
+  follows = follows_then s t u p.follows q.follows;
+}
+
+-- a cut of a text is one of any longer text
+pub cut_more : (s t : Told) (a b : List ℕ) → Cut a s t → Cut (a ++ b) s t
+cut_more s t a b q = record {
+  front = record {
+    front = q.front.front;
+    rest = q.front.rest ++ b;
+    parts = ap (λ (l : List ℕ). l ++ b) q.front.parts ∙ append_assoc q.front.front q.front.rest b;
+    bytes = q.front.bytes;
+  };
+  cause = q.cause;
+  uncertain = omega (arith, length-append a b, q.uncertain);
+  follows = q.follows;
+}
+
+-- the text of a list, parted at its i-th part
+pub flat_map_at : {X : Type 0} (f : X → List ℕ) (xs : List X) (i : ℕ) (d : X) → i < length xs → flat_map f xs ≡ flat_map f (take i xs) ++ (f (get_or xs i d) ++ flat_map f (drop (i + 1) xs))
+flat_map_at f xs i d lt = ap (flat_map f) (sym (take-append-drop i xs)) ∙ flat_map-append f (take i xs) (drop i xs) ∙ ap (λ l. flat_map f (take i xs) ++ flat_map f l) (drop_more xs i d lt)
+
+-- the text of a list is cut in its i-th part
+pub cut_at : {X : Type 0} (f : X → List ℕ) (xs : List X) (i : ℕ) (d : X) (s t u : Told) → i < length xs → Wrote (flat_map f (take i xs)) s t → Cut (f (get_or xs i d)) t u → Cut (flat_map f xs) s u
+cut_at f xs i d s t u lt p q =
+    let part = f (get_or xs i d) in
+    let rest = flat_map f (drop (i + 1) xs) in
+    rw (flat_map_at f xs i d lt) (cut_then s t u (flat_map f (take i xs)) (part ++ rest) p (cut_more t u part rest q))
+
+-- one more part of the text of a list
+pub wrote_at : {X : Type 0} (f : X → List ℕ) (xs : List X) (i : ℕ) (d : X) (s t u : Told) → i < length xs → Wrote (flat_map f (take i xs)) s t → Wrote (f (get_or xs i d)) t u → Wrote (flat_map f (take (i + 1) xs)) s u
+wrote_at f xs i d s t u lt p q =
+    let parts : flat_map f (take (i + 1) xs) ≡ flat_map f (take i xs) ++ f (get_or xs i d) = ap (flat_map f) (take_more xs i d lt) ∙ flat_map-append f (take i xs) (get_or xs i d ∷ []) ∙ ap (λ l. flat_map f (take i xs) ++ l) (append-nil (f (get_or xs i d))) in
+    rw parts (wrote_then s t u (flat_map f (take i xs)) (f (get_or xs i d)) p q)
+
+-- a last call behind a text that was written
+pub puts_then : {T E : Type 0} (r : Result T E) (s t u : Told) (a b : List ℕ) → Wrote a s t → Puts r b t u → Puts r (a ++ b) s u
+puts_then (Ok x) s t u a b p q = wrote_then s t u a b p q
+puts_then (Err e) s t u a b p q = cut_then s t u a b p q
+
+-- the exit of a `?`
+pub puts_exit : {T E : Type 0} (Q : E → Type 0) (r : Result T E) (s t : Told) (a : List ℕ) → IsErrAnd r Q → Cut a s t → Puts r a s t
+puts_exit Q r s t a h cut = let p = err_from_is_err_and r h in rw p.1 cut
+
+nothing_before : (a b : List ℕ) → [] ≡ a ++ b → a ≡ []
+nothing_before [] b e = refl
+nothing_before (x ∷ a) b e = let size : 0 ≡ suc (length (a ++ b)) = ap length e in absurd (omega arith)
+
+keeps_is : (s t : Option (List ℕ)) (front : List ℕ) → front ≡ [] → Appends s t front → Keeps s t
+keeps_is None t front e p = tt
+keeps_is (Some xs) None front e p = absurd p
+keeps_is (Some xs) (Some ys) front e p = p ∙ ap (λ (l : List ℕ). xs ++ l) e ∙ append-nil xs
+
+-- where no text was to be written, nothing was
+pub cut_nothing : (s t : Told) → Cut [] s t → Keeps s.taken t.taken
+cut_nothing s t p = keeps_is s.taken t.taken p.front.front (nothing_before p.front.front p.front.rest p.front.parts) p.front.bytes
+
+-- what is kept grows by nothing
+pub kept_is : (s t : Option (List ℕ)) → Keeps s t → Appends s t []
+kept_is None t p = tt
+kept_is (Some xs) None p = absurd p
+kept_is (Some xs) (Some ys) p = p ∙ sym (append-nil xs)
+
+kept_taken : (s t : Option (List ℕ)) (n : ℕ) (held : List ℕ) → Appends s t (take n held) → Appends (append_known s held) (append_known t (drop n held)) []
+kept_taken None t n held p = tt
+kept_taken (Some xs) None n held p = absurd p
+kept_taken (Some xs) (Some ys) n held p = ap (λ (l : List ℕ). l ++ drop n held) p ∙ append_assoc xs (take n held) (drop n held) ∙ ap (λ (l : List ℕ). xs ++ l) (take-append-drop n held) ∙ sym (append-nil (xs ++ held))
+
+appends_held : (s : Option (List ℕ)) (held more : List ℕ) → Appends (append_known s held) (append_known s (held ++ more)) more
+appends_held None held more = tt
+appends_held (Some xs) held more = sym (append_assoc xs held more)
+
+gathering_follows : (name : ℕ) (held other : List ℕ) (s t : Told) (more : List ℕ) → Appends s.taken t.taken more → Follows s t → Follows (gathering name held s) (gathering name other t)
+gathering_follows name held other s t more bytes follows = record {
+  same = ap (λ (l : List ℕ). name ∷ l) follows.same;
+  grows = (record { more = more; bytes = bytes }, follows.grows);
+}
+
+-- ---- a sink that gathers what it takes, before it passes it on
+
+passed_front : (xs ys held more front : List ℕ) → ys ++ held ≡ xs ++ front → ys ≡ xs ++ more → front ≡ more ++ held
+passed_front xs ys held more front p q = append_cancel_left xs front (more ++ held) (sym p ∙ ap (λ (l : List ℕ). l ++ held) q ∙ append_assoc xs more held)
+
+-- a front of the text was passed on, where what was taken is a front of it
+passed_on : (s u : Option (List ℕ)) (held text : List ℕ) → AppendsFront (append_known s []) (append_known u held) text → Grows s u → AppendsFront s u text
+passed_on None u held text p q = record { front = text; rest = []; parts = sym (append-nil text); bytes = tt }
+passed_on (Some xs) None held text p q = absurd q.bytes
+passed_on (Some xs) (Some ys) held text p q =
+    let taken : ys ++ held ≡ xs ++ p.front = p.bytes ∙ ap (λ (l : List ℕ). l ++ p.front) (append-nil xs) in
+    let here = passed_front xs ys held q.more p.front taken q.bytes in
+    record { front = q.more; rest = held ++ p.rest; parts = p.parts ∙ ap (λ (l : List ℕ). l ++ p.rest) here ∙ append_assoc q.more held p.rest; bytes = q.bytes }
+
+abbrev tail_of : List ℕ → List ℕ
+tail_of [] = []
+tail_of (x ∷ xs) = xs
+
+behind_follows : (name other : ℕ) (held more : List ℕ) (s u : Told) → Follows (gathering name held s) (gathering other more u) → Follows s u
+behind_follows name other held more s u p = record { same = ap tail_of p.same; grows = p.grows.1 }
+
+-- the sink behind was cut, where the gathering one was
+pub cut_behind : (name other : ℕ) (held text : List ℕ) (s u : Told) → Cut text (gathering name [] s) (gathering other held u) → Cut text s u
+cut_behind name other held text s u p = record {
+  front = passed_on s.taken u.taken held text p.front p.follows.grows.0;
+  cause = p.cause;
+  uncertain = omega (arith, p.uncertain);
+  follows = behind_follows name other [] held s u p.follows;
+}
+
+all_passed : (s u : Option (List ℕ)) (text : List ℕ) → Appends (append_known s []) (append_known u []) text → Grows s u → Appends s u text
+all_passed None u text p q = tt
+all_passed (Some xs) None text p q = absurd q.bytes
+all_passed (Some xs) (Some ys) text p q = sym (append-nil ys) ∙ p ∙ ap (λ (l : List ℕ). l ++ text) (append-nil xs)
+
+-- the sink behind took all, where nothing is held back
+pub wrote_behind : (name other : ℕ) (text : List ℕ) (s u : Told) → Wrote text (gathering name [] s) (gathering other [] u) → Wrote text s u
+wrote_behind name other text s u p = record {
+  bytes = all_passed s.taken u.taken text p.bytes p.follows.grows.0;
+  still = p.still;
+  lasts = omega (arith, p.lasts);
+  follows = behind_follows name other [] [] s u p.follows;
+}
+
+-- the sink behind took a front of what is held back
+pub passed_more : (name n : ℕ) (held : List ℕ) (s t : Told) → n ≤ length held → Appends s.taken t.taken (take n held) → t.faults ≡ s.faults → s.certain ≤ t.certain + n → Follows s t → Wrote [] (gathering name held s) (gathering name (drop n held) t)
+passed_more name n held s t most bytes still lasts follows = record {
+  bytes = kept_taken s.taken t.taken n held bytes;
+  still = still;
+  lasts = omega (arith, length-drop n held);
+  follows = gathering_follows name held (drop n held) s t (take n held) bytes follows;
+}
+
+-- the sink behind failed
+pub passed_none : (name : ℕ) (held : List ℕ) (s t : Told) → Keeps s.taken t.taken → Counted s.faults t.faults → s.certain ≤ length held → Follows s t → Cut [] (gathering name held s) (gathering name held t)
+passed_none name held s t keeps cause uncertain follows = record {
+  front = record { front = []; rest = []; parts = refl; bytes = kept_taken s.taken t.taken 0 held (kept_is s.taken t.taken keeps) };
+  cause = cause;
+  uncertain = omega arith;
+  follows = gathering_follows name held held s t [] (kept_is s.taken t.taken keeps) follows;
+}
+
+-- bytes are held back
+pub held_more : (name : ℕ) (held more : List ℕ) (s : Told) → Wrote more (gathering name held s) (gathering name (held ++ more) s)
+held_more name held more s = record {
+  bytes = appends_held s.taken held more;
+  still = refl;
+  lasts = omega (arith, length-append held more);
+  follows = gathering_follows name held (held ++ more) s s [] (appends_none s.taken) (follows_none s);
+}
+
+-- a text was put and then no more
+pub puts_end : {T E : Type 0} (r : Result T E) (text : List ℕ) (s t u : Told) → Wrote text s t → Puts r [] t u → Puts r text s u
+puts_end (Ok x) text s t u p q = subst (λ (l : List ℕ). Wrote l s u) (append-nil text) (wrote_then s t u text [] p q)
+puts_end (Err e) text s t u p q = subst (λ (l : List ℕ). Cut l s u) (append-nil text) (cut_then s t u text [] p q)
+
+abbrev head_of : List ℕ → ℕ
+head_of [] = 0
+head_of (x ∷ xs) = x
+
+-- A text was put into a gathering sink that held nothing, and at Ok it holds nothing again. The sink behind it was lent to it, and is what stands under the name at the end.
+pub puts_lent : {K T E : Type 0} (told : K → Told) (r : Result T E) (lent other : ℕ) (held text : List ℕ) (s : Told) (now final : K) → (lent ≡ other → final ≡ now) → Puts r text (gathering lent [] s) (gathering other held (told now)) → OnOk r (held ≡ []) → Puts r text s (told final)
+puts_lent told (Ok x) lent other held text s now final ends p none =
+    let q = subst (λ (h : List ℕ). Wrote text (gathering lent [] s) (gathering other h (told now))) none p in
+    rw (ends (sym (ap head_of p.follows.same))) (wrote_behind lent other text s (told now) q)
+puts_lent told (Err e) lent other held text s now final ends p none =
+    rw (ends (sym (ap head_of p.follows.same))) (cut_behind lent other held text s (told now) p)
+
+-- a text that is certain to be taken is not cut
+pub never_cut : (s t : Told) (text : List ℕ) → length text < s.certain → Cut text s t → ⊥
+never_cut s t text short cut = omega (arith, cut.uncertain)
+
+-- a call that writes a text that is certain to be taken answers Ok
+pub puts_whole : {T E : Type 0} (r : Result T E) (s t : Told) (text : List ℕ) → length text < s.certain → Puts r text s t → IsOk r
+puts_whole (Ok x) s t text short puts = search rules
+puts_whole (Err e) s t text short puts = absurd (never_cut s t text short puts)

@@ -1,0 +1,22 @@
+-- The digits of a number so far.
+use Rattle.std.proofs.Common.{◌≡◌, ℕ, ◌-◌, ◌^◌, ◌<◌, ◌≤◌, true, List, length, arith, rules}
+use Rattle.std.specs.List.{list_all}
+use Rattle.std.specs.Char.{is_ascii_digit, digit_value}
+use Rattle.std.specs.Str.Parse.{digits_value}
+use Rattle.std.proofs.lemmas.Bool.Decides.{nat_tests}
+use Rattle.std.proofs.lemmas.Str.Parse.{IsDigitsTest, IsNumeralModel, numerals_by_value, digits_value_short}
+
+abbrev pub AllAsciiDigits : List ℕ → Type 0
+AllAsciiDigits ds = list_all is_ascii_digit ds ≡ true
+
+tells : IsDigitsTest AllAsciiDigits
+tells = search rules
+
+pub own : IsNumeralModel AllAsciiDigits (digits_value 10)
+own = numerals_by_value _ tells
+
+pub value_small : (ds : List ℕ) → list_all is_ascii_digit ds ≡ true → length ds ≤ 15 → digits_value 10 ds < 10 ^ 15
+value_small ds h short = digits_value_short own ds 15 h short
+
+pub digit_is : (c : ℕ) → is_ascii_digit c ≡ true → digit_value c ≡ c - 48
+digit_is c h = grind (arith, nat_tests)
