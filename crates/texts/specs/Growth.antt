@@ -57,6 +57,10 @@ pub record Cut (text : List ℕ) (old new : Told) : Type 0 where
   pub uncertain : old.certain ≤ length text
   pub follows : Follows old new
 
+-- One write of some of these bytes: it uses up of what was certain no more than it took, and fails only where not all of them were certain to be taken.
+abbrev pub UsesUp : {E : Type 0} → Told → Told → Result ℕ E → List ℕ → Type 0
+UsesUp old new result bytes = MatchResult result (λ n. old.certain ≤ new.certain + n) (λ _. old.certain ≤ length bytes)
+
 -- a call that writes this text: at Ok it did, at Err it was cut
 abbrev pub Puts : {T E : Type 0} → Result T E → List ℕ → Told → Told → Type 0
 Puts result text old new = MatchResult result (λ _. Wrote text old new) (λ _. Cut text old new)

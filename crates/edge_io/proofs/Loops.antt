@@ -1,0 +1,40 @@
+-- What the loops over a source and a sink keep.
+use Rattle.std.proofs.Common.{◌≡◌, ℕ, ◌≤◌, ◌-◌, ◌+◌, List, [], ◌++◌, length, take, drop, Option, refl, ap, sym, ◌∙◌, append_assoc, arith}
+use Rattle.std.specs.Io.KnownBytes.{Consumes, Keeps, Appends}
+use Rattle.texts.specs.Causes.{Counted}
+use Rattle.std.proofs.lemmas.List.{take-append-drop, take_rest, length-take-le}
+use Rattle.texts.specs.Growth.{Told, Follows, Wrote, Cut}
+use Rattle.texts.proofs.Growth.{wrote_none, wrote_then, cut_then, kept_is}
+
+-- so far a front of the text was written
+pub record Putting (text rest : List ℕ) (old now : Told) : Type 0 where
+  pub done : List ℕ
+  pub parts : text ≡ done ++ rest
+  pub wrote : Wrote done old now
+
+-- so far these bytes were read
+pub record Reading (bytes : List ℕ) (limit : ℕ) (old now : Option (List ℕ)) (before after : ℕ) : Type 0 where
+  pub short : length bytes ≤ limit
+  pub read : Consumes old now bytes
+  pub still : after ≡ before
+
+-- some more bytes were written
+pub put_more : (text rest : List ℕ) (n : ℕ) (old mid new : Told) → n ≤ length rest → Putting text rest old mid → Appends mid.taken new.taken (take n rest) → new.faults ≡ mid.faults → mid.certain ≤ new.certain + n → Follows mid new → Putting text (take (length rest - n) (drop n rest)) old new
+put_more text rest n old mid new most p bytes still lasts follows = record {
+  done = p.done ++ take n rest;
+  parts = p.parts ∙ ap (λ (l : List ℕ). p.done ++ l) (sym (take-append-drop n rest) ∙ ap (λ (l : List ℕ). take n rest ++ l) (sym (take_rest rest n))) ∙ sym (append_assoc p.done (take n rest) (take (length rest - n) (drop n rest)));
+  wrote = wrote_then old mid new p.done (take n rest) p.wrote (record { bytes = bytes; still = still; lasts = omega (arith, length-take-le n rest most); follows = follows });
+}
+
+-- nothing was written yet
+pub put_none : (text : List ℕ) (s : Told) → Putting text text s s
+put_none text s = record { done = []; parts = refl; wrote = wrote_none s }
+
+-- a write failed
+pub put_cut : (text rest : List ℕ) (old mid new : Told) → Putting text rest old mid → Keeps mid.taken new.taken → Counted mid.faults new.faults → mid.certain ≤ length rest → Follows mid new → Cut text old new
+put_cut text rest old mid new p keeps cause uncertain follows = rw p.parts (cut_then old mid new p.done rest p.wrote (record {
+  front = record { front = []; rest = rest; parts = refl; bytes = kept_is mid.taken new.taken keeps };
+  cause = cause;
+  uncertain = uncertain;
+  follows = follows;
+}))

@@ -1,0 +1,125 @@
+ghost use Rattle.std.specs.Prelude.{◌≡◌, ◌≤◌, ◌+◌, ◌++◌, length, take, drop};
+
+use crate::{Failed, Sink, WriteFault};
+
+const ROOM: usize = 8192;
+
+/// A sink that gathers bytes in a buffer of 8192 bytes of its own, and passes them on to the sink that it was lent only when that is full and at `flush` or `finish`. It takes no memory.
+///
+/// What was not passed on when a write failed stays in the buffer. Bytes that are held back when it is dropped are lost: end with `finish`.
+#[derive(Drop)]
+pub struct Gathered<'a, K> {
+    sink: &'a mut K,
+    buffer: [u8; ROOM],
+    at: usize,
+    end: usize,
+    ghost within: { at ≤ end },
+    ghost room: { end ≤ length buffer },
+    ghost size: { length buffer ≡ 8192 },
+}
+
+impl<'a, K: Sink> Gathered<'a, K> {
+    ghost use Rattle.std.specs.Prelude.{◌≡◌, [], ◌<◌, ◌≤◌, List, ℕ, length, take, OnOk};
+    ghost use Rattle.texts.specs.Growth.{Told, Wrote, Puts, gathering};
+    ghost use Rattle.edge_io.specs.Gathering.{gathered_told, held};
+
+    /// A gathering sink that holds nothing back.
+    pub fn new(sink: &'a mut K) -> Gathered<'a, K>
+        ensures same_reference { result.sink.ghost_name ≡ sink.entry.ghost_name }
+        ensures told { gathered_told K.told result ≡ gathering sink.entry.ghost_name [] (K.told sink.old) }
+        ensures behind { result.sink.now ≡ sink.old }
+    {
+        Gathered {
+            sink,
+            buffer: [0; ROOM],
+            at: 0,
+            end: 0,
+        }
+    }
+
+    /// Passes on all that is held back.
+    ///
+    /// `WriteFault` comes only where the sink behind counted a fault; what it did not take is still held back.
+    pub fn flush(&mut self) -> Result<(), WriteFault>
+        ensures same_reference { self.new.sink.ghost_name ≡ self.old.sink.ghost_name }
+        ensures puts { Puts result [] (gathered_told K.told self.old) (gathered_told K.told self.new) }
+        ensures none_held { OnOk result (held self.new ≡ []) }
+        ensures room { OnOk result (self.new.end ≡ 0) }
+    {
+        while self.at < self.end {
+            let buffer: &[u8] = &self.buffer;
+            match self.sink.write(&buffer[self.at..self.end]) {
+                Ok(count) => self.at += count,
+                Err(Failed) => return Err(WriteFault),
+            }
+        }
+        self.at = 0;
+        self.end = 0;
+        Ok(())
+    }
+
+    /// Ends a text: where all of it was written here, passes on all that is held back. Where not, answers that fault again.
+    pub fn finish(&mut self, written: Result<(), WriteFault>) -> Result<(), WriteFault>
+        ensures same_reference { self.new.sink.ghost_name ≡ self.old.sink.ghost_name }
+        ensures puts { (text : List ℕ) (start : Told) → Puts written text start (gathered_told K.told self.old) → Puts result text start (gathered_told K.told self.new) }
+        ensures none_held { OnOk result (held self.new ≡ []) }
+    {
+        match written {
+            Ok(()) => self.flush(),
+            Err(WriteFault) => Err(WriteFault),
+        }
+    }
+
+    /// Makes room for a byte at least.
+    fn make_room(&mut self) -> Result<(), WriteFault>
+        ensures same_reference { self.new.sink.ghost_name ≡ self.old.sink.ghost_name }
+        ensures puts { Puts result [] (gathered_told K.told self.old) (gathered_told K.told self.new) }
+        ensures room { OnOk result (self.new.end < length self.new.buffer) }
+    {
+        if self.end < ROOM {
+            return Ok(());
+        }
+        self.flush()
+    }
+
+    /// Holds as many of the bytes as there is room for.
+    fn hold(&mut self, bytes: &[u8]) -> usize
+        requires some { 0 < length bytes.now }
+        requires room { self.old.end < length self.old.buffer }
+        ensures same_reference { self.new.sink.ghost_name ≡ self.old.sink.ghost_name }
+        ensures least { 0 < result }
+        ensures most { result ≤ length bytes.now }
+        ensures wrote { Wrote (take result bytes.now) (gathered_told K.told self.old) (gathered_told K.told self.new) }
+    {
+        let room = self.buffer.len() - self.end;
+        let count = if bytes.len() < room {
+            bytes.len()
+        } else {
+            room
+        };
+        place(&mut self.buffer, self.end, &bytes[..count]);
+        self.end += count;
+        count
+    }
+}
+
+/// Copies the bytes into the buffer, from that place on.
+fn place(buffer: &mut [u8], at: usize, bytes: &[u8])
+    requires { at + length bytes.now ≤ length buffer.old }
+    ensures { buffer.new ≡ take at buffer.old ++ (bytes.now ++ drop (at + length bytes.now) buffer.old) }
+{
+    buffer[at..at + bytes.len()].copy_from_slice(bytes);
+}
+
+impl<'a, K: Sink> Sink for Gathered<'a, K> {
+    ghost use Rattle.edge_io.specs.Gathering.{gathered_told};
+
+    ghost told = { λ g. gathered_told K.told g };
+
+    fn write(&mut self, bytes: &[u8]) -> Result<usize, Failed> {
+        match self.make_room() {
+            Ok(()) => Ok(self.hold(bytes)),
+            Err(WriteFault) => Err(Failed),
+        }
+    }
+}

@@ -1,0 +1,35 @@
+//! Bytes in and bytes out.
+//!
+//! A `Source` gives bytes in pieces and a `Sink` takes them in pieces. Each counts its faults, so that a caller's clauses can say that it reports a fault exactly where one was counted. There are real ones (`StdSource`, `StdSink`), ones in memory that fail and cut where they are told to (`MemSource`, `MemSink`), plain ones that never fail (`PlainSource`, `NullSink`), and `Gathered`, a buffer over another sink.
+//!
+//! Over these stand the calls that read a whole input, write a text, and read a text line by line, word by word and number by number. Only `read_all` and `MemSink::new` take memory.
+#![tactic(auto)]
+
+mod cuts;
+mod gathered;
+mod lines;
+mod mem_sink;
+mod mem_source;
+mod numbers;
+mod parts;
+mod pieces;
+mod put;
+mod read;
+mod real;
+mod shapes;
+mod taking;
+mod traits;
+
+pub use gathered::Gathered;
+pub use lines::{Lines, Words, first_line};
+pub use mem_sink::{MemSink, NoMemory};
+pub use mem_source::MemSource;
+pub use numbers::{number, put_number};
+pub use parts::{LONGEST_LINE, LineReader, PartRead, is_skipped, read_part};
+pub use pieces::{Piece, put_pieces};
+pub use put::{WriteFault, put_all};
+pub use read::{InputFault, ReadFault, read_all};
+pub use real::{StdSink, StdSource};
+pub use shapes::numbers_after;
+pub use taking::{PartError, Refused, TakeError};
+pub use traits::{Failed, Sink, Source};

@@ -1,0 +1,95 @@
+ghost use Rattle.std.specs.Prelude.{◌≡◌, ◌≤◌, ◌<◌, ◌+◌, ◌^◌, List, ℕ, length, drop, MatchResult, IfOk, Ok};
+ghost use Rattle.texts.specs.Lines.{lines_of};
+ghost use Rattle.edge_io.specs.Taking.{Takes, FailsAt};
+ghost use Rattle.texts.specs.Parts.{Next, Found, is_skipped, with_skips, part_from};
+
+use crate::{PartError, Refused, TakeError, first_line};
+
+/// The length of the longest line that a part may have, in bytes, without its newline.
+pub const LONGEST_LINE: usize = 4096;
+
+/// A part that was read.
+#[derive(Drop)]
+pub struct PartRead<V> {
+    /// What was read.
+    pub value: V,
+    /// How many bytes of the text stand through the part's last line, its newline included.
+    pub bytes: usize,
+    /// How many lines these are, skipped ones included.
+    pub lines: u64,
+}
+
+/// What reads a part of a text line by line. `step` defines it: what a line does to the reader.
+pub trait LineReader: Drop {
+    /// What the whole part says.
+    type Value;
+
+    /// Why a line is refused.
+    type Rule: Copy;
+
+    ghost step: { Self → List ℕ → Next Self Self.Value Self.Rule };
+
+    /// Takes the next line, without its newline, which is no skipped line and not longer than `LONGEST_LINE`: Some value exactly where the part ends with it, `Refused` exactly where the line is refused, `NoMemory` where memory ran out.
+    fn take(&mut self, line: &[u8]) -> Result<Option<Self::Value>, TakeError<Self::Rule>>
+        ensures { Takes (step self.old line.now) self.new result };
+}
+
+/// Whether a line counts for nothing: an empty one, or one that begins with `#`.
+pub fn is_skipped(line: &[u8]) -> bool
+    ensures { result ≡ is_skipped line.now }
+{
+    line.is_empty() || line[0] == b'#'
+}
+
+/// Reads a part from the front of a text, whose first line has the number `first`. Empty lines and those that begin with `#` are skipped.
+///
+/// `Refused` comes exactly where a line is refused, with the number of the first such line: by the reader's rule, or by `form` where it is longer than `LONGEST_LINE`. A text that ends before the part does is refused by `form` at the line after its last. `NoMemory` comes where the reader ran out of memory.
+pub fn read_part<P: LineReader>(
+    mut reader: P,
+    form: P::Rule,
+    text: &[u8],
+    first: u64,
+) -> Result<PartRead<P::Value>, PartError<P::Rule>>
+    requires { first + length text.now < 2 ^ 64 }
+    ensures exact { MatchResult result
+        (λ x. part_from (with_skips P.step form) form reader 0 first (lines_of text.now) ≡ Ok (record { value = x.value; taken = x.lines; behind = lines_of (drop x.bytes text.now) }))
+        (λ e. FailsAt e (part_from (with_skips P.step form) form reader 0 first (lines_of text.now))) }
+    ensures within { IfOk result (λ x. x.bytes ≤ length text.now) }
+    ensures lines { IfOk result (λ x. x.lines ≤ x.bytes) }
+{
+    let mut rest = text;
+    let mut number = first;
+    let mut lines: u64 = 0;
+    while !rest.is_empty() {
+        let (line, behind) = first_line(rest);
+        if line.len() > LONGEST_LINE {
+            return Err(PartError::Refused(Refused {
+                line: number,
+                rule: form,
+            }));
+        }
+        if !is_skipped(line) {
+            match reader.take(line) {
+                Err(TakeError::Refused(rule)) => {
+                    return Err(PartError::Refused(Refused { line: number, rule }));
+                }
+                Err(TakeError::NoMemory) => return Err(PartError::NoMemory),
+                Ok(Some(value)) => {
+                    return Ok(PartRead {
+                        value,
+                        bytes: text.len() - behind.len(),
+                        lines: lines + 1,
+                    });
+                }
+                Ok(None) => {}
+            }
+        }
+        rest = behind;
+        number += 1;
+        lines += 1;
+    }
+    Err(PartError::Refused(Refused {
+        line: number,
+        rule: form,
+    }))
+}
