@@ -1,1 +1,3 @@
+pub mod Alone
 pub mod Examples
+pub mod Ranges

@@ -4,3 +4,4 @@ pub mod Memory
 pub mod Pieces
 pub mod Real
 pub mod Taking
+pub mod Whole

@@ -1,0 +1,24 @@
+//! Laws of pointers, for outputs that count without a bound or modulo a multiple of the span.
+
+ghost use Rattle.leader_pointers.specs.Intervals.{IntervalKeepsPointer, NextIntervalHasNextLeader, ModulusIsUnseen};
+ghost use Rattle.leader_pointers.specs.Windows.{BlocksMeetAtEachLeader};
+
+/// From a multiple of the interval on, as many outputs as the interval is long have one pointer.
+pub fn interval_keeps_pointer()
+    ensures { IntervalKeepsPointer }
+{}
+
+/// An interval later the pointer is at the next leader, and after the last at the first.
+pub fn next_interval_has_next_leader()
+    ensures { NextIntervalHasNextLeader }
+{}
+
+/// Pointer and part are the same of an output and of its remainder by a multiple of the span.
+pub fn modulus_is_unseen()
+    ensures { ModulusIsUnseen }
+{}
+
+/// The common window. Where all sound blocks count modulo a multiple of the span for a whole span, they all point to any given leader for a whole beat.
+pub fn blocks_meet_at_each_leader()
+    ensures { BlocksMeetAtEachLeader }
+{}
