@@ -19,6 +19,8 @@ mod read;
 mod real;
 mod shapes;
 mod taking;
+#[cfg(test)]
+mod tests;
 mod traits;
 mod whole;
 
