@@ -1,0 +1,5 @@
+pub mod Blocks
+pub mod Phase
+pub mod Beats
+pub mod Locked
+pub mod Settles
