@@ -1,5 +1,5 @@
 -- What a level over blocks of a counter means: a counter again, with a register more. The group has the level's blocks, each of as many nodes as the counter below.
-use Rattle.std.specs.Prelude.{ℕ, ◌+◌, ◌*◌, ◌/◌, ◌%◌, ◌<◌, List, [], ◌∷◌, ◌++◌, map, Option, unwrap_or, IfSome}
+use Rattle.std.specs.Prelude.{ℕ, ◌+◌, ◌*◌, ◌/◌, ◌%◌, ◌^◌, ◌<◌, ◌≤◌, List, [], ◌∷◌, ◌++◌, map, Option, unwrap_or, IfSome}
 use Rattle.std.specs.List.{range_with_len}
 use Rattle.sync_types.specs.declared.states.Reg.{Reg}
 use Rattle.sync_types.specs.States.{State, register_at}
@@ -7,6 +7,7 @@ use Rattle.construction.specs.Plans.{Level, span_of}
 use Rattle.construction.specs.Steps.{state_of, register_after}
 use Rattle.construction.specs.Votes.{block}
 use Rattle.counter_core.specs.Meanings.{Meaning}
+use Rattle.level_laws.specs.Level.{StandsOver}
 
 -- what is heard of the inner outputs of the group's nodes, by place
 abbrev pub outputs_heard : (below : Meaning) → Level → List State → List ℕ
@@ -40,3 +41,10 @@ boosted below level = record {
 -- in range below, and a finite value of the register behind is below the modulus
 abbrev pub BoostedRange : (in_range : State → Type 0) (depth modulus : ℕ) → State → Type 0
 BoostedRange in_range depth modulus state = in_range state × IfSome (register_at depth state).a (λ a. a < modulus)
+
+-- the level may stand on this counter, and the two keep within the limits of counters
+pub record StandsOn (below : Meaning) (level : Level) : Type 0 where
+  pub stands : StandsOver level below.nodes below.faults below.modulus
+  pub most_nodes : level.blocks * below.nodes ≤ 256
+  pub least_modulus : 2 ≤ level.modulus
+  pub most_modulus : level.modulus ≤ 2 ^ 40
