@@ -3,8 +3,10 @@
 //! [`level_step`] is one level's instruction from the inner outputs as plain numbers. [`Boost`] puts a level on any counter. The laws of a level are those of [`laws`].
 #![tactic(auto)]
 
+mod boost;
 mod level;
 mod votes;
 
+pub use boost::Boost;
 pub use level::level_step;
 pub use level_laws::laws;
