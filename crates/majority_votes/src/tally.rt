@@ -17,7 +17,7 @@ impl From<AllocError> for NoMemory {
     }
 }
 
-/// A list of values that is counted as it grows.
+/// A list of values that is counted as it grows. Contracts see the values in order of adding, and the capacity beside them.
 #[derive(Debug, Drop)]
 pub struct Tally {
     capacity: usize,
@@ -83,7 +83,7 @@ impl Tally {
         self.infinities = 0;
     }
 
-    /// Adds a value at the end; `None` is infinity.
+    /// Adds a value at the end; `None` is infinity. There has to be room: fewer values than the capacity.
     pub fn add(&mut self, value: Option<u64>)
         requires { length self.old.values < self.old.capacity }
         ensures { self.new ≡ record self.old { values = self.old.values ++ value ∷ [] } }
@@ -95,7 +95,7 @@ impl Tally {
         self.values.push(value).unwrap();
     }
 
-    /// The number that more than half of the places hold.
+    /// The number that more than half of all places hold, those of infinity counted, or `None` where there is none.
     pub fn majority(&self) -> Option<u64>
         ensures { result ≡ majority_of self.now.values }
     {
@@ -117,7 +117,7 @@ impl Tally {
         }
     }
 
-    /// The least number that more than `f` places hold.
+    /// The least number that more than `f` places hold, or `None` where there is none.
     pub fn least_above(&self, f: usize) -> Option<u64>
         ensures { result ≡ least_above f self.now.values }
     {

@@ -4,7 +4,6 @@ use Rattle.sync_types.specs.declared.answers.Premise.{Premise}
 use Rattle.sync_types.specs.declared.answers.Premise.TheVariants.{Limit, Blocks, Modulus, Quorum, Share, Multiple}
 use Rattle.construction.specs.Widths.{width}
 use Rattle.construction.specs.Plans.{Level}
-use Rattle.plan_numbers.specs.declared.numbers.LevelNums.{LevelNums}
 use Rattle.plan_numbers.specs.Numbers.{line, below_of, numbers_over, numbers_of}
 use Rattle.plan_numbers.specs.Premises.{base_premise, first_premise, LevelsAccepted}
 

@@ -80,7 +80,7 @@ fn tested_span(below: &Below, k: u64, f: u64, c: u64) -> Result<u64, Premise>
     Ok(span as u64)
 }
 
-/// The numbers of a level with `k` blocks, `f` faults and the modulus `c` over what stands below it, or the first premise that it fails.
+/// The numbers of a level with `k` blocks, `f` faults and the modulus `c` over what stands below it. An error is the first premise that the level fails, in the order `Limit`, `Blocks`, `Modulus`, `Quorum`, `Share`, `Multiple`. It takes no memory.
 pub fn level_nums(below: &Below, k: u64, f: u64, c: u64) -> Result<LevelNums, Premise>
     requires { IsSized below.now }
     ensures answer { result ≡ unless (first_premise below.now (line k f c)) (numbers_over below.now (line k f c)) }

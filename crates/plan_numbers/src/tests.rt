@@ -88,6 +88,7 @@ fn plans_have_the_numbers_of_their_top_level(rt: HostRuntime) -> Result<(), Fail
     };
     for (lines, bytes, top) in [(one, 3, first), (two, 4, second), (three, 5, third)] {
         let plan = plan_of(rt.alloc(), 2304, lines)?;
+        plan.tell();
         assert!(rt; plan.depth() == lines.len() && plan.depth() > 0);
         assert_eq!(rt; *plan.level(plan.depth() - 1), top);
         assert_eq!(rt;
