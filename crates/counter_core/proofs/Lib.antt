@@ -1,1 +1,2 @@
+pub mod LiesHeard
 pub mod ListsAndPlaces

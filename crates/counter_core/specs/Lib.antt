@@ -1,6 +1,7 @@
 pub mod Meanings
 pub mod Runs
 pub mod RunsByPlace
+pub mod Heard
 pub mod Laws
 pub mod Working
 pub mod Trivial
