@@ -1,7 +1,7 @@
 -- What the real sources and sinks show.
 use Rattle.std.specs.Prelude.{ℕ, Bool}
-use Rattle.edge_io.specs.declared.real.StdSource.{StdSource}
-use Rattle.edge_io.specs.declared.real.StdSink.{StdSink}
+use Rattle.edge_io.specs.declared.std_source.StdSource.{StdSource}
+use Rattle.edge_io.specs.declared.std_sink.StdSink.{StdSink}
 
 -- how many reads have failed, up to 2 ^ 64 - 1
 abbrev pub failed_reads : {R : Type 0} → StdSource R → ℕ

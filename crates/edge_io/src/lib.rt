@@ -16,9 +16,12 @@ mod pieces;
 mod plain;
 mod put;
 mod read;
-mod real;
 mod shapes;
+mod std_sink;
+mod std_source;
 mod taking;
+#[cfg(test)]
+mod tests;
 mod traits;
 mod whole;
 
@@ -32,8 +35,9 @@ pub use pieces::{Piece, put_pieces};
 pub use plain::{NullSink, PlainSource};
 pub use put::{WriteFault, put_all};
 pub use read::{InputFault, ReadFault, read_all};
-pub use real::{StdSink, StdSource};
 pub use shapes::numbers_after;
+pub use std_sink::StdSink;
+pub use std_source::StdSource;
 pub use taking::{PartError, Refused, TakeError};
 pub use traits::{Failed, Sink, Source};
 pub use whole::no_fault_is_counted;

@@ -1,4 +1,4 @@
-//! Laws of pointers, for outputs that count without a bound or modulo a multiple of the span.
+//! Laws of pointers, for outputs that count without a bound or modulo a multiple of the span. Each function is empty: its clause is the law.
 
 ghost use Rattle.leader_pointers.specs.Intervals.{IntervalKeepsPointer, NextIntervalHasNextLeader, ModulusIsUnseen};
 ghost use Rattle.leader_pointers.specs.Windows.{BlocksMeetAtEachLeader};
@@ -19,6 +19,8 @@ pub fn modulus_is_unseen()
 {}
 
 /// The common window. Where all sound blocks count modulo a multiple of the span for a whole span, they all point to any given leader for a whole beat.
+///
+/// It holds because an interval of a block is `2 * leaders` intervals of the block before it: in so many of its own outputs a block has a whole interval at the leader, and within that the earlier blocks meet in their turn.
 pub fn blocks_meet_at_each_leader()
     ensures { BlocksMeetAtEachLeader }
 {}

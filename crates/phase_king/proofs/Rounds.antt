@@ -116,6 +116,22 @@ module _ (n f : ℕ) (next : ℕ → ℕ) (faulty : ℕ → Bool) (quorum : 3 * 
       let most_none : n - f ≤ count_of heard None = subst (λ o. n - f ≤ count_of heard o) e most in
       absurd (omega (arith, two_values heard None (Some j) (λ e. cc), h.size))
 
+  -- where all but f places of one list heard hold z, each list heard has a least value
+  carried_least : (old : ℕ → Reg) (some other : List (Option ℕ)) (z : ℕ) → Hears n faulty old some → Hears n faulty old other → n - f ≤ count_of some (Some z) → (j : ℕ) × (least_above f other ≡ Some j) × (j ≤ z)
+  carried_least old some other z h k most = least_is f other z (omega (arith, carried n f faulty few old some other (Some z) h k))
+
+  -- the least values of two lists heard are one
+  one_least : (old : ℕ → Reg) (some other : List (Option ℕ)) (x y : ℕ) → OneValue old → Hears n faulty old some → Hears n faulty old other → least_above f some ≡ Some x → least_above f other ≡ Some y → x ≡ y
+  unfolding OneValue
+  one_least old some other x y one h k e g =
+      let u = correct_source n f faulty few old some (Some x) h (least_has f some x e) in
+      let v = correct_source n f faulty few old other (Some y) k (least_has f other y g) in
+      one u.0 v.0 x y u.1 u.2 v.1 v.2 u.3 v.3
+
+  -- kind 1 takes the least value
+  takes_least : (old : ℕ → Reg) (king : ℕ) (own new : Reg) (o : Obeys n f next faulty old 1 king own new) (j y : ℕ) → least_above f o.heard ≡ Some j → next j ≡ y → new.a ≡ Some y
+  takes_least old king own new o j y least e = ap (λ r. r.a) o.step ∙ (ap (option_map next) least ∙ ap Some e)
+
   -- after kind 1: where one correct node is locked, each correct node has its value
   pub second_round : (king : ℕ) (old new : ℕ → Reg) → OneValue old → AllObey n f next faulty 1 king old new → (u y : ℕ) → u < n → faulty u ≡ false → (new u).a ≡ Some y → (new u).d ≡ true → AllHave n faulty new y
   unfolding OneValue
@@ -128,9 +144,8 @@ module _ (n f : ℕ) (next : ℕ → ℕ) (faulty : ℕ → Bool) (quorum : 3 * 
       let most_own : n - f ≤ count_of p.heard (old u).a = leb-true _ _ (sym (ap (λ r. r.d) p.step) ∙ u_marked) in
       let own = own_is old u p.heard s.0 p.hears most_own more (λ x e. one u w.0 x s.0 u_lt u_ok w.1 w.2 e w.3) (old u).a refl in
       let most : n - f ≤ count_of p.heard (Some s.0) = subst (λ o. n - f ≤ count_of p.heard o) own most_own in
-      let l = least_is f q.heard s.0 (omega (arith, carried n f faulty few old p.heard q.heard (Some s.0) p.hears q.hears)) in
-      let x = correct_source n f faulty few old q.heard (Some l.0) q.hears (least_has f q.heard l.0 l.1) in
-      ap (λ r. r.a) q.step ∙ (ap (option_map next) l.1 ∙ ap Some (ap next (one x.0 w.0 l.0 s.0 x.1 x.2 w.1 w.2 x.3 w.3) ∙ s.2))
+      let l = carried_least old p.heard q.heard s.0 p.hears q.hears most in
+      takes_least old king (old v) (new v) q l.0 y l.1 (ap next (one_least old q.heard p.heard l.0 s.0 one q.hears p.hears l.1 s.1) ∙ s.2)
 
   -- kind 2, where all correct nodes have one value
   third_from_one : (king : ℕ) (old new : ℕ → Reg) (y : ℕ) → king < n → faulty king ≡ false → AllHave n faulty old y → AllObey n f next faulty 2 king old new → AllLocked n faulty new (next y)

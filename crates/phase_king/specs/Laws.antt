@@ -1,4 +1,4 @@
--- The laws of the phase king: in a group of n > 3f nodes of which at most f are faulty, for any increment.
+-- The laws of the phase king, in a group of n > 3f nodes of which at most f are faulty. All but the last hold for any increment.
 use Rattle.std.specs.Prelude.{ℕ, ◌≡◌, ◌+◌, ◌*◌, ◌/◌, ◌%◌, ◌<◌, ◌≤◌, Bool, false}
 use Rattle.sync_types.specs.declared.states.Reg.{Reg}
 use Rattle.counting.specs.Places.{places}
@@ -28,17 +28,18 @@ Convergence =
     AllObey n f next faulty 2 king after_one end →
     (value : ℕ) × AllLocked n faulty end value
 
--- f + 1 phases in a row, phase q under the king at place q, with no increment
+-- f + 1 phases in a row, with no increment: round x has kind x % 3 under the king at place x / 3
 abbrev pub IsSlot : (n f : ℕ) (faulty : ℕ → Bool) (registers : ℕ → ℕ → Reg) → Type 0
 IsSlot n f faulty registers =
     (x : ℕ) → x < 3 * (f + 1) → AllObey n f (λ a. a) faulty (x % 3) (x / 3) (registers x) (registers (x + 1))
 
--- At the end of a slot all correct registers are locked at one value, which is the common one where all began with it.
+-- at the end of a slot all correct registers are locked at one value, which is the common one where all began with it
 pub record Agrees (n f : ℕ) (faulty : ℕ → Bool) (registers : ℕ → ℕ → Reg) : Type 0 where
   pub value : ℕ
   pub locked : AllLocked n faulty (registers (3 * (f + 1))) value
   pub valid : (common : ℕ) → AllHave n faulty (registers 0) common → value ≡ common
 
+-- Every slot ends in agreement.
 abbrev pub Slot : Type 0
 Slot =
     (n f : ℕ) (faulty : ℕ → Bool) → 3 * f < n → places faulty n ≤ f →

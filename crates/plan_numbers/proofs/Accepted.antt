@@ -1,14 +1,13 @@
 -- What the levels of an accepted plan meet, and how large their numbers are.
-use Rattle.std.proofs.Common.{◌≡◌, ℕ, ◌+◌, ◌*◌, ◌%◌, ◌<◌, ◌≤◌, ◌^◌, Bool, true, false, List, [], ◌∷◌, ◌++◌, Option, Some, None, refl, arith, inl, inr, length, All}
+use Rattle.std.proofs.Common.{◌≡◌, ℕ, ◌+◌, ◌*◌, ◌%◌, ◌<◌, ◌≤◌, ◌^◌, List, [], ◌∷◌, None, arith, inl, inr, length, All}
 use Rattle.std.proofs.lemmas.Bool.{cases_lt}
 use Rattle.std.proofs.lemmas.Nat.{mul-le}
 use Rattle.std.proofs.lemmas.List.Elements.{All-push}
 use Rattle.std.proofs.Math.Nat.{mod-eq_of_lt, mul-le-mul_right, pow-succ'}
-use Rattle.construction.specs.Widths.{width}
 use Rattle.construction.specs.Plans.{Level, leaders_of, beat_of, span_of, nodes_of}
 use Rattle.plan_numbers.specs.declared.numbers.Below.{Below}
 use Rattle.plan_numbers.specs.Numbers.{below_of, numbers_over, numbers_of}
-use Rattle.plan_numbers.specs.Premises.{first_premise, base_premise, LevelsAccepted, MeetsPremises}
+use Rattle.plan_numbers.specs.Premises.{first_premise, LevelsAccepted, MeetsPremises}
 use Rattle.plan_numbers.specs.Sizes.{IsSized, IsSizedLevel}
 use Rattle.plan_numbers.proofs.Spans.{turns_some, depth_most}
 use Rattle.plan_numbers.proofs.WidthLaws.{width_most}
@@ -26,6 +25,10 @@ meets below level none = record {
   share = grind arith;
   multiple = grind arith;
 }
+
+-- and a level that meets all of them fails none
+pub meets_none : (below : Below) (level : Level) → MeetsPremises below level → first_premise below level ≡ None
+meets_none below level met = grind arith
 
 -- a divisor of a number that is not zero is at most that number
 divisor_most : (big s : ℕ) → 0 < big → big % s ≡ 0 → s ≤ big

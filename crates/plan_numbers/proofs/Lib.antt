@@ -1,3 +1,5 @@
 pub mod WidthLaws
 pub mod Spans
 pub mod Accepted
+pub mod LevelLaws
+mod Examples

@@ -6,6 +6,7 @@ use Rattle.plan_numbers.specs.Numbers.{below_of, numbers_of, levels_in}
 use Rattle.plan_numbers.specs.Premises.{LevelsAccepted}
 use Rattle.plan_numbers.specs.Sizes.{IsSized}
 
+-- the base, the numbers of the levels with the lowest first, what the next level is told, and for how many levels there is room
 pub record IsKept (base : ℕ) (items : List LevelNums) (top : Below) (capacity : ℕ) : Type 0 where
   pub accepted : LevelsAccepted base (levels_in items)
   pub numbers : items ≡ numbers_of base (levels_in items)

@@ -1,6 +1,7 @@
 ghost use Rattle.std.specs.Prelude.{◌≡◌, ◌+◌, ◌*◌, ◌^◌, ◌<◌, ◌≤◌, OnOk, IfOk};
+ghost use Rattle.std.specs.Int.{div_ceil};
 ghost use Rattle.construction.specs.Widths.{width};
-ghost use Rattle.construction.specs.Plans.{span_of};
+ghost use Rattle.construction.specs.Plans.{interval_of, span_of};
 ghost use Rattle.plan_numbers.specs.Numbers.{line, numbers_over, told_above};
 ghost use Rattle.plan_numbers.specs.Premises.{first_premise, unless, MeetsPremises};
 ghost use Rattle.plan_numbers.specs.Sizes.{IsSized, IsSizedLevel};
@@ -10,7 +11,7 @@ use crate::widths::width;
 use sync_types::Premise;
 
 /// The largest modulus.
-pub const LARGEST_MODULUS: u64 = 1 << 40;
+pub(crate) const LARGEST_MODULUS: u64 = 1 << 40;
 
 const MOST_BLOCKS: u64 = 16;
 
@@ -36,11 +37,11 @@ fn register_bits(c: u64) -> u32
 }
 
 /// The span of a level under the limits, which may be above any modulus.
-fn wide_span(k: u64, f: u64, c: u64) -> u128
+fn wide_span(k: u64, f: u64) -> u128
     requires blocks { (3 ≤ k) × (k ≤ 16) }
     requires faults { f ≤ 85 }
     ensures some { 0 < result }
-    ensures value { result ≡ span_of (line k f c) }
+    ensures value { result ≡ interval_of (3 * (f + 2)) (div_ceil k 2) k }
 {
     let turns = 2 * u128::from(k.div_ceil(2));
     u128::from(beat(f)) * turns.pow(k as u32)
@@ -72,14 +73,14 @@ fn tested_span(below: &Below, k: u64, f: u64, c: u64) -> Result<u64, Premise>
     if f >= (u64::from(below.faults) + 1) * k.div_ceil(2) {
         return Err(Premise::Share);
     }
-    let span = wide_span(k, f, c);
+    let span = wide_span(k, f);
     if u128::from(below.modulus) % span != 0 {
         return Err(Premise::Multiple);
     }
     Ok(span as u64)
 }
 
-/// The numbers of a level with `k` blocks, `f` faults and the modulus `c` over what stands below it, or the first premise that it fails.
+/// The numbers of a level with `k` blocks, `f` faults and the modulus `c` over what stands below it. An error is the first premise that the level fails, in the order `Limit`, `Blocks`, `Modulus`, `Quorum`, `Share`, `Multiple`. It takes no memory.
 pub fn level_nums(below: &Below, k: u64, f: u64, c: u64) -> Result<LevelNums, Premise>
     requires { IsSized below.now }
     ensures answer { result ≡ unless (first_premise below.now (line k f c)) (numbers_over below.now (line k f c)) }

@@ -6,6 +6,8 @@
 mod levels;
 mod numbers;
 mod plans;
+#[cfg(test)]
+mod tests;
 mod widths;
 
 pub use levels::level_nums;

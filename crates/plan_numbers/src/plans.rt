@@ -1,7 +1,7 @@
-ghost use Rattle.std.specs.Prelude.{◌≡◌, Some, None, ◌<◌, ◌≤◌, slice_get, OnOk, OnErr, IfErr};
+ghost use Rattle.std.specs.Prelude.{◌≡◌, ◌*◌, Some, None, ◌<◌, ◌≤◌, slice_get, OnOk, OnErr, IfErr};
 ghost use Rattle.std.specs.Int.{div_ceil};
 ghost use Rattle.construction.specs.Plans.{plan_nodes, plan_faults, plan_modulus, plan_bound, plan_bits, plan_depth};
-ghost use Rattle.plan_numbers.specs.Numbers.{line, with_level, level_numbers, numbers_below};
+ghost use Rattle.plan_numbers.specs.Numbers.{line, level_of, with_level, level_numbers, numbers_below, numbers_over};
 ghost use Rattle.plan_numbers.specs.Premises.{first_premise, IsAccepted};
 ghost use Rattle.plan_numbers.specs.Sizes.{IsSized, IsSizedLevel};
 ghost use Rattle.plan_numbers.specs.Begun.{Begins};
@@ -94,9 +94,20 @@ impl Plan {
         ensures unchanged { OnErr result (self.new ≡ self.old) }
     {
         let nums = level_nums(&self.top, k, f, c)?;
+        self.add(nums);
+        Ok(())
+    }
+
+    /// Puts the numbers of a level on top, for which there is room.
+    fn add(&mut self, nums: LevelNums)
+        requires accepted { first_premise (numbers_below self.old) (level_of nums) ≡ None }
+        requires numbers { nums ≡ numbers_over (numbers_below self.old) (level_of nums) }
+        requires sized { IsSizedLevel nums }
+        requires more { 3 * (plan_nodes self.old) ≤ nums.nodes }
+        ensures { self.new ≡ with_level self.old (level_of nums) }
+    {
         self.levels.push(nums).unwrap();
         self.top = nums.told_above();
-        Ok(())
     }
 
     /// How many nodes there are, 1 to 256.

@@ -1,4 +1,4 @@
-use Rattle.std.proofs.Common.{◌≡◌, ◌≤◌, ◌^◌, refl, arith, ap, rules, []}
+use Rattle.std.proofs.Common.{refl, arith, ap, rules, []}
 use Rattle.plan_numbers.specs.Numbers.{below_of}
 use Rattle.plan_numbers.proofs.plans.Plan.base.Goals as goal
 

@@ -1,0 +1,2 @@
+pub mod LiesHeard
+pub mod ListsAndPlaces

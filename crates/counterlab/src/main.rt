@@ -1,0 +1,32 @@
+//! The program: the workbench over standard input and standard output.
+#![tactic(auto)]
+
+use edge_io::{StdSink, StdSource};
+use std::alloc::{AllocError, Global};
+use std::process::ExitCode;
+use std::{env, io};
+use sync_types::Status;
+use workbench::counterlab;
+
+/// The words behind the program's own name. Arguments that are no text are no words.
+fn words(rt: &HostRuntime, alloc: Global) -> Result<Vec<String>, AllocError> {
+    let mut words = Vec::new(alloc);
+    if let Ok(args) = env::args(rt) {
+        for word in args.skip(1) {
+            words.push(word)?;
+        }
+    }
+    Ok(words)
+}
+
+fn main(rt: HostRuntime) -> ExitCode {
+    let status = match words(&rt, rt.alloc()) {
+        Ok(words) => {
+            let mut source = StdSource::new(rt.stdin());
+            let mut sink = StdSink::new(io::writer(&rt));
+            counterlab(rt.alloc(), &words, &mut source, &mut sink)
+        }
+        Err(AllocError) => Status::NoMemory,
+    };
+    ExitCode::from(status.code())
+}

@@ -1,0 +1,4 @@
+mod Lookups
+mod Searches
+mod Edits
+mod KeptCounts

@@ -1,0 +1,180 @@
+ghost use Rattle.std.specs.Prelude.{◌≡◌, ◌+◌, ◌<◌, ◌≤◌, [], ◌∷◌, ◌++◌, IfOk, IsTrue, ◌↔◌, length};
+ghost use Rattle.counting.specs.Values.{count_of, majority_of, least_above};
+
+use crate::counts::{Count, count_more, places_of};
+use std::alloc::{AllocError, Global};
+use std::marker::Model;
+use thiserror::Error;
+
+/// Want of memory: what was asked for was not taken.
+#[derive(Clone, Copy, Debug, PartialEq, Eq, Error)]
+#[error("out of memory")]
+pub struct NoMemory;
+
+impl From<AllocError> for NoMemory {
+    fn from(_: AllocError) -> Self {
+        NoMemory
+    }
+}
+
+/// A list of values that is counted as it grows. Contracts see the values in order of adding, and the capacity beside them.
+#[derive(Debug, Drop)]
+pub struct Tally {
+    capacity: usize,
+    values: Vec<Option<u64>>,
+    // The distinct numbers among the values in rising order, each with its places.
+    counts: Vec<Count>,
+    infinities: usize,
+}
+
+impl Model for Tally {
+    ghost use Rattle.std.specs.Prelude.{vec_capacity};
+    ghost use Rattle.majority_votes.specs.Votes.{Votes};
+    ghost use Rattle.majority_votes.specs.Counts.{IsKept};
+
+    ghost Value = { Votes };
+
+    ghost view = { λ t. record { values = t.values.items; capacity = t.capacity } };
+
+    ghost invariant = { λ t. IsKept t.capacity t.values.items t.counts.items t.infinities (vec_capacity t.values) (vec_capacity t.counts) };
+}
+
+impl Tally {
+    /// An empty tally with room for `capacity` values. It takes all the memory that it will ever need.
+    pub fn new(alloc: Global, capacity: usize) -> Result<Tally, NoMemory>
+        ensures { IfOk result (λ t. t ≡ record { values = []; capacity = capacity }) }
+    {
+        Ok(Tally {
+            capacity,
+            values: Vec::with_capacity(alloc, capacity)?,
+            counts: Vec::with_capacity(alloc, capacity)?,
+            infinities: 0,
+        })
+    }
+
+    /// How many values there is room for.
+    pub fn capacity(&self) -> usize
+        ensures { result ≡ self.now.capacity }
+    {
+        self.capacity
+    }
+
+    /// How many values were added.
+    pub fn len(&self) -> usize
+        ensures exact { result ≡ length self.now.values }
+        ensures within { result ≤ self.now.capacity }
+    {
+        self.values.len()
+    }
+
+    /// Whether no value was added.
+    pub fn is_empty(&self) -> bool
+        ensures { IsTrue result ↔ (self.now.values ≡ []) }
+    {
+        self.values.is_empty()
+    }
+
+    /// Forgets all values, and keeps the room.
+    pub fn clear(&mut self)
+        ensures { self.new ≡ record self.old { values = [] } }
+    {
+        self.values.clear();
+        self.counts.clear();
+        self.infinities = 0;
+    }
+
+    /// Adds a value at the end; `None` is infinity. There has to be room: fewer values than the capacity.
+    pub fn add(&mut self, value: Option<u64>)
+        requires { length self.old.values < self.old.capacity }
+        ensures { self.new ≡ record self.old { values = self.old.values ++ value ∷ [] } }
+    {
+        match value {
+            Some(number) => count_more(&mut self.counts, number),
+            None => self.infinities += 1,
+        }
+        self.values.push(value).unwrap();
+    }
+
+    /// The number that more than half of all places hold, those of infinity counted, or `None` where there is none.
+    pub fn majority(&self) -> Option<u64>
+        ensures { result ≡ majority_of self.now.values }
+    {
+        for count in &self.counts {
+            if self.values.len() / 2 < count.places {
+                return Some(count.value);
+            }
+        }
+        None
+    }
+
+    /// How many places hold the value; `None` is infinity.
+    pub fn count_of(&self, value: Option<u64>) -> usize
+        ensures { result ≡ count_of self.now.values value }
+    {
+        match value {
+            Some(number) => places_of(&self.counts, number),
+            None => self.infinities,
+        }
+    }
+
+    /// The least number that more than `f` places hold, or `None` where there is none.
+    pub fn least_above(&self, f: usize) -> Option<u64>
+        ensures { result ≡ least_above f self.now.values }
+    {
+        for count in &self.counts {
+            if f < count.places {
+                return Some(count.value);
+            }
+        }
+        None
+    }
+}
+
+#[cfg(test)]
+mod tests {
+    use super::*;
+    use std::test::Fail;
+
+    const VALUES: [Option<u64>; 4] = [Some(3), Some(3), Some(5), None];
+
+    fn add_all(tally: &mut Tally, values: &[Option<u64>]) {
+        for value in values {
+            if tally.len() < tally.capacity() {
+                tally.add(*value);
+            }
+        }
+    }
+
+    #[test]
+    fn worked_list(rt: HostRuntime) -> Result<(), Fail> {
+        let mut tally = Tally::new(rt.alloc(), 7)?;
+        add_all(&mut tally, &VALUES);
+        assert_eq!(rt; tally.len(), 4);
+        assert_eq!(rt; tally.majority(), None);
+        assert_eq!(rt; tally.count_of(Some(3)), 2);
+        assert_eq!(rt; tally.count_of(None), 1);
+        assert_eq!(rt; tally.count_of(Some(4)), 0);
+        assert_eq!(rt; tally.least_above(1), Some(3));
+        assert_eq!(rt; tally.least_above(2), None);
+        Ok(())
+    }
+
+    #[test]
+    fn cleared_and_filled_again(rt: HostRuntime) -> Result<(), Fail> {
+        let mut tally = Tally::new(rt.alloc(), 7)?;
+        add_all(&mut tally, &VALUES);
+        tally.clear();
+        assert!(rt; tally.is_empty());
+        assert_eq!(rt; tally.capacity(), 7);
+        add_all(
+            &mut tally,
+            &[Some(9), None, Some(4), Some(9), Some(2), Some(9), Some(9)],
+        );
+        assert_eq!(rt; tally.len(), 7);
+        assert_eq!(rt; tally.majority(), Some(9));
+        assert_eq!(rt; tally.count_of(Some(3)), 0);
+        assert_eq!(rt; tally.least_above(0), Some(2));
+        assert_eq!(rt; tally.least_above(3), Some(9));
+        Ok(())
+    }
+}

@@ -1,0 +1,4 @@
+pub mod PlanPart
+pub mod PlanRefusals
+pub mod PlanSoFar
+pub mod Skipped

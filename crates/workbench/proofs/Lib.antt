@@ -1,0 +1,4 @@
+pub mod AloneRead
+pub mod OneNodeRuns
+pub mod PlansRun
+pub mod Settled

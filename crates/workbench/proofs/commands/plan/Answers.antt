@@ -1,0 +1,5 @@
+use Rattle.std.proofs.Common.{refl}
+use Rattle.workbench.proofs.commands.plan.Goals as goal
+
+pub returns : goal.returns
+returns g c = rw c.in-Ok.ensures (refl, c.in_ok-write_table.ensures)

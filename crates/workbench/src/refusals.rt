@@ -1,0 +1,118 @@
+ghost use Rattle.std.specs.Prelude.{◌≡◌};
+ghost use Rattle.texts.specs.Growth.{Puts};
+ghost use Rattle.workbench.specs.Refusals.{part_word, premise_word, rule_word, refusal_line, refusal_status};
+
+use edge_io::{Piece, Sink, WriteFault, put_pieces};
+use sync_types::{Part, Premise, Rule, Status};
+use thiserror::Error;
+
+/// Why words or an input are refused. Lines are counted from 1 through the whole input.
+#[derive(Clone, Copy, Debug, PartialEq, Eq)]
+pub enum Refusal {
+    /// The words are no command.
+    Usage,
+    /// The plan fails this premise at this line.
+    Plan { line: u64, premise: Premise },
+    /// This part fails this rule at this line.
+    Part { part: Part, line: u64, rule: Rule },
+}
+
+/// Why an input was not read.
+#[derive(Clone, Copy, Debug, PartialEq, Eq, Error)]
+pub enum ReadError {
+    /// It is refused.
+    #[error("the input is refused: {0:?}")]
+    Refused(Refusal),
+    /// Memory was refused.
+    #[error("out of memory")]
+    NoMemory,
+}
+
+fn premise_word(premise: Premise) -> &'static str
+    ensures { result.now ≡ premise_word premise }
+{
+    match premise {
+        Premise::Form => "form",
+        Premise::Limit => "limit",
+        Premise::Blocks => "blocks",
+        Premise::Modulus => "modulus",
+        Premise::Quorum => "quorum",
+        Premise::Share => "share",
+        Premise::Multiple => "multiple",
+    }
+}
+
+fn rule_word(rule: Rule) -> &'static str
+    ensures { result.now ≡ rule_word rule }
+{
+    match rule {
+        Rule::Form => "form",
+        Rule::Limit => "limit",
+        Rule::Node => "node",
+        Rule::Order => "order",
+        Rule::Faults => "faults",
+        Rule::Range => "range",
+        Rule::Hex => "hex",
+        Rule::Name => "name",
+        Rule::Slot => "slot",
+        Rule::Overlap => "overlap",
+    }
+}
+
+fn part_word(part: Part) -> &'static str
+    ensures { result.now ≡ part_word part }
+{
+    match part {
+        Part::Script => "script",
+        Part::Node => "node",
+        Part::Agree => "agree",
+        Part::Slots => "slots",
+        Part::Find => "find",
+        Part::Log => "log",
+        Part::Fire => "fire",
+    }
+}
+
+impl Refusal {
+    /// The status that the refusal ends with.
+    pub fn status(self) -> Status
+        ensures { result ≡ refusal_status self }
+    {
+        match self {
+            Refusal::Usage => Status::Usage,
+            Refusal::Plan { line, premise } => Status::PlanRefused { line, premise },
+            Refusal::Part { part, line, rule } => Status::PartRefused { part, line, rule },
+        }
+    }
+}
+
+/// Writes the line of a refusal.
+pub fn put_refusal<K: Sink>(sink: &mut K, refusal: Refusal) -> Result<(), WriteFault>
+    ensures { Puts result (refusal_line refusal) (K.told sink.old) (K.told sink.new) }
+{
+    match refusal {
+        Refusal::Usage => put_pieces(sink, &[Piece::Text(b"usage: counterlab COMMAND\n")]),
+        Refusal::Plan { line, premise } => put_pieces(
+            sink,
+            &[
+                Piece::Text(b"refused plan line "),
+                Piece::Number(line),
+                Piece::Text(b" premise "),
+                Piece::Text(premise_word(premise).as_bytes()),
+                Piece::Text(b"\n"),
+            ],
+        ),
+        Refusal::Part { part, line, rule } => put_pieces(
+            sink,
+            &[
+                Piece::Text(b"refused "),
+                Piece::Text(part_word(part).as_bytes()),
+                Piece::Text(b" line "),
+                Piece::Number(line),
+                Piece::Text(b" rule "),
+                Piece::Text(rule_word(rule).as_bytes()),
+                Piece::Text(b"\n"),
+            ],
+        ),
+    }
+}
