@@ -6,7 +6,7 @@ use Rattle.std.proofs.lemmas.Bool.{leb-false, not-false}
 use Rattle.counting.specs.Places.{places}
 use Rattle.counting.proofs.Places.{stretches, shorter, one_fails}
 use Rattle.construction.specs.Plans.{Level, leaders_of}
-use Rattle.boost_step.specs.Level.{StandsOver, faults_in}
+use Rattle.level_laws.specs.Level.{StandsOver, faults_in}
 
 -- whether block i has at most f faulty nodes
 abbrev pub sound : (n f : ℕ) (faulty : ℕ → Bool) (i : ℕ) → Bool

@@ -11,9 +11,9 @@ use Rattle.counting.proofs.Majority.{majority_or_zero_of_most}
 use Rattle.construction.specs.Plans.{Level, leaders_of, beat_of}
 use Rattle.construction.specs.Pointers.{pointer_of, part_of}
 use Rattle.construction.specs.Votes.{block, vote, lead, beat_heard}
-use Rattle.boost_step.specs.Hearing.{HearsOutputs}
-use Rattle.boost_step.specs.Level.{StandsOver}
-use Rattle.boost_step.proofs.Blocks.{sound, few_unsound}
+use Rattle.level_laws.specs.Hearing.{HearsOutputs}
+use Rattle.level_laws.specs.Level.{StandsOver}
+use Rattle.level_laws.proofs.Blocks.{sound, few_unsound}
 
 pub block_room : (k n i : ℕ) → i < k → i * n + n ≤ k * n
 block_room k n i h = let e : (i + 1) * n ≤ k * n = mul-le-mul_right n (omega arith) in omega arith

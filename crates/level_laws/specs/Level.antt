@@ -5,7 +5,7 @@ use Rattle.counting.specs.Places.{places}
 use Rattle.construction.specs.Plans.{Level, leaders_of, span_of}
 use Rattle.leader_pointers.specs.Windows.{CountsFor}
 use Rattle.phase_king.specs.Hearing.{AllLocked}
-use Rattle.boost_step.specs.Hearing.{RegistersStep}
+use Rattle.level_laws.specs.Hearing.{RegistersStep}
 
 -- the premises of the level over what stands below it
 pub record StandsOver (level : Level) (n f modulus : ℕ) : Type 0 where

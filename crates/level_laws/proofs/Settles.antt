@@ -13,12 +13,12 @@ use Rattle.leader_pointers.proofs.Windows.{meet, counted}
 use Rattle.leader_pointers.proofs.Intervals.{part_unseen}
 use Rattle.phase_king.specs.Hearing.{Obeys, AllObey, AllLocked}
 use Rattle.phase_king.proofs.Rounds.{convergence}
-use Rattle.boost_step.specs.Hearing.{HearsOutputs, RegistersStep}
-use Rattle.boost_step.specs.Level.{StandsOver, faults_in, BlockCounts, StaysLocked}
-use Rattle.boost_step.proofs.Blocks.{sound, sound_leader}
-use Rattle.boost_step.proofs.Phase.{good_king, phase_time, kind_of, king_of}
-use Rattle.boost_step.proofs.Beats.{beat_is, AllPointTo}
-use Rattle.boost_step.proofs.Locked.{stays_from}
+use Rattle.level_laws.specs.Hearing.{HearsOutputs, RegistersStep}
+use Rattle.level_laws.specs.Level.{StandsOver, faults_in, BlockCounts, StaysLocked}
+use Rattle.level_laws.proofs.Blocks.{sound, sound_leader}
+use Rattle.level_laws.proofs.Phase.{good_king, phase_time, kind_of, king_of}
+use Rattle.level_laws.proofs.Beats.{beat_is, AllPointTo}
+use Rattle.level_laws.proofs.Locked.{stays_from}
 
 module _ (level : Level) (n f modulus : ℕ) (next : ℕ → ℕ) (faulty : ℕ → Bool) (stands : StandsOver level n f modulus) (inner : 3 * f < n) (few : places faulty (level.blocks * n) ≤ level.faults)
     (t last : ℕ) (outputs : ℕ → ℕ → ℕ) (registers : ℕ → ℕ → Reg) (steps : RegistersStep level n next faulty t last outputs registers)

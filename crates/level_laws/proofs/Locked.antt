@@ -7,8 +7,8 @@ use Rattle.construction.specs.Votes.{beat_heard}
 use Rattle.construction.specs.PhaseKing.{locked_at}
 use Rattle.phase_king.specs.Hearing.{AllLocked}
 use Rattle.phase_king.proofs.Rounds.{persists}
-use Rattle.boost_step.specs.Hearing.{RegistersStep}
-use Rattle.boost_step.specs.Level.{StaysLocked}
+use Rattle.level_laws.specs.Hearing.{RegistersStep}
+use Rattle.level_laws.specs.Level.{StaysLocked}
 
 -- a value after so many rounds
 after : (ℕ → ℕ) → ℕ → ℕ → ℕ
