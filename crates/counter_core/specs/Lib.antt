@@ -5,3 +5,6 @@ pub mod Laws
 pub mod Working
 pub mod Trivial
 pub mod TrivialLaws
+pub mod Overlays
+pub mod NoLayers
+pub mod Repeats
