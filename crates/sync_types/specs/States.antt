@@ -1,5 +1,5 @@
 -- A node's state is a number and a list of registers, the lowest level first.
-use Rattle.std.specs.Prelude.{ℕ, List, replicate, Some, None, false, slice_index_or}
+use Rattle.std.specs.Prelude.{ℕ, List, replicate, Some, false, slice_index_or}
 use Rattle.sync_types.specs.declared.states.Reg.{Reg}
 
 pub record State : Type 0 where

@@ -1,0 +1,113 @@
+ghost use Rattle.std.specs.Prelude.{◌≡◌, ◌+◌, ◌-◌, ◌<◌, ◌≤◌, [], ◌∷◌, ◌++◌, length, slice_index, IfOk, IsTrue, ◌↔◌};
+ghost use Rattle.sync_types.specs.FaultSets.{AreFaulty, is_in};
+
+use crate::answers::NoMemory;
+use std::alloc::Global;
+use std::marker::Model;
+
+/// The faulty nodes among so many: their ids in rising order.
+#[derive(Debug, Drop)]
+pub struct FaultSet {
+    nodes: u32,
+    ids: Vec<u32>,
+    // Whether a node is faulty, by its id.
+    marks: Vec<bool>,
+}
+
+impl Model for FaultSet {
+    ghost use Rattle.std.specs.Prelude.{vec_capacity};
+    ghost use Rattle.sync_types.specs.FaultSets.{FaultIds, IsKept};
+
+    ghost Value = { FaultIds };
+
+    ghost view = { λ s. record { nodes = s.nodes; ids = s.ids.items } };
+
+    ghost invariant = { λ s. IsKept s.nodes s.ids.items s.marks.items (vec_capacity s.ids) };
+}
+
+impl FaultSet {
+    /// No faulty node among `nodes` nodes. It takes all the memory that the set ever needs.
+    pub fn new(alloc: Global, nodes: u32) -> Result<FaultSet, NoMemory>
+        ensures { IfOk result (λ set. set ≡ record { nodes = nodes; ids = [] }) }
+    {
+        let ids = Vec::with_capacity(alloc, nodes as usize)?;
+        let marks = vec![in alloc; false; nodes as usize]?;
+        Ok(FaultSet { nodes, ids, marks })
+    }
+
+    /// Adds the id of a node. It is above all ids so far, so it is enough that it is above the last.
+    pub fn push(&mut self, id: u32)
+        requires node { id < self.old.nodes }
+        requires above { 0 < length self.old.ids → slice_index self.old.ids (length self.old.ids - 1) < id }
+        ensures { self.new ≡ record self.old { ids = self.old.ids ++ id ∷ [] } }
+    {
+        self.ids.push(id).unwrap();
+        self.marks[id as usize] = true;
+    }
+
+    /// Whether the node with this id is faulty.
+    pub fn contains(&self, id: u32) -> bool
+        ensures { result ≡ is_in self.now.ids id }
+    {
+        self.marks.get(id as usize).copied().unwrap_or(false)
+    }
+
+    /// How many nodes are faulty.
+    pub fn len(&self) -> usize
+        ensures exact { result ≡ length self.now.ids }
+        ensures within { result ≤ self.now.nodes }
+    {
+        self.ids.len()
+    }
+
+    /// Whether no node is faulty.
+    pub fn is_empty(&self) -> bool
+        ensures { IsTrue result ↔ (self.now.ids ≡ []) }
+    {
+        self.ids.is_empty()
+    }
+
+    /// The id at place `i` in rising order.
+    pub fn at(&self, i: usize) -> u32
+        requires { i < length self.now.ids }
+        ensures { result ≡ slice_index self.now.ids i }
+    {
+        self.ids[i]
+    }
+
+    /// How many nodes there are, faulty or not.
+    pub fn nodes(&self) -> u32
+        ensures { result ≡ self.now.nodes }
+    {
+        self.nodes
+    }
+
+    /// Does nothing but tell that the ids rise and are those of nodes.
+    pub fn tell(&self)
+        ensures { AreFaulty self.now }
+    {
+        let _ids = &self.ids;
+    }
+}
+
+#[cfg(test)]
+mod tests {
+    use super::*;
+    use std::test::Fail;
+
+    #[test]
+    fn ids_that_were_pushed_are_faulty(rt: HostRuntime) -> Result<(), Fail> {
+        let mut set = FaultSet::new(rt.alloc(), 12)?;
+        assert!(rt; set.is_empty());
+        set.push(0);
+        set.push(4);
+        set.push(8);
+        assert_eq!(rt; set.len(), 3);
+        assert_eq!(rt; set.at(1), 4);
+        assert_eq!(rt; set.nodes(), 12);
+        for (id, faulty) in [(0, true), (4, true), (5, false), (8, true), (12, false)] {
+            assert_eq!(rt; set.contains(id), faulty, "node {id}");
+        }
+        Ok(())
+    }
+}
