@@ -1,11 +1,10 @@
 -- What the numbers of a level are to each other, and how large they are.
-use Rattle.std.proofs.Common.{◌≡◌, ℕ, ◌+◌, ◌*◌, ◌/◌, ◌<◌, ◌≤◌, ◌^◌, sym, ap, ◌∙◌, subst, arith}
+use Rattle.std.proofs.Common.{◌≡◌, ℕ, ◌+◌, ◌*◌, ◌/◌, ◌<◌, ◌≤◌, sym, ap, ◌∙◌, subst, arith}
 use Rattle.std.proofs.lemmas.Nat.{div-mul-add, mul-le}
-use Rattle.construction.specs.Plans.{Level, leaders_of, beat_of, span_of}
+use Rattle.construction.specs.Plans.{leaders_of, beat_of, span_of}
 use Rattle.plan_numbers.specs.declared.numbers.Below.{Below}
 use Rattle.plan_numbers.specs.declared.numbers.LevelNums.{LevelNums}
-use Rattle.plan_numbers.specs.Numbers.{level_of, numbers_over}
-use Rattle.plan_numbers.specs.Premises.{MeetsPremises}
+use Rattle.plan_numbers.specs.Numbers.{level_of}
 use Rattle.plan_numbers.specs.Sizes.{IsSizedLevel}
 use Rattle.plan_numbers.proofs.Accepted.{meets, level_sized}
 use Rattle.boost_step.specs.Numbers.{AreNumbersOver, AreNumbers, block_nodes}

@@ -6,12 +6,17 @@
 mod counters;
 mod heard;
 pub mod laws;
+mod overlays;
 mod places;
 mod trivial;
 mod work;
 
 pub use counters::Counter;
 pub use heard::Heard;
+pub use overlays::{NoOverlay, Overlay};
 pub use places::{block_of, group_of, place_in};
 pub use trivial::Trivial;
 pub use work::Work;
+
+#[cfg(test)]
+mod tests;

@@ -1,4 +1,4 @@
-use Rattle.std.proofs.Common.{◌≡◌, ◌+◌, ◌-◌, ◌*◌, ◌/◌, ◌<◌, ◌≤◌, map, take, drop, ap, sym, ◌∙◌, subst, arith, refl}
+use Rattle.std.proofs.Common.{◌+◌, ◌-◌, ◌*◌, ◌<◌, map, take, drop, ap, sym, ◌∙◌, subst, arith, refl}
 use Rattle.counting.specs.Values.{majority_or_zero}
 use Rattle.construction.specs.Pointers.{part_of}
 use Rattle.construction.specs.Votes.{beat_heard}

@@ -1,6 +1,6 @@
 use Rattle.std.proofs.Common.{◌≡◌, ◌*◌, map, take, Some}
 use Rattle.std.specs.List.{range_with_len}
-use Rattle.construction.specs.Plans.{interval_of, leaders_of, beat_of}
+use Rattle.construction.specs.Plans.{interval_of}
 use Rattle.construction.specs.Votes.{vote}
 use Rattle.plan_numbers.specs.Numbers.{level_of}
 use Rattle.boost_step.proofs.level.lead.Given as goal

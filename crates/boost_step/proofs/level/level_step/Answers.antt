@@ -1,4 +1,4 @@
-use Rattle.std.proofs.Common.{◌≡◌, ℕ, ◌*◌, ◌/◌, ◌%◌, List, Option, map, take, ap, ◌∙◌}
+use Rattle.std.proofs.Common.{ℕ, ◌/◌, ◌%◌, Option, map, take, ap, ◌∙◌}
 use Rattle.sync_types.specs.States.{State, register_at}
 use Rattle.construction.specs.PhaseKing.{instructed, up}
 use Rattle.construction.specs.Steps.{state_of}

@@ -1,0 +1,9 @@
+pub mod Answers
+pub mod Kinds
+pub mod LieSteps
+pub mod LieWords
+pub mod ScriptPart
+pub mod ScriptRefusals
+pub mod Scripts
+pub mod Steps
+pub mod WordTests

@@ -1,0 +1,19 @@
+//! Scripts.
+#![tactic(auto)]
+
+mod drafts;
+mod id_sets;
+mod kinds;
+mod lie_lines;
+mod lie_words;
+mod lies;
+mod other_lines;
+mod reading;
+mod refusals;
+mod script_lines;
+mod scripts;
+mod word_tests;
+
+pub use reading::read_script;
+pub use refusals::{ScriptError, ScriptRefusal};
+pub use scripts::Script;

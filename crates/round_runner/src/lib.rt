@@ -1,0 +1,4 @@
+//! Plays a script.
+#![tactic(auto)]
+
+mod locks;
