@@ -2,15 +2,12 @@
 use Rattle.std.specs.Prelude.{◌≡◌, ⊤, ℕ, ◌+◌, ◌%◌, ◌<◌, ◌≤◌, List, [], ◌∷◌, length, map, Bool, false, ◌==◌, ◌||◌, not, All, IfSome, slice_index_or, if◌then◌else◌}
 use Rattle.std.specs.List.{list_any, range_with_len}
 use Rattle.std.specs.List.Sorted.{IsStrictlyIncreasing}
+pub use Rattle.sync_types.specs.FaultSets.{is_in}
 use Rattle.sync_types.specs.States.{State, register_at}
 use Rattle.construction.specs.Plans.{Level, Plan, plan_nodes, plan_faults, plan_modulus, plan_bound, plan_depth, nodes_of}
 use Rattle.construction.specs.Shown.{shown}
 use Rattle.construction.specs.PhaseKing.{locked_at}
 use Rattle.construction.specs.Steps.{state_of, step_of}
-
--- whether an id is among these
-abbrev pub is_in : List ℕ → ℕ → Bool
-is_in ids v = list_any (λ id. v == id) ids
 
 -- configuration t of a run
 abbrev pub configuration : List (List State) → ℕ → List State

@@ -1,5 +1,5 @@
 -- The step of a node, all levels side by side, from the states that it hears of all nodes, its own among them.
-use Rattle.std.specs.Prelude.{ℕ, ◌*◌, ◌/◌, ◌%◌, List, [], ◌∷◌, ◌++◌, length, map, slice_index_or}
+use Rattle.std.specs.Prelude.{Option, ℕ, ◌*◌, ◌/◌, ◌%◌, List, [], ◌∷◌, ◌++◌, length, map, slice_index_or}
 use Rattle.sync_types.specs.States.{State, zero_state, register_at}
 use Rattle.sync_types.specs.declared.states.Reg.{Reg}
 use Rattle.construction.specs.Plans.{Level, Plan, nodes_of}
@@ -15,11 +15,15 @@ state_of config v = slice_index_or config v (zero_state 0)
 abbrev pub group_of : (size v : ℕ) → List State → List State
 group_of size v heard = block size (v / size) heard
 
+-- A register of a level whose blocks have n nodes, after a round: its own old one, and what its node hears of the group, the inner outputs of its nodes and the values of their registers.
+abbrev pub register_after : (n : ℕ) → Level → (own : Reg) → (outputs : List ℕ) → (values : List (Option ℕ)) → Reg
+register_after n level own outputs values =
+    let beat = beat_heard level n outputs in
+    instructed (level.blocks * n) level.faults (up level.modulus) (beat % 3) own values (beat / 3)
+
 -- The new register of a node at a level above l levels, whose blocks have n nodes: its own old state, and the states that it hears of its group.
 abbrev pub new_register : (l n : ℕ) → Level → State → List State → Reg
-new_register l n level own group =
-    let beat = beat_heard level n (map (shown l) group) in
-    instructed (level.blocks * n) level.faults (up level.modulus) (beat % 3) (register_at l own) (map (λ s. (register_at l s).a) group) (beat / 3)
+new_register l n level own group = register_after n level (register_at l own) (map (shown l) group) (map (λ s. (register_at l s).a) group)
 
 -- the new registers of node v, the lowest first
 abbrev pub new_registers : List Level → ℕ → List State → List Reg

@@ -32,7 +32,7 @@ pub count_below : (n : ℕ) (ids : List ℕ) → IsStrictlyIncreasing ids → Al
 count_below n ids rising below = room_for ids n rising (λ some. All-get_or (λ id. id < n) ids (length ids - 1) 0 (omega arith) below)
 
 -- they still rise
-rising_push : (ids : List ℕ) (id : ℕ) → IsStrictlyIncreasing ids → (0 < length ids → get_or ids (length ids - 1) 0 < id) → IsStrictlyIncreasing (ids ++ id ∷ [])
+pub rising_push : (ids : List ℕ) (id : ℕ) → IsStrictlyIncreasing ids → (0 < length ids → get_or ids (length ids - 1) 0 < id) → IsStrictlyIncreasing (ids ++ id ∷ [])
 rising_push ids id rising above k lt =
     let long = length_push ids id in
     ⊎_elim

@@ -8,5 +8,7 @@ mod readings;
 mod refusals;
 mod running;
 mod scripts;
+#[cfg(test)]
+mod tests;
 
 pub use commands::counterlab;

@@ -1,0 +1,237 @@
+ghost use Rattle.std.specs.Prelude.{◌≤◌, All};
+
+use crate::counterlab;
+use edge_io::{MemSink, MemSource};
+use std::alloc::Global;
+use std::test::Fail;
+use sync_types::{Part, Premise, Rule, Status};
+
+/// A one-node counter, six rounds of it.
+const COUNTS: &str = "plan 1\nbase 5\nend\nscript 1\nfaulty\nstart zero\nrounds 6\nshow 0 6\nend\n";
+
+const COUNTED: &str =
+    "bound 0\nrow 0 0\nrow 1 1\nrow 2 2\nrow 3 3\nrow 4 4\nrow 5 0\nrow 6 1\nlocked 0\n";
+
+const TWO_LEVELS: &str = "plan 1\nbase 2304\nlevel 4 1 960\nlevel 3 3 10\nend\n";
+
+const TABLE: &str =
+    "table 1\nbase 2304\nlevel 1 blocks 4 leaders 2 nodes 4 faults 1 beat 9 span 2304 modulus 960 bound 2304 bits 23\nlevel 2 blocks 3 leaders 2 nodes 12 faults 3 beat 15 span 960 modulus 10 bound 3264 bits 28\nplan nodes 12 faults 3 modulus 10 bound 3264 bits 28 bytes 4\nend\n";
+
+/// The words that are parted by single spaces.
+fn words_of(alloc: Global, line: &str) -> Result<Vec<String>, Fail> {
+    let mut words = Vec::new(alloc);
+    if !line.is_empty() {
+        for word in line.split(' ') {
+            words.push(String::from_str(alloc, word)?)?;
+        }
+    }
+    Ok(words)
+}
+
+/// What the workbench answers to some words and an input, and the sink that it wrote to.
+fn answer(alloc: Global, line: &str, input: &[u8]) -> Result<(Status, MemSink), Fail> {
+    let none = Vec::new(alloc);
+    let mut source = MemSource::new(Vec::from_slice(alloc, input)?, Vec::new(alloc), none);
+    let mut sink = MemSink::new(alloc, 4096, Vec::new(alloc), Vec::new(alloc))?;
+    let words = words_of(alloc, line)?;
+    let status = counterlab(alloc, &words, &mut source, &mut sink);
+    Ok((status, sink))
+}
+
+#[test]
+fn accepted_inputs_are_answered(rt: HostRuntime) -> Result<(), Fail> {
+    let rows = [
+        ("run", COUNTS, COUNTED),
+        (
+            "run",
+            "# a comment\nplan 1\n\nbase 2\nend\n#\nscript 1\nfaulty\nstart zero\nrounds 3\nshow 2 3\nend\n\n# behind",
+            "bound 0\nrow 2 0\nrow 3 1\nlocked 0\n",
+        ),
+        (
+            "run",
+            "plan 1\nbase 1099511627776\nend\nscript 1\nfaulty\nstart zero\nrounds 0\nshow 0 0\nend",
+            "bound 0\nrow 0 0\nlocked 0\n",
+        ),
+        (
+            "plan",
+            "plan 1\nbase 5\nend\n",
+            "table 1\nbase 5\nplan nodes 1 faults 0 modulus 5 bound 0 bits 3 bytes 1\nend\n",
+        ),
+        ("plan", TWO_LEVELS, TABLE),
+    ];
+    for (words, input, text) in rows {
+        let (status, sink) = answer(rt.alloc(), words, input.as_bytes())?;
+        assert_eq!(rt; status, Status::Ok, "at {input}");
+        assert_eq!(rt; sink.taken(), text.as_bytes(), "at {input}");
+    }
+    Ok(())
+}
+
+#[test]
+fn words_outside_the_table_are_usage(rt: HostRuntime) -> Result<(), Fail> {
+    for words in ["", "run run", "demo", "demo 01", "--help", "Run"] {
+        let (status, sink) = answer(rt.alloc(), words, COUNTS.as_bytes())?;
+        assert_eq!(rt; status, Status::Usage, "at {words}");
+        assert_eq!(rt;
+            sink.taken(),
+            b"usage: counterlab COMMAND\n".as_slice(),
+            "at {words}"
+        );
+    }
+    Ok(())
+}
+
+#[test]
+fn plans_are_refused(rt: HostRuntime) -> Result<(), Fail> {
+    let rows = [
+        (
+            "plan",
+            "",
+            1,
+            Premise::Form,
+            "refused plan line 1 premise form\n",
+        ),
+        (
+            "plan",
+            "plan 1\nbase 2304\nlevel 3 1 10\nend\n",
+            3,
+            Premise::Quorum,
+            "refused plan line 3 premise quorum\n",
+        ),
+        (
+            "plan",
+            "plan 1\nbase 5\nend\nscript 1\n",
+            4,
+            Premise::Form,
+            "refused plan line 4 premise form\n",
+        ),
+        (
+            "run",
+            "plan 1\nbase 1\nend\nscript 1\nfaulty\nstart zero\nrounds 6\nshow 0 6\nend\n",
+            2,
+            Premise::Modulus,
+            "refused plan line 2 premise modulus\n",
+        ),
+        (
+            "run",
+            "plan 1\nbase 2304\nlevel 4 1 10\nend\n",
+            3,
+            Premise::Form,
+            "refused plan line 3 premise form\n",
+        ),
+    ];
+    for (words, input, line, premise, text) in rows {
+        let (status, sink) = answer(rt.alloc(), words, input.as_bytes())?;
+        assert_eq!(rt; status, Status::PlanRefused { line, premise }, "at {input}");
+        assert_eq!(rt; sink.taken(), text.as_bytes(), "at {input}");
+    }
+    Ok(())
+}
+
+#[test]
+fn scripts_are_refused(rt: HostRuntime) -> Result<(), Fail> {
+    let rows = [
+        ("", 4, Rule::Form, "refused script line 4 rule form\n"),
+        (
+            "script 1\n\nfaulty 0\n",
+            6,
+            Rule::Faults,
+            "refused script line 6 rule faults\n",
+        ),
+        (
+            "script 1\nfaulty 0 0 5\n",
+            5,
+            Rule::Node,
+            "refused script line 5 rule node\n",
+        ),
+        (
+            "script 1\nfaulty 0 0\n",
+            5,
+            Rule::Order,
+            "refused script line 5 rule order\n",
+        ),
+        (
+            "script 1\nfaulty x\n",
+            5,
+            Rule::Form,
+            "refused script line 5 rule form\n",
+        ),
+        (
+            "script 1\nfaulty\nstart zero\nrounds 1000001\n",
+            7,
+            Rule::Limit,
+            "refused script line 7 rule limit\n",
+        ),
+        (
+            "script 1\nfaulty\nstart zero\nrounds 6\nshow 3 2\n",
+            8,
+            Rule::Range,
+            "refused script line 8 rule range\n",
+        ),
+        (
+            "script 1\nfaulty\nstart zero\nrounds 6\nshow 0 6\nend\n\nend\n",
+            11,
+            Rule::Form,
+            "refused script line 11 rule form\n",
+        ),
+    ];
+    for (script, line, rule, text) in rows {
+        let alloc = rt.alloc();
+        let mut input = String::from_str(alloc, "plan 1\nbase 5\nend\n")?;
+        input.push_str(script)?;
+        let (status, sink) = answer(alloc, "run", input.as_bytes())?;
+        let part = Part::Script;
+        assert_eq!(rt;
+            status,
+            Status::PartRefused { part, line, rule },
+            "at {script}"
+        );
+        assert_eq!(rt; sink.taken(), text.as_bytes(), "at {script}");
+    }
+    Ok(())
+}
+
+#[test]
+fn longer_inputs_are_too_long(rt: HostRuntime) -> Result<(), Fail> {
+    let alloc = rt.alloc();
+    let most = vec![in alloc; b'\n'; 1 << 20]?;
+    let (status, sink) = answer(alloc, "plan", &most)?;
+    let line = (1 << 20) + 1;
+    let premise = Premise::Form;
+    assert_eq!(rt; status, Status::PlanRefused { line, premise });
+    assert_eq!(rt;
+        sink.taken(),
+        b"refused plan line 1048577 premise form\n".as_slice()
+    );
+    let more = vec![in alloc; b'\n'; (1 << 20) + 1]?;
+    for words in ["run", "plan"] {
+        let (status, sink) = answer(alloc, words, &more)?;
+        assert_eq!(rt; status, Status::TooLong, "at {words}");
+        assert!(rt; sink.taken().is_empty(), "at {words}");
+    }
+    Ok(())
+}
+
+#[test]
+fn cut_and_failing_calls(rt: HostRuntime) -> Result<(), Fail> {
+    let alloc = rt.alloc();
+    let none: [u64; 0] = [];
+    let rows = [
+        (none.as_slice(), none.as_slice(), Status::Ok, COUNTED),
+        (none.as_slice(), [3].as_slice(), Status::WriteFault, "bo"),
+        ([1].as_slice(), none.as_slice(), Status::ReadFault, ""),
+        ([40].as_slice(), none.as_slice(), Status::ReadFault, ""),
+    ];
+    for (reads, writes, want, text) in rows {
+        let bytes = Vec::from_slice(alloc, COUNTS.as_bytes())?;
+        let ones = vec![in alloc; 1; 1]?;
+        let mut source = MemSource::new(bytes, Vec::from_slice(alloc, reads)?, ones);
+        let ones = vec![in alloc; 1; 1]?;
+        let mut sink = MemSink::new(alloc, 4096, Vec::from_slice(alloc, writes)?, ones)?;
+        let words = words_of(alloc, "run")?;
+        let status = counterlab(alloc, &words, &mut source, &mut sink);
+        assert_eq!(rt; status, want, "at {text}");
+        assert_eq!(rt; sink.taken(), text.as_bytes(), "at {text}");
+    }
+    Ok(())
+}
