@@ -44,6 +44,7 @@ IsTold n shape (what.Shift d) = ⊤
 
 -- what holds of every script that was read
 pub record IsScript (s : Script) : Type 0 where
+  pub senders : All (λ lie. lie.sender < s.nodes) s.lies
   pub lies : All (λ lie. IsTold s.nodes s.shape lie.what) s.lies
   pub starts : All (λ start. InRange s.shape start.state) s.starts
   pub few : s.rounds ≤ 1000000

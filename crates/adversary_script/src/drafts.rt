@@ -1,4 +1,4 @@
-ghost use Rattle.std.specs.Prelude.{◌≡◌, ◌≤◌, ◌++◌, ◌∷◌, [], None, IfOk};
+ghost use Rattle.std.specs.Prelude.{◌≡◌, ◌<◌, ◌≤◌, ◌++◌, ◌∷◌, [], None, IfOk};
 ghost use Rattle.construction.specs.Plans.{plan_nodes};
 ghost use Rattle.state_codec.specs.Shapes.{shape_of};
 ghost use Rattle.state_codec.specs.Ranges.{InRange};
@@ -6,6 +6,7 @@ ghost use Rattle.adversary_script.specs.Scripts.{Group, IsTold, empty_script};
 ghost use Rattle.adversary_script.specs.LieSteps.{group_at};
 
 use crate::lies::{CommonStart, Lie, Start};
+use crate::links::link;
 use crate::scripts::Script;
 use indexmap::IndexMap;
 use plan_numbers::Plan;
@@ -74,7 +75,9 @@ impl<'a> Draft<'a> {
         let shape = StateShape::of(self.alloc, self.plan)?;
         let fresh = Draft::new(self.alloc, self.plan, self.shape)?;
         let done = mem::replace(self, fresh);
+        let links = link(done.alloc, done.faulty.nodes(), &done.lies)?;
         Ok(Script {
+            base: self.plan.base_modulus(),
             shape,
             faulty: done.faulty,
             key: done.key,
@@ -82,6 +85,7 @@ impl<'a> Draft<'a> {
             starts: done.starts,
             groups: done.groups,
             lies: done.lies,
+            links,
             rounds: done.rounds,
             first: done.first,
             last: done.last,
@@ -131,7 +135,8 @@ impl<'a> Draft<'a> {
 
     /// Adds a rule of lies.
     pub fn add_lie(&mut self, lie: Lie) -> Result<(), AllocFailed<Lie>>
-        requires { IsTold self.old.nodes self.old.shape lie.what }
+        requires sender { lie.sender < self.old.nodes }
+        requires told { IsTold self.old.nodes self.old.shape lie.what }
         ensures { IfOk result (λ _. self.new ≡ record self.old { lies = self.old.lies ++ lie ∷ [] }) }
     {
         self.lies.push(lie)

@@ -1,4 +1,4 @@
-ghost use Rattle.std.specs.Prelude.{◌≡◌, true};
+ghost use Rattle.std.specs.Prelude.{◌≡◌, ◌<◌, true};
 ghost use Rattle.std.specs.List.{list_all};
 ghost use Rattle.std.specs.Option.{option_map};
 ghost use Rattle.adversary_script.specs.LieWords.{who_seen, what_seen, lie_seen};
@@ -105,6 +105,7 @@ fn what_below(nodes: u32, what: &WhatWords) -> bool
 /// Whether all ids of a lie are those of nodes, and its sender's of a faulty one.
 pub fn are_ids(faulty: &FaultSet, line: &LieWords) -> bool
     ensures value { result ≡ are_ids faulty.now.nodes faulty.now.ids (lie_seen line.now) }
+    ensures sender { result ≡ true → line.now.sender < faulty.now.nodes }
     ensures copied { result ≡ true → what_below faulty.now.nodes (what_seen line.now.what) ≡ true }
 {
     let nodes = faulty.nodes();

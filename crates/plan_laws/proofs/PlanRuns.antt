@@ -34,11 +34,11 @@ choice_is P false s t here there = there
 
 module _ (plan : Plan) where
   -- a state of the plan is in range
-  range_of : (s : State) → IsState plan s → IsInRange plan s
+  pub range_of : (s : State) → IsState plan s → IsInRange plan s
   range_of s is = record { x = is.x; values = is.range }
 
   -- a step gives no further registers
-  cut_step : (v : ℕ) (heard : List State) → cut (plan_depth plan) (step_of plan v heard) ≡ step_of plan v heard
+  pub cut_step : (v : ℕ) (heard : List State) → cut (plan_depth plan) (step_of plan v heard) ≡ step_of plan v heard
   cut_step v heard = ap (λ (registers : List Reg). record { x = up plan.base (state_of heard v).x; registers = registers })
       (take_all (plan_depth plan) (new_registers plan.levels v heard) (omega (arith, new_registers-length plan.levels v heard)))
 

@@ -8,7 +8,8 @@ use Rattle.construction.specs.Steps.{state_of}
 use Rattle.construction.specs.Runs.{is_in}
 use Rattle.round_runner.specs.Locks.{correct_registers, is_locked_at}
 
-within : (states : List State) (v : ℕ) (d e : State) → v < length states → get_or states v d ≡ get_or states v e
+-- a place within a list needs no default
+pub within : (states : List State) (v : ℕ) (d e : State) → v < length states → get_or states v d ≡ get_or states v e
 within [] v d e lt = absurd (omega arith)
 within (state ∷ states) zero d e lt = refl
 within (state ∷ states) (suc v) d e lt = within states v d e (omega arith)

@@ -1,5 +1,5 @@
 -- Whether a configuration is locked.
-use Rattle.std.specs.Prelude.{ℕ, List, [], ◌∷◌, length, map, filter, not, nat_eq, Bool, true, ◌&&◌, Some, unwrap_or}
+use Rattle.std.specs.Prelude.{ℕ, zero, suc, List, [], ◌∷◌, length, map, filter, not, nat_eq, Bool, true, ◌&&◌, Option, Some, None, unwrap_or, if◌then◌else◌}
 use Rattle.std.specs.List.{list_all, range_with_len}
 use Rattle.std.specs.Option.{option_eq}
 use Rattle.sync_types.specs.declared.states.Reg.{Reg}
@@ -36,3 +36,13 @@ is_locked_in (level ∷ below) faulty config = are_locked (correct_registers (le
 
 abbrev pub is_locked : Plan → (faulty : List ℕ) → List State → Bool
 is_locked plan faulty config = is_locked_in plan.levels faulty config
+
+-- the first locked one, where there was one, and else that of this number if it is locked
+abbrev pub first_of : Option ℕ → Bool → ℕ → Option ℕ
+first_of (Some t) locked now = Some t
+first_of None locked now = if locked then Some now else None
+
+-- the first number up to t that is locked
+abbrev pub first_locked : (locked : ℕ → Bool) → ℕ → Option ℕ
+first_locked locked zero = first_of None (locked zero) zero
+first_locked locked (suc t) = first_of (first_locked locked t) (locked (suc t)) (suc t)
