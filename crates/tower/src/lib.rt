@@ -4,6 +4,8 @@
 #![tactic(auto)]
 
 mod registers;
+#[cfg(test)]
+mod tests;
 mod towers;
 
 pub use towers::{Tower, build};
