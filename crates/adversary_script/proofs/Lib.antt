@@ -5,3 +5,4 @@ pub mod WordBytes
 pub mod Linked
 pub mod FaultyIds
 pub mod Shifted
+pub mod ForPlans

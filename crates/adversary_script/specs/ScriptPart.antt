@@ -1,10 +1,11 @@
 -- The script part of an input, line by line, to the end of the input.
-use Rattle.std.specs.Prelude.{ℕ, ◌+◌, List, Option, Some, None, Result, Ok, Err, if◌then◌else◌}
+use Rattle.std.specs.Prelude.{◌≡◌, ℕ, ◌+◌, List, Option, Some, None, Result, Ok, Err, if◌then◌else◌}
 use Rattle.texts.specs.Lines.{words_of}
 use Rattle.texts.specs.Parts.{Next, goes, ends, refuses, with_skips, Found, At, part_from}
 use Rattle.sync_types.specs.declared.answers.Rule.{Rule}
 use Rattle.sync_types.specs.declared.answers.Rule.TheVariants.{Form}
 use Rattle.construction.specs.Plans.{Plan, plan_nodes, plan_faults}
+use Rattle.construction.specs.Runs.{IsBorne}
 use Rattle.state_codec.specs.Shapes.{Shape}
 use Rattle.plan_reader.specs.Skipped.{first_unskipped}
 use Rattle.adversary_script.specs.declared.kinds.Kind.{Kind}
@@ -54,3 +55,9 @@ alone number (Err refusal) = Err refusal
 -- The script of these lines, of which the first has that number and behind whose `end` only skipped ones stand; or the first line that fails, with the first rule that it fails.
 abbrev pub script_of : Plan → Shape → (number : ℕ) → List (List ℕ) → Result Script (At Rule)
 script_of plan shape number lines = alone number (part_of plan shape number lines)
+
+-- a script for a plan: for its nodes, for states of that shape, with a faulty set that the plan bears
+pub record IsFor (plan : Plan) (shape : Shape) (script : Script) : Type 0 where
+  pub nodes : script.nodes ≡ plan_nodes plan
+  pub states : script.shape ≡ shape
+  pub borne : IsBorne plan script.faulty

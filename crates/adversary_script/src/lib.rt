@@ -17,6 +17,8 @@ mod script_lines;
 mod scripts;
 mod shifting;
 mod telling;
+#[cfg(test)]
+mod tests;
 mod word_tests;
 
 pub use noise::Noise;

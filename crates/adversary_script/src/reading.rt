@@ -1,7 +1,7 @@
-ghost use Rattle.std.specs.Prelude.{◌≡◌, ◌≤◌, ◌<◌, ◌+◌, ◌^◌, length, Ok, MatchResult};
+ghost use Rattle.std.specs.Prelude.{◌≡◌, ◌≤◌, ◌<◌, ◌+◌, ◌^◌, length, Ok, IfOk, MatchResult};
 ghost use Rattle.texts.specs.Lines.{lines_of};
 ghost use Rattle.state_codec.specs.Shapes.{shape_of};
-ghost use Rattle.adversary_script.specs.ScriptPart.{script_of};
+ghost use Rattle.adversary_script.specs.ScriptPart.{script_of, IsFor};
 ghost use Rattle.adversary_script.specs.ScriptRefusals.{FailsAsDefined};
 
 use crate::refusals::{ScriptError, ScriptRefusal};
@@ -28,6 +28,25 @@ pub fn read_script(
     requires first { 1 ≤ first_line }
     requires count { first_line + length bytes.now < 2 ^ 64 }
     ensures exact { MatchResult result
+        (λ script. script_of plan.now shape.now first_line (lines_of bytes.now) ≡ Ok script)
+        (λ error. FailsAsDefined error (script_of plan.now shape.now first_line (lines_of bytes.now))) }
+    ensures borne { IfOk result (λ script. IsFor plan.now shape.now script) }
+{
+    read_exactly(alloc, plan, shape, bytes, first_line)
+}
+
+/// Reads a script, exactly as it is defined.
+fn read_exactly(
+    alloc: Global,
+    plan: &Plan,
+    shape: &StateShape,
+    bytes: &[u8],
+    first_line: u64,
+) -> Result<Script, ScriptError>
+    requires shape { shape.now ≡ shape_of plan.now }
+    requires first { 1 ≤ first_line }
+    requires count { first_line + length bytes.now < 2 ^ 64 }
+    ensures { MatchResult result
         (λ script. script_of plan.now shape.now first_line (lines_of bytes.now) ≡ Ok script)
         (λ error. FailsAsDefined error (script_of plan.now shape.now first_line (lines_of bytes.now))) }
 {
