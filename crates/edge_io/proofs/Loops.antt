@@ -1,7 +1,10 @@
 -- What the loops over a source and a sink keep.
 use Rattle.std.proofs.Common.{◌≡◌, ℕ, ◌≤◌, ◌-◌, ◌+◌, List, [], ◌++◌, length, take, drop, Option, refl, ap, sym, ◌∙◌, append_assoc, arith}
 use Rattle.std.specs.Io.KnownBytes.{Consumes, Keeps, Appends}
+use Rattle.std.specs.Prelude.{Result, Ok, Err, OnErr}
+use Rattle.std.proofs.KnownBytes.{Consumes-kept, Consumes-trans}
 use Rattle.texts.specs.Causes.{Counted}
+use Rattle.edge_io.specs.Reading.{LosesFront}
 use Rattle.std.proofs.lemmas.List.{take-append-drop, take_rest, length-take-le}
 use Rattle.texts.specs.Growth.{Told, Follows, Wrote, Cut}
 use Rattle.texts.proofs.Growth.{wrote_none, wrote_then, cut_then, kept_is}
@@ -38,3 +41,16 @@ put_cut text rest old mid new p keeps cause uncertain follows = rw p.parts (cut_
   uncertain = uncertain;
   follows = follows;
 }))
+
+-- a read failed after some that did not
+pub lost_before : (old mid new : Option (List ℕ)) (bytes : List ℕ) → Consumes old mid bytes → Keeps mid new → LosesFront old new
+lost_before old mid new bytes read keeps = record { front = bytes; read = Consumes-kept old mid new bytes read keeps }
+
+-- some bytes more were read
+pub lost_with : (old mid new : Option (List ℕ)) (bytes more : List ℕ) → Consumes old mid bytes → Consumes mid new more → LosesFront old new
+lost_with old mid new bytes more read then = record { front = bytes ++ more; read = Consumes-trans old mid new bytes more read then }
+
+-- what holds at each answer holds at an error
+pub at_error : {T E : Type 0} {P : Type 0} (r : Result T E) → P → OnErr r P
+at_error (Ok x) p = tt
+at_error (Err e) p = p

@@ -2,6 +2,7 @@ ghost use Rattle.std.specs.Prelude.{◌≡◌, ◌≤◌, ◌+◌, ◌++◌, len
 
 use crate::{Failed, Sink, WriteFault};
 
+/// How many bytes are held back at most.
 const ROOM: usize = 8192;
 
 /// A sink that gathers bytes in a buffer of 8192 bytes of its own, and passes them on to the sink that it was lent only when that is full and at `flush` or `finish`. It takes no memory.

@@ -5,6 +5,7 @@ ghost use Rattle.texts.specs.Numbers.{number_of};
 use crate::{Sink, WriteFault, put_all};
 use itoa::Buffer;
 
+/// The digits of the longest number.
 const MOST_DIGITS: usize = 15;
 
 /// The number that a word writes in decimal: 1 to 15 digits, with no leading zero but in `0` itself. None exactly where the word is no number.

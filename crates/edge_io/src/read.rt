@@ -1,6 +1,7 @@
-ghost use Rattle.std.specs.Prelude.{◌≡◌, ◌<◌, ◌≤◌, length, IfOk, IfSome, IsErrOf, OnOk};
+ghost use Rattle.std.specs.Prelude.{◌≡◌, ◌<◌, ◌≤◌, length, IfOk, IfSome, IsErrOf, OnOk, OnErr};
 ghost use Rattle.std.specs.Io.KnownBytes.{Consumes, IsAtEnd};
 ghost use Rattle.texts.specs.Causes.{Counted};
+ghost use Rattle.edge_io.specs.Reading.{LosesFront};
 ghost use Rattle.edge_io.specs.declared.read.InputFault.TheVariants.{NoMemory};
 
 use crate::{Failed, Source};
@@ -31,11 +32,12 @@ impl From<AllocError> for InputFault {
     }
 }
 
+/// How many bytes one read asks for.
 const PIECE: usize = 4096;
 
 /// Reads to the end of an input of at most `limit` bytes, in time linear in its length.
 ///
-/// `TooLong` comes where the byte behind the limit was there, `ReadFault` only where the source counted a fault, `NoMemory` where memory ran out. Some bytes of the source are then read and lost.
+/// `TooLong` comes where the byte behind the limit was there, `ReadFault` only where the source counted a fault, `NoMemory` where memory ran out.
 pub fn read_all<S: Source>(
     alloc: Global,
     source: &mut S,
@@ -47,6 +49,9 @@ pub fn read_all<S: Source>(
     ensures short { IfOk result (λ v. length v.items ≤ limit) }
 
     ensures long { IsErrOf result InputFault.TooLong → IfSome (S.left source.old) (λ bytes. limit < length bytes) }
+
+    // What was read before an error is lost, and what is behind it is left.
+    ensures lost { OnErr result (LosesFront (S.left source.old) (S.left source.new)) }
 
     // Only a read fault was counted.
     ensures fault { IsErrOf result InputFault.ReadFault → Counted (S.faults source.old) (S.faults source.new) }

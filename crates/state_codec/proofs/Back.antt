@@ -1,9 +1,9 @@
 -- What was written reads back.
-use Rattle.std.proofs.Common.{◌≡◌, ℕ, ◌+◌, ◌-◌, ◌*◌, ◌^◌, ◌≤◌, ◌<◌, Bool, true, false, length, take, drop, List, [], ◌∷◌, ◌++◌, refl, sym, ap, ◌∙◌, append_assoc, arith, length-append, Option, Some, None, suc, nat_lt, ◌==◌, if◌then◌else◌}
+use Rattle.std.proofs.Common.{◌≡◌, ℕ, ◌+◌, ◌-◌, ◌*◌, ◌^◌, ◌≤◌, ◌<◌, Bool, true, false, length, take, drop, List, [], ◌∷◌, ◌++◌, refl, sym, ap, ◌∙◌, append_assoc, arith, length-append, Option, Some, None, suc, nat_lt, ◌==◌}
 use Rattle.std.specs.Prelude.{unwrap_or, IfSome, slice_index_or, All}
 use Rattle.std.proofs.lemmas.List.{take_at, drop_at, get_or_at, length-replicate, nil_from_length, length_push}
 use Rattle.std.proofs.lemmas.Bool.{lt-ltb, le-ltb, eq-eqb}
-use Rattle.bit_lists.specs.Bits.{bits, number_of, bits_of_bytes}
+use Rattle.bit_lists.specs.Bits.{bits, number_of}
 use Rattle.bit_lists.proofs.Numbers.{length-bits, number_of_enough}
 use Rattle.bit_lists.proofs.Bytes.{bits_of_bytes-bytes_of_bits, length-bytes_of_bits}
 use Rattle.construction.specs.Widths.{width}

@@ -4,7 +4,7 @@ use Rattle.std.specs.Prelude.{MatchResult, is_some, slice_index, slice_index_or}
 use Rattle.std.specs.List.{list_all, AllPass}
 use Rattle.std.proofs.lemmas.Bool.{eq-eqb}
 use Rattle.std.proofs.lemmas.List.Sums.{AllPass-from_list_all}
-use Rattle.hex.specs.Hex.{decode_sized, is_hex_digit, encode_lower, encode_with, lower_digits}
+use Rattle.hex.specs.Hex.{decode_sized, is_hex_digit, encode_with, lower_digits}
 use Rattle.hex.specs.declared.error.FromHexError.{FromHexError}
 use Rattle.hex.proofs.HexLemmas.{decode_sized-twice, decode_of-digits, decode_of-encode_lower, length-encode_with}
 use Rattle.bit_lists.proofs.Bytes.{bytes_of_bits_below, length-bytes_of_bits}

@@ -1,5 +1,5 @@
 -- The shape of a plan's states: the moduli of their numbers, and how many bits and bytes they take.
-use Rattle.std.specs.Prelude.{ℕ, ◌+◌, ◌^◌, ◌≤◌, List, length, map, reverse, All}
+use Rattle.std.specs.Prelude.{ℕ, ◌+◌, ◌^◌, ◌≤◌, List, map, reverse, All}
 use Rattle.std.specs.Int.{div_ceil}
 use Rattle.std.specs.List.{sum_by}
 use Rattle.construction.specs.Widths.{width}

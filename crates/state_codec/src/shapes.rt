@@ -112,7 +112,8 @@ impl StateShape {
         };
         let front = put(out, start, bit_length(self.base - 1), state.x());
         let end = put_registers(out, front, &self.moduli, state);
-        let _whole = put(out, end, self.size.div_ceil(8) * 8 - self.size, 0);
+        let padding = self.size.div_ceil(8) * 8 - self.size;
+        let _whole = put(out, end, padding, 0);
     }
 
     /// Reads a state from any bytes into `out`, which has the depth of the shape. Bytes that are not just so many as a state has stand for the zero state. A number of its modulus or more is read as 0, and a value as infinity; padding is ignored.

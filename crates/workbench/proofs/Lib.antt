@@ -1,3 +1,4 @@
+pub mod AcceptedRead
 pub mod AloneRead
 pub mod OneNodeRuns
 pub mod PlansRun

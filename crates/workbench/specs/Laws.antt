@@ -1,5 +1,5 @@
 -- What holds of every input, whatever becomes of it.
-use Rattle.std.specs.Prelude.{◌≡◌, ℕ, List, [], None, IfOk}
+use Rattle.std.specs.Prelude.{ℕ, List, None, IfOk}
 use Rattle.construction.specs.Plans.{Plan}
 use Rattle.construction.specs.Runs.{Run, Settles}
 use Rattle.plan_numbers.specs.Premises.{IsAccepted}
@@ -7,9 +7,9 @@ use Rattle.plan_reader.specs.PlanPart.{plan_of}
 use Rattle.workbench.specs.Scripts.{Script}
 use Rattle.workbench.specs.Played.{played}
 
--- where the plan part of an input is accepted, and has no level, the plan settles
+-- where the plan part of an input is accepted the plan settles
 abbrev pub AcceptedPlansSettle : Type 0
-AcceptedPlansSettle = (input : List ℕ) → IfOk (plan_of None input) (λ found. found.value.levels ≡ [] → Settles found.value)
+AcceptedPlansSettle = (input : List ℕ) → IfOk (plan_of None input) (λ found. Settles found.value)
 
 -- the configurations of a script are a run of its plan
 abbrev pub PlayedIsRun : Type 0

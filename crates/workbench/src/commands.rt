@@ -101,7 +101,7 @@ pub fn counterlab<S: Source, K: Sink>(
     // No other status counts a read fault.
     ensures still { (result ≡ Status.ReadFault → ⊥) → S.faults source.new ≡ S.faults source.old }
 
-    // Whatever becomes of the input: where its plan part is accepted, and has no level, the plan settles.
+    // Whatever becomes of the input: where its plan part is accepted, the plan settles.
     ensures settles { AcceptedPlansSettle }
 {
     accepted_plans_settle();

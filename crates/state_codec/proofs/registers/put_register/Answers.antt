@@ -1,5 +1,4 @@
 use Rattle.std.proofs.Common.{arith, ℕ, ◌≡◌, ◌≤◌, ◌<◌, ◌+◌, ◌*◌, ◌^◌, ◌%◌, bit_or, ap, ◌∙◌, ◌++◌, List, Bool, [], ◌∷◌}
-use Rattle.std.specs.Prelude.{unwrap_or}
 use Rattle.bit_lists.specs.Bits.{bits}
 use Rattle.construction.specs.Widths.{width}
 use Rattle.state_codec.specs.Writing.{bits_of_register}

@@ -1,9 +1,7 @@
-use Rattle.std.proofs.Common.{ap, ◌≡◌, ◌∙◌, length}
+use Rattle.std.proofs.Common.{ap, ◌∙◌, length}
 use Rattle.std.specs.Int.{div_ceil}
-use Rattle.construction.specs.Plans.{plan_bits}
-use Rattle.state_codec.specs.Shapes.{shape_of, bits_in, bytes_in}
+use Rattle.state_codec.specs.Shapes.{bits_in, bytes_in}
 use Rattle.state_codec.proofs.Plans.{plan_kept, plan_shape, bits_in-shape_of, length-moduli_of}
-use Rattle.state_codec.proofs.Whole.{shape_with}
 use Rattle.state_codec.proofs.shapes.StateShape.of.Goals as goal
 
 pub invariant_of-result : goal.invariant_of-result

@@ -1,4 +1,4 @@
-use Rattle.std.proofs.Common.{arith, ℕ, ◌≡◌, ◌+◌, ◌-◌, ◌*◌, ap, ◌∙◌, length, sym}
+use Rattle.std.proofs.Common.{arith, ℕ, ◌≡◌, ◌+◌, ◌-◌, ◌*◌, ◌≤◌, ap, ◌∙◌, length, sym}
 use Rattle.std.specs.Int.{div_ceil}
 use Rattle.std.proofs.lemmas.List.{length-drop}
 use Rattle.bit_lists.proofs.Bytes.{length-bits_of_bytes}
@@ -13,7 +13,8 @@ take-x-requires-clause-enough c =
     let same : c.self.inside.base - 1 + 1 ≡ c.self.inside.base = omega arith in
     let first : c.bit_length.result ≡ width c.self.inside.base = c.bit_length.ensures.value ∙ ap width same in
     let whole : bits_in c.args.self.now ≡ c.self.inside.size = ap (λ (y : Shape). bits_in y) (sym c.self.view_is) ∙ sym c.self.invariant.sum in
-    let long : length c.args.bytes.now ≡ div_ceil c.self.inside.size 8 = c.if-bytes.true ∙ c.bytes.ensures.value ∙ ap (λ (y : ℕ). div_ceil y 8) whole in
+    let room : c.bytes.result ≤ length c.args.bytes.now = omega arith in
+    let wanted : c.bytes.result ≡ div_ceil c.self.inside.size 8 = c.bytes.ensures.value ∙ ap (λ (y : ℕ). div_ceil y 8) whole in
     let all : length c.new-reader.result ≡ 8 * length c.args.bytes.now = ap length c.new-reader.ensures ∙ length-bits_of_bytes c.args.bytes.now in
     omega (arith, rounded c.self.inside.size, c.self.invariant.sum)
 
@@ -23,7 +24,8 @@ take_registers-requires-clause-enough c =
     let same : c.self.inside.base - 1 + 1 ≡ c.self.inside.base = omega arith in
     let first : c.bit_length.result ≡ width c.self.inside.base = c.bit_length.ensures.value ∙ ap width same in
     let whole : bits_in c.args.self.now ≡ c.self.inside.size = ap (λ (y : Shape). bits_in y) (sym c.self.view_is) ∙ sym c.self.invariant.sum in
-    let long : length c.args.bytes.now ≡ div_ceil c.self.inside.size 8 = c.if-bytes.true ∙ c.bytes.ensures.value ∙ ap (λ (y : ℕ). div_ceil y 8) whole in
+    let room : c.bytes.result ≤ length c.args.bytes.now = omega arith in
+    let wanted : c.bytes.result ≡ div_ceil c.self.inside.size 8 = c.bytes.ensures.value ∙ ap (λ (y : ℕ). div_ceil y 8) whole in
     let all : length c.new-reader.result ≡ 8 * length c.args.bytes.now = ap length c.new-reader.ensures ∙ length-bits_of_bytes c.args.bytes.now in
     let rest : length c.take-x.new.self ≡ length c.new-reader.result - c.bit_length.result = ap length c.take-x.ensures.rest ∙ length-drop c.bit_length.result c.new-reader.result in
     let moduli : registers_bits c.deref.result.now ≡ registers_bits c.self.inside.moduli.items = ap registers_bits c.deref.ensures.value in

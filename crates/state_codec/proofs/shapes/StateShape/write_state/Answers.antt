@@ -2,15 +2,13 @@ use Rattle.std.proofs.Common.{rules, arith, ℕ, ◌≡◌, ◌<◌, ◌+◌, �
 use Rattle.std.specs.Int.{div_ceil}
 use Rattle.bit_lists.specs.Bits.{bits}
 use Rattle.construction.specs.Widths.{width}
-use Rattle.sync_types.specs.States.{State}
-use Rattle.sync_types.specs.declared.states.Reg.{Reg}
 use Rattle.state_codec.specs.Shapes.{Shape, registers_bits, bytes_in}
 use Rattle.state_codec.specs.Writing.{bits_of_registers, written}
 use Rattle.state_codec.proofs.Whole.{shape_with, state_with, all_written, rounded_most}
 use Rattle.state_codec.proofs.shapes.StateShape.write_state.Goals as goal
 
-pub overflow_mul-div_ceil : goal.overflow_mul-div_ceil
-overflow_mul-div_ceil c =
+pub overflow_mul-padding : goal.overflow_mul-padding
+overflow_mul-padding c =
     let most : 8 * div_ceil c.self.inside.size 8 < c.self.inside.size + 8 = rounded_most c.self.inside.size in
     search rules
 

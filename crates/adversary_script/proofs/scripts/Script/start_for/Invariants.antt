@@ -1,0 +1,12 @@
+use Rattle.std.proofs.Common.{◌≡◌, drop, ◌==◌}
+use Rattle.std.specs.List.{find}
+use Rattle.std.specs.Prelude.{All}
+use Rattle.state_codec.specs.Ranges.{InRange}
+use Rattle.adversary_script.proofs.scripts.Script.start_for.Given as goal
+
+abbrev pub invariant-loop-start : goal.invariant-loop-start
+invariant-loop-start l = record {
+  starts : l.start-items ≡ l.self.starts;
+  range : All (λ start. InRange l.self.shape start.state) l.start-items;
+  none : find (λ start. start.node == l.v) (drop l.start-index l.start-items) ≡ find (λ start. start.node == l.v) l.start-items;
+}

@@ -1,0 +1,26 @@
+-- What taking a line of a script, or a part of it, answers. Want of memory says nothing.
+use Rattle.std.specs.Prelude.{◌≡◌, Option, Result, Ok, Err}
+use Rattle.std.specs.Option.{option_map}
+use Rattle.sync_types.specs.declared.answers.Rule.{Rule}
+use Rattle.edge_io.specs.declared.taking.TakeError.{TakeError}
+use Rattle.edge_io.specs.declared.taking.TakeError.TheVariants as take
+
+-- the new state is the one defined, or the line is refused exactly as defined
+abbrev pub Adds : {S U : Type 0} → Result S Rule → S → Result U (TakeError Rule) → Type 0
+Adds defined new (Err take.NoMemory) = Unit {0}
+Adds (Ok s) new (Ok u) = new ≡ s
+Adds (Ok s) new (Err (take.Refused rule)) = ⊥
+Adds (Err rule) new (Ok u) = ⊥
+Adds (Err rule) new (Err (take.Refused given)) = given ≡ rule
+
+-- what is given is the choice that is defined, and no rule refuses it
+abbrev pub Gives : {X : Type 0} → Option X → Result (Option X) (TakeError Rule) → Type 0
+Gives defined (Err take.NoMemory) = Unit {0}
+Gives defined (Err (take.Refused rule)) = ⊥
+Gives defined (Ok found) = found ≡ defined
+
+-- what is given stands for the choice that is defined, and no rule refuses it
+abbrev pub GivesSeen : {X Y : Type 0} → (X → Y) → Option Y → Result (Option X) (TakeError Rule) → Type 0
+GivesSeen seen defined (Err take.NoMemory) = Unit {0}
+GivesSeen seen defined (Err (take.Refused rule)) = ⊥
+GivesSeen seen defined (Ok found) = option_map seen found ≡ defined

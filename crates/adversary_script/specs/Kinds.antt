@@ -1,0 +1,63 @@
+-- The kinds of a script's lines, and in which order they may stand.
+use Rattle.std.specs.Prelude.{◌≡◌, ℕ, List, [], ◌∷◌, Bool, true, false, Option, Some, None, if◌then◌else◌, codes}
+use Rattle.std.specs.Str.{bytes_eq}
+use Rattle.adversary_script.specs.declared.kinds.Kind.{Kind}
+use Rattle.adversary_script.specs.declared.kinds.Kind.TheVariants as kind
+
+-- a start line's kind, by the word behind `start`, and the words behind that
+abbrev pub start_kind : List (List ℕ) → Option (Kind × List (List ℕ))
+start_kind [] = None
+start_kind (word ∷ words) =
+    if bytes_eq word (codes "zero") then Some (kind.StartZero, words)
+    else if bytes_eq word (codes "noise") then Some (kind.StartNoise, words)
+    else if bytes_eq word (codes "node") then Some (kind.StartNode, words)
+    else None
+
+-- a line's kind, and the words behind those that say it
+abbrev pub kind_of : List (List ℕ) → Option (Kind × List (List ℕ))
+kind_of [] = None
+kind_of (word ∷ words) =
+    if bytes_eq word (codes "start") then start_kind words
+    else if bytes_eq word (codes "lie") then Some (kind.Lie, words)
+    else if bytes_eq word (codes "group") then Some (kind.Group, words)
+    else if bytes_eq word (codes "script") then Some (kind.Script, words)
+    else if bytes_eq word (codes "faulty") then Some (kind.Faulty, words)
+    else if bytes_eq word (codes "seed") then Some (kind.Seed, words)
+    else if bytes_eq word (codes "rounds") then Some (kind.Rounds, words)
+    else if bytes_eq word (codes "show") then Some (kind.Show, words)
+    else if bytes_eq word (codes "end") then Some (kind.End, words)
+    else None
+
+-- the kind that was read is the one defined, and these words are left
+abbrev pub KindRead : Option Kind → Option (Kind × List (List ℕ)) → List (List ℕ) → Type 0
+KindRead None defined left = defined ≡ None
+KindRead (Some k) defined left = defined ≡ Some (k, left)
+
+-- what may stand behind a start: further starts of nodes, groups, lies, and the rounds
+abbrev pub may_follow_start : Kind → Bool
+may_follow_start kind.StartNode = true
+may_follow_start kind.Group = true
+may_follow_start kind.Lie = true
+may_follow_start kind.Rounds = true
+may_follow_start other = false
+
+-- whether a line of a kind may stand behind one of another, or first
+abbrev pub may_follow : Option Kind → Kind → Bool
+may_follow None kind.Script = true
+may_follow (Some kind.Script) kind.Faulty = true
+may_follow (Some kind.Faulty) kind.Seed = true
+may_follow (Some kind.Faulty) kind.StartZero = true
+may_follow (Some kind.Faulty) kind.StartNoise = true
+may_follow (Some kind.Seed) kind.StartZero = true
+may_follow (Some kind.Seed) kind.StartNoise = true
+may_follow (Some kind.StartZero) k = may_follow_start k
+may_follow (Some kind.StartNoise) k = may_follow_start k
+may_follow (Some kind.StartNode) k = may_follow_start k
+may_follow (Some kind.Group) kind.Group = true
+may_follow (Some kind.Group) kind.Lie = true
+may_follow (Some kind.Group) kind.Rounds = true
+may_follow (Some kind.Lie) kind.Lie = true
+may_follow (Some kind.Lie) kind.Rounds = true
+may_follow (Some kind.Rounds) kind.Show = true
+may_follow (Some kind.Show) kind.End = true
+may_follow last k = false

@@ -1,0 +1,13 @@
+pub mod Answers
+pub mod Kinds
+pub mod LieSteps
+pub mod LieWords
+pub mod Links
+pub mod Lookup
+pub mod Noise
+pub mod ScriptPart
+pub mod ScriptRefusals
+pub mod Scripts
+pub mod Steps
+pub mod Told
+pub mod WordTests

@@ -1,0 +1,33 @@
+-- The start line of a node, and the lie line that says what one node tells another in a round.
+use Rattle.std.specs.Prelude.{ℕ, List, Bool, true, false, ◌&&◌, nat_le, ◌==◌, Option, Some, None, find, slice_get}
+use Rattle.std.specs.Option.{option_map}
+use Rattle.sync_types.specs.FaultSets.{is_in}
+use Rattle.sync_types.specs.States.{State}
+use Rattle.adversary_script.specs.declared.lies.Who.{Who}
+use Rattle.adversary_script.specs.declared.lies.Who.TheVariants.{All, Ids, Group}
+use Rattle.adversary_script.specs.declared.lies.Lie.{Lie}
+use Rattle.adversary_script.specs.Scripts as scripts
+use Rattle.adversary_script.specs.Scripts.{Script}
+
+-- whether v is in a group
+abbrev pub in_group : Option scripts.Group → ℕ → Bool
+in_group None v = false
+in_group (Some group) v = is_in group.ids v
+
+-- whether v is among those who hear
+abbrev pub hears : List scripts.Group → Who → ℕ → Bool
+hears groups All v = true
+hears groups (Ids p q) v = nat_le p v && nat_le v q
+hears groups (Group i) v = in_group (slice_get groups i) v
+
+-- whether a lie says what u tells v in round t
+abbrev pub speaks : List scripts.Group → (t u v : ℕ) → Lie → Bool
+speaks groups t u v lie = lie.sender == u && nat_le lie.first t && nat_le t lie.last && hears groups lie.who v
+
+-- the first lie that says what u tells v in round t
+abbrev pub lie_for : Script → (t u v : ℕ) → Option Lie
+lie_for script t u v = find (speaks script.groups t u v) script.lies
+
+-- the state of v's own start line
+abbrev pub start_for : Script → ℕ → Option State
+start_for script v = option_map (λ start. start.state) (find (λ start. start.node == v) script.starts)

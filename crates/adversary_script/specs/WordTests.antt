@@ -1,0 +1,60 @@
+-- The tests of a script's words and numbers.
+use Rattle.std.specs.Prelude.{ℕ, List, [], ◌∷◌, length, Bool, true, false, ◌&&◌, nat_le, nat_lt, Option, Some, None}
+use Rattle.std.specs.List.{list_all}
+use Rattle.texts.specs.Numbers.{number_of}
+use Rattle.texts.specs.Shapes.{onto_numbers}
+use Rattle.sync_types.specs.FaultSets.{is_in}
+use Rattle.adversary_script.specs.LieWords.{WhoSaid, everyone, between, named, WhatSaid, noise, copy, digits, shift, LieSaid}
+
+-- the numbers of the words, where each is one
+abbrev pub numbers_in : List (List ℕ) → Option (List ℕ)
+numbers_in [] = Some []
+numbers_in (word ∷ words) = onto_numbers (number_of word) (numbers_in words)
+
+-- the one word, where there is just one
+abbrev pub only : List (List ℕ) → Option (List ℕ)
+only (word ∷ []) = Some word
+only other = None
+
+-- the two words, where there are just two
+abbrev pub both : List (List ℕ) → Option (List ℕ × List ℕ)
+both (first ∷ second ∷ []) = Some (first, second)
+both other = None
+
+-- `a` to `z`
+abbrev pub is_letter : ℕ → Bool
+is_letter b = nat_le 97 b && nat_le b 122
+
+-- 1 to 16 letters
+abbrev pub is_name : List ℕ → Bool
+is_name word = nat_le 1 (length word) && nat_le (length word) 16 && list_all is_letter word
+
+-- each id is below n
+abbrev pub are_below : ℕ → List ℕ → Bool
+are_below n ids = list_all (λ id. nat_lt id n) ids
+
+-- each id is above the one before
+abbrev pub is_rising : List ℕ → Bool
+is_rising [] = true
+is_rising (a ∷ []) = true
+is_rising (a ∷ b ∷ ids) = nat_lt a b && is_rising (b ∷ ids)
+
+-- the ids of who hears a lie are below n
+abbrev pub who_below : ℕ → WhoSaid → Bool
+who_below n everyone = true
+who_below n (between p q) = nat_lt p n && nat_lt q n
+who_below n (named name) = true
+
+-- the id that a lie copies is below n
+abbrev pub what_below : ℕ → WhatSaid → Bool
+what_below n (copy w) = nat_lt w n
+what_below n other = true
+
+-- the ids of a lie are those of n nodes, and its sender's is that of a faulty one
+abbrev pub are_ids : ℕ → List ℕ → LieSaid → Bool
+are_ids n faulty lie = nat_lt lie.sender n && is_in faulty lie.sender && who_below n lie.who && what_below n lie.what
+
+-- the first of two ids is above the last
+abbrev pub is_crossed : WhoSaid → Bool
+is_crossed (between p q) = nat_lt q p
+is_crossed other = false

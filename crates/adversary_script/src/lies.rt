@@ -1,0 +1,51 @@
+use sync_types::NodeState;
+
+/// How the nodes start that have no start line of their own.
+#[derive(Clone, Copy, Debug, PartialEq, Eq)]
+pub enum CommonStart {
+    /// In the zero state.
+    Zero,
+    /// In a state of noise.
+    Noise,
+}
+
+/// Who hears a lie.
+#[derive(Clone, Copy, Debug, PartialEq, Eq)]
+pub enum Who {
+    /// Every node.
+    All,
+    /// The nodes from one id to another, both included.
+    Ids(u64, u64),
+    /// The nodes of the group at that place among the groups.
+    Group(usize),
+}
+
+/// What a lie tells.
+#[derive(Debug, Drop)]
+pub enum What {
+    /// A state of noise.
+    Noise,
+    /// The state of that node.
+    Copy(u64),
+    /// That state.
+    State(NodeState),
+    /// The state of the sender's puppet, with its number and its finite values that much larger.
+    Shift(u64),
+}
+
+/// A rule of lies: from the round `first` to the round `last`, both included, the node `sender` tells those nodes that.
+#[derive(Debug, Drop)]
+pub struct Lie {
+    pub first: u64,
+    pub last: u64,
+    pub sender: u64,
+    pub who: Who,
+    pub what: What,
+}
+
+/// The state in which a node starts.
+#[derive(Debug, Drop)]
+pub struct Start {
+    pub node: u64,
+    pub state: NodeState,
+}

@@ -1,0 +1,33 @@
+ghost use Rattle.std.specs.Prelude.{◌<◌, All, IfOk};
+ghost use Rattle.adversary_script.specs.Links.{IsLinked};
+
+use crate::lies::Lie;
+use std::alloc::Global;
+use sync_types::NoMemory;
+
+/// Where the lies of each sender stand among all lies, so that those of one are found without the others. Where there is none, a place is the number of lies.
+#[derive(Debug, Drop)]
+pub struct Links {
+    /// For each node the place of its first lie.
+    pub firsts: Vec<usize>,
+    /// For each lie the place of the next one of its sender.
+    pub nexts: Vec<usize>,
+}
+
+/// Links the lies of each sender, where there are so many nodes.
+pub fn link(alloc: Global, nodes: u32, lies: &[Lie]) -> Result<Links, NoMemory>
+    requires { All (λ lie. lie.sender < nodes) lies.now }
+    ensures { IfOk result (λ links. IsLinked nodes lies.now links.firsts.items links.nexts.items) }
+{
+    let count = lies.len();
+    let mut firsts = vec![in alloc; count; nodes as usize]?;
+    let mut nexts = vec![in alloc; count; count]?;
+    let mut i = count;
+    while i > 0 {
+        i -= 1;
+        let sender = lies[i].sender as usize;
+        nexts[i] = firsts[sender];
+        firsts[sender] = i;
+    }
+    Ok(Links { firsts, nexts })
+}

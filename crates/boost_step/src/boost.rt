@@ -1,0 +1,177 @@
+ghost use Rattle.std.specs.Prelude.{◌≡◌, ◌+◌, ◌%◌, ◌≤◌, ◌<◌, take, length, All};
+ghost use Rattle.sync_types.specs.States.{zero_state};
+ghost use Rattle.plan_numbers.specs.Numbers.{line, level_of};
+ghost use Rattle.plan_numbers.specs.Premises.{first_premise, unless};
+ghost use Rattle.counter_core.specs.Meanings.{written};
+ghost use Rattle.counter_core.specs.Working.{IsFor, IsAsRoomy};
+ghost use Rattle.level_laws.specs.Boosted.{inner_state, level_register, boosted, BoostedRange, StandsOn};
+ghost use Rattle.level_laws.proofs.BoostLaws.{boosted_sizes, boosted_stays_in_range, boosted_zero_in_range};
+ghost use Rattle.level_laws.proofs.FurtherRegisters.{boosted_ignores_further};
+ghost use Rattle.level_laws.proofs.BoostSettles.{boosted_settles};
+ghost use Rattle.boost_step.specs.Numbers.{AreNumbersOver};
+ghost use Rattle.boost_step.specs.Groups.{Group, told_by, outputs_of};
+
+use crate::level::level_step;
+use counter_core::{Counter, Heard, Work, block_of, place_in};
+use plan_numbers::{Below, LevelNums, level_nums};
+use std::marker::Model;
+use sync_types::{NodeState, Premise, Reg};
+
+/// A level over blocks of a counter. Its nodes stand in blocks, each of which is the counter below, and have a register more, which comes to count where few nodes are faulty in all, even if some blocks have too many.
+#[derive(Drop)]
+pub struct Boost<A: Counter> {
+    inner: A,
+    nums: LevelNums,
+}
+
+impl<A: Counter> Model for Boost<A> {
+    ghost use Rattle.plan_numbers.specs.Numbers.{level_of};
+    ghost use Rattle.boost_step.specs.Groups.{Group, told_by};
+    ghost use Rattle.boost_step.specs.Numbers.{AreNumbersOver};
+
+    ghost Value = { Group A };
+
+    ghost view = { λ b. record { inner = b.inner; level = level_of b.nums } };
+
+    ghost invariant = { λ b. A.valid b.inner × AreNumbersOver (told_by (A.meaning b.inner)) b.nums };
+}
+
+impl<A: Counter> Boost<A> {
+    /// A level of `k` blocks, `f` faults and the modulus `c` over blocks of `inner`. An error is the first premise that the level fails, in the order `Limit`, `Blocks`, `Modulus`, `Quorum`, `Share`, `Multiple`.
+    pub fn new(inner: A, k: u64, f: u64, c: u64) -> Result<Boost<A>, Premise>
+        ensures { result ≡ unless (first_premise (told_by (A.meaning inner)) (line k f c)) (record { inner = inner; level = line k f c }) }
+    {
+        inner.tell();
+        let below = Below {
+            nodes: inner.nodes(),
+            faults: inner.faults(),
+            modulus: inner.modulus(),
+            bound: inner.bound(),
+            bits: 0,
+        };
+        let nums = level_nums(&below, k, f, c)?;
+        Ok(Boost { inner, nums })
+    }
+}
+
+/// The place after a place in a block of `n` nodes, the first after the last.
+fn after(place: u32, n: u32) -> u32
+    requires { place < n }
+    ensures { result ≡ (place + 1) % n }
+{
+    if place + 1 == n { 0 } else { place + 1 }
+}
+
+/// Puts what is heard of the inner outputs into `work`, by place.
+fn hear_outputs<A: Counter>(inner: &A, heard: &Heard<'_>, work: &mut Work)
+    requires few { length heard.now ≤ 256 }
+    requires range { All (A.in_range inner.now) heard.now }
+    requires deep { All (λ s. (A.meaning inner.now).depth ≤ length s.registers) heard.now }
+    requires room { length heard.now ≤ length work.old.outputs.items }
+    ensures outputs { take (length heard.now) work.new.outputs.items ≡ outputs_of (A.meaning inner.now) heard.now }
+    ensures room { IsAsRoomy work.old work.new }
+{
+    inner.tell();
+    let n = inner.nodes();
+    let mut place = 0;
+    for u in 0..heard.len() as u32 {
+        work.set_inner(u, inner.output(place, heard.state(u)));
+        place = after(place, n);
+    }
+}
+
+/// The level's new register of the node at a place. It leaves the inner outputs that were heard in `work`.
+fn level_register<A: Counter>(
+    inner: &A,
+    nums: &LevelNums,
+    place: u32,
+    heard: &Heard<'_>,
+    work: &mut Work,
+) -> Reg
+    requires numbers { AreNumbersOver (told_by (A.meaning inner.now)) nums.now }
+    requires place { place < nums.now.nodes }
+    requires heard { length heard.now ≡ nums.now.nodes }
+    requires range { All (BoostedRange (A.in_range inner.now) (A.meaning inner.now).depth nums.now.modulus) heard.now }
+    requires deep { All (λ s. (A.meaning inner.now).depth + 1 ≤ length s.registers) heard.now }
+    requires work { IsFor nums.now.nodes work.old }
+    ensures register { result ≡ level_register (A.meaning inner.now) (level_of nums.now) place heard.now }
+    ensures work { IsAsRoomy work.old work.new }
+{
+    hear_outputs(inner, heard, work);
+    level_step(nums, place, heard, inner.depth(), work)
+}
+
+/// The step of the node at a place as one of the counter below, by what it hears of its block.
+fn step_in_block<A: Counter>(
+    inner: &A,
+    place: u32,
+    heard: &Heard<'_>,
+    work: &mut Work,
+    out: &mut NodeState,
+)
+    requires blocks { length heard.now % (A.meaning inner.now).nodes ≡ 0 }
+    requires place { place < length heard.now }
+    requires range { All (A.in_range inner.now) heard.now }
+    requires deep { All (λ s. (A.meaning inner.now).depth ≤ length s.registers) heard.now }
+    requires work { IsFor (A.meaning inner.now).nodes work.old }
+    requires out { (A.meaning inner.now).depth ≤ length out.old.registers }
+    ensures work { IsAsRoomy work.old work.new }
+    ensures out { out.new ≡ written (A.meaning inner.now).depth (inner_state (A.meaning inner.now) place heard.now) out.old }
+{
+    inner.tell();
+    let n = inner.nodes();
+    let block = heard.block(block_of(place, n), n);
+    inner.advance(place_in(place, n), &block, work, out);
+}
+
+impl<A: Counter> Counter for Boost<A> {
+    ghost valid = { λ b. A.valid b.inner × StandsOn (A.meaning b.inner) b.level };
+
+    ghost meaning = { λ b. boosted (A.meaning b.inner) b.level };
+
+    ghost in_range = { λ b. BoostedRange (A.in_range b.inner) (A.meaning b.inner).depth b.level.modulus };
+
+    fn nodes(&self) -> u32 {
+        self.nums.nodes
+    }
+
+    fn faults(&self) -> u32 {
+        self.nums.faults
+    }
+
+    fn modulus(&self) -> u64 {
+        self.nums.modulus
+    }
+
+    fn bound(&self) -> u64 {
+        self.nums.bound
+    }
+
+    fn depth(&self) -> usize {
+        self.inner.depth() + 1
+    }
+
+    fn tell(&self) {
+        let _nums = &self.nums;
+    }
+
+    fn output(&self, _place: u32, state: &NodeState) -> u64 {
+        state.reg(self.inner.depth()).a.unwrap_or(0)
+    }
+
+    fn advance(&self, place: u32, heard: &Heard<'_>, work: &mut Work, out: &mut NodeState) {
+        let reg = level_register(&self.inner, &self.nums, place, heard, work);
+        step_in_block(&self.inner, place, heard, work, out);
+        out.set_reg(self.inner.depth(), reg);
+    }
+
+    ghost sizes = { λ b v. boosted_sizes (A.meaning b.inner) (A.in_range b.inner) b.level (A.sizes b.inner v.0) v.1 };
+
+    ghost stays_in_range = { λ b v. boosted_stays_in_range (A.meaning b.inner) (A.in_range b.inner) b.level (A.sizes b.inner v.0) v.1.least_modulus (A.stays_in_range b.inner v.0) (A.ignores_further b.inner v.0) };
+
+    ghost ignores_further = { λ b v. boosted_ignores_further (A.meaning b.inner) (A.in_range b.inner) b.level (A.sizes b.inner v.0) (A.ignores_further b.inner v.0) b.level.modulus };
+
+    ghost zero_in_range = { λ b v. boosted_zero_in_range (A.meaning b.inner) (A.in_range b.inner) b.level (A.sizes b.inner v.0) v.1.least_modulus (A.ignores_further b.inner v.0) (A.zero_in_range b.inner v.0) };
+
+    ghost settles = { λ b v. boosted_settles (A.meaning b.inner) (A.in_range b.inner) b.level (A.sizes b.inner v.0) v.1 (A.settles b.inner v.0) };
+}

@@ -1,0 +1,130 @@
+ghost use Rattle.std.specs.Prelude.{◌≡◌, ◌+◌, ◌*◌, ◌/◌, ◌%◌, ◌≤◌, ◌<◌, List, take, map, length, All, IfSome};
+ghost use Rattle.sync_types.specs.States.{register_at};
+ghost use Rattle.construction.specs.Votes.{lead, beat_heard};
+ghost use Rattle.construction.specs.PhaseKing.{instructed, up};
+ghost use Rattle.construction.specs.Steps.{state_of, register_after};
+ghost use Rattle.plan_numbers.specs.Numbers.{level_of};
+ghost use Rattle.counter_core.specs.Working.{IsFor};
+ghost use Rattle.boost_step.specs.Numbers.{AreNumbers, block_nodes};
+ghost use Rattle.boost_step.specs.Kept.{KeepsOutputs};
+
+use crate::votes::{block_beat, block_vote};
+use counter_core::{Heard, Work};
+use majority_votes::Tally;
+use phase_king::king_step;
+use plan_numbers::LevelNums;
+use sync_types::Reg;
+
+/// The block that leads: the one for which most blocks vote, by the inner outputs in `work`.
+fn lead(nums: &LevelNums, work: &mut Work) -> u32
+    requires numbers { AreNumbers nums.now }
+    requires work { IsFor nums.now.nodes work.old }
+    ensures lead { result ≡ lead (level_of nums.now) (block_nodes nums.now) (take nums.now.nodes work.old.outputs.items) }
+    ensures below { result < nums.now.leaders }
+    ensures work { KeepsOutputs work.old work.new }
+{
+    let n = (nums.nodes / nums.blocks) as usize;
+    let leaders = u64::from(nums.leaders);
+    let mut interval = nums.beat;
+    let mut start = 0;
+    work.votes.clear();
+    for _ in 0..nums.blocks {
+        let vote = block_vote(
+            &work.outputs[start..start + n],
+            interval,
+            leaders,
+            &mut work.values,
+        );
+        work.votes.add(Some(vote));
+        interval *= 2 * leaders;
+        start += n;
+    }
+    work.votes.majority().unwrap_or(0) as u32
+}
+
+/// The beat heard: the part of the beat at which most nodes of the leading block are.
+fn beat(nums: &LevelNums, work: &mut Work) -> u64
+    requires numbers { AreNumbers nums.now }
+    requires work { IsFor nums.now.nodes work.old }
+    ensures beat { result ≡ beat_heard (level_of nums.now) (block_nodes nums.now) (take nums.now.nodes work.old.outputs.items) }
+    ensures below { result < nums.now.beat }
+    ensures work { KeepsOutputs work.old work.new }
+{
+    let n = (nums.nodes / nums.blocks) as usize;
+    let start = lead(nums, work) as usize * n;
+    block_beat(&work.outputs[start..start + n], nums.beat, &mut work.values)
+}
+
+/// Takes the values heard of a register, by place.
+fn tally_values(heard: &Heard<'_>, register: usize, values: &mut Tally)
+    requires few { length heard.now ≤ 256 }
+    requires deep { All (λ s. register < length s.registers) heard.now }
+    requires room { length heard.now ≤ values.old.capacity }
+    ensures { values.new ≡ record values.old { values = map (λ s. (register_at register s).a) heard.now } }
+{
+    values.clear();
+    for place in 0..heard.len() {
+        values.add(heard.state(place as u32).reg(register).a);
+    }
+}
+
+/// The register after the instruction of a beat, by the values heard.
+fn obey(
+    nums: &LevelNums,
+    beat: u64,
+    place: u32,
+    heard: &Heard<'_>,
+    register: usize,
+    values: &mut Tally,
+) -> Reg
+    requires numbers { AreNumbers nums.now }
+    requires beat { beat < nums.now.beat }
+    requires place { place < nums.now.nodes }
+    requires heard { length heard.now ≡ nums.now.nodes }
+    requires deep { All (λ s. register < length s.registers) heard.now }
+    requires range { All (λ s. IfSome (register_at register s).a (λ a. a < nums.now.modulus)) heard.now }
+    requires room { nums.now.nodes ≤ values.old.capacity }
+    ensures register { result ≡ instructed nums.now.nodes nums.now.faults (up nums.now.modulus) (beat % 3)
+        (register_at register (state_of heard.now place)) (map (λ s. (register_at register s).a) heard.now) (beat / 3) }
+    ensures range { IfSome result.a (λ a. a < nums.now.modulus) }
+    ensures capacity { values.new.capacity ≡ values.old.capacity }
+{
+    tally_values(heard, register, values);
+    let own = heard.state(place).reg(register);
+    let king = heard.state((beat / 3) as u32).reg(register).a;
+    king_step(
+        beat % 3,
+        own,
+        values.count_of(own.a),
+        values.least_above(nums.faults as usize),
+        king,
+        nums.nodes,
+        nums.faults,
+        nums.modulus,
+    )
+}
+
+/// One level's instruction to the register of the node at a place, by what the node hears of its group: the new register.
+///
+/// The inner outputs are the numbers that `work` keeps at the places of the group. `register` is the index of the level's register in the states.
+pub fn level_step(
+    nums: &LevelNums,
+    place: u32,
+    heard: &Heard<'_>,
+    register: usize,
+    work: &mut Work,
+) -> Reg
+    requires numbers { AreNumbers nums.now }
+    requires place { place < nums.now.nodes }
+    requires heard { length heard.now ≡ nums.now.nodes }
+    requires deep { All (λ s. register < length s.registers) heard.now }
+    requires range { All (λ s. IfSome (register_at register s).a (λ a. a < nums.now.modulus)) heard.now }
+    requires work { IsFor nums.now.nodes work.old }
+    ensures register { result ≡ register_after (block_nodes nums.now) (level_of nums.now) (register_at register (state_of heard.now place))
+        (take nums.now.nodes work.old.outputs.items) (map (λ s. (register_at register s).a) heard.now) }
+    ensures range { IfSome result.a (λ a. a < nums.now.modulus) }
+    ensures work { KeepsOutputs work.old work.new }
+{
+    let beat = beat(nums, work);
+    obey(nums, beat, place, heard, register, &mut work.values)
+}

@@ -1,0 +1,11 @@
+use Rattle.edge_io.proofs.Loops.{lost_before, lost_with, at_error}
+use Rattle.edge_io.proofs.read.read_all.Goals as goal
+
+pub returns-in-Err-clause-lost : goal.returns-in-Err-clause-lost
+returns-in-Err-clause-lost g c = lost_before _ _ _ _ c.loop-count.invariant.read c.in-Err.ensures.bytes
+
+pub returns-then-count-limit-clause-lost : goal.returns-then-count-limit-clause-lost
+returns-then-count-limit-clause-lost g c = lost_with _ _ _ _ _ c.loop-count.invariant.read c.in-Ok.ensures.bytes.0
+
+pub returns-in_err-extend_from_slice-clause-lost : goal.returns-in_err-extend_from_slice-clause-lost
+returns-in_err-extend_from_slice-clause-lost g c = at_error _ (lost_with _ _ _ _ _ c.loop-count.invariant.read c.in-Ok.ensures.bytes.0)

@@ -1,0 +1,50 @@
+-- What a level over blocks of a counter means: a counter again, with a register more. The group has the level's blocks, each of as many nodes as the counter below.
+use Rattle.std.specs.Prelude.{ℕ, ◌+◌, ◌*◌, ◌/◌, ◌%◌, ◌^◌, ◌<◌, ◌≤◌, List, [], ◌∷◌, ◌++◌, map, Option, unwrap_or, IfSome}
+use Rattle.std.specs.List.{range_with_len}
+use Rattle.sync_types.specs.declared.states.Reg.{Reg}
+use Rattle.sync_types.specs.States.{State, register_at}
+use Rattle.construction.specs.Plans.{Level, span_of}
+use Rattle.construction.specs.Steps.{state_of, register_after}
+use Rattle.construction.specs.Votes.{block}
+use Rattle.counter_core.specs.Meanings.{Meaning}
+use Rattle.level_laws.specs.Level.{StandsOver}
+
+-- what is heard of the inner outputs of the group's nodes, by place
+abbrev pub outputs_heard : (below : Meaning) → Level → List State → List ℕ
+outputs_heard below level heard = map (λ u. below.shows (u % below.nodes) (state_of heard u)) (range_with_len 0 (level.blocks * below.nodes))
+
+-- what is heard of the values of the level's registers, which stand behind those of the counter below
+abbrev pub values_heard : (below : Meaning) → List State → List (Option ℕ)
+values_heard below heard = map (λ s. (register_at below.depth s).a) heard
+
+-- the level's new register of the node at place v
+abbrev pub level_register : (below : Meaning) → Level → (v : ℕ) → List State → Reg
+level_register below level v heard =
+    register_after below.nodes level (register_at below.depth (state_of heard v)) (outputs_heard below level heard) (values_heard below heard)
+
+-- the new state of the node at place v as one of the counter below, by what is heard of its block
+abbrev pub inner_state : (below : Meaning) → (v : ℕ) → List State → State
+inner_state below v heard = below.next (v % below.nodes) (block below.nodes (v / below.nodes) heard)
+
+-- the counter that a level makes
+abbrev pub boosted : Meaning → Level → Meaning
+boosted below level = record {
+  nodes = level.blocks * below.nodes;
+  faults = level.faults;
+  modulus = level.modulus;
+  bound = below.bound + span_of level;
+  depth = below.depth + 1;
+  shows = λ v s. unwrap_or (register_at below.depth s).a 0;
+  next = λ v heard. record { x = (inner_state below v heard).x; registers = (inner_state below v heard).registers ++ level_register below level v heard ∷ [] };
+}
+
+-- in range below, and a finite value of the register behind is below the modulus
+abbrev pub BoostedRange : (in_range : State → Type 0) (depth modulus : ℕ) → State → Type 0
+BoostedRange in_range depth modulus state = in_range state × IfSome (register_at depth state).a (λ a. a < modulus)
+
+-- the level may stand on this counter, and the two keep within the limits of counters
+pub record StandsOn (below : Meaning) (level : Level) : Type 0 where
+  pub stands : StandsOver level below.nodes below.faults below.modulus
+  pub most_nodes : level.blocks * below.nodes ≤ 256
+  pub least_modulus : 2 ≤ level.modulus
+  pub most_modulus : level.modulus ≤ 2 ^ 40

@@ -1,0 +1,9 @@
+pub mod Inside
+pub mod Ranges
+pub mod PlanCounter
+pub mod Explained
+pub mod OneNext
+pub mod BlocksRun
+pub mod NestedSettles
+pub mod PlanRuns
+pub mod RunLaws

@@ -1,0 +1,4 @@
+pub mod PlanMeaning
+pub mod Nested
+pub mod BlocksOfRuns
+pub mod Laws

@@ -1,0 +1,48 @@
+-- Whether a configuration is locked.
+use Rattle.std.specs.Prelude.{ℕ, zero, suc, List, [], ◌∷◌, length, map, filter, not, nat_eq, Bool, true, ◌&&◌, Option, Some, None, unwrap_or, if◌then◌else◌}
+use Rattle.std.specs.List.{list_all, range_with_len}
+use Rattle.std.specs.Option.{option_eq}
+use Rattle.sync_types.specs.declared.states.Reg.{Reg}
+use Rattle.sync_types.specs.States.{State, register_at}
+use Rattle.construction.specs.Plans.{Level, Plan, nodes_of}
+use Rattle.construction.specs.Steps.{state_of}
+use Rattle.construction.specs.Runs.{is_in}
+
+-- whether a register is marked and has the value a
+abbrev pub is_locked_at : ℕ → Reg → Bool
+is_locked_at a register = option_eq nat_eq register.a (Some a) && register.d
+
+-- the value of the first register, where that is finite
+abbrev pub first_value : List Reg → ℕ
+first_value [] = 0
+first_value (register ∷ registers) = unwrap_or register.a 0
+
+-- whether registers are one, finite and marked
+abbrev pub are_locked : List Reg → Bool
+are_locked registers = list_all (is_locked_at (first_value registers)) registers
+
+-- the correct nodes among so many
+abbrev pub correct_nodes : ℕ → (faulty : List ℕ) → List ℕ
+correct_nodes n faulty = filter (λ v. not (is_in faulty v)) (range_with_len 0 n)
+
+-- the registers of the correct nodes at a level
+abbrev pub correct_registers : (level n : ℕ) → (faulty : List ℕ) → List State → List Reg
+correct_registers level n faulty config = map (λ v. register_at level (state_of config v)) (correct_nodes n faulty)
+
+-- whether the top registers of the correct nodes are; with no level every configuration is locked
+abbrev pub is_locked_in : List Level → (faulty : List ℕ) → List State → Bool
+is_locked_in [] faulty config = true
+is_locked_in (level ∷ below) faulty config = are_locked (correct_registers (length below) (nodes_of (level ∷ below)) faulty config)
+
+abbrev pub is_locked : Plan → (faulty : List ℕ) → List State → Bool
+is_locked plan faulty config = is_locked_in plan.levels faulty config
+
+-- the first locked one, where there was one, and else that of this number if it is locked
+abbrev pub first_of : Option ℕ → Bool → ℕ → Option ℕ
+first_of (Some t) locked now = Some t
+first_of None locked now = if locked then Some now else None
+
+-- the first number up to t that is locked
+abbrev pub first_locked : (locked : ℕ → Bool) → ℕ → Option ℕ
+first_locked locked zero = first_of None (locked zero) zero
+first_locked locked (suc t) = first_of (first_locked locked t) (locked (suc t)) (suc t)

@@ -1,0 +1,5 @@
+//! Plays a script.
+#![tactic(auto)]
+
+mod locks;
+mod stepping;

@@ -1,0 +1,141 @@
+ghost use Rattle.std.specs.Prelude.{◌≡◌, ◌<◌, ◌≤◌, replicate, length, All, IfOk};
+ghost use Rattle.sync_types.specs.States.{register_at};
+ghost use Rattle.construction.specs.Plans.{plan_nodes, plan_depth};
+ghost use Rattle.construction.specs.Steps.{step_of};
+ghost use Rattle.construction.specs.Runs.{Settles};
+ghost use Rattle.plan_numbers.specs.Premises.{IsAccepted};
+ghost use Rattle.counter_core.specs.Working.{IsFor, IsAsRoomy};
+ghost use Rattle.plan_laws.specs.PlanMeaning.{plan_meaning, IsInRange};
+ghost use Rattle.plan_laws.proofs.PlanCounter.{plan_sizes, plan_stays, plan_ignores, plan_zero};
+ghost use Rattle.plan_laws.proofs.RunLaws.{plan_settles};
+
+use crate::registers::{new_register, shown_over};
+use counter_core::{Counter, Heard, Work};
+use plan_numbers::{Below, LevelNums, Plan};
+use std::alloc::Global;
+use std::marker::Model;
+use sync_types::{NoMemory, NodeState, Reg};
+
+/// The counter of an accepted plan.
+#[derive(Debug, Drop)]
+pub struct Tower {
+    base: u64,
+    levels: Vec<LevelNums>,
+    whole: Below,
+}
+
+impl Model for Tower {
+    ghost use Rattle.construction.specs.Plans.{Plan};
+    ghost use Rattle.plan_numbers.specs.Numbers.{levels_in};
+    ghost use Rattle.tower.specs.Kept.{IsKept};
+
+    ghost Value = { Plan };
+
+    ghost view = { λ t. record { base = t.base; levels = levels_in t.levels.items } };
+
+    ghost invariant = { λ t. IsKept t.base t.levels.items t.whole };
+}
+
+/// Builds the counter of a plan. It takes all the memory that the counter ever needs, but for [`Tower::work`].
+pub fn build(alloc: Global, plan: &Plan) -> Result<Tower, NoMemory>
+    ensures plan { IfOk result (λ tower. tower ≡ plan.now) }
+    ensures settles { IfOk result (λ tower. Settles tower) }
+{
+    plan.tell();
+    let mut levels = Vec::with_capacity(alloc, plan.depth())?;
+    for i in 0..plan.depth() {
+        levels.push(*plan.level(i)).unwrap();
+    }
+    let whole = Below {
+        nodes: plan.nodes(),
+        faults: plan.faults(),
+        modulus: plan.modulus(),
+        bound: plan.bound(),
+        bits: plan.bits(),
+    };
+    Ok(Tower {
+        base: plan.base_modulus(),
+        levels,
+        whole,
+    })
+}
+
+impl Tower {
+    /// The room that steps of this counter need, with each inner output 0.
+    pub fn work(&self, alloc: Global) -> Result<Work, NoMemory>
+        ensures room { IfOk result (IsFor (plan_nodes self.now)) }
+        ensures outputs { IfOk result (λ work. work.outputs.items ≡ replicate (plan_nodes self.now) 0) }
+    {
+        Work::new(alloc, self.whole.nodes)
+    }
+
+    /// The register of node `v` at a level after its step, the lowest level being 0.
+    fn register(&self, level: usize, v: u32, heard: &Heard<'_>, work: &mut Work) -> Reg
+        requires level { level < plan_depth self.now }
+        requires node { v < plan_nodes self.now }
+        requires heard { length heard.now ≡ plan_nodes self.now }
+        requires range { All (IsInRange self.now) heard.now }
+        requires deep { All (λ s. plan_depth self.now ≤ length s.registers) heard.now }
+        requires work { IsFor (plan_nodes self.now) work.old }
+        ensures register { result ≡ register_at level (step_of self.now v heard.now) }
+        ensures work { IsAsRoomy work.old work.new }
+    {
+        new_register(&self.levels[level], level, v, heard, work)
+    }
+}
+
+impl Counter for Tower {
+    ghost valid = { IsAccepted };
+
+    ghost meaning = { plan_meaning };
+
+    ghost in_range = { IsInRange };
+
+    fn nodes(&self) -> u32 {
+        self.whole.nodes
+    }
+
+    fn faults(&self) -> u32 {
+        self.whole.faults
+    }
+
+    fn modulus(&self) -> u64 {
+        self.whole.modulus
+    }
+
+    fn bound(&self) -> u64 {
+        self.whole.bound
+    }
+
+    fn depth(&self) -> usize {
+        self.levels.len()
+    }
+
+    fn tell(&self) {
+        let _base = self.base;
+    }
+
+    fn output(&self, _place: u32, state: &NodeState) -> u64 {
+        shown_over(self.levels.len(), state)
+    }
+
+    fn advance(&self, place: u32, heard: &Heard<'_>, work: &mut Work, out: &mut NodeState) {
+        self.tell();
+        for level in 0..self.levels.len() {
+            let register = self.register(level, place, heard, work);
+            out.set_reg(level, register);
+        }
+        let own = heard.state(place).x();
+        out.set_x((own + 1) % self.base);
+    }
+
+    ghost sizes = { plan_sizes };
+
+    ghost stays_in_range = { plan_stays };
+
+    ghost ignores_further = { plan_ignores };
+
+    ghost zero_in_range = { plan_zero };
+
+    ghost settles = { plan_settles };
+}
