@@ -1,6 +1,6 @@
 //! What a counter is: a number of nodes, some of them faulty, each of which goes on from the states that it hears of all.
 //!
-//! A [`Counter`] means a step, [`Heard`] is what one node hears, and [`Work`] is the room that a step needs, so that no step takes memory. [`Trivial`] is the counter of one node, on which all others stand.
+//! A [`Counter`] means a step, [`Heard`] is what one node hears, and [`Work`] is the room that a step needs, so that no step takes memory. [`Trivial`] is the counter of one node, on which all others stand. An [`Overlay`] is a layer above a counter, with registers of its own behind the counter's.
 #![tactic(auto)]
 
 mod counters;
