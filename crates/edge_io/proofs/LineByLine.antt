@@ -3,6 +3,7 @@ use Rattle.std.proofs.Common.{◌≡◌, ℕ, ◌+◌, ◌-◌, ◌≤◌, List,
 use Rattle.texts.specs.Lines.{lines_of}
 use Rattle.texts.specs.Parts.{Next, with_skips, part_from}
 
+-- so far the lines before the rest were read, and reading on from here gives what reading from the start gives
 pub record PartSoFar {S V R : Type 0} (step : S → List ℕ → Next S V R) (form : R) (start state : S) (text rest : List ℕ) (first number lines : ℕ) : Type 0 where
   pub short : length rest ≤ length text
   pub suffix : rest ≡ drop (length text - length rest) text

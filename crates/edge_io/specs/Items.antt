@@ -13,5 +13,6 @@ abbrev pub numbered : ℕ → List (List ℕ) → List (ℕ × List ℕ)
 numbered n [] = []
 numbered n (line ∷ lines) = (n, line) ∷ numbered (n + 1) lines
 
+-- what a pair of a number and a line shows
 abbrev pub line_item : ℕ × Bor (List ℕ) → ℕ × List ℕ
 line_item item = (item.0, item.1.now)

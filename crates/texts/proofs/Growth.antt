@@ -22,10 +22,12 @@ appends_then (Some xs) None u a b p q = absurd p
 appends_then (Some xs) (Some ys) None a b p q = absurd q
 appends_then (Some xs) (Some ys) (Some zs) a b p q = q ∙ ap (λ (l : List ℕ). l ++ b) p ∙ append_assoc xs a b
 
+-- each of a list of known bytes grows by nothing
 pub each_grows_none : (xs : List (Option (List ℕ))) → EachGrows xs xs
 each_grows_none [] = tt
 each_grows_none (x ∷ xs) = (record { more = []; bytes = appends_none x }, each_grows_none xs)
 
+-- each grows once and then again
 pub each_grows_then : (xs ys zs : List (Option (List ℕ))) → EachGrows xs ys → EachGrows ys zs → EachGrows xs zs
 each_grows_then [] [] [] p q = tt
 each_grows_then [] [] (z ∷ zs) p q = absurd q
@@ -104,10 +106,12 @@ puts_then (Err e) s t u a b p q = cut_then s t u a b p q
 pub puts_exit : {T E : Type 0} (Q : E → Type 0) (r : Result T E) (s t : Told) (a : List ℕ) → IsErrAnd r Q → Cut a s t → Puts r a s t
 puts_exit Q r s t a h cut = let p = err_from_is_err_and r h in rw p.1 cut
 
+-- an empty text has no front but itself
 nothing_before : (a b : List ℕ) → [] ≡ a ++ b → a ≡ []
 nothing_before [] b e = refl
 nothing_before (x ∷ a) b e = let size : 0 ≡ suc (length (a ++ b)) = ap length e in absurd (omega arith)
 
+-- what grows by nothing is kept
 keeps_is : (s t : Option (List ℕ)) (front : List ℕ) → front ≡ [] → Appends s t front → Keeps s t
 keeps_is None t front e p = tt
 keeps_is (Some xs) None front e p = absurd p
@@ -123,15 +127,18 @@ kept_is None t p = tt
 kept_is (Some xs) None p = absurd p
 kept_is (Some xs) (Some ys) p = p ∙ sym (append-nil xs)
 
+-- bytes that were held back and then passed on are taken as before
 kept_taken : (s t : Option (List ℕ)) (n : ℕ) (held : List ℕ) → Appends s t (take n held) → Appends (append_known s held) (append_known t (drop n held)) []
 kept_taken None t n held p = tt
 kept_taken (Some xs) None n held p = absurd p
 kept_taken (Some xs) (Some ys) n held p = ap (λ (l : List ℕ). l ++ drop n held) p ∙ append_assoc xs (take n held) (drop n held) ∙ ap (λ (l : List ℕ). xs ++ l) (take-append-drop n held) ∙ sym (append-nil (xs ++ held))
 
+-- what is taken grows by what is held back
 appends_held : (s : Option (List ℕ)) (held more : List ℕ) → Appends (append_known s held) (append_known s (held ++ more)) more
 appends_held None held more = tt
 appends_held (Some xs) held more = sym (append_assoc xs held more)
 
+-- the sinks behind a gathering one only grow
 gathering_follows : (name : ℕ) (held other : List ℕ) (s t : Told) (more : List ℕ) → Appends s.taken t.taken more → Follows s t → Follows (gathering name held s) (gathering name other t)
 gathering_follows name held other s t more bytes follows = record {
   same = ap (λ (l : List ℕ). name ∷ l) follows.same;
@@ -140,6 +147,7 @@ gathering_follows name held other s t more bytes follows = record {
 
 -- ---- a sink that gathers what it takes, before it passes it on
 
+-- what was passed on is a front of what was taken
 passed_front : (xs ys held more front : List ℕ) → ys ++ held ≡ xs ++ front → ys ≡ xs ++ more → front ≡ more ++ held
 passed_front xs ys held more front p q = append_cancel_left xs front (more ++ held) (sym p ∙ ap (λ (l : List ℕ). l ++ held) q ∙ append_assoc xs more held)
 
@@ -156,6 +164,7 @@ abbrev tail_of : List ℕ → List ℕ
 tail_of [] = []
 tail_of (x ∷ xs) = xs
 
+-- the sinks behind the one behind only grow
 behind_follows : (name other : ℕ) (held more : List ℕ) (s u : Told) → Follows (gathering name held s) (gathering other more u) → Follows s u
 behind_follows name other held more s u p = record { same = ap tail_of p.same; grows = p.grows.1 }
 
@@ -168,6 +177,7 @@ cut_behind name other held text s u p = record {
   follows = behind_follows name other [] held s u p.follows;
 }
 
+-- where nothing is held back, all that was taken was passed on
 all_passed : (s u : Option (List ℕ)) (text : List ℕ) → Appends (append_known s []) (append_known u []) text → Grows s u → Appends s u text
 all_passed None u text p q = tt
 all_passed (Some xs) None text p q = absurd q.bytes

@@ -10,6 +10,7 @@ After P Q (ends v) = Q v
 After P Q (refuses r) = Unit {0}
 
 module _ {S V R : Type 0} (step : S → List ℕ → Next S V R) (form : R) (P : S → Type 0) (Q : V → Type 0) (kept : (s : S) (line : List ℕ) → P s → After P Q (step s line)) where
+  -- what each step keeps, the value at the end has
   pub part_keeps : (lines : List (List ℕ)) (s : S) (taken number : ℕ) → P s → IfOk (part_from step form s taken number lines) (λ found. Q found.value)
   part_keeps [] s taken number p = tt
   part_keeps (line ∷ lines) s taken number p =

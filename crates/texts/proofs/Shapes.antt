@@ -9,6 +9,7 @@ abbrev pub with_front : List ℕ → Option (List ℕ) → Option (List ℕ)
 with_front front None = None
 with_front front (Some ns) = Some (front ++ ns)
 
+-- a number moves from the rest to the front
 regroup : (front : List ℕ) (n : ℕ) (ns : Option (List ℕ)) → with_front front (onto_numbers (Some n) ns) ≡ with_front (front ++ n ∷ []) ns
 regroup front n None = refl
 regroup front n (Some ns) = ap Some (sym (append_assoc front (n ∷ []) ns))
