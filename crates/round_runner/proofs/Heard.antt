@@ -1,5 +1,5 @@
 -- What a node hears, where the states of faulty nodes are replaced by what they tell.
-use Rattle.std.proofs.Common.{◌≡◌, ℕ, zero, suc, ◌+◌, ◌<◌, ◌≤◌, ◌⊎◌, inl, inr, Bool, true, false, cond, not, ◌||◌, eqb, List, [], ◌∷◌, length, map, get_or, refl, sym, ap, ◌∙◌, subst, arith}
+use Rattle.std.proofs.Common.{◌≡◌, ℕ, suc, ◌<◌, ◌≤◌, inl, inr, Bool, true, false, cond, not, ◌||◌, List, [], ◌∷◌, length, map, get_or, refl, sym, ap, ◌∙◌, arith}
 use Rattle.std.specs.Prelude.{◌==◌, slice_index, slice_index_or}
 use Rattle.std.specs.List.{range_with_len}
 use Rattle.std.proofs.lemmas.Bool.{eqb-true, true≢false, or_cases}
@@ -46,8 +46,8 @@ module _ (n : ℕ) (faulty : List ℕ) (config : List State) (lie : ℕ → ℕ 
       let size_of = length-with_lies liars lies config in
       let long = length-map-range_with_len (heard_of faulty config table v) 0 n in
       ext_get_or (zero_state 0) (with_lies liars lies config) (heard_by n faulty config table v) (omega (arith, size_of, long, size)) (λ u lt.
-          let ult : u < n = omega (arith, lt, size_of, size) in
-          get_or-with_lies liars lies config u (zero_state 0) fits (omega (arith, ult, size))
-          ∙ (ap (λ (b : Bool). cond b (state_of lies u) (state_of config u)) (marked u)
-          ∙ (one (u == v) (is_in faulty u) u (state_of lies u) ult vlt (told u)
-          ∙ sym (get_or-map-range_with_len (heard_of faulty config table v) 0 n u u (zero_state 0) ult (omega arith)))))
+      let ult : u < n = omega (arith, lt, size_of, size) in
+      get_or-with_lies liars lies config u (zero_state 0) fits (omega (arith, ult, size))
+      ∙ (ap (λ (b : Bool). cond b (state_of lies u) (state_of config u)) (marked u)
+      ∙ (one (u == v) (is_in faulty u) u (state_of lies u) ult vlt (told u)
+      ∙ sym (get_or-map-range_with_len (heard_of faulty config table v) 0 n u u (zero_state 0) ult (omega arith)))))

@@ -1,3 +1,9 @@
+pub mod Begun
 pub mod Correct
+pub mod Fitting
 pub mod Heard
+pub mod HeardAt
 pub mod Locked
+pub mod Playing
+pub mod Stepped
+pub mod ToldTo

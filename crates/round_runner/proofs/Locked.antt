@@ -1,16 +1,16 @@
 -- The test of a locked configuration says what it means.
-use Rattle.std.proofs.Common.{◌≡◌, ℕ, zero, suc, ◌+◌, ◌-◌, ◌<◌, ◌≤◌, ◌⊎◌, inl, inr, Bool, true, false, cond, not, ◌&&◌, List, [], ◌∷◌, length, map, Option, Some, None, unwrap_or, refl, sym, ap, ◌∙◌, subst, arith}
+use Rattle.std.proofs.Common.{◌≡◌, ℕ, zero, suc, ◌+◌, ◌<◌, ◌≤◌, inl, inr, Bool, true, false, ◌&&◌, List, [], ◌∷◌, length, Option, Some, None, unwrap_or, refl, sym, ap, ◌∙◌, subst, arith}
 use Rattle.std.specs.Prelude.{nat_eq}
 use Rattle.std.specs.List.{list_all}
 use Rattle.std.specs.Option.{option_eq}
-use Rattle.std.proofs.lemmas.Bool.{eqb-true, eq-eqb, true≢false, and_parts, cases_Bool, cases_eq}
+use Rattle.std.proofs.lemmas.Bool.{eqb-true, eq-eqb, true≢false, and_parts, cases_eq}
 use Rattle.sync_types.specs.declared.states.Reg.{Reg}
 use Rattle.sync_types.specs.States.{State, register_at}
-use Rattle.construction.specs.Plans.{Level, Plan, nodes_of}
+use Rattle.construction.specs.Plans.{Level, nodes_of}
 use Rattle.construction.specs.PhaseKing.{locked_at}
 use Rattle.construction.specs.Steps.{state_of}
-use Rattle.construction.specs.Runs.{is_in, AllLocked, IsLockedIn, IsLocked}
-use Rattle.round_runner.specs.Locks.{is_locked_at, first_value, are_locked, correct_registers, is_locked_in, is_locked}
+use Rattle.construction.specs.Runs.{is_in, AllLocked, IsLockedIn}
+use Rattle.round_runner.specs.Locks.{is_locked_at, first_value, are_locked, correct_registers, is_locked_in}
 use Rattle.round_runner.proofs.Correct.{correct_from, from_zero, from_end, from_faulty, from_correct}
 
 -- a register that passes is locked at that value
@@ -33,11 +33,11 @@ module _ (level n : ℕ) (faulty : List ℕ) (config : List State) where
   each p (suc k) from size all v lo hi correct =
       let lt : from < n = omega arith in
       let later : list_all p (correct_from level n faulty config (from + 1)) ≡ true → from + 1 ≤ v → p (register_at level (state_of config v)) ≡ true =
-        λ rest le. each p k (from + 1) (omega arith) rest v le hi correct in
+      λ rest le. each p k (from + 1) (omega arith) rest v le hi correct in
       let here : from ≡ v → p (register_at level (state_of config v)) ≡ true = λ same.
-        let is = subst (λ (u : ℕ). is_in faulty u ≡ false) (sym same) correct in
-        let parts = and_parts (p (register_at level (state_of config from))) (list_all p (correct_from level n faulty config (from + 1))) (sym (ap (list_all p) (from_correct level n faulty config from lt is)) ∙ all) in
-        subst (λ (u : ℕ). p (register_at level (state_of config u)) ≡ true) same parts.0 in
+      let is = subst (λ (u : ℕ). is_in faulty u ≡ false) (sym same) correct in
+      let parts = and_parts (p (register_at level (state_of config from))) (list_all p (correct_from level n faulty config (from + 1))) (sym (ap (list_all p) (from_correct level n faulty config from lt is)) ∙ all) in
+      subst (λ (u : ℕ). p (register_at level (state_of config u)) ≡ true) same parts.0 in
       let rest_of : (b : Bool) → is_in faulty from ≡ b → list_all p (correct_from level n faulty config (from + 1)) ≡ true = λ b. elim b as (λ b. is_in faulty from ≡ b → list_all p (correct_from level n faulty config (from + 1)) ≡ true) [
         | true ↦ λ is. sym (ap (list_all p) (from_faulty level n faulty config from lt is)) ∙ all
         | false ↦ λ is. (and_parts (p (register_at level (state_of config from))) (list_all p (correct_from level n faulty config (from + 1))) (sym (ap (list_all p) (from_correct level n faulty config from lt is)) ∙ all)).1
@@ -54,8 +54,8 @@ module _ (level n : ℕ) (faulty : List ℕ) (config : List State) where
       let by : (b : Bool) → is_in faulty from ≡ b → list_all p (correct_from level n faulty config from) ≡ true = λ b. elim b as (λ b. is_in faulty from ≡ b → list_all p (correct_from level n faulty config from) ≡ true) [
         | true ↦ λ is. ap (list_all p) (from_faulty level n faulty config from lt is) ∙ rest
         | false ↦ λ is. let one : p (register_at level (state_of config from)) ≡ true = h from (omega arith) lt is in
-          let parts : p (register_at level (state_of config from)) && list_all p (correct_from level n faulty config (from + 1)) ≡ true = rw (one, rest) refl in
-          ap (list_all p) (from_correct level n faulty config from lt is) ∙ parts
+            let parts : p (register_at level (state_of config from)) && list_all p (correct_from level n faulty config (from + 1)) ≡ true = rw (one, rest) refl in
+            ap (list_all p) (from_correct level n faulty config from lt is) ∙ parts
       ] in
       by (is_in faulty from) refl
 

@@ -1,1 +1,9 @@
+pub mod Fits
+pub mod Hearing
+pub mod Kept
 pub mod Locks
+pub mod Plain
+pub mod Played
+pub mod Rooms
+pub mod Runners
+pub mod Scenes

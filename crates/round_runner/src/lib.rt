@@ -1,5 +1,11 @@
-//! Plays a script.
+//! Plays a script on the counter of a plan, round by round, with a layer above the counter.
+//!
+//! A [`Runner`] is always at the configuration that the script's run has at that round. A round takes no memory and cannot fail.
 #![tactic(auto)]
 
 mod locks;
+mod rounds;
+mod runners;
 mod stepping;
+
+pub use runners::Runner;

@@ -32,6 +32,8 @@ pub fn step_with<C: Counter, O: Overlay>(
         length (after (O.layer overlay.old) (O.kept overlay.old) node o heard.now).registers ≡ (O.layer overlay.old).extra }
     ensures values { let o = (C.meaning counter.now).shows node (state_of heard.now node) in
         AreBelow (O.layer overlay.old).values (after (O.layer overlay.old) (O.kept overlay.old) node o heard.now).registers }
+    ensures in_range { C.in_range counter.now ((C.meaning counter.now).next node heard.now) }
+    ensures depth { length ((C.meaning counter.now).next node heard.now).registers ≡ (C.meaning counter.now).depth }
     ensures work { IsAsRoomy work.old work.new }
 {
     counter.tell();

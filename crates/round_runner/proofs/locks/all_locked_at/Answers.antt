@@ -1,4 +1,4 @@
-use Rattle.std.proofs.Common.{◌≡◌, ◌<◌, List, sym, ap, ◌∙◌, arith}
+use Rattle.std.proofs.Common.{◌<◌, List, sym, ap, ◌∙◌, arith}
 use Rattle.std.specs.List.{list_all}
 use Rattle.sync_types.specs.declared.states.Reg.{Reg}
 use Rattle.round_runner.specs.Locks.{is_locked_at}
@@ -10,7 +10,7 @@ pub returns-then-not-is_locked_at : goal.returns-then-not-is_locked_at
 returns-then-not-is_locked_at c =
     let lt : c.loop-v.v < c.args.faulty.now.nodes = omega (arith, c.loop-v-test.true, c.nodes-v-end.ensures) in
     sym (one_is_not c.args.level c.args.faulty.now.nodes c.args.faulty.now.ids c.args.config.now c.args.value c.loop-v.v lt (sym c.contains.ensures ∙ c.if-not-contains.true)
-        (rw (← read_at c.args.config.now c.loop-v.v c.index-config-v.result (omega (arith, lt, c.requires.nodes)) c.index-config-v.is, ← c.reg.ensures) (sym c.is_locked_at.ensures ∙ c.if-not-is_locked_at.true)))
+    (rw (← read_at c.args.config.now c.loop-v.v c.index-config-v.result (omega (arith, lt, c.requires.nodes)) c.index-config-v.is, ← c.reg.ensures) (sym c.is_locked_at.ensures ∙ c.if-not-is_locked_at.true)))
     ∙ (c.loop-v.invariant ∙ ap (λ (registers : List Reg). list_all (is_locked_at c.args.value) registers) (from_zero c.args.level c.args.faulty.now.nodes c.args.faulty.now.ids c.args.config.now))
 
 pub loop-v-preserved : goal.loop-v-preserved

@@ -1,4 +1,4 @@
-use Rattle.std.proofs.Common.{◌≡◌, ◌<◌, List, sym, ap, ◌∙◌, arith}
+use Rattle.std.proofs.Common.{◌<◌, List, sym, ap, ◌∙◌, arith}
 use Rattle.sync_types.specs.declared.states.Reg.{Reg}
 use Rattle.round_runner.specs.Locks.{first_value}
 use Rattle.round_runner.proofs.Correct.{from_faulty}

@@ -1,0 +1,259 @@
+ghost use Rattle.std.specs.Prelude.{◌≡◌, ◌+◌, ◌<◌, ◌≤◌, ℕ, length, All, replicate, IfOk, true};
+ghost use Rattle.sync_types.specs.States.{zero_state};
+ghost use Rattle.construction.specs.Plans.{plan_depth, plan_nodes};
+ghost use Rattle.state_codec.specs.Ranges.{InRange};
+ghost use Rattle.round_runner.specs.Hearing.{AreMarked};
+ghost use Rattle.round_runner.specs.Locks.{is_locked, first_of};
+ghost use Rattle.round_runner.specs.Played.{starts};
+ghost use Rattle.round_runner.specs.Rooms.{IsReady};
+
+use crate::locks::are_locked;
+use crate::rounds::{Room, step_all};
+use adversary_script::{Noise, Script};
+use counter_core::{Counter, Overlay};
+use state_codec::StateShape;
+use std::alloc::Global;
+use std::marker::Model;
+use std::mem;
+use sync_types::{FaultSet, NoMemory, NodeState};
+use tower::Tower;
+
+/// Plays a script round by round on the counter of a plan, with a layer above.
+#[derive(Drop)]
+pub struct Runner<O: Overlay> {
+    tower: Tower,
+    script: Script,
+    overlay: O,
+    room: Room,
+    config: Vec<NodeState>,
+    next: Vec<NodeState>,
+    rounds: u64,
+    at: u64,
+    locked: Option<u64>,
+}
+
+impl<O: Overlay> Model for Runner<O> {
+    ghost use Rattle.round_runner.specs.Runners.{Running};
+    ghost use Rattle.round_runner.specs.Kept.{IsKept};
+
+    ghost Value = { Running O };
+
+    ghost view = { λ r. record { plan = r.tower; script = r.script; overlay = r.overlay; at = r.at; states = r.config.items; locked = r.locked } };
+
+    ghost invariant = { λ r. IsKept r.tower r.script (O.layer r.overlay) r.room r.config.items r.next.items r.rounds r.at };
+}
+
+/// Whether a configuration of a plan is locked: the top registers of all correct nodes are one, finite and marked.
+fn is_locked(tower: &Tower, faulty: &FaultSet, config: &[NodeState]) -> bool
+    requires nodes { faulty.now.nodes ≡ plan_nodes tower.now }
+    requires size { length config.now ≡ faulty.now.nodes }
+    requires deep { All (λ s. plan_depth tower.now ≤ length s.registers) config.now }
+    ensures { result ≡ is_locked tower.now faulty.now.ids config.now }
+{
+    match tower.depth() {
+        0 => true,
+        depth => are_locked(depth - 1, faulty, config),
+    }
+}
+
+/// The first locked configuration so far: that which was known before, or this one, of that number, if it is locked.
+fn locked_so_far(
+    known: Option<u64>,
+    tower: &Tower,
+    faulty: &FaultSet,
+    config: &[NodeState],
+    at: u64,
+) -> Option<u64>
+    requires nodes { faulty.now.nodes ≡ plan_nodes tower.now }
+    requires size { length config.now ≡ faulty.now.nodes }
+    requires deep { All (λ s. plan_depth tower.now ≤ length s.registers) config.now }
+    ensures { result ≡ first_of known (is_locked tower.now faulty.now.ids config.now) at }
+{
+    if known.is_some() {
+        return known;
+    }
+    if is_locked(tower, faulty, config) {
+        Some(at)
+    } else {
+        None
+    }
+}
+
+/// Zero states of that depth, one for each node.
+fn zero_states(alloc: Global, nodes: u32, depth: usize) -> Result<Vec<NodeState>, NoMemory>
+    ensures { IfOk result (λ states. states.items ≡ replicate nodes (zero_state depth)) }
+{
+    let mut states = Vec::with_capacity(alloc, nodes as usize)?;
+    for _ in 0..nodes {
+        let state = NodeState::zero(alloc, depth)?;
+        match states.push(state) {
+            Ok(()) => {}
+            Err(_) => return Err(NoMemory),
+        }
+    }
+    Ok(states)
+}
+
+/// Which nodes are faulty, by place.
+fn marks(alloc: Global, faulty: &FaultSet) -> Result<Vec<bool>, NoMemory>
+    ensures { IfOk result (λ marks. AreMarked faulty.now.nodes faulty.now.ids marks.items) }
+{
+    faulty.tell();
+    let mut marks = vec![in alloc; false; faulty.nodes() as usize]?;
+    for v in 0..faulty.nodes() {
+        marks[v as usize] = faulty.contains(v);
+    }
+    Ok(marks)
+}
+
+/// Puts the start of each node into its state.
+fn start(script: &Script, noise: &mut Noise, states: &mut [NodeState])
+    requires noise { noise.old ≡ script.now.key }
+    requires size { length states.old ≡ script.now.nodes }
+    requires deep { All (λ s. length s.registers ≡ length script.now.shape.moduli) states.old }
+    ensures states { states.new ≡ starts script.now }
+    ensures range { All (InRange script.now.shape) states.new }
+    ensures noise { noise.new ≡ noise.old }
+{
+    for v in 0..script.faulty().nodes() {
+        let state = &mut states[v as usize];
+        script.start_into(noise, v, state);
+    }
+}
+
+/// What rounds of a script need beside two configurations.
+fn room_for(alloc: Global, tower: &Tower, script: &Script, depth: usize) -> Result<Room, NoMemory>
+    requires nodes { script.now.nodes ≡ plan_nodes tower.now }
+    requires depth { depth ≡ length script.now.shape.moduli }
+    ensures { IfOk result (IsReady script.now) }
+{
+    let faulty = script.faulty();
+    Ok(Room {
+        noise: Noise::new(script),
+        liars: marks(alloc, faulty)?,
+        lies: zero_states(alloc, faulty.nodes(), depth)?,
+        work: tower.work(alloc)?,
+    })
+}
+
+impl<O: Overlay> Runner<O> {
+    ghost use Rattle.std.specs.Prelude.{◌≡◌, ◌-◌, ◌<◌, List, length, IfOk};
+    ghost use Rattle.construction.specs.Plans.{plan_nodes, plan_depth};
+    ghost use Rattle.construction.specs.Shown.{shown};
+    ghost use Rattle.construction.specs.Steps.{state_of};
+    ghost use Rattle.round_runner.specs.Runners.{IsFor, IsPlaying, Advances, begun};
+
+    /// A runner of a script at configuration 0. It takes all the memory that it ever needs.
+    ///
+    /// The tower, the shape and the script are of one plan: the script was read with this shape, which has the registers of the layer behind those of the plan.
+    pub fn new(
+        alloc: Global,
+        tower: Tower,
+        shape: StateShape,
+        script: Script,
+        overlay: O,
+    ) -> Result<Runner<O>, NoMemory>
+        requires plan { IsFor tower (O.layer overlay) script }
+        requires shape { script.shape ≡ shape }
+        ensures begun { IfOk result (λ runner. runner ≡ begun tower script overlay) }
+        ensures played { IfOk result (IsPlaying O.layer O.kept (O.kept overlay)) }
+    {
+        let depth = shape.depth();
+        let nodes = script.faulty().nodes();
+        let mut room = room_for(alloc, &tower, &script, depth)?;
+        let mut config = zero_states(alloc, nodes, depth)?;
+        let next = zero_states(alloc, nodes, depth)?;
+        start(&script, &mut room.noise, &mut config);
+        let rounds = script.rounds();
+        let locked = locked_so_far(None, &tower, script.faulty(), &config, 0);
+        Ok(Runner {
+            tower,
+            script,
+            overlay,
+            room,
+            config,
+            next,
+            rounds,
+            at: 0,
+            locked,
+        })
+    }
+
+    /// Makes the next configuration: every node steps, the faulty ones too, from what it hears. It takes no memory and cannot fail. There is a round left to play.
+    pub fn round(&mut self)
+        requires { self.old.at < self.old.script.rounds }
+        ensures advances { Advances O.layer O.kept self.old self.new }
+        ensures played { (began : List O.Kept) → IsPlaying O.layer O.kept began self.old → IsPlaying O.layer O.kept began self.new }
+    {
+        step_all(
+            &self.tower,
+            &mut self.overlay,
+            &self.script,
+            self.at,
+            &mut self.room,
+            &self.config,
+            &mut self.next,
+        );
+        mem::swap(&mut self.config, &mut self.next);
+        self.at += 1;
+        self.locked = locked_so_far(
+            self.locked,
+            &self.tower,
+            self.script.faulty(),
+            &self.config,
+            self.at,
+        );
+    }
+
+    /// How many rounds were played.
+    pub fn at(&self) -> u64
+        ensures { result ≡ self.now.at }
+    {
+        self.at
+    }
+
+    /// How many rounds are left to play.
+    pub fn rounds_left(&self) -> u64
+        ensures { result ≡ self.now.script.rounds - self.now.at }
+    {
+        self.rounds - self.at
+    }
+
+    /// What node `v` shows.
+    pub fn output(&self, v: u32) -> u64
+        requires { v < plan_nodes self.now.plan }
+        ensures { result ≡ shown (plan_depth self.now.plan) (state_of self.now.states v) }
+    {
+        self.tower.output(v, &self.config[v as usize])
+    }
+
+    /// Puts the state of node `v` into `out`, which has the depth of the runner's states.
+    pub fn state(&self, v: u32, out: &mut NodeState)
+        requires node { v < plan_nodes self.now.plan }
+        requires depth { length out.old.registers ≡ length self.now.script.shape.moduli }
+        ensures { out.new ≡ state_of self.now.states v }
+    {
+        out.copy_from(&self.config[v as usize]);
+    }
+
+    /// The layer above the counter.
+    pub fn overlay(&self) -> &O
+        ensures { result.now ≡ self.now.overlay }
+    {
+        &self.overlay
+    }
+
+    /// The script.
+    pub fn script(&self) -> &Script
+        ensures { result.now ≡ self.now.script }
+    {
+        &self.script
+    }
+
+    /// The first configuration so far that is locked, None exactly where there is none.
+    pub fn locked_at(&self) -> Option<u64>
+        ensures { result ≡ self.now.locked }
+    {
+        self.locked
+    }
+}
