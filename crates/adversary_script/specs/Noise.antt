@@ -32,5 +32,5 @@ abbrev pub words_in : Shape → ℕ
 words_in shape = div_ceil (bytes_in shape) 4
 
 -- the state of noise of a turn: each turn of a stream has the words behind those of the turn before
-abbrev pub noise_state : Shape → (key : List ℕ) → (stream turn : ℕ) → State
+unfoldable pub noise_state : Shape → (key : List ℕ) → (stream turn : ℕ) → State
 noise_state shape key stream turn = read shape (noise_bytes key stream (turn * words_in shape) (bytes_in shape))

@@ -53,7 +53,7 @@ alone number (Ok found) = unless_followed (first_unskipped (number + found.taken
 alone number (Err refusal) = Err refusal
 
 -- The script of these lines, of which the first has that number and behind whose `end` only skipped ones stand; or the first line that fails, with the first rule that it fails.
-abbrev pub script_of : Plan → Shape → (number : ℕ) → List (List ℕ) → Result Script (At Rule)
+unfoldable pub script_of : Plan → Shape → (number : ℕ) → List (List ℕ) → Result Script (At Rule)
 script_of plan shape number lines = alone number (part_of plan shape number lines)
 
 -- a script for a plan: for its nodes, for states of that shape, with a faulty set that the plan bears

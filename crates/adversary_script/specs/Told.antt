@@ -36,7 +36,7 @@ own_or_common script (Some state) v = state
 own_or_common script None v = common_start script script.common v
 
 -- the state in which node v starts
-abbrev pub start_of : Script → ℕ → State
+unfoldable pub start_of : Script → ℕ → State
 start_of script v = own_or_common script (start_for script v) v
 
 -- what a lie tells, where u tells it to v in round t, which begins with that configuration
@@ -52,5 +52,5 @@ lie_or_puppet script t u v config None = state_of config u
 lie_or_puppet script t u v config (Some lie) = told_by script t u v config lie.what
 
 -- what the faulty node u tells v in round t, which begins with that configuration
-abbrev pub lie_of : Script → (t u v : ℕ) → List State → State
+unfoldable pub lie_of : Script → (t u v : ℕ) → List State → State
 lie_of script t u v config = lie_or_puppet script t u v config (lie_for script t u v)

@@ -1,4 +1,6 @@
-//! Scripts.
+//! Scripts: what an adversary does with a plan. A script says which nodes are faulty, in which states all nodes start, what the faulty nodes tell the others in which rounds, how many rounds are played and which configurations are shown.
+//!
+//! [`read_script`] reads a script line by line and refuses the first line that fails, with the first rule that it fails. [`Script`] gives the states that it says: those in which nodes start, and those that faulty nodes tell. States of noise come from ChaCha8 by the script's key: the lies from node u to node v have the stream 256u + v, in which each round has its own words, and the start of node v has the stream 65536 + v. [`Noise`] keeps generators that stand where these streams were last read.
 #![tactic(auto)]
 
 mod drafts;
@@ -19,6 +21,8 @@ mod shifting;
 mod telling;
 #[cfg(test)]
 mod tests;
+#[cfg(test)]
+mod value_tests;
 mod word_tests;
 
 pub use noise::Noise;

@@ -36,6 +36,7 @@ pub fn read_script(
 }
 
 /// Reads a script, exactly as it is defined.
+#[tactic(auto, unfolding(crate::specs::ScriptPart::script_of))]
 fn read_exactly(
     alloc: Global,
     plan: &Plan,

@@ -19,6 +19,7 @@ const FIRST_START_STREAM: u64 = 65536;
 
 impl Script {
     /// Writes the state of noise of a turn of a stream.
+    #[tactic(auto, unfolding(crate::specs::Noise::noise_state))]
     fn noise_into(&self, noise: &mut Noise, stream: u64, turn: u64, out: &mut NodeState)
         requires noise { noise.old ≡ self.now.key }
         requires turn { turn ≤ 1000000 }
@@ -54,6 +55,7 @@ impl Script {
     }
 
     /// Writes the state in which node `v` starts into `out`, which has the depth of the states for which the script was read. `noise` is that of this script. It takes no memory.
+    #[tactic(auto, unfolding(crate::specs::Told::start_of))]
     pub fn start_into(&self, noise: &mut Noise, v: u32, out: &mut NodeState)
         requires noise { noise.old ≡ self.now.key }
         requires node { v < self.now.nodes }
@@ -101,6 +103,7 @@ impl Script {
     }
 
     /// Writes what the faulty node `u` tells node `v` in round `t` into `out`. `config` is the configuration with which the round begins: a state for each node, of the shape for which the script was read, and `out` has their depth. `noise` is that of this script. It takes no memory.
+    #[tactic(auto, unfolding(crate::specs::Told::lie_of))]
     pub fn lie_into(
         &self,
         noise: &mut Noise,
