@@ -36,7 +36,7 @@ impl Model for Tower {
     ghost invariant = { λ t. IsKept t.base t.levels.items t.whole };
 }
 
-/// Builds the counter of a plan. It takes all the memory that the counter ever needs, but for [`Tower::work`].
+/// Builds the counter of a plan. It takes all the memory that the counter ever needs; steps need a [`Tower::work`] beside it. The only error is want of memory.
 pub fn build(alloc: Global, plan: &Plan) -> Result<Tower, NoMemory>
     ensures plan { IfOk result (λ tower. tower ≡ plan.now) }
     ensures settles { IfOk result (λ tower. Settles tower) }
@@ -61,7 +61,7 @@ pub fn build(alloc: Global, plan: &Plan) -> Result<Tower, NoMemory>
 }
 
 impl Tower {
-    /// The room that steps of this counter need, with each inner output 0.
+    /// The room that steps of this counter need, with each inner output 0. The only error is want of memory.
     pub fn work(&self, alloc: Global) -> Result<Work, NoMemory>
         ensures room { IfOk result (IsFor (plan_nodes self.now)) }
         ensures outputs { IfOk result (λ work. work.outputs.items ≡ replicate (plan_nodes self.now) 0) }
