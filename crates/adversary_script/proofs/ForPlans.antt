@@ -154,12 +154,12 @@ module _ (plan : Plan) (shape : Shape) where
   read_keeps s None kept = tt
   read_keeps s (Some (k, words)) kept =
       after_if (may_follow s.last k) (passed s k (line_step s.faults k s.script words)) (refuses rule.Form)
-          (passed_keeps s k (line_step s.faults k s.script words) kept (line_kept s.faults k s.script words kept.0 kept.1)) tt
+      (passed_keeps s k (line_step s.faults k s.script words) kept (line_kept s.faults k s.script words kept.0 kept.1)) tt
 
   step_keeps : (s : ScriptSoFar) (line : List ℕ) → Kept s → After Kept (IsFor plan shape) (with_skips script_step rule.Form s line)
   step_keeps s line kept =
       after_if (nat_lt 4096 (length line)) (refuses rule.Form) (if is_skipped line then goes s else script_step s line) tt
-          (after_if (is_skipped line) (goes s) (script_step s line) kept (read_keeps s (kind_of (words_of line)) kept))
+      (after_if (is_skipped line) (goes s) (script_step s line) kept (read_keeps s (kind_of (words_of line)) kept))
 
   followed_keeps : (number : Option ℕ) (script : Script) → IsFor plan shape script → IfOk (unless_followed number script) (IsFor plan shape)
   followed_keeps None script h = h
@@ -172,8 +172,8 @@ module _ (plan : Plan) (shape : Shape) where
   pub script_is_for : (number : ℕ) (lines : List (List ℕ)) → IfOk (script_of plan shape number lines) (IsFor plan shape)
   script_is_for number lines =
       alone_keeps number (part_of plan shape number lines)
-          (part_keeps (with_skips script_step rule.Form) rule.Form Kept (IsFor plan shape) step_keeps lines (nothing_read (plan_nodes plan) (plan_faults plan) shape) 0 number
-              (refl, record { nodes = refl; states = refl; borne = record { rising = λ k lt. absurd (omega arith); ids = λ k d lt. absurd (omega arith); few = omega arith } }))
+      (part_keeps (with_skips script_step rule.Form) rule.Form Kept (IsFor plan shape) step_keeps lines (nothing_read (plan_nodes plan) (plan_faults plan) shape) 0 number
+      (refl, record { nodes = refl; states = refl; borne = record { rising = λ k lt. absurd (omega arith); ids = λ k d lt. absurd (omega arith); few = omega arith } }))
 
 -- a reading that is exact gives a script for its plan
 pub read_is_for : {E : Type 0} (P : E → Type 0) (plan : Plan) (shape : Shape) (number : ℕ) (lines : List (List ℕ)) (r : Result Script E) → MatchResult r (λ script. script_of plan shape number lines ≡ Ok script) P → IfOk r (IsFor plan shape)

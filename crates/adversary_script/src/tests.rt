@@ -91,8 +91,10 @@ fn lines_behind_the_start_are_refused(rt: HostRuntime) -> Result<(), Fail> {
         ("end", 8, Rule::Form),
     ];
     for (text, line, rule) in rows {
-        let mut script =
-            Vec::from_slice(rt.alloc(), b"script 1\nfaulty 3\nstart zero\n".as_slice())?;
+        let mut script = Vec::from_slice(
+            rt.alloc(),
+            b"script 1\nfaulty 3\nstart zero\n".as_slice(),
+        )?;
         script.extend_from_slice(text.as_bytes())?;
         let error = read(rt.alloc(), ONE_LEVEL, &script)?.err();
         assert_eq!(rt; error, refused(line, rule), "at {text}");
