@@ -1,3 +1,0 @@
-pub mod Correct
-pub mod Heard
-pub mod Locked

@@ -1,5 +1,0 @@
-//! Plays a script.
-#![tactic(auto)]
-
-mod locks;
-mod stepping;
