@@ -1,10 +1,10 @@
 -- The plan of a plan part is accepted.
-use Rattle.std.proofs.Common.{◌≡◌, ℕ, Bool, true, false, cond, List, [], ◌∷◌, length, Option, Some, None, Result, Ok, refl, sym, subst}
+use Rattle.std.proofs.Common.{◌≡◌, ℕ, Bool, true, false, cond, List, [], ◌∷◌, length, Option, Some, None, refl}
 use Rattle.std.specs.Prelude.{⊤, IfOk, nat_lt, codes}
 use Rattle.std.specs.Str.{bytes_eq}
 use Rattle.texts.specs.Lines.{lines_of, words_of}
 use Rattle.texts.specs.Shapes.{numbers_after}
-use Rattle.texts.specs.Parts.{Next, goes, ends, refuses, Found, At, is_skipped, with_skips}
+use Rattle.texts.specs.Parts.{Next, goes, ends, refuses, is_skipped, with_skips}
 use Rattle.texts.proofs.Parts.{After, part_keeps}
 use Rattle.sync_types.specs.declared.answers.Premise.{Premise}
 use Rattle.sync_types.specs.declared.answers.Premise.TheVariants.{Form}
@@ -52,12 +52,12 @@ line_kept most Unread text p = either (bytes_eq text (codes "plan 1")) (goes (re
 line_kept most Begun text p = base_kept most (numbers_after (codes "base") 1 (words_of text))
 line_kept most (Built plan) text p =
     either (bytes_eq text (codes "end")) (ends plan) (cond (is_full most plan) (refuses Form) (goes_with most (after_level plan text))) p
-        (either (is_full most plan) (refuses Form) (goes_with most (after_level plan text)) tt (level_kept most plan p (numbers_after (codes "level") 3 (words_of text))))
+    (either (is_full most plan) (refuses Form) (goes_with most (after_level plan text)) tt (level_kept most plan p (numbers_after (codes "level") 3 (words_of text))))
 
 kept : (so_far : PlanSoFar) (text : List ℕ) → Kept so_far → After Kept IsAccepted (with_skips plan_step Form so_far text)
 kept so_far text p =
     either (nat_lt 4096 (length text)) (refuses Form) _ tt
-        (either (is_skipped text) (goes so_far) _ p (line_kept so_far.most so_far.stage text p))
+    (either (is_skipped text) (goes so_far) _ p (line_kept so_far.most so_far.stage text p))
 
 -- of every input, with whatever limit of levels
 pub read_accepted : (most : Option ℕ) (input : List ℕ) → IfOk (plan_of most input) (λ found. IsAccepted found.value)

@@ -1,5 +1,5 @@
 -- Where the plan part of an input is accepted, the plan settles.
-use Rattle.std.proofs.Common.{◌≡◌, ℕ, List, Option, Some, None, Result, Ok, Err}
+use Rattle.std.proofs.Common.{None, Result, Ok, Err}
 use Rattle.std.specs.Prelude.{IfOk}
 use Rattle.texts.specs.Parts.{Found, At}
 use Rattle.sync_types.specs.declared.answers.Premise.{Premise}
