@@ -2,7 +2,7 @@
 use Rattle.std.proofs.Common.{◌≡◌, ℕ, ◌+◌, ◌-◌, ◌<◌, ◌≤◌, inl, inr, List, ◌++◌, length, replicate, take, get_or, sym, ap, ap₂, ◌∙◌, subst, arith, length-append}
 use Rattle.std.specs.Prelude.{IfSome, slice_index}
 use Rattle.std.proofs.lemmas.Bool.{cases_lt}
-use Rattle.std.proofs.lemmas.List.{get_or_append_left, get_or-append-add, get_or-append_right, get_or-replicate, length-replicate, length-take-le, get_or-take}
+use Rattle.std.proofs.lemmas.List.{append-nil, get_or_append_left, get_or-append-add, get_or-append_right, get_or-replicate, length-replicate, length-take-le, get_or-take}
 use Rattle.sync_types.specs.declared.states.Reg.{Reg}
 use Rattle.sync_types.specs.States.{State, register_at, zero_register}
 use Rattle.construction.specs.Plans.{Plan, plan_depth}
@@ -14,8 +14,11 @@ use Rattle.state_codec.proofs.Plans.{length-moduli_of, in_range_of_plan, state_o
 use Rattle.counter_core.specs.Meanings.{cut}
 use Rattle.counter_core.specs.Overlays.{Layer, StandsOver, HasValues}
 use Rattle.counter_core.specs.Overlays as layers
+use Rattle.counter_core.specs.NoLayers.{no_layer}
+use Rattle.adversary_script.specs.Scripts.{Script}
+use Rattle.adversary_script.specs.ScriptPart as part
 use Rattle.round_runner.specs.Fits.{Fits}
-use Rattle.round_runner.specs.Runners.{HasLayer}
+use Rattle.round_runner.specs.Runners.{HasLayer, IsFor}
 
 module _ {Kept : Type 0} (plan : Plan) (layer : Layer Kept) (shape : Shape) (has : HasLayer plan layer shape) where
   abbrev own : List ℕ
@@ -87,4 +90,13 @@ layer_fits plan layer shape has over = record {
   counts = counts plan layer shape has;
   values = values plan layer shape has over;
   joined = joined plan layer shape has;
+}
+
+-- a script that was read for a plan is one to play without a layer
+pub without_layer : (plan : Plan) (script : Script) → part.IsFor plan (shape_of plan) script → IsFor plan no_layer script
+without_layer plan script is = record {
+  nodes = is.nodes;
+  shape = record { base = ap (λ (s : Shape). s.base) is.states; moduli = ap (λ (s : Shape). s.moduli) is.states ∙ sym (append-nil (moduli_of plan.levels)) };
+  over = λ lt. absurd (omega (arith, lt));
+  borne = is.borne;
 }

@@ -7,5 +7,7 @@ mod locks;
 mod rounds;
 mod runners;
 mod stepping;
+#[cfg(test)]
+mod tests;
 
 pub use runners::Runner;

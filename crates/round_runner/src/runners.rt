@@ -219,6 +219,13 @@ impl<O: Overlay> Runner<O> {
         self.rounds - self.at
     }
 
+    /// How many nodes there are.
+    pub fn nodes(&self) -> u32
+        ensures { result ≡ plan_nodes self.now.plan }
+    {
+        self.script.faulty().nodes()
+    }
+
     /// What node `v` shows.
     pub fn output(&self, v: u32) -> u64
         requires { v < plan_nodes self.now.plan }
