@@ -71,11 +71,8 @@ fn runs_count_from_the_bound_on(rt: HostRuntime) -> Result<(), Fail> {
             let at = runner.at();
             runner.round();
             if at >= bound {
-                let wanted = before.map(|output| if output == modulus - 1 {
-                    0
-                } else {
-                    output + 1
-                });
+                let next = before.map(|output| output.wrapping_add(1));
+                let wanted = if next == Some(modulus) { Some(0) } else { next };
                 assert!(rt; before.is_some());
                 assert_eq!(rt; common(&runner), wanted);
             }
