@@ -13,8 +13,7 @@ use Rattle.plan_numbers.specs.Numbers.{line, with_level, numbers_below}
 use Rattle.plan_numbers.specs.Premises.{base_premise, first_premise, unless, IsAccepted}
 use Rattle.plan_reader.specs.declared.plan_lines.PlanStage.{PlanStage}
 use Rattle.plan_reader.specs.declared.plan_lines.PlanStage.TheVariants.{Unread, Begun, Built}
-use Rattle.plan_reader.specs.PlanSoFar.{PlanSoFar, nothing_read}
-use Rattle.plan_reader.specs.PlanPart.{plan_of, whole_plan_of, alone, unless_followed, plan_step, line_step, base_by, level_by, after_level, goes_with, is_full}
+use Rattle.plan_reader.specs.PlanPart.{plan_of, whole_plan_of, alone, unless_followed, plan_step, base_by, level_by, after_level, goes_with}
 use Rattle.plan_reader.specs.Skipped.{first_unskipped}
 
 -- the plan so far is accepted
@@ -23,46 +22,43 @@ IsSound Unread = ⊤
 IsSound Begun = ⊤
 IsSound (Built plan) = IsAccepted plan
 
-abbrev Kept : PlanSoFar → Type 0
-Kept so_far = IsSound so_far.stage
-
-either : (b : Bool) (x y : Next PlanSoFar Plan Premise) → After Kept IsAccepted x → After Kept IsAccepted y → After Kept IsAccepted (cond b x y)
+either : (b : Bool) (x y : Next PlanStage Plan Premise) → After IsSound IsAccepted x → After IsSound IsAccepted y → After IsSound IsAccepted (cond b x y)
 either true x y p q = p
 either false x y p q = q
 
-based : (most : Option ℕ) (plan : Plan) (premise : Option Premise) → (premise ≡ None → IsAccepted plan) → After Kept IsAccepted (goes_with most (unless premise plan))
-based most plan None accepted = accepted refl
-based most plan (Some premise) accepted = tt
+based : (plan : Plan) (premise : Option Premise) → (premise ≡ None → IsAccepted plan) → After IsSound IsAccepted (goes_with (unless premise plan))
+based plan None accepted = accepted refl
+based plan (Some premise) accepted = tt
 
-base_kept : (most : Option ℕ) (numbers : Option (List ℕ)) → After Kept IsAccepted (goes_with most (base_by numbers))
-base_kept most None = tt
-base_kept most (Some []) = tt
-base_kept most (Some (base ∷ [])) = based most (record { base = base; levels = [] }) (base_premise base) (λ none. none)
-base_kept most (Some (base ∷ n ∷ numbers)) = tt
+base_kept : (numbers : Option (List ℕ)) → After IsSound IsAccepted (goes_with (base_by numbers))
+base_kept None = tt
+base_kept (Some []) = tt
+base_kept (Some (base ∷ [])) = based (record { base = base; levels = [] }) (base_premise base) (λ none. none)
+base_kept (Some (base ∷ n ∷ numbers)) = tt
 
-level_kept : (most : Option ℕ) (plan : Plan) (numbers : Option (List ℕ)) → IsAccepted plan → After Kept IsAccepted (goes_with most (level_by plan numbers))
-level_kept most plan None p = tt
-level_kept most plan (Some []) p = tt
-level_kept most plan (Some (k ∷ [])) p = tt
-level_kept most plan (Some (k ∷ f ∷ [])) p = tt
-level_kept most plan (Some (k ∷ f ∷ c ∷ [])) p = based most (with_level plan (line k f c)) (first_premise (numbers_below plan) (line k f c)) (λ none. (p, none))
-level_kept most plan (Some (k ∷ f ∷ c ∷ n ∷ numbers)) p = tt
+level_kept : (plan : Plan) (numbers : Option (List ℕ)) → IsAccepted plan → After IsSound IsAccepted (goes_with (level_by plan numbers))
+level_kept plan None p = tt
+level_kept plan (Some []) p = tt
+level_kept plan (Some (k ∷ [])) p = tt
+level_kept plan (Some (k ∷ f ∷ [])) p = tt
+level_kept plan (Some (k ∷ f ∷ c ∷ [])) p = based (with_level plan (line k f c)) (first_premise (numbers_below plan) (line k f c)) (λ none. (p, none))
+level_kept plan (Some (k ∷ f ∷ c ∷ n ∷ numbers)) p = tt
 
-line_kept : (most : Option ℕ) (stage : PlanStage) (line : List ℕ) → IsSound stage → After Kept IsAccepted (line_step most stage line)
-line_kept most Unread line p = either (bytes_eq line (codes "plan 1")) (goes (record { most = most; stage = Begun })) (refuses Form) tt tt
-line_kept most Begun line p = base_kept most (numbers_after (codes "base") 1 (words_of line))
-line_kept most (Built plan) line p =
-    either (bytes_eq line (codes "end")) (ends plan) (cond (is_full most plan) (refuses Form) (goes_with most (after_level plan line))) p
-    (either (is_full most plan) (refuses Form) (goes_with most (after_level plan line)) tt (level_kept most plan (numbers_after (codes "level") 3 (words_of line)) p))
+line_kept : (stage : PlanStage) (line : List ℕ) → IsSound stage → After IsSound IsAccepted (plan_step stage line)
+line_kept Unread line p = either (bytes_eq line (codes "plan 1")) (goes Begun) (refuses Form) tt tt
+line_kept Begun line p = base_kept (numbers_after (codes "base") 1 (words_of line))
+line_kept (Built plan) line p =
+    either (bytes_eq line (codes "end")) (ends plan) (goes_with (after_level plan line)) p
+    (level_kept plan (numbers_after (codes "level") 3 (words_of line)) p)
 
-kept : (so_far : PlanSoFar) (line : List ℕ) → Kept so_far → After Kept IsAccepted (with_skips plan_step Form so_far line)
-kept so_far line p =
+kept : (stage : PlanStage) (line : List ℕ) → IsSound stage → After IsSound IsAccepted (with_skips plan_step Form stage line)
+kept stage line p =
     either (nat_lt 4096 (length line)) (refuses Form) _ tt
-    (either (is_skipped line) (goes so_far) _ p (line_kept so_far.most so_far.stage line p))
+    (either (is_skipped line) (goes stage) _ p (line_kept stage line p))
 
 -- the plan of a part is accepted
-pub plan_accepted : (most : Option ℕ) (input : List ℕ) → IfOk (plan_of most input) (λ found. IsAccepted found.value)
-plan_accepted most input = part_keeps (with_skips plan_step Form) Form Kept IsAccepted kept (lines_of input) (nothing_read most) 0 1 tt
+pub plan_accepted : (input : List ℕ) → IfOk (plan_of input) (λ found. IsAccepted found.value)
+plan_accepted input = part_keeps (with_skips plan_step Form) Form IsSound IsAccepted kept (lines_of input) Unread 0 1 tt
 
 followed : (number : Option ℕ) (plan : Plan) → IsAccepted plan → IfOk (unless_followed number plan) IsAccepted
 followed None plan p = p
@@ -74,4 +70,4 @@ whole (Err refusal) p = tt
 
 -- the plan of a whole input is accepted
 pub whole_plan_accepted : (input : List ℕ) → IfOk (whole_plan_of input) IsAccepted
-whole_plan_accepted input = whole (plan_of None input) (plan_accepted None input)
+whole_plan_accepted input = whole (plan_of input) (plan_accepted input)

@@ -1,17 +1,16 @@
 -- The plan part of an input: `plan 1`, `base C`, a line `level K F C` for each level from the lowest up, `end`.
-use Rattle.std.specs.Prelude.{ℕ, ◌+◌, List, [], ◌∷◌, drop, Bool, false, Option, Some, None, Result, Ok, Err, nat_le, if◌then◌else◌, codes}
+use Rattle.std.specs.Prelude.{ℕ, ◌+◌, List, [], ◌∷◌, drop, Option, Some, None, Result, Ok, Err, if◌then◌else◌, codes}
 use Rattle.std.specs.Str.{bytes_eq}
 use Rattle.texts.specs.Lines.{lines_of, words_of}
 use Rattle.texts.specs.Shapes.{numbers_after}
 use Rattle.texts.specs.Parts.{Next, goes, ends, refuses, with_skips, Found, At, part_from}
 use Rattle.sync_types.specs.declared.answers.Premise.{Premise}
 use Rattle.sync_types.specs.declared.answers.Premise.TheVariants.{Form}
-use Rattle.construction.specs.Plans.{Plan, plan_depth}
+use Rattle.construction.specs.Plans.{Plan}
 use Rattle.plan_numbers.specs.Numbers.{line, with_level, numbers_below}
 use Rattle.plan_numbers.specs.Premises.{base_premise, first_premise, unless}
 use Rattle.plan_reader.specs.declared.plan_lines.PlanStage.{PlanStage}
 use Rattle.plan_reader.specs.declared.plan_lines.PlanStage.TheVariants.{Unread, Begun, Built}
-use Rattle.plan_reader.specs.PlanSoFar.{PlanSoFar, nothing_read}
 use Rattle.plan_reader.specs.Skipped.{first_unskipped}
 
 -- the plan of a base line with these numbers, or the first premise that it fails
@@ -32,28 +31,20 @@ after_base line = base_by (numbers_after (codes "base") 1 (words_of line))
 abbrev pub after_level : Plan → List ℕ → Result Plan Premise
 after_level plan line = level_by plan (numbers_after (codes "level") 3 (words_of line))
 
--- whether the plan has all the levels that it may have
-abbrev pub is_full : Option ℕ → Plan → Bool
-is_full None plan = false
-is_full (Some most) plan = nat_le most (plan_depth plan)
-
 -- the part goes on with this plan, or the line is refused
-abbrev pub goes_with : Option ℕ → Result Plan Premise → Next PlanSoFar Plan Premise
-goes_with most (Ok plan) = goes (record { most = most; stage = Built plan })
-goes_with most (Err premise) = refuses premise
+abbrev pub goes_with : Result Plan Premise → Next PlanStage Plan Premise
+goes_with (Ok plan) = goes (Built plan)
+goes_with (Err premise) = refuses premise
 
 -- a line behind those that were read
-abbrev pub line_step : Option ℕ → PlanStage → List ℕ → Next PlanSoFar Plan Premise
-line_step most Unread line = if bytes_eq line (codes "plan 1") then goes (record { most = most; stage = Begun }) else refuses Form
-line_step most Begun line = goes_with most (after_base line)
-line_step most (Built plan) line = if bytes_eq line (codes "end") then ends plan else if is_full most plan then refuses Form else goes_with most (after_level plan line)
+abbrev pub plan_step : PlanStage → List ℕ → Next PlanStage Plan Premise
+plan_step Unread line = if bytes_eq line (codes "plan 1") then goes Begun else refuses Form
+plan_step Begun line = goes_with (after_base line)
+plan_step (Built plan) line = if bytes_eq line (codes "end") then ends plan else goes_with (after_level plan line)
 
-abbrev pub plan_step : PlanSoFar → List ℕ → Next PlanSoFar Plan Premise
-plan_step so_far line = line_step so_far.most so_far.stage line
-
--- The plan part at the front of an input: its plan, how many lines it has through `end`, and the lines behind it; or the first line that fails, with the first premise that it fails. Where there is a limit, it has no more level lines than that.
-abbrev pub plan_of : Option ℕ → List ℕ → Result (Found Plan) (At Premise)
-plan_of most input = part_from (with_skips plan_step Form) Form (nothing_read most) 0 1 (lines_of input)
+-- The plan part at the front of an input: its plan, how many lines it has through `end`, and the lines behind it; or the first line that fails, with the first premise that it fails.
+abbrev pub plan_of : List ℕ → Result (Found Plan) (At Premise)
+plan_of input = part_from (with_skips plan_step Form) Form Unread 0 1 (lines_of input)
 
 -- what stands at the front of an input that was read as this plan, so many bytes through its `end` line, and so many lines
 abbrev pub found_in : List ℕ → Plan × ℕ × ℕ → Found Plan
@@ -71,4 +62,4 @@ alone (Err refusal) = Err refusal
 
 -- the plan of an input that is a plan part, with skipped lines alone behind it; or the first line that fails
 abbrev pub whole_plan_of : List ℕ → Result Plan (At Premise)
-whole_plan_of input = alone (plan_of None input)
+whole_plan_of input = alone (plan_of input)

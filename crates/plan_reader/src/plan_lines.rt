@@ -1,5 +1,5 @@
 ghost use Rattle.std.specs.Prelude.{◌≡◌, Ok, Err, MatchResult};
-ghost use Rattle.plan_reader.specs.PlanPart.{after_base, after_level, is_full};
+ghost use Rattle.plan_reader.specs.PlanPart.{after_base, after_level};
 ghost use Rattle.plan_reader.specs.PlanRefusals.{TakesAsDefined};
 
 use edge_io::{LineReader, TakeError, numbers_after};
@@ -24,35 +24,34 @@ pub enum PlanStage {
 #[derive(Drop)]
 pub struct PlanLines {
     alloc: Global,
-    most: Option<usize>,
     stage: PlanStage,
 }
 
 impl Model for PlanLines {
-    ghost use Rattle.plan_reader.specs.PlanSoFar.{PlanSoFar};
+    ghost use Rattle.plan_reader.specs.declared.plan_lines.PlanStage.{PlanStage};
 
-    ghost Value = { PlanSoFar };
+    ghost Value = { PlanStage };
 
-    ghost view = { λ l. record { most = l.most; stage = l.stage } };
+    ghost view = { λ l. l.stage };
 }
 
 impl PlanLines {
-    ghost use Rattle.plan_reader.specs.PlanSoFar.{nothing_read, built_plan};
+    ghost use Rattle.plan_reader.specs.declared.plan_lines.PlanStage.TheVariants.{Unread};
+    ghost use Rattle.plan_reader.specs.BuiltPlans.{built_plan};
 
-    /// A reader of a part of which nothing was read. The part may have `most` level lines, or any number of them where that is None.
-    pub fn new(alloc: Global, most: Option<usize>) -> PlanLines
-        ensures { result ≡ nothing_read most }
+    /// A reader of a part of which nothing was read.
+    pub fn new(alloc: Global) -> PlanLines
+        ensures { result ≡ Unread }
     {
         PlanLines {
             alloc,
-            most,
             stage: PlanStage::Unread,
         }
     }
 
     /// Gives away the plan that was built, if one was.
     fn finish(&mut self) -> Option<Plan>
-        ensures { result ≡ built_plan self.old.stage }
+        ensures { result ≡ built_plan self.old }
     {
         match mem::replace(&mut self.stage, PlanStage::Unread) {
             PlanStage::Unread | PlanStage::Begun => None,
@@ -86,9 +85,6 @@ impl LineReader for PlanLines {
                 if line == b"end".as_slice() {
                     return Ok(self.finish());
                 }
-                if is_full(self.most, plan) {
-                    return Err(TakeError::Refused(Premise::Form));
-                }
                 push_level(plan, line).map_err(TakeError::Refused)?;
             }
         }
@@ -120,14 +116,4 @@ fn push_level(plan: &mut Plan, line: &[u8]) -> Result<(), Premise>
         return Err(Premise::Form);
     };
     plan.push(numbers[0], numbers[1], numbers[2])
-}
-
-/// Whether a plan has as many levels as it may have.
-fn is_full(most: Option<usize>, plan: &Plan) -> bool
-    ensures { result ≡ is_full most plan.now }
-{
-    match most {
-        Some(most) => plan.depth() >= most,
-        None => false,
-    }
 }
