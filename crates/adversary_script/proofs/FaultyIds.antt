@@ -1,5 +1,5 @@
 -- A faulty id is that of a node.
-use Rattle.std.proofs.Common.{◌≡◌, ℕ, zero, suc, ◌+◌, ◌<◌, List, [], ◌∷◌, length, get_or, Bool, true, false, ◌==◌, ◌||◌, refl, sym, ◌∙◌, inl, inr, arith}
+use Rattle.std.proofs.Common.{◌≡◌, ℕ, zero, suc, ◌<◌, List, [], ◌∷◌, length, get_or, true, ◌==◌, sym, inl, inr, arith}
 use Rattle.std.proofs.lemmas.Bool.{or_cases, eqb-true, true≢false}
 use Rattle.sync_types.specs.FaultSets.{is_in}
 

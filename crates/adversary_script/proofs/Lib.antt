@@ -5,4 +5,7 @@ pub mod WordBytes
 pub mod Linked
 pub mod FaultyIds
 pub mod Shifted
+pub mod LineByLine
 pub mod ForPlans
+pub mod WellFormed
+pub mod ToldInRange

@@ -1,59 +1,12 @@
--- The lies of each sender, linked from the last to the first, and the walk along them.
-use Rattle.std.proofs.Common.{◌≡◌, ◌≢◌, ◌⊎◌, ℕ, zero, suc, ◌+◌, ◌<◌, ◌≤◌, List, [], ◌∷◌, length, drop, set, get_or, replicate, Bool, true, false, ◌==◌, ◌&&◌, not, cond, nat_le, Option, Some, None, refl, sym, ap, ◌∙◌, inl, inr, arith}
+-- The walk along the lies of a sender, which are linked.
+use Rattle.std.proofs.Common.{◌≡◌, ℕ, suc, ◌+◌, ◌<◌, List, [], ◌∷◌, length, drop, get_or, Bool, true, false, ◌==◌, refl, sym, ap, ◌∙◌, arith}
 use Rattle.std.specs.List.{position_or_len, find}
-use Rattle.std.proofs.lemmas.Bool.{cases_eq, eq-eqb, eqb-true, ne_eqb}
-use Rattle.std.proofs.lemmas.List.{drop_more, drop_all, length-set, length-drop, length-replicate, get_or-replicate, get_or_default, get_or-set_other, drop-drop, get_or-drop}
-use Rattle.std.proofs.lemmas.Grind.{get_or-set_at}
+use Rattle.std.proofs.lemmas.Bool.{eqb-true}
+use Rattle.std.proofs.lemmas.List.{drop_more, length-drop, get_or_default, drop-drop, get_or-drop}
 use Rattle.adversary_script.specs.declared.lies.Lie.{Lie}
 use Rattle.adversary_script.specs.Scripts.{Group}
 use Rattle.adversary_script.specs.Lookup.{speaks}
-use Rattle.adversary_script.specs.Links.{place_from, IsLinkedFrom, IsLinked}
-
--- no lie stands behind the last
-place_end : (lies : List Lie) (u : ℕ) → place_from lies u (length lies) ≡ length lies
-place_end lies u = rw (drop_all (length lies) lies (omega arith)) (omega arith)
-
-place_here : (lies : List Lie) (u i : ℕ) (d : Lie) → i < length lies → (get_or lies i d).sender ≡ u → place_from lies u i ≡ i
-place_here lies u i d lt same =
-    let test : ((get_or lies i d).sender == u) ≡ true = eq-eqb _ _ same in
-    rw (drop_more lies i d lt, test) (omega arith)
-
-place_past : (lies : List Lie) (u i : ℕ) (d : Lie) → i < length lies → ((get_or lies i d).sender == u) ≡ false → place_from lies u i ≡ place_from lies u (i + 1)
-place_past lies u i d lt test = rw (drop_more lies i d lt, test) (omega arith)
-
--- behind all lies
-pub linked_end : (n : ℕ) (lies : List Lie) → IsLinkedFrom (length lies) n lies (replicate n (length lies)) (replicate (length lies) (length lies))
-linked_end n lies = record {
-  nodes = length-replicate n (length lies);
-  count = length-replicate (length lies) (length lies);
-  first = λ u lt. get_or-replicate n u (length lies) 0 lt ∙ sym (place_end lies u);
-  next = λ i d from lt. absurd (omega arith);
-}
-
--- one lie more, before the others
-pub linked_more : (i n : ℕ) (lies : List Lie) (firsts nexts : List ℕ) (d : Lie) → IsLinkedFrom (i + 1) n lies firsts nexts → i < length lies → (get_or lies i d).sender < n → IsLinkedFrom i n lies (set firsts (get_or lies i d).sender i) (set nexts i (get_or firsts (get_or lies i d).sender 0))
-linked_more i n lies firsts nexts d linked lt below =
-    let nodes = linked.nodes in
-    let count = linked.count in
-    let s : ℕ = (get_or lies i d).sender in
-    record {
-      nodes = length-set firsts s i ∙ nodes;
-      count = length-set nexts i (get_or firsts s 0) ∙ count;
-      first = λ u most. first u most (cases_eq u s);
-      next = λ j e from inside. next j e from inside (cases_eq j i);
-    }
-  where
-    first : (u : ℕ) → u < n → (u ≡ (get_or lies i d).sender) ⊎ (u ≢ (get_or lies i d).sender) → get_or (set firsts (get_or lies i d).sender i) u 0 ≡ place_from lies u i
-    first u most (inl same) =
-        let nodes = linked.nodes in
-        get_or-set_at firsts (get_or lies i d).sender u i 0 same (omega arith) ∙ sym (place_here lies u i d lt (sym same))
-    first u most (inr other) = get_or-set_other firsts (get_or lies i d).sender u i 0 other ∙ linked.first u most ∙ sym (place_past lies u i d lt (ne_eqb (get_or lies i d).sender u (λ same. other (sym same))))
-
-    next : (j : ℕ) (e : Lie) → i ≤ j → j < length lies → (j ≡ i) ⊎ (j ≢ i) → get_or (set nexts i (get_or firsts (get_or lies i d).sender 0)) j 0 ≡ place_from lies (get_or lies j e).sender (j + 1)
-    next j e from inside (inl same) =
-        let count = linked.count in
-        get_or-set_at nexts i j _ 0 same (omega arith) ∙ linked.first _ below ∙ rw same (ap (λ (l : Lie). place_from lies l.sender (i + 1)) (get_or_default lies i d e lt))
-    next j e from inside (inr other) = get_or-set_other nexts i j _ 0 other ∙ linked.next j e (omega arith) inside
+use Rattle.adversary_script.specs.Links.{place_from, IsLinked}
 
 -- the first that passes passes
 found_at : {X : Type 0} (p : X → Bool) (xs : List X) (d : X) → position_or_len p xs < length xs → p (get_or xs (position_or_len p xs) d) ≡ true

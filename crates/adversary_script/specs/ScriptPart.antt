@@ -1,5 +1,6 @@
 -- The script part of an input, line by line, to the end of the input.
-use Rattle.std.specs.Prelude.{◌≡◌, ℕ, ◌+◌, List, Option, Some, None, Result, Ok, Err, if◌then◌else◌}
+use Rattle.std.specs.Prelude.{◌≡◌, ℕ, ◌+◌, ◌==◌, Bool, List, Option, Some, None, Result, Ok, Err, if◌then◌else◌}
+use Rattle.std.specs.List.{list_any}
 use Rattle.texts.specs.Lines.{words_of}
 use Rattle.texts.specs.Parts.{Next, goes, ends, refuses, with_skips, Found, At, part_from}
 use Rattle.sync_types.specs.declared.answers.Rule.{Rule}
@@ -35,9 +36,13 @@ abbrev pub read_as : ScriptSoFar → Option (Kind × List (List ℕ)) → Next S
 read_as s None = refuses Form
 read_as s (Some (k, words)) = if may_follow s.last k then passed s k (line_step s.faults k s.script words) else refuses Form
 
+-- whether a line holds a carriage return, which is no part of any word
+abbrev pub holds_return : List ℕ → Bool
+holds_return line = list_any (λ b. b == 13) line
+
 -- a line behind those that were read
 abbrev pub script_step : ScriptSoFar → List ℕ → Next ScriptSoFar Script Rule
-script_step s line = read_as s (kind_of (words_of line))
+script_step s line = if holds_return line then refuses Form else read_as s (kind_of (words_of line))
 
 -- The script part at the front of these lines, of which the first has that number: its script, how many lines it took through `end`, and the lines behind; or the first line that fails, with the first rule that it fails.
 abbrev pub part_of : Plan → Shape → (number : ℕ) → List (List ℕ) → Result (Found Script) (At Rule)

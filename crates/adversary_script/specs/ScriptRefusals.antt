@@ -1,5 +1,5 @@
 -- What an error of reading a script says of the script that is defined. Want of memory says nothing.
-use Rattle.std.specs.Prelude.{◌≡◌, Result, Ok, Err}
+use Rattle.std.specs.Prelude.{◌≡◌, Result, Err}
 use Rattle.texts.specs.Parts.{At}
 use Rattle.sync_types.specs.declared.answers.Rule.{Rule}
 use Rattle.edge_io.specs.declared.taking.PartError.{PartError}

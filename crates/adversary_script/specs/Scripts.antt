@@ -2,7 +2,6 @@
 use Rattle.std.specs.Prelude.{ℕ, ◌<◌, ◌≤◌, List, [], map, replicate, All, ⊤, Vec}
 use Rattle.std.specs.Global.{Global}
 use Rattle.sync_types.specs.FaultSets.{FaultIds}
-use Rattle.sync_types.specs.States.{State}
 use Rattle.state_codec.specs.Shapes.{Shape}
 use Rattle.state_codec.specs.Ranges.{InRange}
 use Rattle.adversary_script.specs.declared.lies.CommonStart.{CommonStart}

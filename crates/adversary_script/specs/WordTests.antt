@@ -4,7 +4,7 @@ use Rattle.std.specs.List.{list_all}
 use Rattle.texts.specs.Numbers.{number_of}
 use Rattle.texts.specs.Shapes.{onto_numbers}
 use Rattle.sync_types.specs.FaultSets.{is_in}
-use Rattle.adversary_script.specs.LieWords.{WhoSaid, everyone, between, named, WhatSaid, noise, copy, digits, shift, LieSaid}
+use Rattle.adversary_script.specs.LieWords.{WhoSaid, everyone, between, named, WhatSaid, copy, LieSaid}
 
 -- the numbers of the words, where each is one
 abbrev pub numbers_in : List (List ℕ) → Option (List ℕ)

@@ -4,7 +4,8 @@ ghost use Rattle.state_codec.specs.Shapes.{shape_of};
 ghost use Rattle.edge_io.specs.Taking.{Takes};
 ghost use Rattle.adversary_script.specs.Answers.{Adds};
 ghost use Rattle.adversary_script.specs.Steps.{line_step};
-ghost use Rattle.adversary_script.specs.ScriptPart.{nothing_read, passed};
+ghost use Rattle.adversary_script.specs.Kinds.{kind_of};
+ghost use Rattle.adversary_script.specs.ScriptPart.{nothing_read, passed, read_as, holds_return};
 
 use crate::drafts::Draft;
 use crate::kinds::{Kind, may_follow, read_kind};
@@ -80,6 +81,28 @@ impl<'a> ScriptLines<'a> {
             }
         }
     }
+
+    /// Takes a line by its words.
+    fn take_words(&mut self, line: Words) -> Result<Option<Script>, TakeError<Rule>>
+        ensures { Takes (read_as self.old (kind_of line.entry)) self.new result }
+    {
+        let mut words = line;
+        let Some(kind) = read_kind(&mut words) else {
+            return Err(TakeError::Refused(Rule::Form));
+        };
+        if !may_follow(self.last(), kind) {
+            return Err(TakeError::Refused(Rule::Form));
+        }
+        self.take_line(kind, words)?;
+        self.pass(kind)
+    }
+}
+
+/// Whether a line holds a carriage return.
+fn holds_return(line: &[u8]) -> bool
+    ensures { result ≡ holds_return line.now }
+{
+    line.iter().any(|byte| *byte == b'\r')
 }
 
 impl<'a> LineReader for ScriptLines<'a> {
@@ -92,14 +115,9 @@ impl<'a> LineReader for ScriptLines<'a> {
     ghost step = { script_step };
 
     fn take(&mut self, line: &[u8]) -> Result<Option<Script>, TakeError<Rule>> {
-        let mut words = Words::new(line);
-        let Some(kind) = read_kind(&mut words) else {
-            return Err(TakeError::Refused(Rule::Form));
-        };
-        if !may_follow(self.last(), kind) {
+        if holds_return(line) {
             return Err(TakeError::Refused(Rule::Form));
         }
-        self.take_line(kind, words)?;
-        self.pass(kind)
+        self.take_words(Words::new(line))
     }
 }

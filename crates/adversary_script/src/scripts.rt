@@ -37,6 +37,8 @@ impl Model for Script {
 }
 
 impl Script {
+    ghost use Rattle.adversary_script.specs.Scripts.{IsScript};
+
     /// The key of the noise.
     pub(crate) fn key(&self) -> [u8; 32]
         ensures { result ≡ self.now.key }
@@ -49,6 +51,13 @@ impl Script {
         ensures { result.now ≡ record { nodes = self.now.nodes; ids = self.now.faulty } }
     {
         &self.faulty
+    }
+
+    /// Tells a proof what holds of every script that was read. It does nothing when it runs.
+    pub fn tell(&self)
+        ensures { IsScript self.now }
+    {
+        let _base = self.base;
     }
 
     /// How many rounds are played, at most 1,000,000. The configurations are 0 to that.

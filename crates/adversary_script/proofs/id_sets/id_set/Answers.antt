@@ -1,4 +1,3 @@
-use Rattle.std.proofs.Common.{◌≡◌, arith}
 use Rattle.adversary_script.proofs.RisingIds.{id_below, rising_taken}
 use Rattle.adversary_script.proofs.id_sets.id_set.Goals as goal
 

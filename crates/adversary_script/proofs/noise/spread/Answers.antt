@@ -1,4 +1,4 @@
-use Rattle.std.proofs.Common.{◌≡◌, ◌<◌, ◌/◌, ◌%◌, ◌∙◌, sym, slice_index, arith}
+use Rattle.std.proofs.Common.{◌/◌, ◌%◌, ◌∙◌, sym, slice_index, arith}
 use Rattle.std.specs.Int.{w32, to_le_bytes}
 use Rattle.std.proofs.lemmas.List.FromFn.{fill_by_all}
 use Rattle.adversary_script.proofs.WordBytes.{by_place}

@@ -1,4 +1,3 @@
-use Rattle.std.proofs.Common.{◌≡◌}
 use Rattle.texts.specs.Lines.{lines_of}
 use Rattle.adversary_script.proofs.ForPlans.{read_is_for}
 use Rattle.adversary_script.proofs.reading.read_script.Goals as goal

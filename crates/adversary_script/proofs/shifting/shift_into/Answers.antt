@@ -1,4 +1,4 @@
-use Rattle.std.proofs.Common.{arith, rules, ◌≡◌}
+use Rattle.std.proofs.Common.{rules, ◌≡◌}
 use Rattle.state_codec.specs.Ranges.{InRange}
 use Rattle.adversary_script.specs.Told.{shifted}
 use Rattle.adversary_script.proofs.Shifted.{shifted_in_range}

@@ -1,4 +1,4 @@
-use Rattle.std.proofs.Common.{arith, ◌≡◌, ◌≤◌, ◌<◌, ap, ◌∙◌, length}
+use Rattle.std.proofs.Common.{arith, ◌<◌, ap, ◌∙◌, length}
 use Rattle.std.proofs.lemmas.List.{length-set}
 use Rattle.sync_types.specs.States.{State}
 use Rattle.state_codec.proofs.RegisterSteps.{state_is, zero_step, zero_end}

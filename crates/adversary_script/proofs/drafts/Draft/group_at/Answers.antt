@@ -1,4 +1,4 @@
-use Rattle.std.proofs.Common.{◌≡◌, ◌∙◌, sym}
+use Rattle.std.proofs.Common.{◌∙◌, sym}
 use Rattle.std.specs.Str.{bytes_eq}
 use Rattle.adversary_script.specs.Scripts.{group_seen}
 use Rattle.adversary_script.proofs.Mapped.{position-map}

@@ -1,4 +1,4 @@
-use Rattle.std.proofs.Common.{◌≡◌, ◌<◌, ◌+◌, arith}
+use Rattle.std.proofs.Common.{◌+◌, arith}
 use Rattle.std.proofs.lemmas.List.FromFn.{fill_by_all}
 use Rattle.adversary_script.specs.Noise.{key_in, noise_word}
 use Rattle.adversary_script.proofs.noise.Noise.fill_words.Goals as goal

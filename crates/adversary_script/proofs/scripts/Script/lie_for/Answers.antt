@@ -1,7 +1,7 @@
 use Rattle.std.proofs.Common.{◌≡◌, false, ◌<◌, length, ap, sym, ◌∙◌, arith}
 use Rattle.adversary_script.specs.Scripts.{Script}
 use Rattle.adversary_script.specs.Lookup.{speaks}
-use Rattle.adversary_script.proofs.Linked.{IsAt, walk_begins, walk_goes_on, walk_rises}
+use Rattle.adversary_script.proofs.Linked.{walk_begins, walk_goes_on, walk_rises}
 use Rattle.adversary_script.proofs.scripts.Script.lie_for.Goals as goal
 
 pub loop-at-init : goal.loop-at-init

@@ -1,4 +1,3 @@
-use Rattle.std.proofs.Common.{◌≡◌, arith}
 use Rattle.adversary_script.proofs.FaultyIds.{id_below}
 use Rattle.adversary_script.proofs.scripts.Script.tell_sender.Goals as goal
 
