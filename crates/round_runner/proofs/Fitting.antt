@@ -1,5 +1,5 @@
 -- A plan's shape with a layer's registers behind fits the plan's counter and the layer.
-use Rattle.std.proofs.Common.{◌≡◌, ℕ, ◌+◌, ◌-◌, ◌<◌, ◌≤◌, inl, inr, List, ◌++◌, length, replicate, take, get_or, sym, ap, ap₂, ◌∙◌, subst, arith, length-append}
+use Rattle.std.proofs.Common.{◌≡◌, ℕ, ◌+◌, ◌-◌, ◌<◌, ◌≤◌, inl, inr, List, ◌++◌, length, replicate, take, get_or, refl, sym, ap, ap₂, ◌∙◌, subst, arith, length-append}
 use Rattle.std.specs.Prelude.{IfSome, slice_index}
 use Rattle.std.proofs.lemmas.Bool.{cases_lt}
 use Rattle.std.proofs.lemmas.List.{append-nil, get_or_append_left, get_or-append-add, get_or-append_right, get_or-replicate, length-replicate, length-take-le, get_or-take}
@@ -92,11 +92,18 @@ layer_fits plan layer shape has over = record {
   joined = joined plan layer shape has;
 }
 
--- a script that was read for a plan is one to play without a layer
-pub without_layer : (plan : Plan) (script : Script) → part.IsFor plan (shape_of plan) script → IsFor plan no_layer script
-without_layer plan script is = record {
+-- a script that was read for a plan is one to play with a layer that has no registers
+pub without_registers : {Kept : Type 0} (plan : Plan) (script : Script) (layer : Layer Kept) → layer.extra ≡ 0 → part.IsFor plan (shape_of plan) script → IsFor plan layer script
+without_registers plan script layer none is = record {
   nodes = is.nodes;
-  shape = record { base = ap (λ (s : Shape). s.base) is.states; moduli = ap (λ (s : Shape). s.moduli) is.states ∙ sym (append-nil (moduli_of plan.levels)) };
-  over = λ lt. absurd (omega (arith, lt));
+  shape = record {
+    base = ap (λ (s : Shape). s.base) is.states;
+    moduli = ap (λ (s : Shape). s.moduli) is.states ∙ (sym (append-nil (moduli_of plan.levels)) ∙ ap (λ (n : ℕ). moduli_of plan.levels ++ replicate n layer.values) (sym none));
+  };
+  over = λ lt. absurd (omega (arith, lt, none));
   borne = is.borne;
 }
+
+-- so it is one to play without a layer
+pub without_layer : (plan : Plan) (script : Script) → part.IsFor plan (shape_of plan) script → IsFor plan no_layer script
+without_layer plan script is = without_registers plan script no_layer refl is

@@ -1,9 +1,14 @@
 pub mod Begun
 pub mod Correct
+pub mod FirstLocked
 pub mod Fitting
 pub mod Heard
 pub mod HeardAt
 pub mod Locked
+pub mod PlayedLaws
 pub mod Playing
+pub mod Runs
+pub mod ScenesLock
+pub mod ScenesRun
 pub mod Stepped
 pub mod ToldTo

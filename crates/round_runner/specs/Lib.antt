@@ -1,9 +1,10 @@
 pub mod Fits
 pub mod Hearing
 pub mod Kept
+pub mod Laws
 pub mod Locks
-pub mod Plain
 pub mod Played
 pub mod Rooms
 pub mod Runners
 pub mod Scenes
+pub mod Seen

@@ -137,10 +137,11 @@ fn room_for(alloc: Global, tower: &Tower, script: &Script, depth: usize) -> Resu
 }
 
 impl<O: Overlay> Runner<O> {
-    ghost use Rattle.std.specs.Prelude.{◌≡◌, ◌-◌, ◌<◌, List, length, IfOk};
-    ghost use Rattle.construction.specs.Plans.{plan_nodes, plan_depth};
+    ghost use Rattle.std.specs.Prelude.{◌≡◌, ◌-◌, ◌<◌, ◌≤◌, List, length, IfOk};
+    ghost use Rattle.construction.specs.Plans.{plan_nodes, plan_bound, plan_depth};
     ghost use Rattle.construction.specs.Shown.{shown};
     ghost use Rattle.construction.specs.Steps.{state_of};
+    ghost use Rattle.round_runner.specs.Laws.{IsUpTo};
     ghost use Rattle.round_runner.specs.Runners.{IsFor, IsPlaying, Advances, begun};
 
     /// A runner of a script at configuration 0. It takes all the memory that it ever needs.
@@ -158,6 +159,8 @@ impl<O: Overlay> Runner<O> {
         ensures begun { IfOk result (λ runner. runner ≡ begun tower script overlay) }
         ensures played { IfOk result (IsPlaying O.layer O.kept (O.kept overlay)) }
     {
+        shape.tell();
+        script.tell();
         let depth = shape.depth();
         let nodes = script.faulty().nodes();
         let mut room = room_for(alloc, &tower, &script, depth)?;
@@ -257,10 +260,12 @@ impl<O: Overlay> Runner<O> {
         &self.script
     }
 
-    /// The first configuration so far that is locked, None exactly where there is none.
+    /// The first configuration so far that is locked, None exactly where there is none. Where the runner plays its script and has reached the plan's bound, there is one, at the bound or before.
     pub fn locked_at(&self) -> Option<u64>
-        ensures { result ≡ self.now.locked }
+        ensures value { result ≡ self.now.locked }
+        ensures by_bound { (began : List O.Kept) → IsPlaying O.layer O.kept began self.now → plan_bound self.now.plan ≤ self.now.at → IsUpTo (plan_bound self.now.plan) result }
     {
+        self.tower.tell();
         self.locked
     }
 }

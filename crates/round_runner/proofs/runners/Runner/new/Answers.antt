@@ -3,7 +3,7 @@ use Rattle.std.proofs.lemmas.List.{with_items_is, length-replicate}
 use Rattle.sync_types.specs.FaultSets.{FaultIds}
 use Rattle.sync_types.specs.States.{State, zero_state}
 use Rattle.state_codec.specs.Ranges.{InRange}
-use Rattle.state_codec.specs.Shapes.{Shape}
+use Rattle.state_codec.specs.Shapes.{Shape, IsShape}
 use Rattle.round_runner.proofs.Begun.{zeros_deep}
 use Rattle.round_runner.proofs.Fitting.{layer_fits}
 use Rattle.round_runner.proofs.runners.Runner.new.Goals as goal
@@ -30,6 +30,8 @@ invariant_of-result g c =
     c.start.auto.states ∙ (ap (λ (states : List State). length states) (c.deref_mut.ensures.value ∙ c.in_ok-config.ensures) ∙ (length-replicate c.nodes-nodes.result (zero_state c.depth-depth.result) ∙ nodes)) in
     record {
       right = c.requires.plan;
+      sound = subst IsShape (sym c.requires.shape) c.tell.ensures;
+      formed = c.tell-2.ensures;
       fits = layer_fits c.args.tower (g.O.Overlay.layer c.args.overlay) c.args.script.shape c.requires.plan.shape c.requires.plan.over;
       ready = record { noise = c.start.ensures.noise ∙ room.noise; liars = room.liars; lies = room.lies; deep = room.deep; work = room.work };
       size = ap (λ (states : List State). length states) is ∙ size;
