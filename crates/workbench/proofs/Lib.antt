@@ -1,5 +1,6 @@
-pub mod AcceptedRead
-pub mod AloneRead
-pub mod OneNodeRuns
-pub mod PlansRun
 pub mod Settled
+pub mod Shown
+pub mod Rows
+pub mod Words
+pub mod Promise
+pub mod ReadRun

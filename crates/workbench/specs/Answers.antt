@@ -1,42 +1,44 @@
 -- What each word answers to an input: the text that is written, or a refusal.
-use Rattle.std.specs.Prelude.{ℕ, ◌+◌, List, Some, None, Result, Ok, Err}
-use Rattle.texts.specs.Parts.{At, Found, with_skips, part_from}
+use Rattle.std.specs.Prelude.{ℕ, ◌+◌, List, Result, Ok, Err}
+use Rattle.texts.specs.Parts.{At, Found}
 use Rattle.sync_types.specs.declared.answers.Premise.{Premise}
 use Rattle.sync_types.specs.declared.answers.Rule.{Rule}
-use Rattle.sync_types.specs.declared.answers.Rule.TheVariants as rule
 use Rattle.sync_types.specs.declared.answers.Part.TheVariants as part
 use Rattle.construction.specs.Plans.{Plan}
 use Rattle.plan_reader.specs.PlanPart.{plan_of, whole_plan_of}
-use Rattle.plan_reader.specs.Skipped.{first_unskipped}
 use Rattle.plan_certificate.specs.Tables.{table_text}
+use Rattle.state_codec.specs.Shapes.{shape_of}
+use Rattle.adversary_script.specs.Scripts.{Script}
+use Rattle.adversary_script.specs.ScriptPart.{script_of}
 use Rattle.workbench.specs.declared.refusals.Refusal.{Refusal}
 use Rattle.workbench.specs.declared.refusals.Refusal.TheVariants as refusal
-use Rattle.workbench.specs.declared.scripts.ScriptStage.TheVariants as stage
-use Rattle.workbench.specs.Scripts.{Script}
-use Rattle.workbench.specs.ScriptPart.{script_step}
 use Rattle.workbench.specs.RunText.{run_text}
 
 -- ---- the word `run`
 
--- the script that these lines begin with, the first having that number
-abbrev pub script_of : ℕ → List (List ℕ) → Result (Found Script) (At Rule)
-script_of number lines = part_from (with_skips script_step rule.Form) rule.Form stage.Start 0 number lines
+-- a plan, and a script for it
+pub record Scripted : Type 0 where
+  pub plan : Plan
+  pub script : Script
 
--- behind the script only skipped lines may follow
-abbrev pub after_script : Plan → ℕ → Result (Found Script) (At Rule) → Result (List ℕ) Refusal
-after_script plan number (Err at) = Err (refusal.Part part.Script at.line at.rule)
-after_script plan number (Ok found) = elim (first_unskipped (number + found.taken) found.behind) [
-  | None ↦ Ok (run_text plan found.value)
-  | Some line ↦ Err (refusal.Part part.Script line rule.Form)
-]
+abbrev pub with_script : Plan → Result Script (At Rule) → Result Scripted Refusal
+with_script plan (Err at) = Err (refusal.Part part.Script at.line at.rule)
+with_script plan (Ok script) = Ok (record { plan = plan; script = script })
 
-abbrev pub after_plan : Result (Found Plan) (At Premise) → Result (List ℕ) Refusal
-after_plan (Err at) = Err (refusal.Plan at.line at.rule)
-after_plan (Ok found) = after_script found.value (1 + found.taken) (script_of (1 + found.taken) found.behind)
+abbrev pub behind_plan : Result (Found Plan) (At Premise) → Result Scripted Refusal
+behind_plan (Err at) = Err (refusal.Plan at.line at.rule)
+behind_plan (Ok found) = with_script found.value (script_of found.value (shape_of found.value) (1 + found.taken) found.behind)
 
--- a plan without levels, then a script
+-- an input is a plan, and then a script for it
+abbrev pub scripted_of : List ℕ → Result Scripted Refusal
+scripted_of input = behind_plan (plan_of input)
+
+abbrev pub played_text : Result Scripted Refusal → Result (List ℕ) Refusal
+played_text (Err refusal) = Err refusal
+played_text (Ok scripted) = Ok (run_text scripted.plan scripted.script)
+
 abbrev pub run_answer : List ℕ → Result (List ℕ) Refusal
-run_answer input = after_plan (plan_of (Some 0) input)
+run_answer input = played_text (scripted_of input)
 
 -- ---- the word `plan`
 

@@ -1,11 +1,6 @@
 pub mod Refusals
-pub mod Scripts
-pub mod ScriptStages
-pub mod ScriptLists
-pub mod ScriptPart
-pub mod OneNode
-pub mod Played
 pub mod RunText
+pub mod Playing
 pub mod Answers
 pub mod Commands
 pub mod Readings

@@ -1,9 +1,25 @@
 -- What an error of reading says of the value that is defined. Want of memory says nothing.
 use Rattle.std.specs.Prelude.{◌≡◌, Result, Err}
+use Rattle.sync_types.specs.declared.answers.Part.TheVariants as part
+use Rattle.plan_reader.specs.declared.refusals.PlanError.{PlanError}
+use Rattle.plan_reader.specs.declared.refusals.PlanError.TheVariants as plan
+use Rattle.adversary_script.specs.declared.refusals.ScriptError.{ScriptError}
+use Rattle.adversary_script.specs.declared.refusals.ScriptError.TheVariants as script
 use Rattle.workbench.specs.declared.refusals.Refusal.{Refusal}
+use Rattle.workbench.specs.declared.refusals.Refusal.TheVariants as refusal
 use Rattle.workbench.specs.declared.refusals.ReadError.{ReadError}
 use Rattle.workbench.specs.declared.refusals.ReadError.TheVariants as read
 
 abbrev pub Refuses : {V : Type 0} → ReadError → Result V Refusal → Type 0
 Refuses read.NoMemory defined = Unit {0}
 Refuses (read.Refused refusal) defined = defined ≡ Err refusal
+
+-- the error of a plan, of an input
+abbrev pub plan_error : PlanError → ReadError
+plan_error plan.NoMemory = read.NoMemory
+plan_error (plan.Refused refused) = read.Refused (refusal.Plan refused.line refused.premise)
+
+-- the error of a script, of an input
+abbrev pub script_error : ScriptError → ReadError
+script_error script.NoMemory = read.NoMemory
+script_error (script.Refused refused) = read.Refused (refusal.Part part.Script refused.line refused.rule)

@@ -3,10 +3,10 @@ ghost use Rattle.texts.specs.Causes.{Counted};
 ghost use Rattle.texts.specs.Growth.{Wrote};
 ghost use Rattle.workbench.specs.Answers.{plan_answer, run_answer};
 ghost use Rattle.workbench.specs.Commands.{command_of, Answers, Answered, AnswerCut, IsAnswer, IsUsage};
-ghost use Rattle.workbench.specs.Laws.{AcceptedPlansSettle};
+ghost use Rattle.workbench.specs.Laws.{AcceptedPlansSettle, PromiseIsKept};
 
 use crate::ends::End;
-use crate::laws::accepted_plans_settle;
+use crate::laws::{accepted_plans_settle, promise_is_kept};
 use crate::readings::{read_plan_alone, read_run};
 use crate::refusals::{ReadError, Refusal, put_refusal};
 use crate::running::put_run;
@@ -40,7 +40,7 @@ fn run<K: Sink>(alloc: Global, input: &[u8], sink: &mut K) -> Result<Status, End
     requires { length input.now ≤ 2 ^ 20 }
     ensures { Answers result (run_answer input.now) (K.told sink.old) (K.told sink.new) }
 {
-    let (plan, script) = match read_run(alloc, input) {
+    let (plan, mut runner) = match read_run(alloc, input) {
         Ok(read) => read,
         Err(ReadError::Refused(refusal)) => {
             put_refusal(sink, refusal)?;
@@ -48,7 +48,7 @@ fn run<K: Sink>(alloc: Global, input: &[u8], sink: &mut K) -> Result<Status, End
         }
         Err(ReadError::NoMemory) => return Err(End::Memory),
     };
-    put_run(sink, &plan, script)?;
+    put_run(sink, &plan, &mut runner)?;
     Ok(Status::Ok)
 }
 
@@ -78,7 +78,7 @@ fn plan<K: Sink>(alloc: Global, input: &[u8], sink: &mut K) -> Result<Status, En
 /// - `PlanRefused`, `PartRefused`: exactly where the input is refused, with the first line that fails; the refusal's line was written.
 /// - `ReadFault`: only where the source counted a fault in this call; nothing was written.
 /// - `WriteFault`: only where the sink counted one; a front of the answer was taken.
-/// - `TooLong`: exactly where the byte behind the limit was there; nothing was written.
+/// - `TooLong`: only where the byte behind the limit was there; nothing was written.
 /// - `NoMemory`: memory was refused, before the first byte was written.
 pub fn counterlab<S: Source, K: Sink>(
     alloc: Global,
@@ -103,8 +103,12 @@ pub fn counterlab<S: Source, K: Sink>(
 
     // Whatever becomes of the input: where its plan part is accepted, the plan settles.
     ensures settles { AcceptedPlansSettle }
+
+    // Where it is a plan and a script, what is played is a run of the plan, and what is written of it counts from the printed bound on.
+    ensures promise { PromiseIsKept }
 {
     accepted_plans_settle();
+    promise_is_kept();
     answer_words(alloc, words, source, sink)
 }
 

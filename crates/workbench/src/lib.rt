@@ -6,8 +6,23 @@ mod ends;
 mod laws;
 mod readings;
 mod refusals;
+#[cfg(test)]
+mod run_tests;
 mod running;
-mod scripts;
+#[cfg(test)]
+mod slow;
+#[cfg(test)]
+mod slow_draws;
+#[cfg(test)]
+mod slow_plans;
+#[cfg(test)]
+mod slow_scripts;
+#[cfg(test)]
+mod slow_steps;
+#[cfg(test)]
+mod slow_tests;
+#[cfg(test)]
+mod slow_texts;
 #[cfg(test)]
 mod tests;
 

@@ -2,8 +2,10 @@ ghost use Rattle.std.specs.Prelude.{◌≡◌};
 ghost use Rattle.texts.specs.Growth.{Puts};
 ghost use Rattle.workbench.specs.Refusals.{part_word, premise_word, rule_word, refusal_line, refusal_status};
 
+use adversary_script::ScriptError;
 use edge_io::{Piece, Sink, WriteFault, put_pieces};
-use sync_types::{Part, Premise, Rule, Status};
+use plan_reader::PlanError;
+use sync_types::{NoMemory, Part, Premise, Rule, Status};
 use thiserror::Error;
 
 /// Why words or an input are refused. Lines are counted from 1 through the whole input.
@@ -26,6 +28,49 @@ pub enum ReadError {
     /// Memory was refused.
     #[error("out of memory")]
     NoMemory,
+}
+
+impl From<NoMemory> for ReadError {
+    ghost use Rattle.workbench.specs.declared.refusals.ReadError.TheVariants as read;
+
+    ghost from_gives = { λ _ e. e ≡ read.NoMemory };
+
+    fn from(_: NoMemory) -> Self {
+        ReadError::NoMemory
+    }
+}
+
+impl From<PlanError> for ReadError {
+    ghost use Rattle.workbench.specs.Readings.{plan_error};
+
+    ghost from_gives = { λ error e. e ≡ plan_error error };
+
+    fn from(error: PlanError) -> Self {
+        match error {
+            PlanError::Refused(refused) => ReadError::Refused(Refusal::Plan {
+                line: refused.line,
+                premise: refused.premise,
+            }),
+            PlanError::NoMemory => ReadError::NoMemory,
+        }
+    }
+}
+
+impl From<ScriptError> for ReadError {
+    ghost use Rattle.workbench.specs.Readings.{script_error};
+
+    ghost from_gives = { λ error e. e ≡ script_error error };
+
+    fn from(error: ScriptError) -> Self {
+        match error {
+            ScriptError::Refused(refused) => ReadError::Refused(Refusal::Part {
+                part: Part::Script,
+                line: refused.line,
+                rule: refused.rule,
+            }),
+            ScriptError::NoMemory => ReadError::NoMemory,
+        }
+    }
 }
 
 fn premise_word(premise: Premise) -> &'static str

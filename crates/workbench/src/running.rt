@@ -1,57 +1,88 @@
-ghost use Rattle.std.specs.Prelude.{◌≡◌, ◌<◌, ◌≤◌, ◌^◌, ◌+◌, ◌%◌, []};
+ghost use Rattle.std.specs.Prelude.{◌≡◌, ◌<◌, ◌&&◌, nat_le, OnOk};
+ghost use Rattle.std.specs.List.{flat_map, range_with_len};
 ghost use Rattle.texts.specs.Growth.{Puts};
-ghost use Rattle.construction.specs.PhaseKing.{up};
-ghost use Rattle.workbench.specs.RunText.{bound_line, locked_line, rows_text, run_text};
-ghost use Rattle.workbench.specs.OneNode.{one_row};
+ghost use Rattle.construction.specs.Plans.{plan_nodes};
+ghost use Rattle.workbench.specs.RunText.{bound_line, configuration_row, locked_line, node_word, run_text, rows_text};
+ghost use Rattle.workbench.specs.Playing.{IsAtStart, IsAtEnd, shown_row};
 
-use crate::scripts::Script;
+use counter_core::NoOverlay;
 use edge_io::{Gathered, Piece, Sink, WriteFault, put_all, put_pieces};
 use plan_numbers::Plan;
+use round_runner::Runner;
 
-/// Writes the row of configuration `t` of a plan of one node, whose number is `x`.
-fn put_row<K: Sink>(sink: &mut K, t: u64, x: u64) -> Result<(), WriteFault>
-    ensures { Puts result (one_row t x) (K.told sink.old) (K.told sink.new) }
+/// Writes a node's word in the row of the runner's configuration: what it shows, or a star where it is faulty.
+fn put_word<K: Sink>(sink: &mut K, runner: &Runner<NoOverlay>, v: u32) -> Result<(), WriteFault>
+    requires { v < plan_nodes runner.now.plan }
+    ensures { Puts result (node_word runner.now.plan runner.now.script.faulty runner.now.states v) (K.told sink.old) (K.told sink.new) }
 {
-    put_pieces(
-        sink,
-        &[
-            Piece::Text(b"row "),
-            Piece::Number(t),
-            Piece::Text(b" "),
-            Piece::Number(x),
-            Piece::Text(b"\n"),
-        ],
-    )
+    if runner.script().faulty().contains(v) {
+        put_all(sink, b" *")
+    } else {
+        put_pieces(sink, &[Piece::Text(b" "), Piece::Number(runner.output(v))])
+    }
 }
 
-/// The step of the one node.
-fn step(x: u64, base: u64) -> u64
-    requires { x < base }
-    ensures { result ≡ up base x }
+/// Writes the words of all nodes.
+fn put_words<K: Sink>(sink: &mut K, runner: &Runner<NoOverlay>) -> Result<(), WriteFault>
+    ensures { Puts result (flat_map (node_word runner.now.plan runner.now.script.faulty runner.now.states) (range_with_len 0 (plan_nodes runner.now.plan))) (K.told sink.old) (K.told sink.new) }
 {
-    let next = x + 1;
-    if next == base { 0 } else { next }
-}
-
-/// Writes the rows that a script shows of a plan without levels. The node's state is its number.
-fn put_rows<K: Sink>(sink: &mut K, plan: &Plan, script: Script) -> Result<(), WriteFault>
-    requires { plan.now.levels ≡ [] }
-    ensures { Puts result (rows_text plan.now script) (K.told sink.old) (K.told sink.new) }
-{
-    plan.tell();
-    let base = plan.base_modulus();
-    let (first, last) = script.shown();
-    let mut x = 0;
-    for t in 0..last + 1 {
-        if t >= first {
-            match put_row(sink, t, x) {
-                Ok(()) => {}
-                Err(WriteFault) => return Err(WriteFault),
-            }
+    for v in 0..runner.nodes() {
+        match put_word(sink, runner, v) {
+            Ok(()) => {}
+            Err(WriteFault) => return Err(WriteFault),
         }
-        x = step(x, base);
     }
     Ok(())
+}
+
+/// Writes the row of the runner's configuration.
+fn put_row<K: Sink>(sink: &mut K, runner: &Runner<NoOverlay>) -> Result<(), WriteFault>
+    ensures { Puts result (configuration_row runner.now.plan runner.now.script.faulty runner.now.at runner.now.states) (K.told sink.old) (K.told sink.new) }
+{
+    put_pieces(sink, &[Piece::Text(b"row "), Piece::Number(runner.at())])?;
+    put_words(sink, runner)?;
+    put_all(sink, b"\n")
+}
+
+/// Whether a number is one of those from `first` to `last`.
+fn is_among(t: u64, first: u64, last: u64) -> bool
+    ensures { result ≡ (nat_le first t && nat_le t last) }
+{
+    first <= t && t <= last
+}
+
+/// Writes the row of the runner's configuration, where it is one of those from `first` to `last`.
+fn put_if_shown<K: Sink>(
+    sink: &mut K,
+    runner: &Runner<NoOverlay>,
+    first: u64,
+    last: u64,
+) -> Result<(), WriteFault>
+    ensures { Puts result (shown_row runner.now first last) (K.told sink.old) (K.told sink.new) }
+{
+    if is_among(runner.at(), first, last) {
+        put_row(sink, runner)
+    } else {
+        Ok(())
+    }
+}
+
+/// Plays all rounds of a script, and writes the rows that it shows.
+fn put_rows<K: Sink>(sink: &mut K, runner: &mut Runner<NoOverlay>) -> Result<(), WriteFault>
+    requires { IsAtStart runner.old }
+    ensures rows { Puts result (rows_text runner.old.plan runner.old.script) (K.told sink.old) (K.told sink.new) }
+    ensures played { OnOk result (IsAtEnd runner.old runner.new) }
+{
+    let rounds = runner.script().rounds();
+    let (first, last) = runner.script().shown();
+    for _ in 0..rounds {
+        match put_if_shown(sink, runner, first, last) {
+            Ok(()) => {}
+            Err(WriteFault) => return Err(WriteFault),
+        }
+        runner.round();
+    }
+    put_if_shown(sink, runner, first, last)
 }
 
 /// Writes which configuration is the first locked one.
@@ -86,21 +117,31 @@ fn put_bound<K: Sink>(sink: &mut K, plan: &Plan) -> Result<(), WriteFault>
 }
 
 /// Writes the lines of a run.
-fn put_run_lines<K: Sink>(sink: &mut K, plan: &Plan, script: Script) -> Result<(), WriteFault>
-    requires { plan.now.levels ≡ [] }
-    ensures { Puts result (run_text plan.now script) (K.told sink.old) (K.told sink.new) }
+fn put_run_lines<K: Sink>(
+    sink: &mut K,
+    plan: &Plan,
+    runner: &mut Runner<NoOverlay>,
+) -> Result<(), WriteFault>
+    requires plan { runner.old.plan ≡ plan.now }
+    requires start { IsAtStart runner.old }
+    ensures { Puts result (run_text plan.now runner.old.script) (K.told sink.old) (K.told sink.new) }
 {
     put_bound(sink, plan)?;
-    put_rows(sink, plan, script)?;
-    put_locked(sink, Some(0))
+    put_rows(sink, runner)?;
+    put_locked(sink, runner.locked_at())
 }
 
-/// Writes what the word `run` writes of a plan without levels: the bound, the rows that the script shows, and the first locked configuration.
-pub fn put_run<K: Sink>(sink: &mut K, plan: &Plan, script: Script) -> Result<(), WriteFault>
-    requires { plan.now.levels ≡ [] }
-    ensures { Puts result (run_text plan.now script) (K.told sink.old) (K.told sink.new) }
+/// Writes what the word `run` writes: the bound, the rows that the script shows, and the first locked configuration. It plays all rounds, and takes no memory.
+pub fn put_run<K: Sink>(
+    sink: &mut K,
+    plan: &Plan,
+    runner: &mut Runner<NoOverlay>,
+) -> Result<(), WriteFault>
+    requires plan { runner.old.plan ≡ plan.now }
+    requires start { IsAtStart runner.old }
+    ensures { Puts result (run_text plan.now runner.old.script) (K.told sink.old) (K.told sink.new) }
 {
     let mut lines = Gathered::new(sink);
-    let written = put_run_lines(&mut lines, plan, script);
+    let written = put_run_lines(&mut lines, plan, runner);
     lines.finish(written)
 }

@@ -29,7 +29,7 @@ fn words_of(alloc: Global, line: &str) -> Result<Vec<String>, Fail> {
 }
 
 /// What the workbench answers to some words and an input, and the sink that it wrote to.
-fn answer(alloc: Global, line: &str, input: &[u8]) -> Result<(Status, MemSink), Fail> {
+pub(crate) fn answer(alloc: Global, line: &str, input: &[u8]) -> Result<(Status, MemSink), Fail> {
     let none = Vec::new(alloc);
     let mut source = MemSource::new(Vec::from_slice(alloc, input)?, Vec::new(alloc), none);
     let mut sink = MemSink::new(alloc, 4096, Vec::new(alloc), Vec::new(alloc))?;
@@ -114,10 +114,10 @@ fn plans_are_refused(rt: HostRuntime) -> Result<(), Fail> {
         ),
         (
             "run",
-            "plan 1\nbase 2304\nlevel 4 1 10\nend\n",
+            "plan 1\nbase 2303\nlevel 4 1 10\nend\n",
             3,
-            Premise::Form,
-            "refused plan line 3 premise form\n",
+            Premise::Multiple,
+            "refused plan line 3 premise multiple\n",
         ),
     ];
     for (words, input, line, premise, text) in rows {

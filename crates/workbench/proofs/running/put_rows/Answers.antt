@@ -1,29 +1,41 @@
-use Rattle.std.proofs.Common.{arith}
-use Rattle.workbench.proofs.OneNodeRuns.{some_base, rows_none, rows_before, rows_more, rows_cut, rows_all}
+use Rattle.std.proofs.Common.{refl, ap, ◌∙◌, arith}
+use Rattle.adversary_script.specs.Scripts.{Script}
+use Rattle.workbench.proofs.Rows.{rows_begin, has_round, rows_cut, rows_go_on, rows_end, is_at_end, on_ok}
 use Rattle.workbench.proofs.running.put_rows.Goals as goal
-use Rattle.workbench.proofs.running.put_rows.Goals.{then-t-first+in-Ok, else-t-first}
 
-pub returns-in-Err : goal.returns-in-Err
-returns-in-Err g c =
-    let s = c.shown-first.ensures in
-    rows_cut _ _ c.requires s.faulty _ _ _ _ _ (omega (arith, s.first, c.if-t-first.true)) (omega (arith, s.last, c.loop-t-test.true)) c.loop-t.invariant c.in-Err.ensures
+pub loop-init : goal.loop-init
+loop-init g c = rows_begin _ _ c.requires.at c.requires.plays
 
-pub loop-t-init : goal.loop-t-init
-loop-t-init g c = rows_none _ _ c.requires c.shown-first.ensures.faulty _ (some_base _ c.requires c.tell.ensures.sized)
+pub returns-in-Err-clause-rows : goal.returns-in-Err-clause-rows
+returns-in-Err-clause-rows g c =
+    let first = c.shown-first.ensures.first ∙ ap (λ (s : Script). s.first) c.script-2.ensures in
+    let last = c.shown-first.ensures.last ∙ ap (λ (s : Script). s.last) c.script-2.ensures in
+    rows_cut _ _ _ _ first last _ _ _ _ c.loop.invariant _ c.in-Err.ensures
 
-pub loop-t-preserved : goal.loop-t-preserved
-loop-t-preserved g c =
-    let s = c.shown-first.ensures in
-    let some = some_base _ c.requires c.tell.ensures.sized in
-    elim c.if-t-first.branch [
-      | then-t-first+in-Ok w ↦ rw (w.sink-is, c.step-x.ensures, c.base_modulus-base.ensures) (rows_more _ _ c.requires s.faulty _ _ _ _ _ (omega (arith, s.first, w.if-t-first.true)) (omega (arith, s.last, c.loop-t-test.true)) some c.loop-t.invariant w.in-Ok.ensures)
-      | else-t-first w ↦ rw (w.sink-is, c.step-x.ensures, c.base_modulus-base.ensures) (rows_before _ _ c.requires s.faulty _ _ _ _ (omega (arith, s.first, w.if-t-first.false)) some c.loop-t.invariant)
-    ]
+pub round-requires : goal.round-requires
+round-requires g c =
+    let first = c.shown-first.ensures.first ∙ ap (λ (s : Script). s.first) c.script-2.ensures in
+    let last = c.shown-first.ensures.last ∙ ap (λ (s : Script). s.last) c.script-2.ensures in
+    has_round _ _ _ _ first last _ _ _ _ c.loop.invariant _ (c.rounds-rounds.ensures.value ∙ ap (λ (s : Script). s.rounds) c.script.ensures) c.loop-test.true
 
-pub returns : goal.returns
-returns g c =
-    let s = c.shown-first.ensures in
-    rows_all _ _ c.requires s.faulty _ _ _ _ (omega (arith, s.last, c.loop-t-test.false)) c.loop-t.invariant
+pub loop-preserved : goal.loop-preserved
+loop-preserved g c =
+    let first = c.shown-first.ensures.first ∙ ap (λ (s : Script). s.first) c.script-2.ensures in
+    let last = c.shown-first.ensures.last ∙ ap (λ (s : Script). s.last) c.script-2.ensures in
+    rows_go_on _ _ _ _ first last _ _ _ _ c.loop.invariant _ _ c.in-Ok.ensures c.round.ensures.advances (c.round.ensures.played _)
 
-pub step-x-requires : goal.step-x-requires
-step-x-requires g c = omega (arith, c.loop-t.invariant.below, c.base_modulus-base.ensures)
+pub returns-clause-rows : goal.returns-clause-rows
+returns-clause-rows g c =
+    let first = c.shown-first.ensures.first ∙ ap (λ (s : Script). s.first) c.script-2.ensures in
+    let last = c.shown-first.ensures.last ∙ ap (λ (s : Script). s.last) c.script-2.ensures in
+    let rounds = c.rounds-rounds.ensures.value ∙ ap (λ (s : Script). s.rounds) c.script.ensures in
+    let whole = ap (λ (s : Script). s.rounds) c.script-2.ensures in
+    let within = c.shown-first.ensures.within in
+    rows_end _ _ _ _ first last _ _ _ _ c.loop.invariant _ _ (omega (arith, last, rounds, whole, within, c.loop-test.false)) c.put_if_shown-2.ensures
+
+pub returns-clause-played : goal.returns-clause-played
+returns-clause-played g c =
+    let first = c.shown-first.ensures.first ∙ ap (λ (s : Script). s.first) c.script-2.ensures in
+    let last = c.shown-first.ensures.last ∙ ap (λ (s : Script). s.last) c.script-2.ensures in
+    let rounds = c.rounds-rounds.ensures.value ∙ ap (λ (s : Script). s.rounds) c.script.ensures in
+    on_ok _ (is_at_end _ _ _ _ first last _ _ _ _ c.loop.invariant _ refl refl (omega (arith, rounds, c.loop.auto.counter-end, c.loop-test.false)))

@@ -1,5 +1,5 @@
-use Rattle.workbench.proofs.OneNodeRuns.{RowsSoFar}
+use Rattle.workbench.proofs.Rows.{RowsSoFar}
 use Rattle.workbench.proofs.running.put_rows.Given as goal
 
-abbrev pub invariant-loop-t : goal.invariant-loop-t
-invariant-loop-t g l = RowsSoFar l.plan l.fn.script l.t l.x (g.K.Sink.told l.fn.sink) (g.K.Sink.told l.sink)
+abbrev pub invariant-loop : goal.invariant-loop
+invariant-loop g l = RowsSoFar l.fn.runner.plan l.fn.runner.script l.counter l.runner (g.K.Sink.told l.fn.sink) (g.K.Sink.told l.sink)
