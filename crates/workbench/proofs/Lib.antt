@@ -4,3 +4,4 @@ pub mod Rows
 pub mod Words
 pub mod Promise
 pub mod ReadRun
+pub mod FirstListed

@@ -1,10 +1,10 @@
 -- Where an input is a plan and a script, the promise is kept.
-use Rattle.std.proofs.Common.{ℕ, ◌+◌, List, Result, Ok, Err, ap}
+use Rattle.std.proofs.Common.{ℕ, ◌+◌, List, Result, Ok, Err, ap, subst}
 use Rattle.std.specs.Prelude.{IfOk}
 use Rattle.texts.specs.Parts.{Found, At}
 use Rattle.sync_types.specs.declared.answers.Premise.{Premise}
 use Rattle.sync_types.specs.declared.answers.Rule.{Rule}
-use Rattle.construction.specs.Plans.{Plan}
+use Rattle.construction.specs.Plans.{Plan, plan_bound}
 use Rattle.plan_numbers.specs.Premises.{IsAccepted}
 use Rattle.plan_reader.specs.PlanPart.{plan_of}
 use Rattle.state_codec.specs.Shapes.{shape_of}
@@ -13,7 +13,11 @@ use Rattle.adversary_script.specs.Scripts.{Script, IsScript}
 use Rattle.adversary_script.specs.ScriptPart.{script_of, IsFor}
 use Rattle.adversary_script.proofs.ForPlans.{script_is_for}
 use Rattle.adversary_script.proofs.WellFormed.{script_is_script}
-use Rattle.round_runner.specs.Laws.{IsReadFor, ShowsCount, PlayedIsRun, LocksByBound, ShownCount}
+use Rattle.round_runner.specs.Locks.{is_locked}
+use Rattle.round_runner.specs.Played.{played_at}
+use Rattle.round_runner.proofs.Locked.{locked_is, is_locked_true}
+use Rattle.round_runner.specs.Laws.{IsUpTo, IsReadFor, ShowsCount, PlayedIsRun, LocksByBound, ShownCount}
+use Rattle.workbench.proofs.FirstListed.{first_listed}
 use Rattle.workbench.specs.declared.refusals.Refusal.{Refusal}
 use Rattle.workbench.specs.RunText.{number_word}
 use Rattle.workbench.specs.Answers.{Scripted, with_script, behind_plan, scripted_of}
@@ -54,7 +58,8 @@ module _ (run : PlayedIsRun) (locks : LocksByBound) (counts : ShownCount) where
     borne = read.right.borne;
     run = run s.plan s.script read;
     rows = rows_count s.plan s.script (counts s.plan s.script read);
-    locks = locks s.plan s.script read;
+    locks = λ reaches. subst (IsUpTo (plan_bound s.plan)) (first_listed (is_locked s.plan s.script.faulty) (played_at s.plan s.script) s.script.rounds) (locks s.plan s.script read reaches);
+    lock_test = λ config. (locked_is s.plan.levels s.script.faulty config, is_locked_true s.plan.levels s.script.faulty config);
   }
 
   pub promise_kept : PromiseIsKept

@@ -17,6 +17,7 @@ use Rattle.round_runner.specs.Played.{played_at}
 use Rattle.round_runner.proofs.Playing.{scene_played}
 use Rattle.workbench.specs.RunText.{configuration_row, row_text, rows_text, locked_line, run_locks}
 use Rattle.workbench.specs.Playing.{Plays, IsAtEnd, shown_row}
+use Rattle.workbench.proofs.FirstListed.{first_listed}
 use Rattle.workbench.proofs.Shown.{rows_before, row_if_shown, rows_more, rows_rest, none_before, all_before}
 
 -- its states are the played configuration
@@ -45,7 +46,8 @@ pub locked_at_end : (plan : Plan) (start r : Running NoOverlay) → start.plan �
 locked_at_end plan start r plan_is end =
     plays_locked r end.plays
     ∙ (ap₂ (λ (p : Plan) (s : Script). first_locked (λ t. is_locked p s.faulty (played_at p s t)) r.at) (end.plan ∙ plan_is) end.script
-    ∙ ap (first_locked (λ t. is_locked plan start.script.faulty (played_at plan start.script t))) end.at)
+    ∙ (ap (first_locked (λ t. is_locked plan start.script.faulty (played_at plan start.script t))) end.at
+    ∙ first_listed (is_locked plan start.script.faulty) (played_at plan start.script) start.script.rounds))
 
 -- so its line ends the text
 pub puts_locked : {T E : Type 0} (result : Result T E) (locked run : Option ℕ) (s t : Told) → locked ≡ run → Puts result (locked_line locked) s t → Puts result (locked_line run ++ []) s t

@@ -1,5 +1,5 @@
 -- What the word `run` writes: the bound, the rows that are shown, and which configuration is the first locked one.
-use Rattle.std.specs.Prelude.{ℕ, ◌+◌, ◌-◌, List, [], ◌∷◌, Option, Some, None, codes, decimal, if◌then◌else◌}
+use Rattle.std.specs.Prelude.{ℕ, ◌+◌, ◌-◌, List, [], ◌∷◌, Option, Some, None, position, codes, decimal, if◌then◌else◌}
 use Rattle.std.specs.List.{concat, flat_map, range_with_len}
 use Rattle.sync_types.specs.States.{State}
 use Rattle.construction.specs.Plans.{Plan, plan_nodes, plan_bound, plan_depth}
@@ -7,8 +7,8 @@ use Rattle.construction.specs.Shown.{shown}
 use Rattle.construction.specs.Steps.{state_of}
 use Rattle.construction.specs.Runs.{is_in}
 use Rattle.adversary_script.specs.Scripts.{Script}
-use Rattle.round_runner.specs.Locks.{is_locked, first_locked}
-use Rattle.round_runner.specs.Played.{played_at}
+use Rattle.round_runner.specs.Locks.{is_locked}
+use Rattle.round_runner.specs.Played.{played_at, played}
 
 -- a word that is a number
 abbrev pub number_word : ℕ → List ℕ
@@ -43,7 +43,7 @@ locked_line None = codes "locked none\n"
 
 -- the first locked configuration of a script's run
 abbrev pub run_locks : Plan → Script → Option ℕ
-run_locks plan script = first_locked (λ t. is_locked plan script.faulty (played_at plan script t)) script.rounds
+run_locks plan script = position (is_locked plan script.faulty) (played plan script)
 
 abbrev pub run_text : Plan → Script → List ℕ
 run_text plan script = concat (bound_line plan ∷ rows_text plan script ∷ locked_line (run_locks plan script) ∷ [])

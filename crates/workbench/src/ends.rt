@@ -1,5 +1,4 @@
 use edge_io::WriteFault;
-use std::alloc::AllocError;
 use thiserror::Error;
 
 /// Why a command that has its input gave no whole answer.
@@ -11,17 +10,6 @@ pub enum End {
     /// Memory was refused, before the first byte was written.
     #[error("out of memory")]
     Memory,
-}
-
-impl From<AllocError> for End {
-    ghost use Rattle.std.specs.Prelude.{◌≡◌};
-    ghost use Rattle.workbench.specs.declared.ends.End.TheVariants.{Memory};
-
-    ghost from_gives = { λ _ e. e ≡ Memory };
-
-    fn from(_: AllocError) -> Self {
-        End::Memory
-    }
 }
 
 impl From<WriteFault> for End {
