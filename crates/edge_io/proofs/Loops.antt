@@ -1,10 +1,10 @@
 -- What the loops over a source and a sink keep.
-use Rattle.std.proofs.Common.{◌≡◌, ℕ, ◌≤◌, ◌-◌, ◌+◌, List, [], ◌++◌, length, take, drop, Option, refl, ap, sym, ◌∙◌, append_assoc, arith}
+use Rattle.std.proofs.Common.{◌≡◌, ℕ, ◌≤◌, ◌<◌, ◌-◌, ◌+◌, List, [], ◌++◌, length, take, drop, Option, refl, ap, sym, ◌∙◌, append_assoc, length-append, arith}
 use Rattle.std.specs.Io.KnownBytes.{Consumes, Keeps, Appends}
 use Rattle.std.specs.Prelude.{Result, Ok, Err, OnErr}
 use Rattle.std.proofs.KnownBytes.{Consumes-kept, Consumes-trans}
 use Rattle.texts.specs.Causes.{Counted}
-use Rattle.edge_io.specs.Reading.{LosesFront}
+use Rattle.edge_io.specs.Reading.{LosesFront, LosesMore}
 use Rattle.std.proofs.lemmas.List.{take-append-drop, take_rest, length-take-le}
 use Rattle.texts.specs.Growth.{Told, Follows, Wrote, Cut}
 use Rattle.texts.proofs.Growth.{wrote_none, wrote_then, cut_then, kept_is}
@@ -49,6 +49,16 @@ lost_before old mid new bytes read keeps = record { front = bytes; read = Consum
 -- some bytes more were read
 pub lost_with : (old mid new : Option (List ℕ)) (bytes more : List ℕ) → Consumes old mid bytes → Consumes mid new more → LosesFront old new
 lost_with old mid new bytes more read then = record { front = bytes ++ more; read = Consumes-trans old mid new bytes more read then }
+
+-- with those bytes more, more than the limit were read
+pub lost_past : (limit : ℕ) (old mid new : Option (List ℕ)) (bytes piece : List ℕ) (count : ℕ)
+    → Consumes old mid bytes → Consumes mid new (take count piece) → count ≤ length piece
+    → length bytes ≤ limit → limit - length bytes < count → LosesMore limit old new
+lost_past limit old mid new bytes piece count read then most short past = record {
+  front = bytes ++ take count piece;
+  read = Consumes-trans old mid new bytes (take count piece) read then;
+  past = omega (arith, length-append bytes (take count piece), length-take-le count piece most);
+}
 
 -- what holds at each answer holds at an error
 pub at_error : {T E : Type 0} {P : Type 0} (r : Result T E) → P → OnErr r P

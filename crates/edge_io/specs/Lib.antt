@@ -1,3 +1,5 @@
+pub mod FedParts
+pub mod Feeds
 pub mod Gathering
 pub mod Items
 pub mod Memory

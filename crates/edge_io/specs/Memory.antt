@@ -6,11 +6,13 @@ use Rattle.texts.specs.Growth.{Told}
 abbrev pub counted : ℕ → ℕ
 counted n = min (n + 1) (2 ^ 64 - 1)
 
--- How many bytes a call moves of so many that it could, after so many calls that moved bytes: no more than the next cut. The cuts go round and round; where there are none, nothing is cut.
+-- How many bytes a call moves of so many that it could, after so many calls that moved bytes: no
+-- more than the next cut. The cuts go round and round; where there are none, nothing is cut.
 abbrev pub moved : List ℕ → ℕ → ℕ → ℕ
 moved cuts turn most = if length cuts == 0 then most else min (slice_index cuts (turn % length cuts)) most
 
--- A source in memory: the bytes that are left, the numbers of the calls that fail and the cuts; and how many calls there were, how many of them moved bytes, and how many failed.
+-- A source in memory: the bytes that are left, the numbers of the calls that fail and the cuts; and
+-- how many calls there were, how many of them moved bytes, and how many failed.
 pub record SourceState : Type 0 where
   pub left : List ℕ
   pub fails : List ℕ
@@ -27,7 +29,9 @@ after_read s n = record s { left = drop n s.left; calls = counted s.calls; turn 
 abbrev pub after_failed_read : SourceState → SourceState
 after_failed_read s = record s { calls = counted s.calls; faults = counted s.faults }
 
--- A sink in memory: the bytes that it took, how many it can take in all, the numbers of the calls that fail and the cuts; and how many calls there were, how many of them moved bytes, and how many failed.
+-- A sink in memory: the bytes that it took, how many it can take in all, the numbers of the calls
+-- that fail and the cuts; and how many calls there were, how many of them moved bytes, and how many
+-- failed.
 pub record SinkState : Type 0 where
   pub taken : List ℕ
   pub room : ℕ
@@ -45,7 +49,8 @@ after_write s bytes = record s { taken = s.taken ++ bytes; calls = counted s.cal
 abbrev pub after_failed_write : SinkState → SinkState
 after_failed_write s = record s { calls = counted s.calls; faults = counted s.faults }
 
--- What a sink in memory tells: where no call is to fail, each text is certain to be taken that there is room for.
+-- What a sink in memory tells: where no call is to fail, each text is certain to be taken that
+-- there is room for.
 abbrev pub memory_told : SinkState → Told
 memory_told s = record {
   taken = Some s.taken;

@@ -4,7 +4,8 @@ use Rattle.texts.specs.Causes.{HasCause}
 use Rattle.texts.specs.Growth.{Told, Puts}
 use Rattle.edge_io.specs.Memory.{SinkState, memory_told}
 
--- a call that writes a text to a sink in memory answers Ok, where no call is to fail and there is room for the text
+-- a call that writes a text to a sink in memory answers Ok, where no call is to fail and there is
+-- room for the text
 abbrev pub TakenInMemory : Type 0 → Type 0 → Type 0
 TakenInMemory T E = (sink : SinkState) (new : Told) (text : List ℕ) (result : Result T E) → sink.fails ≡ [] → length sink.taken + length text ≤ sink.room → Puts result text (memory_told sink) new → IsOk result
 

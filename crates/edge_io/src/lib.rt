@@ -6,7 +6,11 @@
 #![tactic(auto)]
 
 mod cuts;
+mod fed_parts;
+mod feed;
 mod gathered;
+mod laws;
+mod line_buf;
 mod lines;
 mod mem_sink;
 mod mem_source;
@@ -25,12 +29,16 @@ mod tests;
 mod traits;
 mod whole;
 
+pub use fed_parts::{FedError, FedPart, feed_part};
+pub use feed::{Feed, Line, LineFault};
 pub use gathered::Gathered;
+pub use laws::{ill_parted_lines_are_refused, numbers_have_one_word};
+pub use line_buf::LineBuf;
 pub use lines::{Lines, Words, first_line};
 pub use mem_sink::{MemSink, NoMemory};
 pub use mem_source::MemSource;
 pub use numbers::{number, put_number};
-pub use parts::{LONGEST_LINE, LineReader, PartRead, is_skipped, read_part};
+pub use parts::{LONGEST_LINE, LineReader, PartRead, is_skipped, read_part, take_unless_skipped};
 pub use pieces::{Piece, put_pieces};
 pub use plain::{NullSink, PlainSource};
 pub use put::{WriteFault, put_all};

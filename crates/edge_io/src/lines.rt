@@ -23,7 +23,8 @@ fn space_in(line: &[u8]) -> Option<usize>
     line.iter().position(|byte| *byte == SPACE)
 }
 
-/// The first line of a text that is not empty, without its newline, and what stands behind that. The text's end ends a line too.
+/// The first line of a text that is not empty, without its newline, and what stands behind that.
+/// The text's end ends a line too.
 pub fn first_line(text: &[u8]) -> (&[u8], &[u8])
     requires { 0 < length text.now }
     ensures line { lines_of text.now ≡ result.0.now ∷ lines_of result.1.now }
@@ -46,7 +47,8 @@ fn first_word(line: &[u8]) -> (&[u8], Option<&[u8]>)
     }
 }
 
-/// The words of a line: the pieces between single spaces, empty ones too. An empty line has one word, the empty one.
+/// The words of a line: the pieces between single spaces, empty ones too. An empty line has one
+/// word, the empty one.
 #[derive(Drop)]
 pub struct Words<'a> {
     rest: Option<&'a [u8]>,
@@ -82,7 +84,8 @@ impl<'a> Iterator for Words<'a> {
     }
 }
 
-/// The lines of a text without their newlines, each with its number. An empty rest behind the last newline is no line.
+/// The lines of a text without their newlines, each with its number. An empty rest behind the last
+/// newline is no line.
 #[derive(Drop)]
 pub struct Lines<'a> {
     rest: &'a [u8],

@@ -1,7 +1,7 @@
 ghost use Rattle.std.specs.Prelude.{◌≡◌, ◌<◌, ◌≤◌, length, IfOk, IfSome, IsErrOf, OnOk, OnErr};
 ghost use Rattle.std.specs.Io.KnownBytes.{Consumes, IsAtEnd};
 ghost use Rattle.texts.specs.Causes.{Counted};
-ghost use Rattle.edge_io.specs.Reading.{LosesFront};
+ghost use Rattle.edge_io.specs.Reading.{LosesFront, LosesMore};
 ghost use Rattle.edge_io.specs.declared.read.InputFault.TheVariants.{NoMemory};
 
 use crate::{Failed, Source};
@@ -37,7 +37,8 @@ const PIECE: usize = 4096;
 
 /// Reads to the end of an input of at most `limit` bytes, in time linear in its length.
 ///
-/// `TooLong` comes where the byte behind the limit was there, `ReadFault` only where the source counted a fault, `NoMemory` where memory ran out.
+/// `TooLong` comes where the byte behind the limit was read, `ReadFault` only where the source
+/// counted a fault, `NoMemory` where memory ran out.
 pub fn read_all<S: Source>(
     alloc: Global,
     source: &mut S,
@@ -49,6 +50,7 @@ pub fn read_all<S: Source>(
     ensures short { IfOk result (λ v. length v.items ≤ limit) }
 
     ensures long { IsErrOf result InputFault.TooLong → IfSome (S.left source.old) (λ bytes. limit < length bytes) }
+    ensures past { IsErrOf result InputFault.TooLong → LosesMore limit (S.left source.old) (S.left source.new) }
 
     // What was read before an error is lost, and what is behind it is left.
     ensures lost { OnErr result (LosesFront (S.left source.old) (S.left source.new)) }

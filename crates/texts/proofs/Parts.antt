@@ -1,7 +1,8 @@
 -- What holds of each value that a part can end with.
-use Rattle.std.proofs.Common.{ℕ, ◌+◌, List, [], ◌∷◌, Result, Ok, Err}
-use Rattle.std.specs.Prelude.{IfOk}
-use Rattle.texts.specs.Parts.{Next, goes, ends, refuses, Found, At, part_from}
+use Rattle.std.proofs.Common.{ℕ, ◌+◌, Bool, true, false, List, [], ◌∷◌, length, Result, Ok, Err}
+use Rattle.std.specs.Prelude.{IfOk, nat_lt, if◌then◌else◌}
+use Rattle.texts.specs.Lines.{is_well_parted}
+use Rattle.texts.specs.Parts.{Next, goes, ends, refuses, Found, At, is_skipped, with_skips, part_from}
 
 -- a state that is kept, or a value that is good
 abbrev pub After : {S V R : Type 0} → (S → Type 0) → (V → Type 0) → Next S V R → Type 0
@@ -9,9 +10,27 @@ After P Q (goes t) = P t
 After P Q (ends v) = Q v
 After P Q (refuses r) = Unit {0}
 
-module _ {S V R : Type 0} (step : S → List ℕ → Next S V R) (form : R) (P : S → Type 0) (Q : V → Type 0) (kept : (s : S) (line : List ℕ) → P s → After P Q (step s line)) where
+-- what either of two steps keeps, their choice keeps
+pub after_if : {S V R : Type 0} (P : S → Type 0) (Q : V → Type 0) (b : Bool) (x y : Next S V R)
+    → After P Q x → After P Q y → After P Q (if b then x else y)
+after_if P Q true x y h k = h
+after_if P Q false x y h k = k
+
+-- what a step keeps of the lines that count, it keeps of all
+pub skips_keep : {S V R : Type 0} (step : S → List ℕ → Next S V R) (form : R)
+    (P : S → Type 0) (Q : V → Type 0) (s : S) (line : List ℕ)
+    → P s → After P Q (step s line) → After P Q (with_skips step form s line)
+skips_keep step form P Q s line p kept =
+    after_if P Q (nat_lt 4096 (length line)) (refuses form) _ tt
+    (after_if P Q (is_skipped line) (goes s) _ p
+    (after_if P Q (is_well_parted line) (step s line) (refuses form) kept tt))
+
+module _ {S V R : Type 0} (step : S → List ℕ → Next S V R) (form : R)
+    (P : S → Type 0) (Q : V → Type 0)
+    (kept : (s : S) (line : List ℕ) → P s → After P Q (step s line)) where
   -- what each step keeps, the value at the end has
-  pub part_keeps : (lines : List (List ℕ)) (s : S) (taken number : ℕ) → P s → IfOk (part_from step form s taken number lines) (λ found. Q found.value)
+  pub part_keeps : (lines : List (List ℕ)) (s : S) (taken number : ℕ) → P s
+      → IfOk (part_from step form s taken number lines) (λ found. Q found.value)
   part_keeps [] s taken number p = tt
   part_keeps (line ∷ lines) s taken number p =
       let goal : Next S V R → Type 0 = λ next. IfOk (elim next as (λ _. Result (Found V) (At R)) [
@@ -19,7 +38,8 @@ module _ {S V R : Type 0} (step : S → List ℕ → Next S V R) (form : R) (P :
         | ends v ↦ Ok (record { value = v; taken = taken + 1; behind = lines })
         | refuses r ↦ Err (record { line = number; rule = r })
       ]) (λ found. Q found.value) in
-      let cases : (next : Next S V R) → After P Q next → goal next = λ next. elim next as (λ next. After P Q next → goal next) [
+      let cases : (next : Next S V R) → After P Q next → goal next =
+      λ next. elim next as (λ next. After P Q next → goal next) [
         | goes t ↦ λ q. part_keeps lines t (taken + 1) (number + 1) q
         | ends v ↦ λ q. q
         | refuses r ↦ λ q. tt

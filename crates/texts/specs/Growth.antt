@@ -3,7 +3,10 @@ use Rattle.std.specs.Prelude.{◌≡◌, ℕ, ◌+◌, ◌-◌, ◌≤◌, lengt
 use Rattle.std.specs.Io.KnownBytes.{Appends, append_known}
 use Rattle.texts.specs.Causes.{Counted}
 
--- What a sink tells: the bytes that it took (None where it doesn't tell them), how many writes failed, and below which length each text is certain to be taken whole. Of the sinks that it passes its bytes on to, nearest first: the names of the references to them, and the bytes that each took.
+-- What a sink tells: the bytes that it took (None where it doesn't tell them), how many writes
+-- failed, and below which length each text is certain to be taken whole. Of the sinks that it
+-- passes its bytes on to, nearest first: the names of the references to them, and the bytes that
+-- each took.
 pub record Told : Type 0 where
   pub taken : Option (List ℕ)
   pub faults : ℕ
@@ -13,11 +16,23 @@ pub record Told : Type 0 where
 
 -- a sink that passes nothing on, and of which nothing is certain
 abbrev pub plainly : Option (List ℕ) → ℕ → Told
-plainly taken faults = record { taken = taken; faults = faults; certain = 0; names = []; passed = [] }
+plainly taken faults = record {
+  taken = taken;
+  faults = faults;
+  certain = 0;
+  names = [];
+  passed = [];
+}
 
 -- a sink that holds these bytes back, and took all others on to the sink behind that reference
 abbrev pub gathering : ℕ → List ℕ → Told → Told
-gathering name held behind = record { taken = append_known behind.taken held; faults = behind.faults; certain = behind.certain - length held; names = name ∷ behind.names; passed = behind.taken ∷ behind.passed }
+gathering name held behind = record {
+  taken = append_known behind.taken held;
+  faults = behind.faults;
+  certain = behind.certain - length held;
+  names = name ∷ behind.names;
+  passed = behind.taken ∷ behind.passed;
+}
 
 -- known bytes grow by some bytes
 pub record Grows (old new : Option (List ℕ)) : Type 0 where
@@ -43,23 +58,27 @@ pub record AppendsFront (old new : Option (List ℕ)) (text : List ℕ) : Type 0
   pub parts : text ≡ front ++ rest
   pub bytes : Appends old new front
 
--- the sink took the whole text, and no fault was counted; what was certain before is so still, less that text
+-- the sink took the whole text, and no fault was counted; what was certain before is so still, less
+-- that text
 pub record Wrote (text : List ℕ) (old new : Told) : Type 0 where
   pub bytes : Appends old.taken new.taken text
   pub still : new.faults ≡ old.faults
   pub lasts : old.certain ≤ new.certain + length text
   pub follows : Follows old new
 
--- a fault was counted, and before it the sink took a front of the text, which was not certain to be taken
+-- a fault was counted, and before it the sink took a front of the text, which was not certain to be
+-- taken
 pub record Cut (text : List ℕ) (old new : Told) : Type 0 where
   pub front : AppendsFront old.taken new.taken text
   pub cause : Counted old.faults new.faults
   pub uncertain : old.certain ≤ length text
   pub follows : Follows old new
 
--- One write of some of these bytes: it uses up of what was certain no more than it took, and fails only where not all of them were certain to be taken.
+-- One write of some of these bytes: it uses up of what was certain no more than it took, and fails
+-- only where not all of them were certain to be taken.
 abbrev pub UsesUp : {E : Type 0} → Told → Told → Result ℕ E → List ℕ → Type 0
-UsesUp old new result bytes = MatchResult result (λ n. old.certain ≤ new.certain + n) (λ _. old.certain ≤ length bytes)
+UsesUp old new result bytes =
+    MatchResult result (λ n. old.certain ≤ new.certain + n) (λ _. old.certain ≤ length bytes)
 
 -- a call that writes this text: at Ok it did, at Err it was cut
 abbrev pub Puts : {T E : Type 0} → Result T E → List ℕ → Told → Told → Type 0

@@ -6,7 +6,10 @@ use Rattle.std.specs.Str.Parse.{digits_value}
 
 -- 1 to 15 digits, and no leading zero but in `0` itself
 abbrev pub is_number : List ℕ → Bool
-is_number word = nat_lt 0 (length word) && nat_le (length word) 15 && list_all is_ascii_digit word && (length word == 1 || not (slice_index word 0 == 48))
+is_number word =
+    nat_lt 0 (length word) && nat_le (length word) 15
+    && list_all is_ascii_digit word
+    && (length word == 1 || not (slice_index word 0 == 48))
 
 -- the number that a word writes
 abbrev pub number_of : List ℕ → Option ℕ

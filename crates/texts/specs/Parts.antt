@@ -1,7 +1,9 @@
 -- A part of a text, which is read line by line.
 use Rattle.std.specs.Prelude.{ℕ, ◌+◌, List, [], ◌∷◌, length, Bool, ◌||◌, nat_lt, ◌==◌, if◌then◌else◌, slice_index, Result, Ok, Err}
+use Rattle.texts.specs.Lines.{is_well_parted}
 
--- what a line does to a part of which so much was read: it goes on, the part ends here with its value, or the line is refused
+-- what a line does to a part of which so much was read: it goes on, the part ends here with its
+-- value, or the line is refused
 pub data Next (S V R : Type 0) : Type 0 where
   goes : S → Next S V R
   ends : V → Next S V R
@@ -11,9 +13,14 @@ pub data Next (S V R : Type 0) : Type 0 where
 abbrev pub is_skipped : List ℕ → Bool
 is_skipped line = length line == 0 || slice_index line 0 == 35
 
--- a step over the lines that count; a line that is too long is refused, whatever it begins with
+-- A step over the lines that count, and are well parted. A line that is too long is refused,
+-- whatever it begins with.
 abbrev pub with_skips : {S V R : Type 0} → (S → List ℕ → Next S V R) → R → S → List ℕ → Next S V R
-with_skips step form s line = if nat_lt 4096 (length line) then refuses form else if is_skipped line then goes s else step s line
+with_skips step form s line =
+    if nat_lt 4096 (length line) then refuses form
+    else if is_skipped line then goes s
+    else if is_well_parted line then step s line
+    else refuses form
 
 -- the value of a part, how many lines it took, and the lines behind it
 pub record Found (V : Type 0) : Type 0 where
@@ -27,7 +34,8 @@ pub record At (R : Type 0) : Type 0 where
   pub rule : R
 
 module _ {S V R : Type 0} (step : S → List ℕ → Next S V R) (form : R) where
-  -- Reading from a state on, where that many lines were taken and the next has that number. A part that lacks its end is refused at the line after the last.
+  -- Reading from a state on, where that many lines were taken and the next has that number. A part
+  -- that lacks its end is refused at the line after the last.
   abbrev pub part_from : S → ℕ → ℕ → List (List ℕ) → Result (Found V) (At R)
   part_from s taken number [] = Err (record { line = number; rule = form })
   part_from s taken number (line ∷ lines) = elim (step s line) [

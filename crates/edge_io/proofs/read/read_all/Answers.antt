@@ -1,4 +1,5 @@
-use Rattle.edge_io.proofs.Loops.{lost_before, lost_with, at_error}
+use Rattle.std.proofs.Common.{◌<◌, ◌-◌, length, arith}
+use Rattle.edge_io.proofs.Loops.{lost_before, lost_with, lost_past, at_error}
 use Rattle.edge_io.proofs.read.read_all.Goals as goal
 
 pub returns-in-Err-clause-lost : goal.returns-in-Err-clause-lost
@@ -9,3 +10,11 @@ returns-then-count-limit-clause-lost g c = lost_with _ _ _ _ _ c.loop-count.inva
 
 pub returns-in_err-extend_from_slice-clause-lost : goal.returns-in_err-extend_from_slice-clause-lost
 returns-in_err-extend_from_slice-clause-lost g c = at_error _ (lost_with _ _ _ _ _ c.loop-count.invariant.read c.in-Ok.ensures.bytes.0)
+
+pub returns-then-count-limit-clause-past : goal.returns-then-count-limit-clause-past
+returns-then-count-limit-clause-past g c =
+    let read = c.in-Ok.ensures in
+    let past : c.args.limit - length c.loop-count.bytes.items < c.in-Ok.count =
+    omega (arith, c.loop-count.bytes.ok.0, c.len.ensures, c.if-count-limit.true) in
+    λ _. lost_past _ _ _ _ _ _ _ c.loop-count.invariant.read read.bytes.0 read.bound.0
+    c.loop-count.invariant.short past

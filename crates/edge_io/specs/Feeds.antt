@@ -1,0 +1,62 @@
+-- What a feed has left, and what reading a byte and a line of it does.
+use Rattle.std.specs.Prelude.{◌≡◌, ◌≢◌, ℕ, ◌-◌, ◌+◌, ◌^◌, ◌<◌, ◌≤◌, min, length, List, [], ◌∷◌, ◌++◌, take, drop, Option, Some, None, Result, Ok, Err}
+use Rattle.std.specs.Io.KnownBytes.{prepend_known, Consumes, Keeps, IsAtEnd}
+use Rattle.texts.specs.Causes.{Counted}
+use Rattle.edge_io.specs.declared.feed.Feed.{Feed}
+use Rattle.edge_io.specs.declared.feed.Line.{Line}
+use Rattle.edge_io.specs.declared.feed.Line.TheVariants as line
+use Rattle.edge_io.specs.declared.feed.LineFault.{LineFault}
+use Rattle.edge_io.specs.declared.feed.LineFault.TheVariants as fault
+
+-- the bytes that the source gave and nobody has read
+abbrev pub buffered : {S : Type 0} → Feed S → List ℕ
+buffered f = take (f.end - f.at) (drop f.at f.buffer)
+
+-- the bytes that are left: those in the buffer, and those of the source
+abbrev pub feed_left : {S : Type 0} → (S → Option (List ℕ)) → Feed S → Option (List ℕ)
+feed_left left f = prepend_known (buffered f) (left f.source.now)
+
+-- what reading a byte did: there is none only at the end, and after a fault the bytes are as before
+abbrev pub TakesByte : {E : Type 0} → Option (List ℕ) → Option (List ℕ) → Result (Option ℕ) E
+    → Type 0
+TakesByte old new (Ok None) = IsAtEnd new × Keeps old new
+TakesByte old new (Ok (Some b)) = Consumes old new (b ∷ [])
+TakesByte old new (Err e) = Keeps old new
+
+-- What reading a byte of a line did, where the lines had so many bytes before and after. A count of
+-- bytes stands still at 2 ^ 64 - 1.
+abbrev pub TakesLineByte : (limit before after : ℕ) → (old new : Option (List ℕ))
+    → Result (Option ℕ) LineFault → Type 0
+TakesLineByte limit before after old new (Ok None) = IsAtEnd new × Keeps old new × (after ≡ before)
+TakesLineByte limit before after old new (Ok (Some b)) =
+    Consumes old new (b ∷ []) × (after ≡ before + 1) × (before < limit)
+TakesLineByte limit before after old new (Err fault.ReadFault) = Keeps old new × (after ≡ before)
+TakesLineByte limit before after old new (Err fault.TooLong) =
+    (b : ℕ) × Consumes old new (b ∷ []) × (after ≡ min (before + 1) (2 ^ 64 - 1)) × (limit ≤ before)
+
+-- only a read fault is counted; `Dry` holds after it
+abbrev pub HasLineCause : {T : Type 0} → (before now : ℕ) → (Dry : Type 0) → Result T LineFault
+    → Type 0
+HasLineCause before now Dry (Ok x) = now ≡ before
+HasLineCause before now Dry (Err fault.ReadFault) = Counted before now × Dry
+HasLineCause before now Dry (Err fault.TooLong) = now ≡ before
+
+-- What reading a line did: these bytes of it, without the newline, were read, where the lines had
+-- so many bytes before and after, newlines included.
+abbrev pub LineIs : (limit before after : ℕ) → (old new : Option (List ℕ)) → List ℕ
+    → Result Line LineFault → Type 0
+LineIs limit before after old new bytes (Ok line.Whole) =
+    Consumes old new (bytes ++ 10 ∷ []) × (after ≡ before + length bytes + 1) × (after ≤ limit)
+LineIs limit before after old new bytes (Ok line.Open) =
+    Consumes old new bytes × IsAtEnd new × (0 < length bytes)
+    × (after ≡ before + length bytes) × (after ≤ limit)
+LineIs limit before after old new bytes (Ok line.Long) =
+    (b : ℕ) × (b ≢ 10) × Consumes old new (bytes ++ b ∷ []) × (length bytes ≡ 4096)
+    × (after ≡ before + length bytes + 1) × (after ≤ limit)
+LineIs limit before after old new bytes (Ok line.End) =
+    Keeps old new × IsAtEnd new × (bytes ≡ []) × (after ≡ before)
+LineIs limit before after old new bytes (Err fault.TooLong) =
+    (b : ℕ) × Consumes old new (bytes ++ b ∷ []) × (limit ≤ before + length bytes)
+    × (after ≡ min (before + length bytes + 1) (2 ^ 64 - 1))
+LineIs limit before after old new bytes (Err fault.ReadFault) =
+    Consumes old new bytes × (after ≡ before + length bytes)

@@ -1,0 +1,164 @@
+ghost use Rattle.std.specs.Prelude.{◌≤◌, length};
+
+use crate::{Failed, LONGEST_LINE, LineBuf, ReadFault, Source};
+use thiserror::Error;
+
+/// How many bytes one read asks for.
+const ROOM: usize = 4096;
+
+const NEWLINE: u8 = b'\n';
+
+/// How a line ended.
+#[derive(Clone, Copy, Debug, PartialEq, Eq)]
+pub enum Line {
+    /// At its newline.
+    Whole,
+    /// At the end of the input, behind at least one byte of it.
+    Open,
+    /// At byte 4097, which is no newline. The rest of the line is unread.
+    Long,
+    /// Nothing is left.
+    End,
+}
+
+/// Why no line was read.
+#[derive(Clone, Copy, Debug, PartialEq, Eq, Error)]
+pub enum LineFault {
+    /// A read failed, which the source has counted.
+    #[error("a read failed")]
+    ReadFault,
+    /// The lines so far are longer than their limit.
+    #[error("the input is too long")]
+    TooLong,
+}
+
+/// A source that is read byte by byte and line by line, through a buffer of 4096 bytes.
+///
+/// The source is asked for more only where the buffer is empty.
+#[derive(Drop)]
+pub struct Feed<'a, S> {
+    source: &'a mut S,
+    buffer: [u8; ROOM],
+    at: usize,
+    end: usize,
+    line_bytes: u64,
+    ghost within: { at ≤ end },
+    ghost room: { end ≤ length buffer },
+}
+
+impl<'a, S: Source> Feed<'a, S> {
+    ghost use Rattle.std.specs.Prelude.{◌≡◌, ◌<◌, ◌≤◌, ℕ, true, false, length, Ok, OnErr};
+    ghost use Rattle.std.specs.Io.KnownBytes.{Keeps, IsAtEnd};
+    ghost use Rattle.texts.specs.Causes.{HasCause};
+    ghost use Rattle.texts.specs.Lines.{is_one_line};
+    ghost use Rattle.edge_io.specs.Feeds.{feed_left, TakesByte, TakesLineByte, LineIs, HasLineCause};
+
+    /// A feed of all that the source has left, of which no line was read.
+    pub fn new(source: &'a mut S) -> Feed<'a, S>
+        ensures same_reference { result.source.ghost_name ≡ source.entry.ghost_name }
+        ensures left { Keeps (S.left source.old) (feed_left S.left result) }
+        ensures faults { S.faults result.source.now ≡ S.faults source.old }
+        ensures none { result.line_bytes ≡ 0 }
+    {
+        Feed {
+            source,
+            buffer: [0; ROOM],
+            at: 0,
+            end: 0,
+            line_bytes: 0,
+        }
+    }
+
+    /// Sees that a byte is in the buffer, where one is left.
+    fn fill(&mut self) -> Result<bool, ReadFault>
+        ensures same_reference { self.new.source.ghost_name ≡ self.old.source.ghost_name }
+        ensures left { Keeps (feed_left S.left self.old) (feed_left S.left self.new) }
+        ensures end { result ≡ Ok false → IsAtEnd (feed_left S.left self.new) }
+        ensures more { result ≡ Ok true → self.new.at < self.new.end }
+        ensures cause { HasCause (S.faults self.old.source.now) (S.faults self.new.source.now) result }
+        ensures dry { OnErr result (self.new.at ≡ self.new.end) }
+        ensures still { self.new.line_bytes ≡ self.old.line_bytes }
+    {
+        if self.at < self.end {
+            return Ok(true);
+        }
+        let count = match self.source.read(&mut self.buffer) {
+            Ok(count) => count,
+            Err(Failed) => return Err(ReadFault),
+        };
+        self.at = 0;
+        self.end = count;
+        Ok(count > 0)
+    }
+
+    /// The next byte, None at the end.
+    ///
+    /// `ReadFault` comes only where the source counted a fault. The feed is then as before, and its
+    /// buffer is empty: all bytes that the source gave were read.
+    pub fn byte(&mut self) -> Result<Option<u8>, ReadFault>
+        ensures same_reference { self.new.source.ghost_name ≡ self.old.source.ghost_name }
+        ensures bytes { TakesByte (feed_left S.left self.old) (feed_left S.left self.new) result }
+        ensures cause { HasCause (S.faults self.old.source.now) (S.faults self.new.source.now) result }
+        ensures dry { OnErr result (self.new.at ≡ self.new.end) }
+        ensures still { self.new.line_bytes ≡ self.old.line_bytes }
+    {
+        match self.fill() {
+            Ok(true) => {}
+            Ok(false) => return Ok(None),
+            Err(ReadFault) => return Err(ReadFault),
+        }
+        let byte = self.buffer[self.at];
+        self.at += 1;
+        Ok(Some(byte))
+    }
+
+    /// The next byte of a line, where all lines so far may have `limit` bytes.
+    fn line_byte(&mut self, limit: u64) -> Result<Option<u8>, LineFault>
+        ensures same_reference { self.new.source.ghost_name ≡ self.old.source.ghost_name }
+        ensures bytes { TakesLineByte limit self.old.line_bytes self.new.line_bytes (feed_left S.left self.old) (feed_left S.left self.new) result }
+        ensures cause { HasLineCause (S.faults self.old.source.now) (S.faults self.new.source.now) (self.new.at ≡ self.new.end) result }
+    {
+        let byte = match self.byte() {
+            Ok(Some(byte)) => byte,
+            Ok(None) => return Ok(None),
+            Err(ReadFault) => return Err(LineFault::ReadFault),
+        };
+        if self.line_bytes >= limit {
+            self.line_bytes = self.line_bytes.saturating_add(1);
+            return Err(LineFault::TooLong);
+        }
+        self.line_bytes += 1;
+        Ok(Some(byte))
+    }
+
+    /// Reads a line, without its newline, where all lines so far may have `limit` bytes, newlines
+    /// included.
+    ///
+    /// `TooLong` comes exactly where the byte behind the limit was read; it is tested at each byte
+    /// before its newline or its byte 4097 is seen, and comes again at each later byte. `ReadFault`
+    /// comes only where the source counted a fault; all bytes that the source gave were then read.
+    pub fn line(&mut self, line: &mut LineBuf, limit: u64) -> Result<Line, LineFault>
+        ensures same_reference { self.new.source.ghost_name ≡ self.old.source.ghost_name }
+        ensures line { LineIs limit self.old.line_bytes self.new.line_bytes (feed_left S.left self.old) (feed_left S.left self.new) line.new result }
+        ensures one { is_one_line line.new ≡ true }
+        ensures short { length line.new ≤ 4096 }
+        ensures cause { HasLineCause (S.faults self.old.source.now) (S.faults self.new.source.now) (self.new.at ≡ self.new.end) result }
+    {
+        line.clear();
+        for _ in 0..LONGEST_LINE {
+            match self.line_byte(limit) {
+                Err(fault) => return Err(fault),
+                Ok(None) if line.is_empty() => return Ok(Line::End),
+                Ok(None) => return Ok(Line::Open),
+                Ok(Some(NEWLINE)) => return Ok(Line::Whole),
+                Ok(Some(byte)) => line.push(byte),
+            }
+        }
+        match self.line_byte(limit) {
+            Err(fault) => Err(fault),
+            Ok(None) => Ok(Line::Open),
+            Ok(Some(NEWLINE)) => Ok(Line::Whole),
+            Ok(Some(_)) => Ok(Line::Long),
+        }
+    }
+}

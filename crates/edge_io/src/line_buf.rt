@@ -1,0 +1,59 @@
+use crate::{LONGEST_LINE, NoMemory};
+use std::alloc::{AllocError, Global};
+use std::marker::Model;
+
+/// Room for one line of at most 4096 bytes.
+#[derive(Drop)]
+pub struct LineBuf {
+    bytes: Vec<u8>,
+}
+
+impl Model for LineBuf {
+    ghost use Rattle.std.specs.Prelude.{List, ℕ, ◌≤◌, vec_capacity};
+
+    ghost Value = { List ℕ };
+
+    ghost view = { λ l. l.bytes.items };
+
+    ghost invariant = { λ l. 4096 ≤ vec_capacity l.bytes };
+}
+
+impl LineBuf {
+    ghost use Rattle.std.specs.Prelude.{◌≡◌, ◌<◌, [], ◌∷◌, ◌++◌, ◌==◌, length, IfOk};
+
+    /// An empty line. It takes all memory that it ever needs; `NoMemory` comes where there is none.
+    pub fn new(alloc: Global) -> Result<LineBuf, NoMemory>
+        ensures { IfOk result (λ line. line ≡ []) }
+    {
+        match Vec::with_capacity(alloc, LONGEST_LINE) {
+            Ok(bytes) => Ok(LineBuf { bytes }),
+            Err(AllocError) => Err(NoMemory),
+        }
+    }
+
+    /// The line that was read last, without its newline; after a fault, so much of it as was read.
+    pub fn bytes(&self) -> &[u8]
+        ensures { result.now ≡ self.now }
+    {
+        &self.bytes
+    }
+
+    pub(crate) fn is_empty(&self) -> bool
+        ensures { result ≡ (length self.now == 0) }
+    {
+        self.bytes.is_empty()
+    }
+
+    pub(crate) fn clear(&mut self)
+        ensures { self.new ≡ [] }
+    {
+        self.bytes.clear();
+    }
+
+    pub(crate) fn push(&mut self, byte: u8)
+        requires { length self.old < 4096 }
+        ensures { self.new ≡ self.old ++ byte ∷ [] }
+    {
+        self.bytes.push(byte).unwrap();
+    }
+}

@@ -1,0 +1,105 @@
+-- One line after another, and what follows.
+use Rattle.std.proofs.Common.{◌≡◌, ℕ, suc, ◌+◌, ◌<◌, Bool, true, false, cond, eqb, not, List, [], ◌∷◌, ◌++◌, length, refl, ap, sym, ◌∙◌, append_assoc, arith}
+use Rattle.std.specs.List.{list_all, onto_first}
+use Rattle.std.proofs.lemmas.Bool.{and_parts, not-true}
+use Rattle.std.proofs.lemmas.List.{append-nil}
+use Rattle.texts.specs.Lines.{lines_of, is_one_line, whole_from, whole_lines}
+use Rattle.texts.specs.Limits.{behind_lines}
+
+-- a way to part a text into lines, by which a line that ends at a newline is the first
+abbrev pub PartsLines : (List ℕ → List (List ℕ)) → Type 0
+PartsLines split =
+    (line rest : List ℕ) → is_one_line line ≡ true → split (line ++ 10 ∷ rest) ≡ line ∷ split rest
+
+-- a line without newline, its newline, and what follows
+pub line_first : (line rest : List ℕ) → is_one_line line ≡ true
+    → lines_of (line ++ 10 ∷ rest) ≡ line ∷ lines_of rest
+line_first [] rest plain = refl
+line_first (b ∷ bs) rest plain =
+    let p = and_parts (not (eqb b 10)) (list_all (λ c. not (eqb c 10)) bs) plain in
+    rw (not-true (eqb b 10) p.0, line_first bs rest p.1) refl
+
+-- a line that ends with the text
+pub line_last : (line : List ℕ) → 0 < length line → is_one_line line ≡ true
+    → lines_of line ≡ line ∷ []
+line_last [] some plain = absurd (omega arith)
+line_last (b ∷ []) some plain =
+    let p = and_parts (not (eqb b 10)) true plain in
+    rw (not-true (eqb b 10) p.0) refl
+line_last (b ∷ c ∷ bs) some plain =
+    let p = and_parts (not (eqb b 10)) (list_all (λ c. not (eqb c 10)) (c ∷ bs)) plain in
+    rw (not-true (eqb b 10) p.0, line_last (c ∷ bs) (omega arith) p.1) refl
+
+-- the first line of a text that begins with bytes without newline has at least these bytes
+pub record Longer (line text : List ℕ) : Type 0 where
+  pub more : List ℕ
+  pub lines : List (List ℕ)
+  pub first : lines_of text ≡ (line ++ more) ∷ lines
+
+onto_longer : (b : ℕ) (line text : List ℕ) → eqb b 10 ≡ false → Longer line text
+    → Longer (b ∷ line) (b ∷ text)
+onto_longer b line text other h =
+    record { more = h.more; lines = h.lines; first = rw (other, h.first) refl }
+
+record SomeLine (lines : List (List ℕ)) : Type 0 where
+  line : List ℕ
+  behind : List (List ℕ)
+  is : lines ≡ line ∷ behind
+
+some_line : (b : Bool) (c : ℕ) (ls : List (List ℕ)) → SomeLine (cond b ([] ∷ ls) (onto_first c ls))
+some_line true c ls = record { line = []; behind = ls; is = refl }
+some_line false c [] = record { line = c ∷ []; behind = []; is = refl }
+some_line false c (l ∷ ls) = record { line = c ∷ l; behind = ls; is = refl }
+
+pub longer_line : (line rest : List ℕ) → 0 < length line + length rest → is_one_line line ≡ true
+    → Longer line (line ++ rest)
+longer_line [] [] some plain = absurd (omega arith)
+longer_line [] (c ∷ rest) some plain =
+    let h = some_line (eqb c 10) c (lines_of rest) in
+    record { more = h.line; lines = h.behind; first = h.is }
+longer_line (b ∷ []) [] some plain =
+    let p = and_parts (not (eqb b 10)) true plain in
+    record { more = []; lines = []; first = rw (not-true (eqb b 10) p.0) refl }
+longer_line (b ∷ []) (c ∷ rest) some plain =
+    let p = and_parts (not (eqb b 10)) true plain in
+    onto_longer b [] (c ∷ rest) (not-true (eqb b 10) p.0) (longer_line [] (c ∷ rest) (omega arith) refl)
+longer_line (b ∷ d ∷ bs) rest some plain =
+    let p = and_parts (not (eqb b 10)) (list_all (λ c. not (eqb c 10)) (d ∷ bs)) plain in
+    onto_longer b (d ∷ bs) ((d ∷ bs) ++ rest) (not-true (eqb b 10) p.0) (longer_line (d ∷ bs) rest (omega arith) p.1)
+
+-- one line more is left behind
+pub behind_line : (n : ℕ) (line rest : List ℕ) → is_one_line line ≡ true
+    → behind_lines (suc n) (line ++ 10 ∷ rest) ≡ behind_lines n rest
+behind_line n [] rest plain = refl
+behind_line n (b ∷ bs) rest plain =
+    let p = and_parts (not (eqb b 10)) (list_all (λ c. not (eqb c 10)) bs) plain in
+    rw (not-true (eqb b 10) p.0) (behind_line n bs rest p.1)
+
+-- a line without newline that ends the text is left behind
+pub behind_last : (n : ℕ) (line : List ℕ) → is_one_line line ≡ true → behind_lines (suc n) line ≡ []
+behind_last n [] plain = refl
+behind_last n (b ∷ bs) plain =
+    let p = and_parts (not (eqb b 10)) (list_all (λ c. not (eqb c 10)) bs) plain in
+    rw (not-true (eqb b 10) p.0) (behind_last n bs p.1)
+
+whole_more : (acc line rest : List ℕ) → is_one_line line ≡ true
+    → whole_from acc (line ++ 10 ∷ rest) ≡ (acc ++ line) ∷ whole_lines rest
+whole_more acc [] rest plain = ap (λ (l : List ℕ). l ∷ whole_lines rest) (sym (append-nil acc))
+whole_more acc (b ∷ bs) rest plain =
+    let p = and_parts (not (eqb b 10)) (list_all (λ c. not (eqb c 10)) bs) plain in
+    rw (not-true (eqb b 10) p.0) (whole_more (acc ++ b ∷ []) bs rest p.1 ∙ ap (λ (l : List ℕ). l ∷ whole_lines rest) (append_assoc acc (b ∷ []) bs))
+
+whole_none : (acc line : List ℕ) → is_one_line line ≡ true → whole_from acc line ≡ []
+whole_none acc [] plain = refl
+whole_none acc (b ∷ bs) plain =
+    let p = and_parts (not (eqb b 10)) (list_all (λ c. not (eqb c 10)) bs) plain in
+    rw (not-true (eqb b 10) p.0) (whole_none (acc ++ b ∷ []) bs p.1)
+
+pub lines_part : PartsLines lines_of
+lines_part line rest plain = line_first line rest plain
+
+pub whole_part : PartsLines whole_lines
+whole_part line rest plain = whole_more [] line rest plain
+
+pub whole_open : (line : List ℕ) → is_one_line line ≡ true → whole_lines line ≡ []
+whole_open line plain = whole_none [] line plain
