@@ -1,3 +1,4 @@
-pub mod Alone
-pub mod Examples
+pub mod Blocks
+pub mod Choices
 pub mod Ranges
+pub mod Examples

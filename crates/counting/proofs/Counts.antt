@@ -1,11 +1,11 @@
 -- How many places of a list hold a value: `count_of` by places, and what it says of the list.
-use Rattle.std.proofs.Common.{◌≡◌, ◌≢◌, ℕ, zero, suc, ◌+◌, ◌<◌, ◌≤◌, Bool, true, false, if◌then◌else◌, List, [], ◌∷◌, ◌++◌, map, length, get_or, count_by, nat_eq, Option, Some, None, refl, sym, ap, ◌∙◌, subst, inl, inr, ⊎_elim, arith}
-use Rattle.std.proofs.lemmas.Bool.{cases_Bool, false≢true, eqb-true, eq-eqb, false_from_ne_true}
-use Rattle.std.proofs.lemmas.List.Sums.{sum_by-cons, sum_by_push}
+use Rattle.std.proofs.Common.{◌≡◌, ◌≢◌, ℕ, ◌+◌, ◌<◌, ◌≤◌, Bool, true, false, if◌then◌else◌, List, [], ◌∷◌, map, length, get_or, count_by, nat_eq, Option, Some, None, refl, sym, ap, ◌∙◌, subst, inl, inr, ⊎_elim, arith}
+use Rattle.std.proofs.lemmas.Bool.{cases_Bool, false≢true, eqb-true, eq-eqb}
+use Rattle.std.proofs.lemmas.List.Sums.{sum_by-cons}
 use Rattle.std.specs.Option.{option_eq}
 use Rattle.counting.specs.Places.{places}
 use Rattle.counting.specs.Values.{count_of}
-use Rattle.counting.proofs.Places.{apart, cover_all, count_by_places, one_passes, at_most}
+use Rattle.counting.proofs.Places.{apart, cover_all, count_by_places, one_passes}
 
 -- values that are found equal are one value
 pub same_value : (y z : Option ℕ) → option_eq nat_eq y z ≡ true → y ≡ z
@@ -18,10 +18,6 @@ same_value (Some y) (Some z) h = ap Some (eqb-true y z h)
 pub value_itself : (z : Option ℕ) → option_eq nat_eq z z ≡ true
 value_itself None = refl
 value_itself (Some z) = eq-eqb z z refl
-
--- different values are found different
-pub other_value : (y z : Option ℕ) → y ≢ z → option_eq nat_eq y z ≡ false
-other_value y z ne = false_from_ne_true (option_eq nat_eq y z) (λ e. ne (same_value y z e))
 
 -- whether place i of a list holds z
 abbrev pub holds_at : List (Option ℕ) → Option ℕ → ℕ → Bool
@@ -46,29 +42,6 @@ count_of-places_at values z n long = count_of-places values z ∙ ap (places (ho
 -- the first place apart
 pub count_of-cons : (y : Option ℕ) (values : List (Option ℕ)) (z : Option ℕ) → count_of (y ∷ values) z ≡ (if option_eq nat_eq z y then 1 else 0) + count_of values z
 count_of-cons y values z = sum_by-cons (λ x. if option_eq nat_eq z x then 1 else 0) y values
-
--- the last place apart
-pub count_of_push : (values : List (Option ℕ)) (y z : Option ℕ) → count_of (values ++ y ∷ []) z ≡ count_of values z + (if option_eq nat_eq z y then 1 else 0)
-count_of_push values y z = sum_by_push (λ x. if option_eq nat_eq z x then 1 else 0) values y
-
--- a value at the end counts once more
-pub count_of_push_same : (values : List (Option ℕ)) (z : Option ℕ) → count_of (values ++ z ∷ []) z ≡ count_of values z + 1
-count_of_push_same values z = count_of_push values z z ∙ ap (λ b. count_of values z + (if b then 1 else 0)) (value_itself z)
-
--- every other value counts as before
-pub count_of_push_other : (values : List (Option ℕ)) (y z : Option ℕ) → z ≢ y → count_of (values ++ y ∷ []) z ≡ count_of values z
-count_of_push_other values y z ne = let none = other_value z y ne in let e = count_of_push values y z ∙ ap (λ b. count_of values z + (if b then 1 else 0)) none in omega (arith, e)
-
--- a value is held by no more places than there are
-pub count_of-le : (values : List (Option ℕ)) (z : Option ℕ) → count_of values z ≤ length values
-count_of-le values z = omega (arith, count_of-places values z, at_most (holds_at values z) (length values))
-
--- a value that some place holds counts
-pub count_of_held : (values : List (Option ℕ)) (z : Option ℕ) (i : ℕ) → i < length values → get_or values i None ≡ z → 0 < count_of values z
-count_of_held [] z i lt e = absurd (omega arith)
-count_of_held (y ∷ values) z zero lt e = let h : option_eq nat_eq z y ≡ true = subst (λ x. option_eq nat_eq z x ≡ true) (sym e) (value_itself z) in
-    let f = count_of-cons y values z ∙ ap (λ b. (if b then 1 else 0) + count_of values z) h in omega (arith, f)
-count_of_held (y ∷ values) z (suc i) lt e = omega (arith, count_of-cons y values z, count_of_held values z i (omega arith) e)
 
 -- a value that counts is held by some place
 pub held_from_count : (values : List (Option ℕ)) (z : Option ℕ) → 0 < count_of values z → (i : ℕ) × (i < length values) × (get_or values i None ≡ z)

@@ -22,22 +22,6 @@ least_passes passes [] j e = absurd (cc)
 least_passes passes (None ∷ values) j e = least_passes passes values j e
 least_passes passes (Some a ∷ values) j e = least_passes_by passes a (least_passing passes values) j (passes a) refl (least_passes passes values) e
 
-lesser_some : (a : ℕ) (o : Option ℕ) → lesser a o ≡ None → ⊥
-lesser_some a None e = cc
-lesser_some a (Some b) e = cc
-
-none_by : (a : ℕ) (o : Option ℕ) (b : Bool) → (if b then lesser a o else o) ≡ None → (b ≡ false) × (o ≡ None)
-none_by a o true e = absurd (lesser_some a o e)
-none_by a o false e = (refl, e)
-
--- where none passes, each finite value there fails
-pub least_none : (passes : ℕ → Bool) (values : List (Option ℕ)) (i z : ℕ) → least_passing passes values ≡ None → i < length values → get_or values i None ≡ Some z → passes z ≡ false
-least_none passes [] i z e lt h = absurd (omega arith)
-least_none passes (None ∷ values) zero z e lt h = absurd (cc)
-least_none passes (None ∷ values) (suc i) z e lt h = least_none passes values i z e (omega arith) h
-least_none passes (Some a ∷ values) zero z e lt h = let f : a ≡ z = cc in subst (λ z. passes z ≡ false) f (none_by a (least_passing passes values) (passes a) e).0
-least_none passes (Some a ∷ values) (suc i) z e lt h = least_none passes values i z (none_by a (least_passing passes values) (passes a) e).1 (omega arith) h
-
 -- whether a value is at most z, infinity never
 AtMost : Option ℕ → ℕ → Type 0
 AtMost o z = (j : ℕ) × (o ≡ Some j) × (j ≤ z)
@@ -77,14 +61,6 @@ pub least_is : (f : ℕ) (values : List (Option ℕ)) (z : ℕ) → f < count_of
 least_is f values z h =
     let s = held_from_count values (Some z) (omega arith) in
     least_at_most (λ a. nat_lt f (count_of values (Some a))) values s.0 z s.1 s.2 (lt-ltb f (count_of values (Some z)) h)
-
--- no number below the least is held by more than f places
-pub least_below : (f : ℕ) (values : List (Option ℕ)) (j z : ℕ) → least_above f values ≡ Some j → f < count_of values (Some z) → j ≤ z
-least_below f values j z e h = let s = least_is f values z h in let g : Some j ≡ Some s.0 = sym e ∙ s.1 in let k : j ≡ s.0 = cc in let le = s.2 in omega arith
-
--- where there is no least, no number is held by more than f places
-pub least_above_none : (f : ℕ) (values : List (Option ℕ)) (z : ℕ) → least_above f values ≡ None → count_of values (Some z) ≤ f
-least_above_none f values z e = ⊎_elim (λ more. let s = least_is f values z more in let g : None ≡ Some s.0 = sym e ∙ s.1 in absurd (cc)) (λ le. le) (cases_lt f (count_of values (Some z)))
 
 -- a number that more than f places hold, while none below it is so held, is the least
 pub least_from : (f : ℕ) (values : List (Option ℕ)) (j : ℕ) → f < count_of values (Some j) → ((z : ℕ) → z < j → count_of values (Some z) ≤ f) → least_above f values ≡ Some j

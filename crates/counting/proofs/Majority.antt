@@ -1,11 +1,11 @@
 -- The value that more than half of a list's places hold.
-use Rattle.std.proofs.Common.{◌≡◌, ◌≢◌, ◌⊎◌, ℕ, zero, suc, ◌*◌, ◌<◌, ◌≤◌, Bool, true, false, if◌then◌else◌, All, List, [], ◌∷◌, map, length, get_or, count_by, nat_eq, nat_lt, Option, Some, None, unwrap_or, refl, sym, ap, ◌∙◌, subst, inl, inr, ⊎_elim, arith}
-use Rattle.std.proofs.lemmas.Bool.{cases_Bool, true≢false, cases_eq, cases_lt, ltb-true, lt-ltb, eqb-true, eq-eqb}
+use Rattle.std.proofs.Common.{◌≡◌, ◌≢◌, ◌⊎◌, ℕ, zero, suc, ◌*◌, ◌<◌, ◌≤◌, Bool, true, false, if◌then◌else◌, List, [], ◌∷◌, map, length, get_or, nat_eq, nat_lt, Option, Some, None, unwrap_or, refl, sym, ap, ◌∙◌, subst, inl, inr, ⊎_elim, arith}
+use Rattle.std.proofs.lemmas.Bool.{cases_Bool, true≢false, cases_eq, ltb-true, lt-ltb, eqb-true, eq-eqb}
 use Rattle.std.proofs.lemmas.List.{length-map}
 use Rattle.counting.specs.Places.{places}
 use Rattle.counting.specs.Values.{count_of, first_passing, majority_of, majority_or_zero}
 use Rattle.counting.proofs.Places.{cover_all, one_passes}
-use Rattle.counting.proofs.Counts.{two_values, held_from_count, count_of_most, count_of_numbers, count_of_numbers-places}
+use Rattle.counting.proofs.Counts.{two_values, held_from_count, count_of_most, count_of_numbers-places}
 
 first_passes_by : (passes : ℕ → Bool) (a j : ℕ) (rest : Option ℕ) (b : Bool) → passes a ≡ b → (if b then Some a else rest) ≡ Some j → (rest ≡ Some j → passes j ≡ true) → passes j ≡ true
 first_passes_by passes a j rest true h e more = let f : a ≡ j = cc in subst (λ z. passes z ≡ true) f h
@@ -53,10 +53,6 @@ majority_by values z h None e =
 pub majority_is : (values : List (Option ℕ)) (z : ℕ) → length values < 2 * count_of values (Some z) → majority_of values ≡ Some z
 majority_is values z h = majority_by values z h (majority_of values) refl
 
--- where there is no majority, no number is held by more than half of the places
-pub majority_none : (values : List (Option ℕ)) (z : ℕ) → majority_of values ≡ None → 2 * count_of values (Some z) ≤ length values
-majority_none values z e = ⊎_elim (λ more. let f : Some z ≡ None = sym (majority_is values z more) ∙ e in absurd (cc)) (λ le. le) (cases_lt (length values) (2 * count_of values (Some z)))
-
 no_majority_by : (values : List (Option ℕ)) → ((z : ℕ) → 2 * count_of values (Some z) ≤ length values) → (o : Option ℕ) → majority_of values ≡ o → o ≡ None
 no_majority_by values h (Some z) e = absurd (omega (arith, h z, majority_has values z e))
 no_majority_by values h None e = refl
@@ -68,10 +64,6 @@ no_majority values h = no_majority_by values h (majority_of values) refl
 -- where all places but fewer than half hold a number, it is the majority
 pub majority_of_most : (values : List (Option ℕ)) (odd : ℕ → Bool) (z : ℕ) → 2 * places odd (length values) < length values → ((i : ℕ) → i < length values → odd i ≡ false → get_or values i None ≡ Some z) → majority_of values ≡ Some z
 majority_of_most values odd z few h = majority_is values z (omega (arith, count_of_most values odd (Some z) h))
-
--- among numbers: the number that more than half of the places hold
-pub majority_or_zero_is : (numbers : List ℕ) (z : ℕ) → length numbers < 2 * count_by (nat_eq z) numbers → majority_or_zero numbers ≡ z
-majority_or_zero_is numbers z h = ap (λ o. unwrap_or o 0) (majority_is (map Some numbers) z (omega (arith, count_of_numbers numbers z, length-map numbers Some)))
 
 -- among numbers: where all places but fewer than half hold one, it is the majority
 pub majority_or_zero_of_most : (numbers : List ℕ) (odd : ℕ → Bool) (z : ℕ) → 2 * places odd (length numbers) < length numbers → ((i : ℕ) → i < length numbers → odd i ≡ false → get_or numbers i 0 ≡ z) → majority_or_zero numbers ≡ z
@@ -92,14 +84,7 @@ member_or_zero_by numbers (Some z) e =
 pub member_or_zero : (numbers : List ℕ) → ((i : ℕ) × (i < length numbers) × (get_or numbers i 0 ≡ majority_or_zero numbers)) ⊎ (majority_or_zero numbers ≡ 0)
 member_or_zero numbers = member_or_zero_by numbers (majority_of (map Some numbers)) refl
 
--- a majority of numbers below m is below m
-pub majority_below : (numbers : List ℕ) (m : ℕ) → 0 < m → All (λ x. x < m) numbers → majority_or_zero numbers < m
-majority_below numbers m positive h = ⊎_elim
-    (λ s. subst (λ x. x < m) s.2 (h s.0 0 s.1))
-    (λ e. subst (λ x. x < m) (sym e) positive)
-    (member_or_zero numbers)
-
--- the same for numbers that are read by their place
+-- a majority of numbers that are below m at each place is below m
 pub majority_below_at : (numbers : List ℕ) (m : ℕ) → 0 < m → ((i : ℕ) → i < length numbers → get_or numbers i 0 < m) → majority_or_zero numbers < m
 majority_below_at numbers m positive h = ⊎_elim
     (λ s. subst (λ x. x < m) s.2 (h s.0 s.1))

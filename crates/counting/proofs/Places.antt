@@ -1,5 +1,5 @@
 -- Counts of places: what pigeonhole arguments need.
-use Rattle.std.proofs.Common.{◌≡◌, ◌⊎◌, ℕ, zero, suc, ◌+◌, ◌-◌, ◌<◌, ◌≤◌, Bool, true, false, if◌then◌else◌, List, [], ◌∷◌, length, get_or, count_by, refl, ap, ◌∙◌, subst, inl, inr, ⊎_elim, arith, add-suc, add-zero}
+use Rattle.std.proofs.Common.{◌≡◌, ◌⊎◌, ℕ, zero, suc, ◌+◌, ◌-◌, ◌<◌, ◌≤◌, Bool, true, false, if◌then◌else◌, List, [], ◌∷◌, length, get_or, count_by, refl, subst, inl, inr, ⊎_elim, arith, add-suc, add-zero}
 use Rattle.std.proofs.lemmas.Bool.{cases_Bool, false≢true, cases_lt}
 use Rattle.std.proofs.lemmas.List.Sums.{sum_by-cons}
 use Rattle.counting.specs.Places.{places}
@@ -58,11 +58,6 @@ pub fewer : (p q : ℕ → Bool) (n : ℕ) → ((i : ℕ) → i < n → p i ≡ 
 fewer p q zero h = omega arith
 fewer p q (suc n) h = omega (arith, less_step (p n) (q n) (h n (omega arith)), fewer p q n (λ i lt. h i (omega arith)))
 
--- tests that agree at each place have equally many
-pub same_places : (p q : ℕ → Bool) (n : ℕ) → ((i : ℕ) → i < n → p i ≡ q i) → places p n ≡ places q n
-same_places p q zero h = refl
-same_places p q (suc n) h = ap (λ b. places p n + (if b then 1 else 0)) (h n (omega arith)) ∙ ap (λ k. k + (if q n then 1 else 0)) (same_places p q n (λ i lt. h i (omega arith)))
-
 -- no more than n of n places pass
 pub at_most : (p : ℕ → Bool) (n : ℕ) → places p n ≤ n
 at_most p zero = omega arith
@@ -95,11 +90,6 @@ none_pass p (suc n) h = none_step p n (h n (omega arith)) (none_pass p n (λ i l
 -- where more than none are counted, one passes
 pub one_passes : (p : ℕ → Bool) (n : ℕ) → 0 < places p n → (i : ℕ) × (i < n) × (p i ≡ true)
 one_passes p n h = ⊎_elim (λ s. s) (λ s. absurd (omega (arith, none_pass p n s))) (some_place p n)
-
--- where all pass all are counted
-pub all_pass : (p : ℕ → Bool) (n : ℕ) → ((i : ℕ) → i < n → p i ≡ true) → places p n ≡ n
-all_pass p zero h = refl
-all_pass p (suc n) h = omega (arith, less_step true (p n) (λ e. h n (omega arith)), less_step (p n) true (λ e. refl), all_pass p n (λ i lt. h i (omega arith)))
 
 OneFails : (p : ℕ → Bool) (n : ℕ) → Type 0
 OneFails p n = (i : ℕ) × (i < n) × (p i ≡ false)

@@ -1,7 +1,7 @@
 -- What the levels of an accepted plan meet, and how large their numbers are.
-use Rattle.std.proofs.Common.{◌≡◌, ℕ, ◌+◌, ◌*◌, ◌%◌, ◌<◌, ◌≤◌, ◌^◌, List, [], ◌∷◌, None, arith, inl, inr, length, All}
+use Rattle.std.proofs.Common.{◌≡◌, ℕ, ◌+◌, ◌-◌, ◌*◌, ◌/◌, ◌%◌, ◌<◌, ◌≤◌, ◌^◌, List, [], ◌∷◌, None, sym, ap, ◌∙◌, arith, inl, inr, length, All}
 use Rattle.std.proofs.lemmas.Bool.{cases_lt}
-use Rattle.std.proofs.lemmas.Nat.{mul-le}
+use Rattle.std.proofs.lemmas.Nat.{mul-le, div-mul-add}
 use Rattle.std.proofs.lemmas.List.Elements.{All-push}
 use Rattle.std.proofs.Math.Nat.{mod-eq_of_lt, mul-le-mul_right, pow-succ'}
 use Rattle.construction.specs.Plans.{Level, leaders_of, beat_of, span_of, nodes_of}
@@ -13,7 +13,8 @@ use Rattle.plan_numbers.proofs.Spans.{turns_some, depth_most}
 use Rattle.plan_numbers.proofs.WidthLaws.{width_most}
 
 -- a level that fails no premise meets all of them
-pub meets : (below : Below) (level : Level) → first_premise below level ≡ None → MeetsPremises below level
+pub meets : (below : Below) (level : Level) → first_premise below level ≡ None
+    → MeetsPremises below level
 meets below level none = record {
   most_blocks = grind arith;
   most_faults = grind arith;
@@ -27,7 +28,8 @@ meets below level none = record {
 }
 
 -- and a level that meets all of them fails none
-pub meets_none : (below : Below) (level : Level) → MeetsPremises below level → first_premise below level ≡ None
+pub meets_none : (below : Below) (level : Level) → MeetsPremises below level
+    → first_premise below level ≡ None
 meets_none below level met = grind arith
 
 -- a divisor of a number that is not zero is at most that number
@@ -40,16 +42,31 @@ divisor_most big s some whole = elim (cases_lt big s) [
 -- a span is not zero
 span_some : (below : Below) (level : Level) → MeetsPremises below level → 1 ≤ span_of level
 span_some below level met =
-    mul-le 1 1 (beat_of level) ((2 * leaders_of level) ^ level.blocks) (omega arith) (turns_some level.blocks met.blocks)
+    mul-le 1 1 (beat_of level) ((2 * leaders_of level) ^ level.blocks) (omega arith)
+    (turns_some level.blocks met.blocks)
+
+-- the blocks and the spares of a group
+pub block_is : (k n s : ℕ) → 0 < k → (k * n + s - s) / k ≡ n
+block_is k n s some = let e : k * n + s - s ≡ n * k + 0 =
+    omega arith in ap (λ x. x / k) e ∙ div-mul-add n k 0 some
 
 -- the numbers of a level that meets its premises over numbers that keep the limits keep them too
-pub level_sized : (below : Below) (level : Level) → IsSized below → MeetsPremises below level → IsSizedLevel (numbers_over below level)
+pub level_sized : (below : Below) (level : Level) → IsSized below → MeetsPremises below level
+    → IsSizedLevel (numbers_over below level)
 level_sized below level sized met =
     let few = width_most (level.modulus + 1) 41 (omega arith) (omega (arith, met.most_modulus)) in
-    let three : 3 * below.nodes ≤ level.blocks * below.nodes = mul-le-mul_right below.nodes met.blocks in
-    let span : span_of level ≤ 2 ^ 40 = omega (arith, divisor_most below.modulus (span_of level) (omega (arith, sized.least_modulus)) met.multiple, sized.most_modulus) in
+    let three : 3 * below.nodes ≤ level.blocks * below.nodes =
+    mul-le-mul_right below.nodes met.blocks in
+    let block = block_is level.blocks below.nodes level.spares (omega (arith, met.blocks)) in
+    let span : span_of level ≤ 2 ^ 40 =
+    omega (
+      arith,
+      divisor_most below.modulus (span_of level) (omega (arith, sized.least_modulus))
+          met.multiple,
+      sized.most_modulus,
+    ) in
     record {
-      told = record {
+      below = record {
         some = omega (arith, sized.some);
         most = met.most_nodes;
         quorum = met.quorum;
@@ -58,6 +75,8 @@ level_sized below level sized met =
         bound = omega (arith, sized.bound, sized.some, span, three);
         bits = omega (arith, sized.bits, sized.some, few, three);
       };
+      whole = ap (λ n. level.blocks * n + level.spares) (sym block);
+      block = omega (arith, block, sized.some);
       blocks = met.blocks;
       most_blocks = met.most_blocks;
       leaders = omega (arith, met.blocks);
@@ -69,33 +88,49 @@ level_sized below level sized met =
       most_span = span;
     }
 
--- what a level over accepted levels is told keeps the limits
-pub accepted_sized : (base : ℕ) (levels : List Level) → LevelsAccepted base levels → IsSized (below_of base levels)
+-- what stands below a level over accepted ones keeps the limits
+pub accepted_sized : (base : ℕ) (levels : List Level) → LevelsAccepted base levels
+    → IsSized (below_of base levels)
 accepted_sized base [] accepted =
     let least : 2 ≤ base = grind arith in
     let most : base ≤ 2 ^ 40 = grind arith in
     let few = width_most base 40 (omega arith) most in
-    record { some = omega arith; most = omega arith; quorum = omega arith; least_modulus = least; most_modulus = most; bound = omega arith; bits = omega (arith, few) }
+    record {
+      some = omega arith;
+      most = omega arith;
+      quorum = omega arith;
+      least_modulus = least;
+      most_modulus = most;
+      bound = omega arith;
+      bits = omega (arith, few);
+    }
 accepted_sized base (level ∷ below) (accepted, none) =
-    (level_sized (below_of base below) level (accepted_sized base below accepted) (meets (below_of base below) level none)).told
+    (level_sized (below_of base below) level (accepted_sized base below accepted)
+    (meets (below_of base below) level none)).below
 
 -- so many accepted levels have at least that power of three nodes
-accepted_nodes : (base : ℕ) (levels : List Level) → LevelsAccepted base levels → 3 ^ length levels ≤ nodes_of levels
+accepted_nodes : (base : ℕ) (levels : List Level) → LevelsAccepted base levels
+    → 3 ^ length levels ≤ nodes_of levels
 accepted_nodes base [] accepted = omega arith
 accepted_nodes base (level ∷ below) (accepted, none) =
     let met = meets (below_of base below) level none in
-    let three : 3 * nodes_of below ≤ level.blocks * nodes_of below = mul-le-mul_right (nodes_of below) met.blocks in
+    let three : 3 * nodes_of below ≤ level.blocks * nodes_of below =
+    mul-le-mul_right (nodes_of below) met.blocks in
     rw (pow-succ' 3 (length below)) (omega (arith, accepted_nodes base below accepted, three))
 
 -- an accepted plan has at most five levels
-pub accepted_depth : (base : ℕ) (levels : List Level) → LevelsAccepted base levels → length levels ≤ 5
+pub accepted_depth : (base : ℕ) (levels : List Level) → LevelsAccepted base levels
+    → length levels ≤ 5
 accepted_depth base levels accepted =
-    depth_most (length levels) (nodes_of levels) (accepted_nodes base levels accepted) (accepted_sized base levels accepted).most
+    depth_most (length levels) (nodes_of levels) (accepted_nodes base levels accepted)
+    (accepted_sized base levels accepted).most
 
 -- the numbers of the levels of an accepted plan keep the limits
-pub numbers_sized : (base : ℕ) (levels : List Level) → LevelsAccepted base levels → All IsSizedLevel (numbers_of base levels)
+pub numbers_sized : (base : ℕ) (levels : List Level) → LevelsAccepted base levels
+    → All IsSizedLevel (numbers_of base levels)
 numbers_sized base [] accepted = λ k d lt. absurd (omega arith)
 numbers_sized base (level ∷ below) (accepted, none) =
     All-push IsSizedLevel (numbers_of base below) (numbers_over (below_of base below) level)
     (numbers_sized base below accepted)
-    (level_sized (below_of base below) level (accepted_sized base below accepted) (meets (below_of base below) level none))
+    (level_sized (below_of base below) level (accepted_sized base below accepted)
+    (meets (below_of base below) level none))

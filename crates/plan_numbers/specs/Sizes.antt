@@ -1,10 +1,10 @@
 -- How large the numbers of accepted levels are.
-use Rattle.std.specs.Prelude.{◌*◌, ◌^◌, ◌<◌, ◌≤◌}
+use Rattle.std.specs.Prelude.{◌≡◌, ℕ, ◌+◌, ◌-◌, ◌*◌, ◌/◌, ◌^◌, ◌<◌, ◌≤◌}
 use Rattle.plan_numbers.specs.declared.numbers.Below.{Below}
 use Rattle.plan_numbers.specs.declared.numbers.LevelNums.{LevelNums}
-use Rattle.plan_numbers.specs.Numbers.{told_above}
+use Rattle.plan_numbers.specs.Numbers.{to_below}
 
--- what a level is told keeps these limits
+-- what stands below a level keeps these limits
 pub record IsSized (below : Below) : Type 0 where
   pub some : 1 ≤ below.nodes
   pub most : below.nodes ≤ 256
@@ -14,9 +14,15 @@ pub record IsSized (below : Below) : Type 0 where
   pub bound : below.bound < below.nodes * 2 ^ 40
   pub bits : below.bits ≤ 42 * below.nodes
 
+-- how many nodes a block has: the spares stand in none
+abbrev pub block_nodes : LevelNums → ℕ
+block_nodes nums = (nums.nodes - nums.spares) / nums.blocks
+
 -- the numbers of a level keep these limits
 pub record IsSizedLevel (nums : LevelNums) : Type 0 where
-  pub told : IsSized (told_above nums)
+  pub below : IsSized (to_below nums)
+  pub whole : nums.nodes ≡ nums.blocks * block_nodes nums + nums.spares
+  pub block : 1 ≤ block_nodes nums
   pub blocks : 3 ≤ nums.blocks
   pub most_blocks : nums.blocks ≤ 16
   pub leaders : 2 ≤ nums.leaders

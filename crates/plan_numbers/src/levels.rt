@@ -2,7 +2,7 @@ ghost use Rattle.std.specs.Prelude.{◌≡◌, ◌+◌, ◌*◌, ◌^◌, ◌<�
 ghost use Rattle.std.specs.Int.{div_ceil};
 ghost use Rattle.construction.specs.Widths.{width};
 ghost use Rattle.construction.specs.Plans.{interval_of, span_of};
-ghost use Rattle.plan_numbers.specs.Numbers.{line, numbers_over, told_above};
+ghost use Rattle.plan_numbers.specs.Numbers.{line, numbers_over, to_below};
 ghost use Rattle.plan_numbers.specs.Premises.{first_premise, unless, MeetsPremises};
 ghost use Rattle.plan_numbers.specs.Sizes.{IsSized, IsSizedLevel};
 
@@ -48,16 +48,16 @@ fn wide_span(k: u64, f: u64) -> u128
 }
 
 /// Tests the premises in their order, and gives the span where all are met.
-fn tested_span(below: &Below, k: u64, f: u64, c: u64) -> Result<u64, Premise>
+fn tested_span(below: &Below, k: u64, f: u64, c: u64, s: u64) -> Result<u64, Premise>
     requires { IsSized below.now }
-    ensures answer { result ≡ unless (first_premise below.now (line k f c)) (span_of (line k f c)) }
-    ensures met { OnOk result (MeetsPremises below.now (line k f c)) }
+    ensures answer { result ≡ unless (first_premise below.now (line k f c s)) (span_of (line k f c s)) }
+    ensures met { OnOk result (MeetsPremises below.now (line k f c s)) }
     ensures span { IfOk result (λ span. (1 ≤ span) × (span ≤ 2 ^ 40)) }
 {
-    if k > MOST_BLOCKS || f > MOST_FAULTS || c > LARGEST_MODULUS {
+    if k > MOST_BLOCKS || f > MOST_FAULTS || c > LARGEST_MODULUS || s > MOST_NODES {
         return Err(Premise::Limit);
     }
-    let nodes = k * u64::from(below.nodes);
+    let nodes = k * u64::from(below.nodes) + s;
     if nodes > MOST_NODES {
         return Err(Premise::Limit);
     }
@@ -80,22 +80,25 @@ fn tested_span(below: &Below, k: u64, f: u64, c: u64) -> Result<u64, Premise>
     Ok(span as u64)
 }
 
-/// The numbers of a level with `k` blocks, `f` faults and the modulus `c` over what stands below it. An error is the first premise that the level fails, in the order `Limit`, `Blocks`, `Modulus`, `Quorum`, `Share`, `Multiple`. It takes no memory.
-pub fn level_nums(below: &Below, k: u64, f: u64, c: u64) -> Result<LevelNums, Premise>
+/// The numbers of a level with `k` blocks, `f` faults, the modulus `c` and `s` spare nodes over
+/// what stands below it. An error is the first premise that the level fails, in the order `Limit`,
+/// `Blocks`, `Modulus`, `Quorum`, `Share`, `Multiple`. It takes no memory.
+pub fn level_nums(below: &Below, k: u64, f: u64, c: u64, s: u64) -> Result<LevelNums, Premise>
     requires { IsSized below.now }
-    ensures answer { result ≡ unless (first_premise below.now (line k f c)) (numbers_over below.now (line k f c)) }
+    ensures answer { result ≡ unless (first_premise below.now (line k f c s)) (numbers_over below.now (line k f c s)) }
     ensures sized { IfOk result (λ nums. IsSizedLevel nums) }
     ensures more { IfOk result (λ nums. 3 * below.now.nodes ≤ nums.nodes) }
 {
-    let span = tested_span(below, k, f, c)?;
+    let span = tested_span(below, k, f, c, s)?;
     Ok(LevelNums {
         blocks: k as u32,
         leaders: k.div_ceil(2) as u32,
-        nodes: k as u32 * below.nodes,
+        nodes: k as u32 * below.nodes + s as u32,
         faults: f as u32,
         beat: beat(f),
         span,
         modulus: c,
+        spares: s as u32,
         bound: below.bound + span,
         bits: below.bits + register_bits(c),
     })

@@ -1,12 +1,13 @@
 ghost use Rattle.std.specs.Prelude.{◌≡◌, ◌*◌, Some, None, ◌<◌, ◌≤◌, slice_get, OnOk, OnErr, IfErr};
 ghost use Rattle.std.specs.Int.{div_ceil};
-ghost use Rattle.construction.specs.Plans.{plan_nodes, plan_faults, plan_modulus, plan_bound, plan_bits, plan_depth};
+ghost use Rattle.construction.specs.Plans.{plan_nodes, plan_faults, plan_modulus, plan_bound, plan_bits, plan_low, plan_depth};
 ghost use Rattle.plan_numbers.specs.Numbers.{line, level_of, with_level, level_numbers, numbers_below, numbers_over};
-ghost use Rattle.plan_numbers.specs.Premises.{first_premise, IsAccepted};
+ghost use Rattle.plan_numbers.specs.Premises.{first_premise, FitsVersion, IsAccepted};
 ghost use Rattle.plan_numbers.specs.Sizes.{IsSized, IsSizedLevel};
 ghost use Rattle.plan_numbers.specs.Begun.{Begins};
 
 use crate::levels::{LARGEST_MODULUS, level_nums};
+use crate::lows::low_in;
 use crate::numbers::{Below, LevelNums};
 use crate::widths::width;
 use std::alloc::{AllocError, Global};
@@ -42,6 +43,7 @@ impl From<AllocError> for PremiseError {
 /// An accepted plan: a base modulus, and levels over it, at most five.
 #[derive(Debug, Drop)]
 pub struct Plan {
+    version: u32,
     base: u64,
     levels: Vec<LevelNums>,
     top: Below,
@@ -55,15 +57,26 @@ impl Model for Plan {
 
     ghost Value = { Plan };
 
-    ghost view = { λ p. record { base = p.base; levels = levels_in p.levels.items } };
+    ghost view = { λ p. record { version = p.version; base = p.base; levels = levels_in p.levels.items } };
 
-    ghost invariant = { λ p. IsKept p.base p.levels.items p.top (vec_capacity p.levels) };
+    ghost invariant = { λ p. IsKept p.version p.base p.levels.items p.top (vec_capacity p.levels) };
 }
 
 impl Plan {
-    /// A plan without levels, of one node that counts by `c0`. It takes all the memory that the plan ever needs. An error is the first premise that `c0` fails (`Limit` above 2^40, `Modulus` below 2), or `NoMemory` where it fails none.
+    /// A plan of version 1 without levels: [`Plan::base_of`] with that version.
     pub fn base(alloc: Global, c0: u64) -> Result<Plan, PremiseError>
-        ensures { Begins result c0 }
+        ensures { Begins result 1 c0 }
+    {
+        Plan::base_of(alloc, 1, c0)
+    }
+
+    /// A plan of version 1 or 2 without levels, of one node that counts by `c0`. Version 2 may have
+    /// spare nodes. It takes all the memory that the plan ever needs. An error is the first premise
+    /// that `c0` fails (`Limit` above 2^40, `Modulus` below 2), or `NoMemory` where it fails none.
+    pub fn base_of(alloc: Global, version: u32, c0: u64) -> Result<Plan, PremiseError>
+        requires oldest { 1 ≤ version }
+        requires newest { version ≤ 2 }
+        ensures { Begins result version c0 }
     {
         if c0 > LARGEST_MODULUS {
             return Err(PremiseError::Refused(Premise::Limit));
@@ -80,26 +93,41 @@ impl Plan {
         };
         let levels = Vec::with_capacity(alloc, MOST_LEVELS)?;
         Ok(Plan {
+            version,
             base: c0,
             levels,
             top,
         })
     }
 
-    /// Puts a level of `k` blocks, `f` faults and the modulus `c` on top. An error is the first premise that the level fails over those below, and leaves the plan as it was. It takes no memory.
+    /// Puts a level without spare nodes on top: [`Plan::push_with`] with none.
     pub fn push(&mut self, k: u64, f: u64, c: u64) -> Result<(), Premise>
-        ensures accepted { OnOk result (first_premise (numbers_below self.old) (line k f c) ≡ None) }
-        ensures pushed { OnOk result (self.new ≡ with_level self.old (line k f c)) }
-        ensures refused { IfErr result (λ premise. first_premise (numbers_below self.old) (line k f c) ≡ Some premise) }
+        ensures accepted { OnOk result (first_premise (numbers_below self.old) (line k f c 0) ≡ None) }
+        ensures pushed { OnOk result (self.new ≡ with_level self.old (line k f c 0)) }
+        ensures refused { IfErr result (λ premise. first_premise (numbers_below self.old) (line k f c 0) ≡ Some premise) }
         ensures unchanged { OnErr result (self.new ≡ self.old) }
     {
-        let nums = level_nums(&self.top, k, f, c)?;
+        self.push_with(k, f, c, 0)
+    }
+
+    /// Puts a level of `k` blocks, `f` faults, the modulus `c` and `s` spare nodes on top; version
+    /// 1 has no spare nodes. An error is the first premise that the level fails over those below,
+    /// and leaves the plan as it was. It takes no memory.
+    pub fn push_with(&mut self, k: u64, f: u64, c: u64, s: u64) -> Result<(), Premise>
+        requires { self.old.version ≡ 1 → s ≡ 0 }
+        ensures accepted { OnOk result (first_premise (numbers_below self.old) (line k f c s) ≡ None) }
+        ensures pushed { OnOk result (self.new ≡ with_level self.old (line k f c s)) }
+        ensures refused { IfErr result (λ premise. first_premise (numbers_below self.old) (line k f c s) ≡ Some premise) }
+        ensures unchanged { OnErr result (self.new ≡ self.old) }
+    {
+        let nums = level_nums(&self.top, k, f, c, s)?;
         self.add(nums);
         Ok(())
     }
 
     /// Puts the numbers of a level on top, for which there is room.
     fn add(&mut self, nums: LevelNums)
+        requires fits { FitsVersion self.old.version (level_of nums) }
         requires accepted { first_premise (numbers_below self.old) (level_of nums) ≡ None }
         requires numbers { nums ≡ numbers_over (numbers_below self.old) (level_of nums) }
         requires sized { IsSizedLevel nums }
@@ -107,7 +135,14 @@ impl Plan {
         ensures { self.new ≡ with_level self.old (level_of nums) }
     {
         self.levels.push(nums).unwrap();
-        self.top = nums.told_above();
+        self.top = nums.to_below();
+    }
+
+    /// The version of the plan's texts, 1 or 2.
+    pub fn version(&self) -> u32
+        ensures { result ≡ self.now.version }
+    {
+        self.version
     }
 
     /// How many nodes there are, 1 to 256.
@@ -138,14 +173,14 @@ impl Plan {
         self.top.bound
     }
 
-    /// How many bits a state has.
+    /// How many bits a state has that has all fields, that of a node that is no spare.
     pub fn bits(&self) -> u32
         ensures { result ≡ plan_bits self.now }
     {
         self.top.bits
     }
 
-    /// How many bytes hold the bits of a state.
+    /// How many bytes hold the bits of such a state.
     pub fn bytes(&self) -> usize
         ensures { result ≡ div_ceil (plan_bits self.now) 8 }
     {
@@ -176,7 +211,17 @@ impl Plan {
         &self.levels[i]
     }
 
-    /// Tells a caller's proof that the plan is accepted, and how large its numbers are. It does nothing when it runs.
+    /// The level from which on node `v` takes part: that of which it is a spare, or 0 where it is
+    /// none.
+    pub fn low(&self, v: u32) -> usize
+        requires { v < plan_nodes self.now }
+        ensures { result ≡ plan_low self.now v }
+    {
+        low_in(&self.levels, v)
+    }
+
+    /// Tells a caller's proof that the plan is accepted, and how large its numbers are. It does
+    /// nothing when it runs.
     pub fn tell(&self)
         ensures accepted { IsAccepted self.now }
         ensures sized { IsSized (numbers_below self.now) }

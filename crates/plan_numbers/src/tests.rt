@@ -61,6 +61,7 @@ fn plans_have_the_numbers_of_their_top_level(rt: HostRuntime) -> Result<(), Fail
         beat: 9,
         span: 2304,
         modulus: 10,
+        spares: 0,
         bound: 2304,
         bits: 17,
     };
@@ -72,6 +73,7 @@ fn plans_have_the_numbers_of_their_top_level(rt: HostRuntime) -> Result<(), Fail
         beat: 15,
         span: 960,
         modulus: 10,
+        spares: 0,
         bound: 3264,
         bits: 28,
     };
@@ -83,6 +85,7 @@ fn plans_have_the_numbers_of_their_top_level(rt: HostRuntime) -> Result<(), Fail
         beat: 27,
         span: 1728,
         modulus: 10,
+        spares: 0,
         bound: 4992,
         bits: 40,
     };
@@ -132,4 +135,47 @@ fn refusals_name_the_first_premise(rt: HostRuntime) {
             "base {base}"
         );
     }
+}
+
+#[test]
+fn spare_nodes_stand_behind_the_blocks(rt: HostRuntime) -> Result<(), Fail> {
+    let mut plan = Plan::base_of(rt.alloc(), 2, 576)?;
+    assert_eq!(rt; plan.push_with(3, 1, 960, 1), Ok(()));
+    assert_eq!(rt; plan.push_with(3, 3, 10, 1), Ok(()));
+    let below = LevelNums {
+        blocks: 3,
+        leaders: 2,
+        nodes: 4,
+        faults: 1,
+        beat: 9,
+        span: 576,
+        modulus: 960,
+        spares: 1,
+        bound: 576,
+        bits: 21,
+    };
+    assert_eq!(rt; *plan.level(0), below);
+    assert_eq!(rt; (plan.version(), plan.nodes(), plan.faults()), (2, 13, 3));
+    assert_eq!(rt; (plan.bound(), plan.bits(), plan.bytes()), (1536, 26, 4));
+    assert_eq!(rt; plan.level(1).block_nodes(), 4);
+    let lows = [0, 0, 0, 1, 0, 0, 0, 1, 0, 0, 0, 1, 2];
+    for v in 0..plan.nodes() {
+        assert_eq!(rt; Some(&plan.low(v)), lows.get(v as usize), "node {v}");
+    }
+    Ok(())
+}
+
+#[test]
+fn spare_nodes_count_in_the_premises(rt: HostRuntime) -> Result<(), Fail> {
+    for (spares, answer) in [
+        (0, Err(Premise::Quorum)),
+        (1, Ok(())),
+        (253, Ok(())),
+        (254, Err(Premise::Limit)),
+        (u64::MAX, Err(Premise::Limit)),
+    ] {
+        let mut plan = Plan::base_of(rt.alloc(), 2, 576)?;
+        assert_eq!(rt; plan.push_with(3, 1, 10, spares), answer, "spares {spares}");
+    }
+    Ok(())
 }

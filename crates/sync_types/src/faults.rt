@@ -1,4 +1,4 @@
-ghost use Rattle.std.specs.Prelude.{◌≡◌, ◌+◌, ◌-◌, ◌<◌, ◌≤◌, [], ◌∷◌, ◌++◌, length, slice_index, IfOk, IsTrue, ◌↔◌};
+ghost use Rattle.std.specs.Prelude.{◌≡◌, ℕ, ◌+◌, ◌-◌, ◌<◌, ◌≤◌, [], ◌∷◌, ◌++◌, length, false, slice_index, slice_index_or, IfOk, IsTrue, ◌↔◌};
 ghost use Rattle.sync_types.specs.FaultSets.{AreFaulty, is_in};
 
 use crate::answers::NoMemory;
@@ -70,9 +70,18 @@ impl FaultSet {
     /// The id at place `i` in rising order.
     pub fn at(&self, i: usize) -> u32
         requires { i < length self.now.ids }
-        ensures { result ≡ slice_index self.now.ids i }
+        ensures id { result ≡ slice_index self.now.ids i }
+        ensures node { result < self.now.nodes }
     {
         self.ids[i]
+    }
+
+    /// Which nodes are faulty, by place: a mark for each node.
+    pub fn marks(&self) -> &[bool]
+        ensures size { length result.now ≡ self.now.nodes }
+        ensures each { (v : ℕ) → slice_index_or result.now v false ≡ is_in self.now.ids v }
+    {
+        &self.marks
     }
 
     /// How many nodes there are, faulty or not.
@@ -104,6 +113,7 @@ mod tests {
         set.push(8);
         assert_eq!(rt; set.len(), 3);
         assert_eq!(rt; set.at(1), 4);
+        assert_eq!(rt; set.marks().len(), 12);
         assert_eq!(rt; set.nodes(), 12);
         for (id, faulty) in [(0, true), (4, true), (5, false), (8, true), (12, false)] {
             assert_eq!(rt; set.contains(id), faulty, "node {id}");
