@@ -2,18 +2,14 @@
 use Rattle.std.proofs.Common.{◌≡◌, ℕ, ◌+◌, ◌-◌, ◌*◌, ◌/◌, ◌%◌, ◌<◌, ◌≤◌, List, [], ◌∷◌, ◌++◌, length, take, drop, map, set, sym, ap, ◌∙◌, subst, arith, append_assoc}
 use Rattle.std.specs.List.{range_with_len}
 use Rattle.std.proofs.Math.Nat.{mod-add-mod}
-use Rattle.std.proofs.lemmas.Nat.{div_below}
 use Rattle.std.proofs.lemmas.List.{set-append_right, drop_more, take_more_set, length-append, length-drop}
 use Rattle.std.proofs.lemmas.List.FromFn.{map-range_with_len_more}
 use Rattle.sync_types.specs.declared.states.Reg.{Reg}
 use Rattle.sync_types.specs.States.{State, zero_register}
 use Rattle.construction.specs.Votes.{block}
-use Rattle.counter_core.specs.declared.work.Work.{Work}
 use Rattle.counter_core.specs.Meanings.{written}
-use Rattle.counter_core.specs.Working.{IsFor, IsAsRoomy}
-use Rattle.level_laws.proofs.Beats.{block_room, length-block}
-use Rattle.level_laws.proofs.BoostLaws.{with_register}
-use Rattle.boost_step.specs.Kept.{KeepsOutputs}
+use Rattle.construction.proofs.Blocks.{length-block}
+use Rattle.construction.specs.Steps.{with_register}
 
 -- the place of the next node in its block
 pub place_more : (place n nodes u next : ℕ) → n ≡ nodes → place ≡ u % nodes → next ≡ (place + 1) % n → next ≡ (u + 1) % nodes
@@ -24,39 +20,24 @@ pub output_more : (f : ℕ → ℕ) (u o : ℕ) (outputs : List ℕ) → u < len
 output_more f u o outputs lt h e =
     take_more_set outputs u o lt ∙ (ap (λ xs. xs ++ o ∷ []) h ∙ (ap (λ x. map f (range_with_len 0 u) ++ x ∷ []) e ∙ sym (map-range_with_len_more f 0 u u (omega arith))))
 
--- the block of a place, where the heard states are whole blocks of so many nodes
+-- the block of a place, all of which is heard
 pub record OwnBlock (nodes v n i : ℕ) (heard own : List State) : Type 0 where
   pub fits : (i + 1) * n ≤ length heard
   pub block : own ≡ block nodes (v / nodes) heard
   pub size : length own ≡ nodes
 
-pub own_block : (nodes v n i : ℕ) (heard own : List State) → 1 ≤ nodes → length heard % nodes ≡ 0 → v < length heard → n ≡ nodes → i ≡ v / n → own ≡ block n i heard → OwnBlock nodes v n i heard own
-own_block nodes v n i heard own some whole lt e is e' =
-    let k : ℕ = length heard / nodes in
-    let all : length heard ≡ k * nodes = omega arith in
-    let in_blocks = div_below v nodes k some (omega arith) in
-    let room = block_room k nodes (v / nodes) in_blocks in
+pub own_block : (nodes v n i : ℕ) (heard own : List State) → (v / nodes + 1) * nodes ≤ length heard
+    → n ≡ nodes → i ≡ v / n → own ≡ block n i heard → OwnBlock nodes v n i heard own
+own_block nodes v n i heard own room e is e' =
     let at : i ≡ v / nodes = is ∙ ap (λ m. v / m) e in
     let own_is : own ≡ block nodes (v / nodes) heard = e' ∙ (ap (λ m. block m i heard) e ∙ ap (λ j. block nodes j heard) at) in
     record {
-      fits = subst (λ m. (i + 1) * m ≤ length heard) (sym e) (subst (λ j. (j + 1) * nodes ≤ length heard) (sym at) (omega arith));
+      fits = subst (λ m. (i + 1) * m ≤ length heard) (sym e)
+          (subst (λ j. (j + 1) * nodes ≤ length heard) (sym at) room);
       block = own_is;
-      size = ap length own_is ∙ length-block k nodes (v / nodes) heard all in_blocks;
+      size = ap length own_is
+          ∙ length-block (v / nodes + 1) nodes (v / nodes) heard room (omega arith);
     }
-
--- room for the group is room for a block
-pub room_below : (n m : ℕ) (first second third : Work) → IsFor m first → IsAsRoomy first second → KeepsOutputs second third → n ≤ m → IsFor n third
-room_below n m first second third room roomy keeps le =
-    let outputs = room.outputs in
-    let values = room.values in
-    let votes = room.votes in
-    let roomy_outputs = roomy.outputs in
-    let roomy_values = roomy.values in
-    let roomy_votes = roomy.votes in
-    let keeps_outputs = ap (λ o. length o.items) keeps.outputs in
-    let keeps_values = keeps.values in
-    let keeps_votes = keeps.votes in
-    record { outputs = omega arith; values = omega arith; votes = omega arith }
 
 -- the state written has as many registers as before
 pub length_written : (d : ℕ) (s out : State) → length s.registers ≡ d → d ≤ length out.registers → length (written d s out).registers ≡ length out.registers

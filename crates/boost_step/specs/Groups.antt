@@ -1,5 +1,5 @@
 -- A level over blocks of a counter, as a value: the counter and the level.
-use Rattle.std.specs.Prelude.{ℕ, ◌%◌, List, length, map}
+use Rattle.std.specs.Prelude.{ℕ, ◌%◌, List, map}
 use Rattle.std.specs.List.{range_with_len}
 use Rattle.sync_types.specs.States.{State}
 use Rattle.construction.specs.Plans.{Level}
@@ -12,10 +12,18 @@ pub record Group (A : Type 0) : Type 0 where
   pub inner : A
   pub level : Level
 
--- what a counter tells the level above; the bits of its states play no part
-abbrev pub told_by : Meaning → Below
-told_by m = record { nodes = m.nodes; faults = m.faults; modulus = m.modulus; bound = m.bound; bits = 0 }
+-- the numbers of a counter, as those of what stands below a level; the bits of its states play no
+-- part
+abbrev pub counter_below : Meaning → Below
+counter_below m = record {
+  nodes = m.nodes;
+  faults = m.faults;
+  modulus = m.modulus;
+  bound = m.bound;
+  bits = 0;
+}
 
--- the inner outputs of all nodes heard, by place
-abbrev pub outputs_of : Meaning → List State → List ℕ
-outputs_of m heard = map (λ u. m.shows (u % m.nodes) (state_of heard u)) (range_with_len 0 (length heard))
+-- the inner outputs of the first nodes heard, by place
+abbrev pub outputs_of : Meaning → (nodes : ℕ) → List State → List ℕ
+outputs_of m nodes heard =
+    map (λ u. m.shows (u % m.nodes) (state_of heard u)) (range_with_len 0 nodes)

@@ -1,5 +1,6 @@
-ghost use Rattle.std.specs.Prelude.{◌≡◌, ◌+◌, ◌%◌, ◌≤◌, ◌<◌, take, length, All};
+ghost use Rattle.std.specs.Prelude.{◌≡◌, ◌+◌, ◌*◌, ◌/◌, ◌%◌, ◌≤◌, ◌<◌, take, length, All};
 ghost use Rattle.sync_types.specs.States.{zero_state};
+ghost use Rattle.construction.specs.Votes.{block};
 ghost use Rattle.plan_numbers.specs.Numbers.{line, level_of};
 ghost use Rattle.plan_numbers.specs.Premises.{first_premise, unless};
 ghost use Rattle.counter_core.specs.Meanings.{written};
@@ -9,15 +10,18 @@ ghost use Rattle.level_laws.proofs.BoostLaws.{boosted_sizes, boosted_stays_in_ra
 ghost use Rattle.level_laws.proofs.FurtherRegisters.{boosted_ignores_further};
 ghost use Rattle.level_laws.proofs.BoostSettles.{boosted_settles};
 ghost use Rattle.boost_step.specs.Numbers.{AreNumbersOver};
-ghost use Rattle.boost_step.specs.Groups.{Group, told_by, outputs_of};
+ghost use Rattle.boost_step.specs.Groups.{Group, counter_below, outputs_of};
 
 use crate::level::level_step;
-use counter_core::{Counter, Heard, Work, block_of, place_in};
+use counter_core::{Counter, Heard, Work, block_of, clear, place_in};
 use plan_numbers::{Below, LevelNums, level_nums};
 use std::marker::Model;
 use sync_types::{NodeState, Premise, Reg};
 
-/// A level over blocks of a counter. Its nodes stand in blocks, each of which is the counter below, and have a register more, which comes to count where few nodes are faulty in all, even if some blocks have too many.
+/// A level over blocks of a counter. Its nodes stand in blocks, each of which is the counter below,
+/// and behind the blocks stand its spares. All of them have a register more, which comes to count
+/// where few nodes are faulty in all, even if some blocks have too many. A spare has no other
+/// field.
 #[derive(Drop)]
 pub struct Boost<A: Counter> {
     inner: A,
@@ -26,20 +30,24 @@ pub struct Boost<A: Counter> {
 
 impl<A: Counter> Model for Boost<A> {
     ghost use Rattle.plan_numbers.specs.Numbers.{level_of};
-    ghost use Rattle.boost_step.specs.Groups.{Group, told_by};
+    ghost use Rattle.boost_step.specs.Groups.{Group, counter_below};
     ghost use Rattle.boost_step.specs.Numbers.{AreNumbersOver};
 
     ghost Value = { Group A };
 
     ghost view = { λ b. record { inner = b.inner; level = level_of b.nums } };
 
-    ghost invariant = { λ b. A.valid b.inner × AreNumbersOver (told_by (A.meaning b.inner)) b.nums };
+    ghost invariant = { λ b.
+        A.valid b.inner × AreNumbersOver (counter_below (A.meaning b.inner)) b.nums };
 }
 
 impl<A: Counter> Boost<A> {
-    /// A level of `k` blocks, `f` faults and the modulus `c` over blocks of `inner`. An error is the first premise that the level fails, in the order `Limit`, `Blocks`, `Modulus`, `Quorum`, `Share`, `Multiple`.
-    pub fn new(inner: A, k: u64, f: u64, c: u64) -> Result<Boost<A>, Premise>
-        ensures { result ≡ unless (first_premise (told_by (A.meaning inner)) (line k f c)) (record { inner = inner; level = line k f c }) }
+    /// A level of `k` blocks of `inner` and `s` spare nodes behind them, with `f` faults and the
+    /// modulus `c`. An error is the first premise that the level fails, in the order `Limit`,
+    /// `Blocks`, `Modulus`, `Quorum`, `Share`, `Multiple`.
+    pub fn new(inner: A, k: u64, f: u64, c: u64, s: u64) -> Result<Boost<A>, Premise>
+        ensures { result ≡ unless (first_premise (counter_below (A.meaning inner)) (line k f c s))
+            (record { inner = inner; level = line k f c s }) }
     {
         inner.tell();
         let below = Below {
@@ -49,7 +57,7 @@ impl<A: Counter> Boost<A> {
             bound: inner.bound(),
             bits: 0,
         };
-        let nums = level_nums(&below, k, f, c)?;
+        let nums = level_nums(&below, k, f, c, s)?;
         Ok(Boost { inner, nums })
     }
 }
@@ -62,25 +70,27 @@ fn after(place: u32, n: u32) -> u32
     if place + 1 == n { 0 } else { place + 1 }
 }
 
-/// Puts what is heard of the inner outputs into `work`, by place.
-fn hear_outputs<A: Counter>(inner: &A, heard: &Heard<'_>, work: &mut Work)
-    requires few { length heard.now ≤ 256 }
+/// Puts what is heard of the inner outputs of the first `nodes` nodes into `work`, by place.
+fn hear_outputs<A: Counter>(inner: &A, nodes: u32, heard: &Heard<'_>, work: &mut Work)
+    requires nodes { nodes ≤ length heard.now }
     requires range { All (A.in_range inner.now) heard.now }
     requires deep { All (λ s. (A.meaning inner.now).depth ≤ length s.registers) heard.now }
     requires room { length heard.now ≤ length work.old.outputs.items }
-    ensures outputs { take (length heard.now) work.new.outputs.items ≡ outputs_of (A.meaning inner.now) heard.now }
+    ensures outputs { take nodes work.new.outputs.items
+        ≡ outputs_of (A.meaning inner.now) nodes heard.now }
     ensures room { IsAsRoomy work.old work.new }
 {
     inner.tell();
     let n = inner.nodes();
     let mut place = 0;
-    for u in 0..heard.len() as u32 {
+    for u in 0..nodes {
         work.set_inner(u, inner.output(place, heard.state(u)));
         place = after(place, n);
     }
 }
 
-/// The level's new register of the node at a place. It leaves the inner outputs that were heard in `work`.
+/// The level's new register of the node at a place. It leaves the inner outputs heard of the
+/// blocks' nodes in `work`.
 fn level_register<A: Counter>(
     inner: &A,
     nums: &LevelNums,
@@ -88,7 +98,7 @@ fn level_register<A: Counter>(
     heard: &Heard<'_>,
     work: &mut Work,
 ) -> Reg
-    requires numbers { AreNumbersOver (told_by (A.meaning inner.now)) nums.now }
+    requires numbers { AreNumbersOver (counter_below (A.meaning inner.now)) nums.now }
     requires place { place < nums.now.nodes }
     requires heard { length heard.now ≡ nums.now.nodes }
     requires range { All (BoostedRange (A.in_range inner.now) (A.meaning inner.now).depth nums.now.modulus) heard.now }
@@ -97,7 +107,7 @@ fn level_register<A: Counter>(
     ensures register { result ≡ level_register (A.meaning inner.now) (level_of nums.now) place heard.now }
     ensures work { IsAsRoomy work.old work.new }
 {
-    hear_outputs(inner, heard, work);
+    hear_outputs(inner, nums.blocks * nums.block_nodes(), heard, work);
     level_step(nums, place, heard, inner.depth(), work)
 }
 
@@ -109,19 +119,47 @@ fn step_in_block<A: Counter>(
     work: &mut Work,
     out: &mut NodeState,
 )
-    requires blocks { length heard.now % (A.meaning inner.now).nodes ≡ 0 }
-    requires place { place < length heard.now }
+    requires block { let m = A.meaning inner.now in
+        (place / m.nodes + 1) * m.nodes ≤ length heard.now }
     requires range { All (A.in_range inner.now) heard.now }
     requires deep { All (λ s. (A.meaning inner.now).depth ≤ length s.registers) heard.now }
     requires work { IsFor (A.meaning inner.now).nodes work.old }
     requires out { (A.meaning inner.now).depth ≤ length out.old.registers }
     ensures work { IsAsRoomy work.old work.new }
-    ensures out { out.new ≡ written (A.meaning inner.now).depth (inner_state (A.meaning inner.now) place heard.now) out.old }
+    ensures out { let m = A.meaning inner.now in
+        out.new ≡ written m.depth
+        (m.next (place % m.nodes) (block m.nodes (place / m.nodes) heard.now)) out.old }
 {
     inner.tell();
     let n = inner.nodes();
     let block = heard.block(block_of(place, n), n);
     inner.advance(place_in(place, n), &block, work, out);
+}
+
+/// The step of the node at a place below the level: in its block, or zero where it is a spare.
+fn step_below<A: Counter>(
+    inner: &A,
+    nums: &LevelNums,
+    place: u32,
+    heard: &Heard<'_>,
+    work: &mut Work,
+    out: &mut NodeState,
+)
+    requires numbers { AreNumbersOver (counter_below (A.meaning inner.now)) nums.now }
+    requires heard { length heard.now ≡ nums.now.nodes }
+    requires range { All (A.in_range inner.now) heard.now }
+    requires deep { All (λ s. (A.meaning inner.now).depth ≤ length s.registers) heard.now }
+    requires work { IsFor nums.now.nodes work.old }
+    requires out { (A.meaning inner.now).depth ≤ length out.old.registers }
+    ensures work { IsAsRoomy work.old work.new }
+    ensures out { let m = A.meaning inner.now in
+        out.new ≡ written m.depth (inner_state m (level_of nums.now) place heard.now) out.old }
+{
+    if place < nums.blocks * inner.nodes() {
+        step_in_block(inner, place, heard, work, out);
+    } else {
+        clear(inner.depth(), out);
+    }
 }
 
 impl<A: Counter> Counter for Boost<A> {
@@ -151,6 +189,15 @@ impl<A: Counter> Counter for Boost<A> {
         self.inner.depth() + 1
     }
 
+    fn low(&self, place: u32) -> usize {
+        let n = self.inner.nodes();
+        if place < self.nums.blocks * n {
+            self.inner.low(place_in(place, n))
+        } else {
+            self.depth()
+        }
+    }
+
     fn tell(&self) {
         let _nums = &self.nums;
     }
@@ -161,13 +208,15 @@ impl<A: Counter> Counter for Boost<A> {
 
     fn advance(&self, place: u32, heard: &Heard<'_>, work: &mut Work, out: &mut NodeState) {
         let reg = level_register(&self.inner, &self.nums, place, heard, work);
-        step_in_block(&self.inner, place, heard, work, out);
+        step_below(&self.inner, &self.nums, place, heard, work, out);
         out.set_reg(self.inner.depth(), reg);
     }
 
     ghost sizes = { λ b v. boosted_sizes (A.meaning b.inner) (A.in_range b.inner) b.level (A.sizes b.inner v.0) v.1 };
 
-    ghost stays_in_range = { λ b v. boosted_stays_in_range (A.meaning b.inner) (A.in_range b.inner) b.level (A.sizes b.inner v.0) v.1.least_modulus (A.stays_in_range b.inner v.0) (A.ignores_further b.inner v.0) };
+    ghost stays_in_range = { λ b v. boosted_stays_in_range (A.meaning b.inner) (A.in_range b.inner)
+        b.level (A.sizes b.inner v.0) v.1.least_modulus (A.stays_in_range b.inner v.0)
+        (A.ignores_further b.inner v.0) (A.zero_in_range b.inner v.0) };
 
     ghost ignores_further = { λ b v. boosted_ignores_further (A.meaning b.inner) (A.in_range b.inner) b.level (A.sizes b.inner v.0) (A.ignores_further b.inner v.0) b.level.modulus };
 

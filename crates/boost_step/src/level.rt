@@ -5,7 +5,7 @@ ghost use Rattle.construction.specs.PhaseKing.{instructed, up};
 ghost use Rattle.construction.specs.Steps.{state_of, register_after};
 ghost use Rattle.plan_numbers.specs.Numbers.{level_of};
 ghost use Rattle.counter_core.specs.Working.{IsFor};
-ghost use Rattle.boost_step.specs.Numbers.{AreNumbers, block_nodes};
+ghost use Rattle.boost_step.specs.Numbers.{AreNumbers, block_nodes, in_blocks};
 ghost use Rattle.boost_step.specs.Kept.{KeepsOutputs};
 
 use crate::votes::{block_beat, block_vote};
@@ -19,11 +19,12 @@ use sync_types::Reg;
 fn lead(nums: &LevelNums, work: &mut Work) -> u32
     requires numbers { AreNumbers nums.now }
     requires work { IsFor nums.now.nodes work.old }
-    ensures lead { result ≡ lead (level_of nums.now) (block_nodes nums.now) (take nums.now.nodes work.old.outputs.items) }
+    ensures lead { let outputs = take (in_blocks nums.now) work.old.outputs.items in
+        result ≡ lead (level_of nums.now) (block_nodes nums.now) outputs }
     ensures below { result < nums.now.leaders }
     ensures work { KeepsOutputs work.old work.new }
 {
-    let n = (nums.nodes / nums.blocks) as usize;
+    let n = ((nums.nodes - nums.spares) / nums.blocks) as usize;
     let leaders = u64::from(nums.leaders);
     let mut interval = nums.beat;
     let mut start = 0;
@@ -46,11 +47,12 @@ fn lead(nums: &LevelNums, work: &mut Work) -> u32
 fn beat(nums: &LevelNums, work: &mut Work) -> u64
     requires numbers { AreNumbers nums.now }
     requires work { IsFor nums.now.nodes work.old }
-    ensures beat { result ≡ beat_heard (level_of nums.now) (block_nodes nums.now) (take nums.now.nodes work.old.outputs.items) }
+    ensures beat { let outputs = take (in_blocks nums.now) work.old.outputs.items in
+        result ≡ beat_heard (level_of nums.now) (block_nodes nums.now) outputs }
     ensures below { result < nums.now.beat }
     ensures work { KeepsOutputs work.old work.new }
 {
-    let n = (nums.nodes / nums.blocks) as usize;
+    let n = nums.block_nodes() as usize;
     let start = lead(nums, work) as usize * n;
     block_beat(&work.outputs[start..start + n], nums.beat, &mut work.values)
 }
@@ -104,9 +106,12 @@ fn obey(
     )
 }
 
-/// One level's instruction to the register of the node at a place, by what the node hears of its group: the new register.
+/// One level's instruction to the register of the node at a place, by what the node hears of its
+/// group: the new register. The node may be a spare.
 ///
-/// The inner outputs are the numbers that `work` keeps at the places of the group. `register` is the index of the level's register in the states.
+/// The inner outputs are the numbers that `work` keeps at the places of the blocks' nodes; those at
+/// the places of spares behind them are not read. `register` is the index of the level's register
+/// in the states.
 pub fn level_step(
     nums: &LevelNums,
     place: u32,
@@ -121,7 +126,8 @@ pub fn level_step(
     requires range { All (λ s. IfSome (register_at register s).a (λ a. a < nums.now.modulus)) heard.now }
     requires work { IsFor nums.now.nodes work.old }
     ensures register { result ≡ register_after (block_nodes nums.now) (level_of nums.now) (register_at register (state_of heard.now place))
-        (take nums.now.nodes work.old.outputs.items) (map (λ s. (register_at register s).a) heard.now) }
+        (take (in_blocks nums.now) work.old.outputs.items)
+        (map (λ s. (register_at register s).a) heard.now) }
     ensures range { IfSome result.a (λ a. a < nums.now.modulus) }
     ensures work { KeepsOutputs work.old work.new }
 {

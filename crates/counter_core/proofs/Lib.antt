@@ -1,3 +1,3 @@
-pub mod Layers
 pub mod LiesHeard
 pub mod ListsAndPlaces
+pub mod ClearedRegisters

@@ -40,6 +40,12 @@ pub trait Counter: Drop {
     fn depth(&self) -> usize
         ensures { result ≡ (meaning self.now).depth };
 
+    /// The lowest level in which the node at a place takes part: that of which it is a spare, and 0
+    /// where it is none. It is at most the depth.
+    fn low(&self, place: u32) -> usize
+        requires { place < (meaning self.now).nodes }
+        ensures { result ≡ (meaning self.now).low place };
+
     /// Does nothing but tell that this is a counter, which then has the laws below.
     fn tell(&self)
         ensures { valid self.now };
@@ -51,7 +57,9 @@ pub trait Counter: Drop {
         requires deep { (meaning self.now).depth ≤ length state.now.registers }
         ensures { result ≡ (meaning self.now).shows place state.now };
 
-    /// Makes the step of the node at a place, from what it hears of all nodes. It writes the number and the registers that the counter uses, and leaves further registers of `out` as they are.
+    /// Makes the step of the node at a place, from what it hears of all nodes. It writes the number
+    /// and the registers that the counter uses, zero where the node lacks the field, and leaves
+    /// further registers of `out` as they are.
     fn advance(&self, place: u32, heard: &Heard<'_>, work: &mut Work, out: &mut NodeState)
         requires place { place < (meaning self.now).nodes }
         requires heard { length heard.now ≡ (meaning self.now).nodes }

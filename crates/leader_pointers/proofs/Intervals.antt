@@ -1,12 +1,12 @@
 -- The laws of intervals, and how they grow with the block.
 use Rattle.std.proofs.Common.{◌≡◌, ℕ, zero, suc, ◌+◌, ◌*◌, ◌/◌, ◌%◌, ◌^◌, ◌<◌, ◌≤◌, sym, ap, ◌∙◌, subst, ⊎_elim, arith}
-use Rattle.std.proofs.Math.Nat.{div-add-mod, mod-add-mod, mul-le-mul_left, mul-pos, pow-suc, one-le-pow, pow-le-pow_right, le_antisymm, mul-add-div, mul-add-mod_self_left, add-div_right, mod-mod_of_dvd, mul-mod_right}
+use Rattle.std.proofs.Math.Nat.{div-add-mod, mod-add-mod, mul-le-mul_left, mul-pos, pow-suc, one-le-pow, pow-le-pow_right, le_antisymm, mul-add-div, mul-add-mod_self_left, add-div_right, add-mul-div_right, add-mod_right, mod-mod_of_dvd, mul-mod_right}
 use Rattle.std.proofs.lemmas.Nat.{div-mul-add}
 use Rattle.std.proofs.lemmas.Nat.Gcd.{dvd_trans, dvd_of_mod-eq-zero}
 use Rattle.std.proofs.lemmas.Bool.{cases_lt}
 use Rattle.construction.specs.Plans.{interval_of}
 use Rattle.construction.specs.Pointers.{pointer_of, part_of}
-use Rattle.leader_pointers.specs.Intervals.{IntervalKeepsPointer, NextIntervalHasNextLeader, ModulusIsUnseen}
+use Rattle.leader_pointers.specs.Intervals.{IntervalKeepsPointer, NextIntervalHasNextLeader, PointerHasPeriod, ModulusIsUnseen}
 
 pub interval_pos : (beat m i : ℕ) → 1 ≤ beat → 1 ≤ m → 1 ≤ interval_of beat m i
 interval_pos beat m i p q = mul-pos p (one-le-pow i (2 * m) (omega arith))
@@ -32,6 +32,15 @@ keeps_pointer beat m i o x whole lt =
 pub next_leader : NextIntervalHasNextLeader
 next_leader beat m i o p q =
     ap (λ y. y % m) (add-div_right o (interval_pos beat m i p q)) ∙ sym (mod-add-mod (o / interval_of beat m i) m 1)
+
+-- a quotient's remainder by m is that of m divisors more
+period_of : (d m o : ℕ) → (o + m * d) / d % m ≡ o / d % m
+period_of zero m o = ap (λ y. y / 0 % m) (let none : o + m * 0 ≡ o = omega arith in none)
+period_of (suc d) m o =
+    ap (λ y. y % m) (add-mul-div_right o m {z = suc d} (omega arith)) ∙ add-mod_right (o / suc d) m
+
+pub has_period : PointerHasPeriod
+has_period beat leaders i o = period_of (interval_of beat leaders i) leaders o
 
 -- the span holds a whole number of turns of each block's pointer
 pub turns : (beat m k i : ℕ) → i < k → (n : ℕ) × (interval_of beat m k ≡ interval_of beat m i * m * n)

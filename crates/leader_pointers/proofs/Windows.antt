@@ -1,12 +1,12 @@
 -- The common window, by induction on the number of blocks.
-use Rattle.std.proofs.Common.{◌≡◌, ◌⊎◌, ℕ, zero, suc, ◌+◌, ◌-◌, ◌*◌, ◌/◌, ◌%◌, ◌<◌, ◌≤◌, Bool, true, false, sym, ap, ◌∙◌, subst, inl, inr, arith}
-use Rattle.std.proofs.Math.Nat.{mod-eq_of_lt, mod-add-mod, mul-le-mul_left, div-eq_of_lt-le, pow-zero, add-zero}
+use Rattle.std.proofs.Common.{◌≡◌, ◌⊎◌, ℕ, zero, suc, ◌+◌, ◌-◌, ◌*◌, ◌/◌, ◌%◌, ◌<◌, ◌≤◌, Bool, true, false, refl, sym, ap, ◌∙◌, subst, inl, inr, arith}
+use Rattle.std.proofs.Math.Nat.{mod-mod, mod-add-mod, mul-le-mul_left, div-eq_of_lt-le, pow-zero, add-zero}
 use Rattle.std.proofs.lemmas.Nat.{mod-mul-add}
 use Rattle.std.proofs.lemmas.Bool.{cases_Bool, true≢false, cases_lt}
 use Rattle.construction.specs.Plans.{interval_of}
-use Rattle.construction.specs.Pointers.{pointer_of}
+use Rattle.construction.specs.Pointers.{pointer_of, part_of}
 use Rattle.leader_pointers.specs.Windows.{CountsFor, BlocksMeetAtEachLeader}
-use Rattle.leader_pointers.proofs.Intervals.{interval_pos, interval_suc, below_suc, pointer_unseen}
+use Rattle.leader_pointers.proofs.Intervals.{interval_pos, interval_suc, below_suc, pointer_unseen, part_unseen}
 
 reach_by : (m a b : ℕ) → b < m → (b < a % m) ⊎ (a % m ≤ b) → (q : ℕ) × (a ≤ q) × (q < a + m) × (q % m ≡ b)
 reach_by m a b h (inl g) = ((a / m + 1) * m + b, omega arith, omega arith, mod-mul-add (a / m + 1) m b h)
@@ -56,13 +56,39 @@ unfolding Meeting
 meeting beat m b sound c zero s p q = (s, omega arith, rw pow-zero (omega arith), λ i lt. absurd (omega arith))
 meeting beat m b sound c (suc h) s p q = with_block beat m b sound c h s p q (cases_Bool (sound h)) (λ s. meeting beat m b sound c h s p q)
 
--- the output x rounds after t
-pub counted : (modulus t rounds : ℕ) (o : ℕ → ℕ) → CountsFor modulus t rounds o → (x : ℕ) → x < rounds → o (t + x) ≡ (o t + x) % modulus
-counted modulus t rounds o h zero lt = simp add-zero (sym (mod-eq_of_lt (h.below t (omega arith) (omega arith))))
+-- the output x rounds after t, modulo the modulus
+counted : (modulus t rounds : ℕ) (o : ℕ → ℕ) → CountsFor modulus t rounds o → (x : ℕ) → x < rounds
+    → o (t + x) % modulus ≡ (o t + x) % modulus
+counted modulus t rounds o h zero lt = simp add-zero refl
 counted modulus t rounds o h (suc x) lt =
     let e : t + suc x ≡ t + x + 1 = omega arith in
     let f : o t + x + 1 ≡ o t + suc x = omega arith in
-    ap o e ∙ h.grows (t + x) (omega arith) (omega arith) ∙ ap (λ y. (y + 1) % modulus) (counted modulus t rounds o h x (omega arith)) ∙ mod-add-mod (o t + x) modulus 1 ∙ ap (λ y. y % modulus) f
+    ap (λ r. o r % modulus) e
+    ∙ (ap (λ y. y % modulus) (h.grows (t + x) (omega arith) (omega arith))
+    ∙ (mod-mod (o (t + x) + 1) modulus
+    ∙ (sym (mod-add-mod (o (t + x)) modulus 1)
+    ∙ (ap (λ y. (y + 1) % modulus) (counted modulus t rounds o h x (omega arith))
+    ∙ (mod-add-mod (o t + x) modulus 1
+    ∙ ap (λ y. y % modulus) f)))))
+
+-- the pointer of block i is that of an output that goes on without a modulus
+pointer_counted : (beat m k modulus t i : ℕ) (o : ℕ → ℕ) → 1 ≤ beat → 1 ≤ m
+    → modulus % interval_of beat m k ≡ 0 → i < k → CountsFor modulus t (interval_of beat m k) o
+    → (x : ℕ) → x < interval_of beat m k
+    → pointer_of beat m i (o (t + x)) ≡ pointer_of beat m i (o t + x)
+pointer_counted beat m k modulus t i o p q whole lt h x xlt =
+    sym (pointer_unseen beat m k modulus (o (t + x)) i p q whole lt)
+    ∙ (ap (pointer_of beat m i) (counted modulus t (interval_of beat m k) o h x xlt)
+    ∙ pointer_unseen beat m k modulus (o t + x) i p q whole lt)
+
+-- and so is the part
+pub part_counted : (beat m k modulus t : ℕ) (o : ℕ → ℕ) → modulus % interval_of beat m k ≡ 0
+    → CountsFor modulus t (interval_of beat m k) o
+    → (x : ℕ) → x < interval_of beat m k → part_of beat (o (t + x)) ≡ part_of beat (o t + x)
+part_counted beat m k modulus t o whole h x xlt =
+    sym (part_unseen beat m k modulus (o (t + x)) whole)
+    ∙ (ap (part_of beat) (counted modulus t (interval_of beat m k) o h x xlt)
+    ∙ part_unseen beat m k modulus (o t + x) whole)
 
 pub meet : BlocksMeetAtEachLeader
 unfolding Meeting
@@ -76,7 +102,7 @@ meet beat m k modulus t b sound o p q whole counts =
           let x : ℕ = r - t in
           let e : r ≡ t + x = omega arith in
           subst (λ r. pointer_of beat m i (o i r) ≡ b) (sym e)
-          (ap (pointer_of beat m i) (counted modulus t (interval_of beat m k) (o i) (counts i lt g) x (omega arith))
-          ∙ (pointer_unseen beat m k modulus (o i t + x) i p (omega arith) whole lt
-          ∙ w.3 i lt x g (omega arith) (omega arith)));
+          (pointer_counted beat m k modulus t i (o i) p (omega arith) whole lt
+          (counts i lt g) x (omega arith)
+          ∙ w.3 i lt x g (omega arith) (omega arith));
     }

@@ -1,5 +1,6 @@
--- How long a block keeps its pointer, what it points to next, and that a modulus is not seen. A level's span is the interval that a block past its last one would have.
-use Rattle.std.specs.Prelude.{◌≡◌, ℕ, ◌+◌, ◌%◌, ◌<◌, ◌≤◌}
+-- How long a block keeps its pointer, what it points to next, when it begins again, and that a
+-- modulus is not seen. A level's span is the interval that a block past its last one would have.
+use Rattle.std.specs.Prelude.{◌≡◌, ℕ, ◌+◌, ◌*◌, ◌%◌, ◌<◌, ◌≤◌}
 use Rattle.construction.specs.Plans.{interval_of}
 use Rattle.construction.specs.Pointers.{pointer_of, part_of}
 
@@ -12,6 +13,12 @@ IntervalKeepsPointer = (beat leaders i o x : ℕ) → o % interval_of beat leade
 abbrev pub NextIntervalHasNextLeader : Type 0
 NextIntervalHasNextLeader = (beat leaders i o : ℕ) → 1 ≤ beat → 1 ≤ leaders
     → pointer_of beat leaders i (o + interval_of beat leaders i) ≡ (pointer_of beat leaders i o + 1) % leaders
+
+-- after an interval for each leader the pointer is what it was
+abbrev pub PointerHasPeriod : Type 0
+PointerHasPeriod = (beat leaders i o : ℕ)
+    → pointer_of beat leaders i (o + leaders * interval_of beat leaders i)
+    ≡ pointer_of beat leaders i o
 
 -- what is seen of an output is seen of its remainder by a multiple of the span
 pub record SeesRemainder (beat leaders blocks modulus o : ℕ) : Type 0 where

@@ -3,9 +3,8 @@ use Rattle.std.specs.Prelude.{◌≡◌, ℕ, ◌+◌, ◌%◌, ◌<◌, ◌≤�
 use Rattle.construction.specs.Plans.{interval_of}
 use Rattle.construction.specs.Pointers.{pointer_of}
 
--- in so many configurations from t on the output is below the modulus, and goes to one more, modulo it
+-- in so many configurations from t on the output goes to one more, modulo the modulus
 pub record CountsFor (modulus t rounds : ℕ) (output : ℕ → ℕ) : Type 0 where
-  pub below : (r : ℕ) → t ≤ r → r < t + rounds → output r < modulus
   pub grows : (r : ℕ) → t ≤ r → r + 1 < t + rounds → output (r + 1) ≡ (output r + 1) % modulus
 
 -- within the span from t on, a whole beat in which each sound block points to the leader

@@ -1,36 +1,30 @@
 -- What a node's votes come to where all sound blocks point to one leader.
-use Rattle.std.proofs.Common.{◌≡◌, ℕ, ◌+◌, ◌*◌, ◌<◌, ◌≤◌, Bool, true, false, not, List, length, get_or, drop, map, ap, ◌∙◌, arith}
-use Rattle.std.proofs.Math.Nat.{mul-le-mul_right}
+use Rattle.std.proofs.Common.{◌≡◌, ℕ, ◌+◌, ◌*◌, ◌<◌, ◌≤◌, Bool, true, false, not, List, length, map, ap, ◌∙◌, arith}
 use Rattle.std.specs.List.{range_with_len}
-use Rattle.std.proofs.lemmas.List.{length-take, length-drop, length-map, get_or-take, get_or-drop, get_or-map}
+use Rattle.std.proofs.lemmas.List.{length-map, get_or-map}
 use Rattle.std.proofs.lemmas.List.FromFn.{length-map-range_with_len, get_or-map-range_with_len}
 use Rattle.std.proofs.lemmas.Bool.{leb-true, not-false}
 use Rattle.counting.specs.Places.{places}
 use Rattle.counting.specs.Values.{majority_or_zero}
 use Rattle.counting.proofs.Majority.{majority_or_zero_of_most}
-use Rattle.construction.specs.Plans.{Level, leaders_of, beat_of}
+use Rattle.construction.specs.Plans.{Level, group_size, leaders_of, beat_of}
 use Rattle.construction.specs.Pointers.{pointer_of, part_of}
 use Rattle.construction.specs.Votes.{block, vote, lead, beat_heard}
+use Rattle.construction.proofs.Blocks.{block_room, length-block, get_or-block}
 use Rattle.level_laws.specs.Hearing.{HearsOutputs}
 use Rattle.level_laws.specs.Level.{StandsOver}
 use Rattle.level_laws.proofs.Blocks.{sound, few_unsound}
 
-pub block_room : (k n i : ℕ) → i < k → i * n + n ≤ k * n
-block_room k n i h = let e : (i + 1) * n ≤ k * n = mul-le-mul_right n (omega arith) in omega arith
-
-pub length-block : {X : Type 0} (k n i : ℕ) (xs : List X) → length xs ≡ k * n → i < k → length (block n i xs) ≡ n
-length-block k n i xs e h = simp (length-take, length-drop) (omega (arith, block_room k n i h))
-
-pub get_or-block : {X : Type 0} (n i j : ℕ) (xs : List X) (d : X) → j < n → get_or (block n i xs) j d ≡ get_or xs (i * n + j) d
-get_or-block n i j xs d h = get_or-take n (drop (i * n) xs) j d h ∙ get_or-drop (i * n) xs j d
-
-module _ (level : Level) (n f modulus : ℕ) (faulty : ℕ → Bool) (stands : StandsOver level n f modulus) (inner : 3 * f < n) (few : places faulty (level.blocks * n) ≤ level.faults)
+module _ (level : Level) (n f modulus : ℕ) (faulty : ℕ → Bool)
+    (stands : StandsOver level n f modulus) (inner : 3 * f < n)
+    (few : places faulty (group_size level n) ≤ level.faults)
     (outputs : ℕ → ℕ) (heard : List ℕ) (hears : HearsOutputs (level.blocks * n) faulty outputs heard) where
   -- the majority of anything that the correct nodes of a sound block have in common
   pub block_majority : (g : ℕ → ℕ) (i z : ℕ) → i < level.blocks → sound n f faulty i ≡ true
       → ((j : ℕ) → j < n → faulty (i * n + j) ≡ false → g (outputs (i * n + j)) ≡ z) → majority_or_zero (map g (block n i heard)) ≡ z
   block_majority g i z lt ok same =
-      let size : length (block n i heard) ≡ n = length-block level.blocks n i heard hears.size lt in
+      let size : length (block n i heard) ≡ n =
+      length-block level.blocks n i heard (omega (arith, hears.size)) lt in
       let size' : length (map g (block n i heard)) ≡ n = length-map (block n i heard) g ∙ size in
       let m = leb-true _ _ ok in
       majority_or_zero_of_most (map g (block n i heard)) (λ j. faulty (i * n + j)) z

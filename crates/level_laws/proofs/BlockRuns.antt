@@ -9,10 +9,10 @@ use Rattle.construction.specs.Votes.{block}
 use Rattle.counter_core.specs.Meanings.{Meaning, cut}
 use Rattle.counter_core.specs.Laws.{Sizes, IgnoresFurther}
 use Rattle.counter_core.specs.RunsByPlace.{StepsByPlace, RunByPlace}
+use Rattle.construction.proofs.Blocks.{block_room, length-block, get_or-block, All-block}
 use Rattle.level_laws.specs.Boosted.{level_register, inner_state, boosted, BoostedRange}
 use Rattle.level_laws.specs.BlockLaw.{BlockLaw}
-use Rattle.level_laws.proofs.Beats.{block_room, length-block, get_or-block}
-use Rattle.level_laws.proofs.BoostLaws.{All-block, cut_again, cut_with, deep_inner}
+use Rattle.level_laws.proofs.BoostLaws.{inner_is_next, cut_again, cut_with, deep_inner}
 
 module _ (a : Meaning) (in_range : State → Type 0) where
   -- the registers behind those of a counter may be cut off a run
@@ -38,19 +38,22 @@ module _ (a : Meaning) (in_range : State → Type 0) where
     block_step faulty old i j new ilt jlt s =
         let room = block_room level.blocks a.nodes i ilt in
         let v : ℕ = i * a.nodes + j in
-        let deep = deep_inner a in_range level sizes v s.heard (omega arith) s.hears.size in
+        let deep = deep_inner a in_range level sizes v s.heard s.hears.size in
         record {
           heard = block a.nodes i s.heard;
           hears = record {
-            size = length-block level.blocks a.nodes i s.heard s.hears.size ilt;
+            size = length-block level.blocks a.nodes i s.heard
+                (let e = s.hears.size in omega arith) ilt;
             range = All-block in_range a.nodes i s.heard (All-weaker (BoostedRange in_range a.depth modulus) in_range (λ s r. r.0) s.heard s.hears.range);
             honest = λ u ult ok. get_or-block a.nodes i u s.heard (zero_state 0) ult ∙ s.hears.honest (i * a.nodes + u) (omega arith) ok;
           };
           step = sym (cut_again a.depth (a.depth + 1) new (omega arith))
               ∙ (ap (cut a.depth) s.step
-              ∙ (cut_with a.depth (inner_state a v s.heard) (level_register a level v s.heard) deep
+              ∙ (cut_with a.depth (inner_state a level v s.heard)
+              (level_register a level v s.heard) deep
+              ∙ (inner_is_next a level v s.heard (omega arith)
               ∙ (ap (λ u. a.next u (block a.nodes (v / a.nodes) s.heard)) (mod-mul-add i a.nodes j jlt)
-              ∙ ap (λ u. a.next j (block a.nodes u s.heard)) (div-mul-add i a.nodes j jlt))));
+              ∙ ap (λ u. a.next j (block a.nodes u s.heard)) (div-mul-add i a.nodes j jlt)))));
         }
 
     pub block_run : (faulty : ℕ → Bool) (last : ℕ) (run : ℕ → ℕ → State) (i : ℕ) → i < level.blocks → RunByPlace (boosted a level) (BoostedRange in_range a.depth modulus) faulty last run

@@ -5,7 +5,7 @@ use Rattle.std.proofs.Math.Nat.{lt_of_mul-lt-mul_left, suc-mul}
 use Rattle.std.proofs.lemmas.Bool.{leb-false, not-false}
 use Rattle.counting.specs.Places.{places}
 use Rattle.counting.proofs.Places.{stretches, shorter, one_fails}
-use Rattle.construction.specs.Plans.{Level, leaders_of}
+use Rattle.construction.specs.Plans.{Level, group_size, leaders_of}
 use Rattle.level_laws.specs.Level.{StandsOver, faults_in}
 
 -- whether block i has at most f faulty nodes
@@ -23,10 +23,15 @@ unsound_blocks n f faulty (suc k) =
     let m = faults_in n faulty k in
     rw (suc-mul, stretches faulty (k * n) n) (omega (arith, unsound_blocks n f faulty k, unsound_step (nat_le m f) f m refl))
 
-module _ (level : Level) (n f modulus : ℕ) (faulty : ℕ → Bool) (stands : StandsOver level n f modulus) (few : places faulty (level.blocks * n) ≤ level.faults) where
+module _ (level : Level) (n f modulus : ℕ) (faulty : ℕ → Bool)
+    (stands : StandsOver level n f modulus)
+    (few : places faulty (group_size level n) ≤ level.faults) where
   -- so fewer blocks than there are leaders are not sound
   pub few_unsound : places (λ i. not (sound n f faulty i)) level.blocks < leaders_of level
-  few_unsound = lt_of_mul-lt-mul_left (f + 1) (let b = unsound_blocks n f faulty level.blocks in let h = stands.share in omega arith)
+  few_unsound = lt_of_mul-lt-mul_left (f + 1)
+      (let b = unsound_blocks n f faulty level.blocks in let h = stands.share in
+      let less = shorter faulty (level.blocks * n) (group_size level n) (omega arith) in
+      omega arith)
 
   -- and the block of some leader is
   pub sound_leader : (b : ℕ) × (b < leaders_of level) × (sound n f faulty b ≡ true)

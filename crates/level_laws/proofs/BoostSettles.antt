@@ -1,5 +1,5 @@
 -- A boosted counter settles where the counter below does.
-use Rattle.std.proofs.Common.{◌≡◌, ◌⊎◌, ℕ, ◌+◌, ◌*◌, ◌%◌, ◌<◌, ◌≤◌, Bool, List, length, None, unwrap_or, sym, ap, ◌∙◌, subst, inl, inr, arith}
+use Rattle.std.proofs.Common.{◌≡◌, ◌⊎◌, ℕ, ◌+◌, ◌*◌, ◌%◌, ◌<◌, ◌≤◌, Bool, List, length, None, unwrap_or, sym, ap, ◌∙◌, inl, inr, arith}
 use Rattle.std.proofs.lemmas.Nat.{mod-mul-add}
 use Rattle.std.proofs.lemmas.Bool.{cases_lt}
 use Rattle.std.proofs.lemmas.List.{length-map, get_or-map}
@@ -7,8 +7,7 @@ use Rattle.std.proofs.lemmas.List.FromFn.{length-map-range_with_len, get_or-map-
 use Rattle.sync_types.specs.declared.states.Reg.{Reg}
 use Rattle.sync_types.specs.States.{State, zero_state, register_at}
 use Rattle.counting.specs.Places.{places}
-use Rattle.counting.proofs.Places.{one_fails}
-use Rattle.construction.specs.Plans.{Level, span_of}
+use Rattle.construction.specs.Plans.{Level, group_size, span_of}
 use Rattle.construction.specs.PhaseKing.{up}
 use Rattle.construction.specs.Steps.{state_of, register_after}
 use Rattle.phase_king.specs.Hearing.{AllLocked}
@@ -27,11 +26,13 @@ use Rattle.level_laws.proofs.Locked.{stays_locked}
 
 module _ (a : Meaning) (in_range : State → Type 0) (level : Level) (sizes : Sizes a in_range) where
   -- a node's new register
-  new_register : (v : ℕ) (heard : List State) (new : State) → v < level.blocks * a.nodes → length heard ≡ level.blocks * a.nodes
+  new_register : (v : ℕ) (heard : List State) (new : State)
+      → length heard ≡ group_size level a.nodes
       → cut (a.depth + 1) new ≡ (boosted a level).next v heard → register_at a.depth new ≡ level_register a level v heard
-  new_register v heard new lt e step =
+  new_register v heard new e step =
       sym (register_cut a.depth (a.depth + 1) new (omega arith)) ∙ (ap (register_at a.depth) step
-      ∙ register_with a.depth (inner_state a v heard) (level_register a level v heard) (deep_inner a in_range level sizes v heard lt e))
+      ∙ register_with a.depth (inner_state a level v heard) (level_register a level v heard)
+      (deep_inner a in_range level sizes v heard e))
 
   module _ (faulty : ℕ → Bool) (last : ℕ) (run : ℕ → ℕ → State) (is : RunByPlace (boosted a level) (BoostedRange in_range a.depth level.modulus) faulty last run) where
     -- the inner outputs of the group's nodes
@@ -52,7 +53,8 @@ module _ (a : Meaning) (in_range : State → Type 0) (level : Level) (sizes : Si
           heard = outputs_heard a level s.heard;
           hears = record {
             size = length-map-range_with_len by 0 n;
-            honest = λ u ult uok. get_or-map-range_with_len by 0 n u u 0 ult (omega arith) ∙ ap (a.shows (u % a.nodes)) (s.hears.honest u ult uok);
+            honest = λ u ult uok. get_or-map-range_with_len by 0 n u u 0 ult (omega arith)
+                ∙ ap (a.shows (u % a.nodes)) (s.hears.honest u (omega arith) uok);
           };
           obeys = record {
             heard = values_heard a s.heard;
@@ -60,14 +62,17 @@ module _ (a : Meaning) (in_range : State → Type 0) (level : Level) (sizes : Si
               size = length-map s.heard (λ s. (register_at a.depth s).a) ∙ s.hears.size;
               honest = λ u ult uok. get_or-map (λ s. (register_at a.depth s).a) s.heard u (zero_state 0) None (omega arith) ∙ ap (λ s. (register_at a.depth s).a) (s.hears.honest u ult uok);
             };
-            step = new_register v s.heard (run (r + 1) v) lt s.hears.size s.step
+            step = new_register v s.heard (run (r + 1) v) s.hears.size s.step
                 ∙ ap (λ old. register_after a.nodes level (register_at a.depth old) (outputs_heard a level s.heard) (values_heard a s.heard)) (s.hears.honest v lt ok);
           };
         }
 
     -- from a locked configuration on, the level's registers stay locked
-    pub top_stays_locked : StandsOn a level → places faulty (level.blocks * a.nodes) ≤ level.faults → (t value : ℕ) → AllLocked (level.blocks * a.nodes) faulty (λ v. register_at a.depth (run t v)) value
-        → StaysLocked (level.blocks * a.nodes) (up level.modulus) faulty t last (λ t v. register_at a.depth (run t v))
+    pub top_stays_locked : StandsOn a level
+        → places faulty (group_size level a.nodes) ≤ level.faults → (t value : ℕ)
+        → AllLocked (group_size level a.nodes) faulty (λ v. register_at a.depth (run t v)) value
+        → StaysLocked (group_size level a.nodes) (up level.modulus) faulty t last
+        (λ t v. register_at a.depth (run t v))
     top_stays_locked on few t value locked = stays_locked level a.nodes (up level.modulus) faulty on.stands.quorum few t last outputs registers (registers_step t) value locked
 
     module _ (on : StandsOn a level) (below : SettlesByPlace a in_range) where
@@ -76,27 +81,23 @@ module _ (a : Meaning) (in_range : State → Type 0) (level : Level) (sizes : Si
       block_counts long i ilt few =
           let part = block_run a in_range level sizes level.modulus faulty last run i ilt is in
           let counts = below (λ j. faulty (i * a.nodes + j)) last (λ t j. run t (i * a.nodes + j)) few part in
-          let size = sizes.few in
-          let correct = one_fails (λ j. faulty (i * a.nodes + j)) a.nodes (omega arith) in
-          let shown : (r : ℕ) → a.bound ≤ r → r ≤ last → counts.output r < a.modulus = λ r lo hi.
-          subst (λ y. y < a.modulus) (counts.shows r correct.0 lo hi correct.1 correct.2) (sizes.shown correct.0 (run r (i * a.nodes + correct.0)) correct.1 (part.range r correct.0 hi correct.1 correct.2)) in
           record {
             output = counts.output;
-            counts = record {
-              below = λ r lo hi. shown r lo (omega arith);
-              grows = λ r lo hi. counts.grows r lo (omega arith);
-            };
+            counts = record { grows = λ r lo hi. counts.grows r lo (omega arith) };
             common = λ r j lo hi jlt ok. ap (λ u. a.shows u (run r (i * a.nodes + j))) (mod-mul-add i a.nodes j jlt) ∙ counts.shows r j lo (omega arith) jlt ok;
           }
 
-      settles_by : places faulty (level.blocks * a.nodes) ≤ level.faults → (last < a.bound + span_of level) ⊎ (a.bound + span_of level ≤ last)
-          → StaysLocked (level.blocks * a.nodes) (up level.modulus) faulty (a.bound + span_of level) last registers
+      settles_by : places faulty (group_size level a.nodes) ≤ level.faults
+          → (last < a.bound + span_of level) ⊎ (a.bound + span_of level ≤ last)
+          → StaysLocked (group_size level a.nodes) (up level.modulus) faulty
+          (a.bound + span_of level) last registers
       settles_by few (inl short) = record { value = λ r. 0; locked = λ r lo hi. absurd (omega arith); grows = λ r lo hi. absurd (omega arith) }
       settles_by few (inr long) = settles level a.nodes a.faults a.modulus (up level.modulus) faulty on.stands sizes.few few a.bound last outputs registers (registers_step a.bound) (block_counts long)
 
       -- from the bound on, the level's registers are locked
-      pub top_settles : places faulty (level.blocks * a.nodes) ≤ level.faults
-          → StaysLocked (level.blocks * a.nodes) (up level.modulus) faulty (a.bound + span_of level) last (λ t v. register_at a.depth (run t v))
+      pub top_settles : places faulty (group_size level a.nodes) ≤ level.faults
+          → StaysLocked (group_size level a.nodes) (up level.modulus) faulty
+          (a.bound + span_of level) last (λ t v. register_at a.depth (run t v))
       top_settles few = settles_by few (cases_lt last (a.bound + span_of level))
 
   pub boosted_settles_by_place : StandsOn a level → SettlesByPlace a in_range → SettlesByPlace (boosted a level) (BoostedRange in_range a.depth level.modulus)

@@ -1,17 +1,20 @@
 -- Registers behind those of a boosted counter matter to nothing, where those behind the counter below don't.
-use Rattle.std.proofs.Common.{◌≡◌, ℕ, ◌+◌, ◌*◌, ◌/◌, ◌%◌, ◌<◌, List, length, map, unwrap_or, IfSome, sym, ap, ◌∙◌, subst, arith}
+use Rattle.std.proofs.Common.{◌≡◌, ℕ, ◌+◌, ◌*◌, ◌/◌, ◌%◌, ◌<◌, ◌≤◌, List, length, map, unwrap_or, IfSome, sym, ap, ◌∙◌, subst, arith}
 use Rattle.std.proofs.lemmas.List.{length-map, get_or-map}
 use Rattle.std.proofs.lemmas.List.FromFn.{length-map-range_with_len, get_or-map-range_with_len, fill_by_all}
 use Rattle.sync_types.specs.declared.states.Reg.{Reg}
 use Rattle.sync_types.specs.States.{State, zero_state, register_at}
 use Rattle.construction.specs.Plans.{Level}
-use Rattle.construction.specs.Steps.{state_of, register_after}
+use Rattle.construction.specs.Steps.{state_of, register_after, with_register}
 use Rattle.construction.specs.Votes.{block}
 use Rattle.counter_core.specs.Meanings.{Meaning, cut}
 use Rattle.counter_core.specs.Laws.{Sizes, IgnoresFurther}
+use Rattle.std.specs.Prelude.{nat_lt}
+use Rattle.std.proofs.lemmas.Bool.{ltb-true}
+use Rattle.construction.proofs.Choices.{same_choice}
+use Rattle.construction.proofs.Blocks.{length-block, block-map}
 use Rattle.level_laws.specs.Boosted.{outputs_heard, values_heard, level_register, inner_state, boosted, BoostedRange}
-use Rattle.level_laws.proofs.Beats.{length-block}
-use Rattle.level_laws.proofs.BoostLaws.{map_over, block-map, with_register, cut_again, register_cut, place_in_block}
+use Rattle.level_laws.proofs.BoostLaws.{map_over, cut_again, register_cut, place_in_block}
 
 module _ (a : Meaning) (in_range : State → Type 0) (level : Level) (sizes : Sizes a in_range) (ignores : IgnoresFurther a in_range) where
   -- heard states with at least one register more
@@ -28,9 +31,13 @@ module _ (a : Meaning) (in_range : State → Type 0) (level : Level) (sizes : Si
   shows_more : (u : ℕ) (s : State) → u < a.nodes → a.shows u (cut (a.depth + 1) s) ≡ a.shows u s
   shows_more u s lt = sym (ignores.shows u (cut (a.depth + 1) s) lt) ∙ (ap (a.shows u) (cut_more s) ∙ ignores.shows u s lt)
 
-  inner_more : (v : ℕ) (heard : List State) → v < level.blocks * a.nodes → length heard ≡ level.blocks * a.nodes → inner_state a v (more heard) ≡ inner_state a v heard
+  -- the step in the block
+  block_more : (v : ℕ) (heard : List State) → v < level.blocks * a.nodes
+      → level.blocks * a.nodes ≤ length heard
+      → a.next (v % a.nodes) (block a.nodes (v / a.nodes) (more heard))
+      ≡ a.next (v % a.nodes) (block a.nodes (v / a.nodes) heard)
   unfolding more
-  inner_more v heard lt e =
+  block_more v heard lt e =
       let p = place_in_block a in_range level sizes v lt in
       let u : ℕ = v % a.nodes in
       let own = block a.nodes (v / a.nodes) heard in
@@ -40,7 +47,14 @@ module _ (a : Meaning) (in_range : State → Type 0) (level : Level) (sizes : Si
       ∙ (ap (a.next u) (map_over (cut a.depth) (cut a.depth) (cut (a.depth + 1)) cut_more own)
       ∙ ignores.next u own p.1 size))
 
-  outputs_more : (heard : List State) → length heard ≡ level.blocks * a.nodes → outputs_heard a level (more heard) ≡ outputs_heard a level heard
+  inner_more : (v : ℕ) (heard : List State) → level.blocks * a.nodes ≤ length heard
+      → inner_state a level v (more heard) ≡ inner_state a level v heard
+  inner_more v heard e =
+      same_choice (nat_lt v (level.blocks * a.nodes)) (zero_state a.depth)
+      (λ test. block_more v heard (ltb-true _ _ test) e)
+
+  outputs_more : (heard : List State) → level.blocks * a.nodes ≤ length heard
+      → outputs_heard a level (more heard) ≡ outputs_heard a level heard
   outputs_more heard e =
       let some = sizes.some in
       let n : ℕ = level.blocks * a.nodes in
@@ -56,7 +70,9 @@ module _ (a : Meaning) (in_range : State → Type 0) (level : Level) (sizes : Si
   own_more : (v : ℕ) (heard : List State) → v < length heard → register_at a.depth (state_of (more heard) v) ≡ register_at a.depth (state_of heard v)
   own_more v heard lt = ap (register_at a.depth) (state_more heard v lt) ∙ register_cut a.depth (a.depth + 1) (state_of heard v) (omega arith)
 
-  register_more : (v : ℕ) (heard : List State) → v < level.blocks * a.nodes → length heard ≡ level.blocks * a.nodes → level_register a level v (more heard) ≡ level_register a level v heard
+  register_more : (v : ℕ) (heard : List State) → v < length heard
+      → level.blocks * a.nodes ≤ length heard
+      → level_register a level v (more heard) ≡ level_register a level v heard
   register_more v heard lt e =
       ap (λ own. register_after a.nodes level own (outputs_heard a level (more heard)) (values_heard a (more heard))) (own_more v heard (omega arith))
       ∙ (ap (λ outputs. register_after a.nodes level (register_at a.depth (state_of heard v)) outputs (values_heard a (more heard))) (outputs_more heard e)
@@ -66,8 +82,10 @@ module _ (a : Meaning) (in_range : State → Type 0) (level : Level) (sizes : Si
   unfolding more
   boosted_ignores_further modulus = record {
     next = λ v heard lt e.
-        ap (λ s. with_register s (level_register a level v (more heard))) (inner_more v heard lt e)
-        ∙ ap (with_register (inner_state a v heard)) (register_more v heard lt e);
+        ap (λ s. with_register s (level_register a level v (more heard)))
+        (inner_more v heard (omega arith))
+        ∙ ap (with_register (inner_state a level v heard))
+        (register_more v heard (omega arith) (omega arith));
     shows = λ v s lt. ap (λ (r : Reg). unwrap_or r.a 0) (register_cut a.depth (a.depth + 1) s (omega arith));
     into_cut = λ s r. (
       ignores.from_cut (cut (a.depth + 1) s) (subst in_range (sym (cut_more s)) (ignores.into_cut s r.0)),

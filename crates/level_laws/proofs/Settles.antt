@@ -5,12 +5,11 @@ use Rattle.std.proofs.lemmas.Nat.{mul-le}
 use Rattle.std.proofs.lemmas.Bool.{false≢true, ltb-true, lt-ltb, leb-true, and_parts, and_from, cases_lt}
 use Rattle.sync_types.specs.declared.states.Reg.{Reg}
 use Rattle.counting.specs.Places.{places}
-use Rattle.construction.specs.Plans.{Level, leaders_of, beat_of, span_of}
+use Rattle.construction.specs.Plans.{Level, group_size, leaders_of, beat_of, span_of}
 use Rattle.construction.specs.Pointers.{pointer_of, part_of}
 use Rattle.construction.specs.Votes.{beat_heard}
 use Rattle.leader_pointers.specs.Windows.{CountsFor, Window}
-use Rattle.leader_pointers.proofs.Windows.{meet, counted}
-use Rattle.leader_pointers.proofs.Intervals.{part_unseen}
+use Rattle.leader_pointers.proofs.Windows.{meet, part_counted}
 use Rattle.phase_king.specs.Hearing.{Obeys, AllObey, AllLocked}
 use Rattle.phase_king.proofs.Rounds.{convergence}
 use Rattle.level_laws.specs.Hearing.{HearsOutputs, RegistersStep}
@@ -20,7 +19,9 @@ use Rattle.level_laws.proofs.Phase.{good_king, phase_time, kind_of, king_of}
 use Rattle.level_laws.proofs.Beats.{beat_is, AllPointTo}
 use Rattle.level_laws.proofs.Locked.{stays_from}
 
-module _ (level : Level) (n f modulus : ℕ) (next : ℕ → ℕ) (faulty : ℕ → Bool) (stands : StandsOver level n f modulus) (inner : 3 * f < n) (few : places faulty (level.blocks * n) ≤ level.faults)
+module _ (level : Level) (n f modulus : ℕ) (next : ℕ → ℕ) (faulty : ℕ → Bool)
+    (stands : StandsOver level n f modulus) (inner : 3 * f < n)
+    (few : places faulty (group_size level n) ≤ level.faults)
     (t last : ℕ) (outputs : ℕ → ℕ → ℕ) (registers : ℕ → ℕ → Reg) (steps : RegistersStep level n next faulty t last outputs registers)
     (counts : (i : ℕ) → i < level.blocks → faults_in n faulty i ≤ f → BlockCounts level n modulus t faulty outputs i) where
   -- ---- one output for each block and configuration
@@ -75,24 +76,35 @@ module _ (level : Level) (n f modulus : ℕ) (next : ℕ → ℕ) (faulty : ℕ 
         let e : window.start ≡ t + y = omega arith in
         let e' : window.start + x ≡ t + (y + x) = omega arith in
         let g : output b t + (y + x) ≡ output b t + y + x = omega arith in
-        ap (λ r. output b r % beat_of level) e' ∙ ap (λ r. r % beat_of level) (counted modulus t (span_of level) (output b) c (y + x) (omega arith))
-        ∙ part_unseen (beat_of level) (leaders_of level) level.blocks modulus (output b t + (y + x)) stands.multiple
-        ∙ ap (λ r. r % beat_of level) g ∙ sym (mod-add-mod (output b t + y) (beat_of level) x)
-        ∙ ap (λ r. (r + x) % beat_of level) (sym (part_unseen (beat_of level) (leaders_of level) level.blocks modulus (output b t + y) stands.multiple)
-        ∙ ap (λ r. r % beat_of level) (sym (counted modulus t (span_of level) (output b) c y (omega arith)) ∙ ap (output b) (sym e)))
+        let goes : (z : ℕ) → z < span_of level
+        → output b (t + z) % beat_of level ≡ (output b t + z) % beat_of level =
+        part_counted (beat_of level) (leaders_of level) level.blocks modulus t (output b)
+        stands.multiple c in
+        ap (λ r. output b r % beat_of level) e'
+        ∙ (goes (y + x) (omega arith)
+        ∙ (ap (λ r. r % beat_of level) g
+        ∙ (sym (mod-add-mod (output b t + y) (beat_of level) x)
+        ∙ ap (λ r. (r + x) % beat_of level)
+        (sym (goes y (omega arith)) ∙ ap (λ r. output b r % beat_of level) (sym e)))))
 
-    obeys_as : (r v q j : ℕ) → t ≤ r → r < last → v < level.blocks * n → faulty v ≡ false → j < 3
+    obeys_as : (r v q j : ℕ) → t ≤ r → r < last → v < group_size level n → faulty v ≡ false → j < 3
         → ((heard : List ℕ) → HearsOutputs (level.blocks * n) faulty (outputs r) heard → beat_heard level n heard ≡ 3 * q + j)
-        → Obeys (level.blocks * n) level.faults next faulty (registers r) j q (registers r v) (registers (r + 1) v)
+        → Obeys (group_size level n) level.faults next faulty (registers r) j q (registers r v)
+        (registers (r + 1) v)
     obeys_as r v q j lo rlt vlt ok jlt beats =
         let s = steps r v lo rlt vlt ok in
         let e = beats s.heard s.hears in
-        subst (λ k. Obeys (level.blocks * n) level.faults next faulty (registers r) k q (registers r v) (registers (r + 1) v)) (ap (λ y. y % 3) e ∙ kind_of q j jlt)
-        (subst (λ k. Obeys (level.blocks * n) level.faults next faulty (registers r) (beat_heard level n s.heard % 3) k (registers r v) (registers (r + 1) v)) (ap (λ y. y / 3) e ∙ king_of q j jlt) s.obeys)
+        subst (λ k. Obeys (group_size level n) level.faults next faulty (registers r) k q
+        (registers r v) (registers (r + 1) v)) (ap (λ y. y % 3) e ∙ kind_of q j jlt)
+        (subst (λ k. Obeys (group_size level n) level.faults next faulty (registers r)
+        (beat_heard level n s.heard % 3) k (registers r v) (registers (r + 1) v))
+        (ap (λ y. y / 3) e ∙ king_of q j jlt) s.obeys)
 
     -- the three rounds of the phase of king q, which begins x rounds after the window
     phase_obeys : (q x : ℕ) → t + span_of level ≤ last → x + 3 ≤ beat_of level → ((j : ℕ) → j < 3 → (output b window.start % beat_of level + x + j) % beat_of level ≡ 3 * q + j)
-        → (r j : ℕ) → r ≡ window.start + (x + j) → j < 3 → AllObey (level.blocks * n) level.faults next faulty j q (registers r) (registers (r + 1))
+        → (r j : ℕ) → r ≡ window.start + (x + j) → j < 3
+        → AllObey (group_size level n) level.faults next faulty j q (registers r)
+        (registers (r + 1))
     phase_obeys q x long room each r j e jlt = λ v vlt ok.
         let begins = window.begins in
         let ends = window.ends in
@@ -102,25 +114,32 @@ module _ (level : Level) (n f modulus : ℕ) (next : ℕ → ℕ) (faulty : ℕ 
         ∙ ap (λ r. output b r % beat_of level) e ∙ beat_goes (x + j) (omega arith) ∙ ap (λ y. y % beat_of level) g ∙ each j jlt)
 
     -- a correct king's phase locks the registers
-    window_locks : t + span_of level ≤ last → (s : ℕ) × (z : ℕ) × (t ≤ s) × (s ≤ t + span_of level) × AllLocked (level.blocks * n) faulty (registers s) z
+    window_locks : t + span_of level ≤ last
+        → (s : ℕ) × (z : ℕ) × (t ≤ s) × (s ≤ t + span_of level)
+        × AllLocked (group_size level n) faulty (registers s) z
     window_locks long =
         let begins = window.begins in
         let ends = window.ends in
         let three = stands.blocks in
         let many : 3 * 1 ≤ level.blocks * n = mul-le 3 1 level.blocks n three (omega arith) in
         let start : ℕ = output b window.start % beat_of level in
-        let q = good_king (level.blocks * n) level.faults (start / 3) faulty stands.quorum (omega arith) few in
+        let q = good_king (group_size level n) level.faults (start / 3) faulty stands.quorum
+        (omega arith) few in
         let x = phase_time (beat_of level) start q.0 (mod-lt (output b window.start) (omega arith)) (omega arith) q.3 in
         let phase = phase_obeys q.0 x.0 long x.1 x.2 in
         let s : ℕ = window.start + x.0 in
-        let z = convergence (level.blocks * n) level.faults next faulty stands.quorum few q.0 (registers s) (registers (s + 1)) (registers (s + 1 + 1)) (registers (s + 1 + 1 + 1)) (omega arith) q.2
+        let z = convergence (group_size level n) level.faults next faulty stands.quorum few q.0
+        (registers s) (registers (s + 1)) (registers (s + 1 + 1)) (registers (s + 1 + 1 + 1))
+        (omega arith) q.2
         (phase s 0 (omega arith) (omega arith)) (phase (s + 1) 1 (omega arith) (omega arith)) (phase (s + 1 + 1) 2 (omega arith) (omega arith)) in
         (s + 1 + 1 + 1, z.0, omega arith, omega arith, z.1)
 
   -- ---- the law
 
   -- some configuration within the span is locked
-  locks : t + span_of level ≤ last → (s : ℕ) × (z : ℕ) × (t ≤ s) × (s ≤ t + span_of level) × AllLocked (level.blocks * n) faulty (registers s) z
+  locks : t + span_of level ≤ last
+      → (s : ℕ) × (z : ℕ) × (t ≤ s) × (s ≤ t + span_of level)
+      × AllLocked (group_size level n) faulty (registers s) z
   unfolding Counting
   locks long =
       let three = stands.blocks in
@@ -128,7 +147,8 @@ module _ (level : Level) (n f modulus : ℕ) (next : ℕ → ℕ) (faulty : ℕ 
       let window = meet (beat_of level) (leaders_of level) level.blocks modulus t b.0 (sound n f faulty) output (omega arith) b.1 stands.multiple (λ i ilt iok. (counting i ilt iok).0) in
       window_locks b.0 (omega arith) b.2 window long
 
-  settles_by : (last < t + span_of level) ⊎ (t + span_of level ≤ last) → StaysLocked (level.blocks * n) next faulty (t + span_of level) last registers
+  settles_by : (last < t + span_of level) ⊎ (t + span_of level ≤ last)
+      → StaysLocked (group_size level n) next faulty (t + span_of level) last registers
   settles_by (inl short) = record { value = λ r. 0; locked = λ r lo hi. absurd (omega arith); grows = λ r lo hi. absurd (omega arith) }
   settles_by (inr long) =
       let k = locks long in
@@ -136,5 +156,5 @@ module _ (level : Level) (n f modulus : ℕ) (next : ℕ → ℕ) (faulty : ℕ 
       let le = k.3 in
       record { value = s.value; locked = λ r lo hi. s.locked r (omega arith) hi; grows = λ r lo hi. s.grows r (omega arith) hi }
 
-  pub settles : StaysLocked (level.blocks * n) next faulty (t + span_of level) last registers
+  pub settles : StaysLocked (group_size level n) next faulty (t + span_of level) last registers
   settles = settles_by (cases_lt last (t + span_of level))

@@ -1,15 +1,16 @@
--- What a level over blocks of a counter means: a counter again, with a register more. The group has the level's blocks, each of as many nodes as the counter below.
-use Rattle.std.specs.Prelude.{ℕ, ◌+◌, ◌*◌, ◌/◌, ◌%◌, ◌^◌, ◌<◌, ◌≤◌, List, [], ◌∷◌, ◌++◌, map, Option, unwrap_or, IfSome}
+-- What a level over blocks of a counter means: a counter again, with a register more. The group has
+-- the level's blocks, each of as many nodes as the counter below, and behind them its spares.
+use Rattle.std.specs.Prelude.{ℕ, ◌+◌, ◌*◌, ◌/◌, ◌%◌, ◌^◌, ◌<◌, ◌≤◌, nat_lt, if◌then◌else◌, List, map, Option, unwrap_or, IfSome}
 use Rattle.std.specs.List.{range_with_len}
 use Rattle.sync_types.specs.declared.states.Reg.{Reg}
-use Rattle.sync_types.specs.States.{State, register_at}
-use Rattle.construction.specs.Plans.{Level, span_of}
-use Rattle.construction.specs.Steps.{state_of, register_after}
+use Rattle.sync_types.specs.States.{State, zero_state, register_at}
+use Rattle.construction.specs.Plans.{Level, group_size, span_of}
+use Rattle.construction.specs.Steps.{state_of, register_after, with_register}
 use Rattle.construction.specs.Votes.{block}
 use Rattle.counter_core.specs.Meanings.{Meaning}
 use Rattle.level_laws.specs.Level.{StandsOver}
 
--- what is heard of the inner outputs of the group's nodes, by place
+-- what is heard of the inner outputs of the blocks' nodes, by place; spares have none
 abbrev pub outputs_heard : (below : Meaning) → Level → List State → List ℕ
 outputs_heard below level heard = map (λ u. below.shows (u % below.nodes) (state_of heard u)) (range_with_len 0 (level.blocks * below.nodes))
 
@@ -22,20 +23,27 @@ abbrev pub level_register : (below : Meaning) → Level → (v : ℕ) → List S
 level_register below level v heard =
     register_after below.nodes level (register_at below.depth (state_of heard v)) (outputs_heard below level heard) (values_heard below heard)
 
--- the new state of the node at place v as one of the counter below, by what is heard of its block
-abbrev pub inner_state : (below : Meaning) → (v : ℕ) → List State → State
-inner_state below v heard = below.next (v % below.nodes) (block below.nodes (v / below.nodes) heard)
+-- The new state of the node at place v as one of the counter below: in a block by what is heard of
+-- the block. A spare has none, and zero stands in its place.
+abbrev pub inner_state : (below : Meaning) → Level → (v : ℕ) → List State → State
+inner_state below level v heard =
+    if nat_lt v (level.blocks * below.nodes)
+    then below.next (v % below.nodes) (block below.nodes (v / below.nodes) heard)
+    else zero_state below.depth
 
 -- the counter that a level makes
 abbrev pub boosted : Meaning → Level → Meaning
 boosted below level = record {
-  nodes = level.blocks * below.nodes;
+  nodes = group_size level below.nodes;
   faults = level.faults;
   modulus = level.modulus;
   bound = below.bound + span_of level;
   depth = below.depth + 1;
+  low = λ v. if nat_lt v (level.blocks * below.nodes) then below.low (v % below.nodes)
+      else below.depth + 1;
   shows = λ v s. unwrap_or (register_at below.depth s).a 0;
-  next = λ v heard. record { x = (inner_state below v heard).x; registers = (inner_state below v heard).registers ++ level_register below level v heard ∷ [] };
+  next = λ v heard. with_register (inner_state below level v heard)
+      (level_register below level v heard);
 }
 
 -- in range below, and a finite value of the register behind is below the modulus
@@ -45,6 +53,6 @@ BoostedRange in_range depth modulus state = in_range state × IfSome (register_a
 -- the level may stand on this counter, and the two keep within the limits of counters
 pub record StandsOn (below : Meaning) (level : Level) : Type 0 where
   pub stands : StandsOver level below.nodes below.faults below.modulus
-  pub most_nodes : level.blocks * below.nodes ≤ 256
+  pub most_nodes : group_size level below.nodes ≤ 256
   pub least_modulus : 2 ≤ level.modulus
   pub most_modulus : level.modulus ≤ 2 ^ 40

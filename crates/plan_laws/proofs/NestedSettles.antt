@@ -1,8 +1,7 @@
 -- The nested counter of accepted levels settles, by induction over the levels.
-use Rattle.std.proofs.Common.{◌≡◌, ℕ, ◌*◌, ◌<◌, ◌≤◌, List, [], ◌∷◌, IfSome, None, sym, subst}
+use Rattle.std.proofs.Common.{◌≡◌, ℕ, ◌<◌, ◌≤◌, List, [], ◌∷◌, IfSome, None, sym, subst}
 use Rattle.sync_types.specs.States.{State, register_at}
-use Rattle.construction.specs.Plans.{Level, nodes_of, faults_of, modulus_of}
-use Rattle.construction.specs.Runs.{InRange}
+use Rattle.construction.specs.Plans.{Level, group_size, nodes_of, faults_of, modulus_of}
 use Rattle.plan_numbers.specs.Numbers.{below_of}
 use Rattle.plan_numbers.specs.Premises.{LevelsAccepted, first_premise}
 use Rattle.plan_numbers.proofs.Accepted.{accepted_sized, meets}
@@ -16,46 +15,60 @@ use Rattle.level_laws.specs.Level.{StandsOver}
 use Rattle.level_laws.specs.Boosted.{StandsOn}
 use Rattle.level_laws.proofs.BoostLaws.{boosted_sizes}
 use Rattle.level_laws.proofs.BoostSettles.{boosted_settles_by_place}
+use Rattle.plan_laws.specs.PlanMeaning.{InRange}
 use Rattle.plan_laws.specs.Nested.{meaning_of, NestedRange}
-use Rattle.plan_laws.proofs.Inside.{right_some}
 use Rattle.plan_laws.proofs.Explained.{Explains, explains}
 
--- accepted levels have nodes
-pub nodes_some : (base : ℕ) (levels : List Level) → LevelsAccepted base levels → 0 < nodes_of levels
-nodes_some base levels accepted = (accepted_sized base levels accepted).some
-
 -- an accepted level may stand on the nested counter of those below
-stands_over : (m : Meaning) (base : ℕ) (level : Level) (below : List Level) → Explains m base below → first_premise (below_of base below) level ≡ None → StandsOn m level
+stands_over : (m : Meaning) (base : ℕ) (level : Level) (below : List Level) → Explains m base below
+    → first_premise (below_of base below) level ≡ None → StandsOn m level
 stands_over m base level below e none =
     let met = meets (below_of base below) level none in
-    let stands : StandsOver level (nodes_of below) (faults_of below) (modulus_of base below) = record { blocks = met.blocks; quorum = met.quorum; share = met.share; multiple = met.multiple } in
+    let stands : StandsOver level (nodes_of below) (faults_of below) (modulus_of base below) =
+    record {
+      blocks = met.blocks;
+      quorum = met.quorum;
+      share = met.share;
+      multiple = met.multiple;
+    } in
     record {
       stands = subst (λ n. StandsOver level n m.faults m.modulus) (sym e.nodes)
-          (subst (λ f. StandsOver level (nodes_of below) f m.modulus) (sym e.faults) (subst (λ c. StandsOver level (nodes_of below) (faults_of below) c) (sym e.modulus) stands));
-      most_nodes = subst (λ n. level.blocks * n ≤ 256) (sym e.nodes) met.most_nodes;
+          (subst (λ f. StandsOver level (nodes_of below) f m.modulus) (sym e.faults)
+          (subst (λ c. StandsOver level (nodes_of below) (faults_of below) c) (sym e.modulus)
+          stands));
+      most_nodes = subst (λ n. group_size level n ≤ 256) (sym e.nodes) met.most_nodes;
       least_modulus = met.modulus;
       most_modulus = met.most_modulus;
     }
 
-pub stands_on : (base : ℕ) (level : Level) (below : List Level) → LevelsAccepted base (level ∷ below) → StandsOn (meaning_of base below) level
-stands_on base level below (accepted, none) = stands_over (meaning_of base below) base level below (explains base below (nodes_some base below accepted)) none
+pub stands_on : (base : ℕ) (level : Level) (below : List Level)
+    → LevelsAccepted base (level ∷ below) → StandsOn (meaning_of base below) level
+stands_on base level below (accepted, none) =
+    stands_over (meaning_of base below) base level below (explains base below) none
 
-pub nested_sizes : (base : ℕ) (levels : List Level) → LevelsAccepted base levels → Sizes (meaning_of base levels) (NestedRange base levels)
-nested_sizes base [] accepted = let sized = accepted_sized base [] accepted in one_node_sizes base sized.least_modulus sized.most_modulus
+pub nested_sizes : (base : ℕ) (levels : List Level) → LevelsAccepted base levels
+    → Sizes (meaning_of base levels) (NestedRange base levels)
+nested_sizes base [] accepted = let sized =
+    accepted_sized base [] accepted in one_node_sizes base sized.least_modulus sized.most_modulus
 nested_sizes base (level ∷ below) (accepted, none) =
-    boosted_sizes (meaning_of base below) (NestedRange base below) level (nested_sizes base below accepted) (stands_on base level below (accepted, none))
+    boosted_sizes (meaning_of base below) (NestedRange base below) level
+    (nested_sizes base below accepted) (stands_on base level below (accepted, none))
 
-pub nested_settles : (base : ℕ) (levels : List Level) → LevelsAccepted base levels → SettlesByPlace (meaning_of base levels) (NestedRange base levels)
-nested_settles base [] accepted = settles_by_place (one_node base) (IsBelow base) (one_node_settles base)
+pub nested_settles : (base : ℕ) (levels : List Level) → LevelsAccepted base levels
+    → SettlesByPlace (meaning_of base levels) (NestedRange base levels)
+nested_settles base [] accepted =
+    settles_by_place (one_node base) (IsBelow base) (one_node_settles base)
 nested_settles base (level ∷ below) (accepted, none) =
-    boosted_settles_by_place (meaning_of base below) (NestedRange base below) level (nested_sizes base below accepted) (stands_on base level below (accepted, none)) (nested_settles base below accepted)
+    boosted_settles_by_place (meaning_of base below) (NestedRange base below) level
+    (nested_sizes base below accepted) (stands_on base level below (accepted, none))
+    (nested_settles base below accepted)
 
 -- what is in range of the plan is in range of the nested counter
-pub nested_range : (base : ℕ) (levels : List Level) → 0 < nodes_of levels → (s : State) → s.x < base → InRange levels s → NestedRange base levels s
-nested_range base [] some s x range = x
-nested_range base (level ∷ below) some s x range =
-    let some_below = right_some level.blocks (nodes_of below) some in
-    let e = explains base below some_below in (
-      nested_range base below some_below s x range.0,
+pub nested_range : (base : ℕ) (levels : List Level) (s : State) → s.x < base → InRange levels s
+    → NestedRange base levels s
+nested_range base [] s x range = x
+nested_range base (level ∷ below) s x range =
+    let e = explains base below in (
+      nested_range base below s x range.0,
       subst (λ d. IfSome (register_at d s).a (λ a. a < level.modulus)) (sym e.depth) range.1,
     )

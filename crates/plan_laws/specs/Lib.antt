@@ -2,3 +2,5 @@ pub mod PlanMeaning
 pub mod Nested
 pub mod BlocksOfRuns
 pub mod Laws
+pub mod VersionLaws
+pub mod Stretches

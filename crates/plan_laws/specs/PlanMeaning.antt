@@ -1,10 +1,10 @@
--- What a plan means as one counter: its numbers, what its states show at the top, and the step of the construction, all levels side by side.
-use Rattle.std.specs.Prelude.{◌<◌}
-use Rattle.sync_types.specs.States.{State}
-use Rattle.construction.specs.Plans.{Plan, plan_nodes, plan_faults, plan_modulus, plan_bound, plan_depth}
+-- What a plan means as one counter: its numbers, what its states show at the top, and the step of
+-- the construction.
+use Rattle.std.specs.Prelude.{⊤, ℕ, ◌<◌, List, [], ◌∷◌, length, IfSome}
+use Rattle.sync_types.specs.States.{State, register_at}
+use Rattle.construction.specs.Plans.{Level, Plan, plan_nodes, plan_faults, plan_modulus, plan_bound, plan_depth, plan_low}
 use Rattle.construction.specs.Shown.{shown}
 use Rattle.construction.specs.Steps.{step_of}
-use Rattle.construction.specs.Runs.{InRange}
 use Rattle.counter_core.specs.Meanings.{Meaning}
 
 -- the counter of a plan
@@ -15,11 +15,23 @@ plan_meaning plan = record {
   modulus = plan_modulus plan;
   bound = plan_bound plan;
   depth = plan_depth plan;
+  low = plan_low plan;
   shows = λ v state. shown (plan_depth plan) state;
   next = step_of plan;
 }
 
--- the number is below the base, and each finite value below its level's modulus; registers behind those of the levels are free
-pub record IsInRange (plan : Plan) (state : State) : Type 0 where
-  pub x : state.x < plan.base
-  pub values : InRange plan.levels state
+-- each finite value is below its level's modulus
+abbrev pub InRange : List Level → State → Type 0
+InRange [] state = ⊤
+InRange (level ∷ below) state =
+    InRange below state × IfSome (register_at (length below) state).a (λ a. a < level.modulus)
+
+-- What the counter asks of a state, whatever node's it is: the number is below the base, and each
+-- finite value below its level's modulus. Registers behind those of the levels are free, and so
+-- are, within these bounds, the fields that a node lacks. Each state of the plan is in range.
+pub record IsWithin (base : ℕ) (levels : List Level) (state : State) : Type 0 where
+  pub x : state.x < base
+  pub values : InRange levels state
+
+abbrev pub IsInRange : Plan → State → Type 0
+IsInRange plan = IsWithin plan.base plan.levels

@@ -12,22 +12,33 @@ use Rattle.plan_numbers.proofs.LevelLaws.{levels_in-numbers_of, length-numbers_o
 use Rattle.tower.specs.Kept.{IsKept}
 
 -- one item more of a list
-pub take_next : {X : Type 0} (xs : List X) (i : ℕ) (x : X) → slice_get xs i ≡ Some x → take (i + 1) xs ≡ take i xs ++ x ∷ []
-take_next xs i x is = take_more xs i x (slice_get_within xs i x is) ∙ ap (λ y. take i xs ++ y ∷ []) (get_or_from_slice_get xs i x x is)
+pub take_next : {X : Type 0} (xs : List X) (i : ℕ) (x : X) → slice_get xs i ≡ Some x
+    → take (i + 1) xs ≡ take i xs ++ x ∷ []
+take_next xs i x is =
+    take_more xs i x (slice_get_within xs i x is)
+    ∙ ap (λ y. take i xs ++ y ∷ []) (get_or_from_slice_get xs i x x is)
 
--- the numbers are those of the plan's levels
-pub same_plan : (plan : Plan) (base i : ℕ) (items : List LevelNums) → base ≡ plan.base → plan_depth plan ≤ i → items ≡ take i (level_numbers plan) → record { base = base; levels = levels_in items } ≡ plan
-same_plan plan base i items same all is =
-    let whole : items ≡ level_numbers plan = is ∙ take_all i (level_numbers plan) (omega (arith, length-numbers_of plan.base plan.levels)) in
-    ap (λ b. record { base = b; levels = levels_in items }) same ∙ ap (λ levels. record { base = plan.base; levels = levels }) (ap levels_in whole ∙ levels_in-numbers_of plan.base plan.levels)
+module _ (plan : Plan) (version base i : ℕ) (items : List LevelNums)
+    (same_version : version ≡ plan.version) (same_base : base ≡ plan.base)
+    (all : plan_depth plan ≤ i) (is : items ≡ take i (level_numbers plan)) where
+  whole_numbers : items ≡ level_numbers plan
+  whole_numbers =
+      is
+      ∙ take_all i (level_numbers plan) (omega (arith, length-numbers_of plan.base plan.levels))
 
--- and are kept
-pub kept : (plan : Plan) (base i : ℕ) (items : List LevelNums) (whole : Below) → IsAccepted plan → base ≡ plan.base → plan_depth plan ≤ i → items ≡ take i (level_numbers plan) → whole ≡ numbers_below plan → IsKept base items whole
-kept plan base i items whole accepted same all is together =
-    let e = same_plan plan base i items same all is in
-    let numbers : items ≡ level_numbers plan = is ∙ take_all i (level_numbers plan) (omega (arith, length-numbers_of plan.base plan.levels)) in
-    record {
-      accepted = subst IsAccepted (sym e) accepted;
-      numbers = numbers ∙ ap level_numbers (sym e);
-      together = together ∙ ap numbers_below (sym e);
-    }
+  -- the numbers are those of the plan's levels
+  pub same_plan : record { version = version; base = base; levels = levels_in items } ≡ plan
+  same_plan =
+      let levels = ap levels_in whole_numbers ∙ levels_in-numbers_of plan.base plan.levels in
+      ap (λ v. record { version = v; base = base; levels = levels_in items }) same_version
+      ∙ (ap (λ b. record { version = plan.version; base = b; levels = levels_in items }) same_base
+      ∙ ap (λ ls. record { version = plan.version; base = plan.base; levels = ls }) levels)
+
+  -- and are kept
+  pub kept : (whole : Below) → IsAccepted plan → whole ≡ numbers_below plan
+      → IsKept version base items whole
+  kept whole accepted together = record {
+    accepted = subst IsAccepted (sym same_plan) accepted;
+    numbers = whole_numbers ∙ ap level_numbers (sym same_plan);
+    together = together ∙ ap numbers_below (sym same_plan);
+  }

@@ -1,3 +1,2 @@
-pub mod Levels
-pub mod NewRegisters
+pub mod Descent
 pub mod Building

@@ -1,65 +1,61 @@
-ghost use Rattle.std.specs.Prelude.{◌≡◌, ◌<◌, ◌≤◌, [], ◌∷◌, false, Some, length, replicate, All, IfOk};
-ghost use Rattle.sync_types.specs.States.{zero_state};
+ghost use Rattle.std.specs.Prelude.{◌≡◌, ◌<◌, ◌≤◌, [], ◌∷◌, false, length, All, IfOk};
+ghost use Rattle.construction.specs.Plans.{plan_nodes, plan_depth};
 ghost use Rattle.plan_numbers.specs.Numbers.{line};
-ghost use Rattle.counter_core.specs.Meanings.{written};
-ghost use Rattle.counter_core.specs.Working.{IsFor, IsAsRoomy};
+ghost use Rattle.plan_laws.specs.PlanMeaning.{IsWithin, IsInRange};
 
 use crate::{Tower, build};
-use counter_core::{Counter, Heard, Work};
+use counter_core::{Counter, Heard};
 use plan_numbers::{Plan, PremiseError};
 use std::alloc::Global;
 use std::test::Fail;
 use sync_types::{NoMemory, NodeState, Reg};
 
-/// The step of a node of any counter.
-fn step<C: Counter>(
-    counter: &C,
-    place: u32,
-    heard: &Heard<'_>,
-    work: &mut Work,
-    out: &mut NodeState,
-)
-    requires place { place < (C.meaning counter.now).nodes }
-    requires heard { length heard.now ≡ (C.meaning counter.now).nodes }
-    requires range { All (C.in_range counter.now) heard.now }
-    requires deep { All (λ s. (C.meaning counter.now).depth ≤ length s.registers) heard.now }
-    requires work { IsFor (C.meaning counter.now).nodes work.old }
-    requires out { (C.meaning counter.now).depth ≤ length out.old.registers }
-    ensures work { IsAsRoomy work.old work.new }
-    ensures out { out.new ≡ written (C.meaning counter.now).depth ((C.meaning counter.now).next place heard.now) out.old }
-{
-    counter.advance(place, heard, work, out);
-}
-
 /// Four nodes, one of which may be faulty, that count by ten.
 fn four(alloc: Global) -> Result<Tower, PremiseError>
-    ensures { IfOk result (λ tower. tower ≡ record { base = 2304; levels = line 4 1 10 ∷ [] }) }
+    ensures { IfOk result (λ tower. tower ≡ record { version = 1; base = 2304; levels = line 4 1 10 0 ∷ [] }) }
 {
     let mut plan = Plan::base(alloc, 2304)?;
     plan.push(4, 1, 10).map_err(PremiseError::Refused)?;
     build(alloc, &plan).map_err(|_| PremiseError::NoMemory)
 }
 
-/// Three blocks of four nodes.
-fn twelve(alloc: Global) -> Result<Tower, PremiseError>
-    ensures { IfOk result (λ tower. tower ≡ record { base = 2304; levels = line 3 3 10 ∷ (line 4 1 960 ∷ []) }) }
+/// Three nodes and a spare one, one of which may be faulty, that count by ten.
+fn three_and_one(alloc: Global) -> Result<Tower, PremiseError>
+    ensures { IfOk result (λ tower. tower ≡ record { version = 2; base = 576; levels = line 3 1 10 1 ∷ [] }) }
 {
-    let mut plan = Plan::base(alloc, 2304)?;
-    plan.push(4, 1, 960).map_err(PremiseError::Refused)?;
-    plan.push(3, 3, 10).map_err(PremiseError::Refused)?;
+    let mut plan = Plan::base_of(alloc, 2, 576)?;
+    plan.push_with(3, 1, 10, 1).map_err(PremiseError::Refused)?;
     build(alloc, &plan).map_err(|_| PremiseError::NoMemory)
 }
 
-/// So many zero states.
-fn zeros(alloc: Global, count: usize, depth: usize) -> Result<Vec<NodeState>, NoMemory>
-    ensures { IfOk result (λ states. states.items ≡ replicate count (zero_state depth)) }
+/// Three blocks of these, and a spare node.
+fn thirteen(alloc: Global) -> Result<Tower, PremiseError>
+    ensures { IfOk result (λ tower. tower ≡ record { version = 2; base = 576; levels = line 3 3 10 1 ∷ (line 3 1 960 1 ∷ []) }) }
 {
-    let mut states = Vec::with_capacity(alloc, count)?;
-    for _ in 0..count {
-        let state = NodeState::zero(alloc, depth)?;
-        states.push(state).map_err(|_| NoMemory)?;
-    }
-    Ok(states)
+    let mut plan = Plan::base_of(alloc, 2, 576)?;
+    plan.push_with(3, 1, 960, 1).map_err(PremiseError::Refused)?;
+    plan.push_with(3, 3, 10, 1).map_err(PremiseError::Refused)?;
+    build(alloc, &plan).map_err(|_| PremiseError::NoMemory)
+}
+
+/// The step of a node that hears these states. It is written over a state with the number 5.
+fn stepped(
+    alloc: Global,
+    tower: &Tower,
+    place: u32,
+    heard: &[NodeState],
+) -> Result<NodeState, NoMemory>
+    requires place { place < plan_nodes tower.now }
+    requires heard { length heard.now ≡ plan_nodes tower.now }
+    requires range { All (IsInRange tower.now) heard.now }
+    requires deep { All (λ s. plan_depth tower.now ≤ length s.registers) heard.now }
+    ensures { IfOk result (λ out. length out.registers ≡ plan_depth tower.now) }
+{
+    let mut work = tower.work(alloc)?;
+    let mut out = NodeState::zero(alloc, tower.depth())?;
+    out.set_x(5);
+    tower.advance(place, &Heard::of(heard), &mut work, &mut out);
+    Ok(out)
 }
 
 /// A value that is not marked.
@@ -69,13 +65,34 @@ fn plain(a: Option<u64>) -> Reg
     Reg { a, d: false }
 }
 
+/// A value that is marked.
+fn marked(a: u64) -> Reg {
+    Reg {
+        a: Some(a),
+        d: true,
+    }
+}
+
+/// A state with one register, whose value is below ten and not marked.
+fn state(alloc: Global, x: u64, value: Option<u64>) -> Result<NodeState, NoMemory>
+    ensures range { IfOk result (λ s. IsWithin 576 (line 3 1 10 1 ∷ []) s) }
+    ensures depth { IfOk result (λ s. length s.registers ≡ 1) }
+{
+    let mut state = NodeState::zero(alloc, 1)?;
+    state.set_x(x % 576);
+    let a = match value {
+        Some(a) => Some(a % 10),
+        None => None,
+    };
+    state.set_reg(0, plain(a));
+    Ok(state)
+}
+
 #[test]
 fn four_nodes_step_together(rt: HostRuntime) -> Result<(), Fail> {
     let tower = four(rt.alloc())?;
     assert_eq!(rt; (tower.nodes(), tower.faults(), tower.depth()), (4, 1, 1));
     assert_eq!(rt; (tower.modulus(), tower.bound()), (10, 2304));
-    let mut work = tower.work(rt.alloc())?;
-    let mut out = NodeState::zero(rt.alloc(), 1)?;
     let mut states = [
         NodeState::zero(rt.alloc(), 1)?,
         NodeState::zero(rt.alloc(), 1)?,
@@ -83,28 +100,88 @@ fn four_nodes_step_together(rt: HostRuntime) -> Result<(), Fail> {
         NodeState::zero(rt.alloc(), 1)?,
     ];
     states[3].set_reg(0, plain(Some(7)));
-    let heard = Heard::of(&states);
-    assert_eq!(rt; tower.output(3, heard.state(3)), 7);
-    step(&tower, 0, &heard, &mut work, &mut out);
+    assert_eq!(rt; tower.output(3, &states[3]), 7);
+    let out = stepped(rt.alloc(), &tower, 0, &states)?;
     assert_eq!(rt; (out.x(), out.reg(0)), (1, plain(Some(1))));
-    step(&tower, 3, &heard, &mut work, &mut out);
+    let out = stepped(rt.alloc(), &tower, 3, &states)?;
     assert_eq!(rt; (out.x(), out.reg(0)), (1, plain(None)));
     Ok(())
 }
 
+/// In each row: the number and the values that a node hears, its place, and its new state.
 #[test]
-fn levels_step_side_by_side(rt: HostRuntime) -> Result<(), Fail> {
-    let tower = twelve(rt.alloc())?;
-    assert_eq!(rt; (tower.nodes(), tower.faults(), tower.depth()), (12, 3, 2));
-    assert_eq!(rt; (tower.modulus(), tower.bound()), (10, 3264));
-    let mut work = tower.work(rt.alloc())?;
-    let mut out = NodeState::zero(rt.alloc(), 2)?;
-    let states = zeros(rt.alloc(), 12, 2)?;
-    for place in 0..12 {
-        step(&tower, place, &Heard::of(&states), &mut work, &mut out);
+fn a_spare_votes_for_nothing_and_is_counted(rt: HostRuntime) -> Result<(), Fail> {
+    let tower = three_and_one(rt.alloc())?;
+    for (x, heard, place, new) in [
+        // the node at place 3 is the spare; it has no number, and hears those of the others
+        (1, [Some(1), Some(1), Some(1), None], 0, (2, marked(2))),
+        (1, [Some(1), Some(1), Some(1), None], 3, (0, plain(Some(2)))),
+        (2, [Some(2), Some(2), Some(2), Some(2)], 3, (0, marked(3))),
+        // a spare that lies: nodes 0 and 1 hear different values of it
+        (
+            0,
+            [Some(0), Some(0), Some(5), Some(0)],
+            0,
+            (1, plain(Some(1))),
+        ),
+        (0, [Some(0), Some(0), Some(5), Some(5)], 1, (1, plain(None))),
+        // a node of a block that lies: it tells the spare something else than node 0
+        (
+            0,
+            [Some(0), Some(5), Some(0), Some(0)],
+            0,
+            (1, plain(Some(1))),
+        ),
+        (0, [Some(0), Some(5), Some(5), Some(0)], 3, (0, plain(None))),
+    ] {
+        let states = [
+            state(rt.alloc(), x, heard[0])?,
+            state(rt.alloc(), x, heard[1])?,
+            state(rt.alloc(), x, heard[2])?,
+            state(rt.alloc(), 0, heard[3])?,
+        ];
+        let out = stepped(rt.alloc(), &tower, place, &states)?;
+        assert_eq!(rt; (out.x(), out.reg(0)), new, "number {x}, node {place}");
+    }
+    Ok(())
+}
+
+/// In each row: a place, and the new number and registers of the node there.
+#[test]
+fn each_level_has_its_own_spares(rt: HostRuntime) -> Result<(), Fail> {
+    let tower = thirteen(rt.alloc())?;
+    assert_eq!(rt; (tower.nodes(), tower.faults(), tower.depth()), (13, 3, 2));
+    assert_eq!(rt; (tower.modulus(), tower.bound()), (10, 1536));
+    let mut states = [
+        NodeState::zero(rt.alloc(), 2)?,
+        NodeState::zero(rt.alloc(), 2)?,
+        NodeState::zero(rt.alloc(), 2)?,
+        NodeState::zero(rt.alloc(), 2)?,
+        NodeState::zero(rt.alloc(), 2)?,
+        NodeState::zero(rt.alloc(), 2)?,
+        NodeState::zero(rt.alloc(), 2)?,
+        NodeState::zero(rt.alloc(), 2)?,
+        NodeState::zero(rt.alloc(), 2)?,
+        NodeState::zero(rt.alloc(), 2)?,
+        NodeState::zero(rt.alloc(), 2)?,
+        NodeState::zero(rt.alloc(), 2)?,
+        NodeState::zero(rt.alloc(), 2)?,
+    ];
+    // the spares of the first block and of the whole have other values than the rest
+    states[3].set_reg(0, plain(Some(7)));
+    states[12].set_reg(1, plain(Some(5)));
+    for (place, low, x, first, second) in [
+        (0, 0, 1, Some(1), Some(1)),
+        (3, 1, 0, None, Some(1)),
+        (6, 0, 1, Some(1), Some(1)),
+        (7, 1, 0, Some(1), Some(1)),
+        (12, 2, 0, Some(0), None),
+    ] {
+        assert_eq!(rt; tower.low(place), low, "node {place}");
+        let out = stepped(rt.alloc(), &tower, place, &states)?;
         assert_eq!(rt;
             (out.x(), out.reg(0), out.reg(1)),
-            (1, plain(Some(1)), plain(Some(1))),
+            (x, plain(first), plain(second)),
             "node {place}"
         );
     }

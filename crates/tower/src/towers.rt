@@ -9,16 +9,18 @@ ghost use Rattle.plan_laws.specs.PlanMeaning.{plan_meaning, IsInRange};
 ghost use Rattle.plan_laws.proofs.PlanCounter.{plan_sizes, plan_stays, plan_ignores, plan_zero};
 ghost use Rattle.plan_laws.proofs.RunLaws.{plan_settles};
 
-use crate::registers::{new_register, shown_over};
+use crate::registers::shown_over;
+use crate::steps::step_in;
 use counter_core::{Counter, Heard, Work};
-use plan_numbers::{Below, LevelNums, Plan};
+use plan_numbers::{Below, LevelNums, Plan, low_in};
 use std::alloc::Global;
 use std::marker::Model;
-use sync_types::{NoMemory, NodeState, Reg};
+use sync_types::{NoMemory, NodeState};
 
 /// The counter of an accepted plan.
 #[derive(Debug, Drop)]
 pub struct Tower {
+    version: u32,
     base: u64,
     levels: Vec<LevelNums>,
     whole: Below,
@@ -31,12 +33,13 @@ impl Model for Tower {
 
     ghost Value = { Plan };
 
-    ghost view = { λ t. record { base = t.base; levels = levels_in t.levels.items } };
+    ghost view = { λ t. record { version = t.version; base = t.base; levels = levels_in t.levels.items } };
 
-    ghost invariant = { λ t. IsKept t.base t.levels.items t.whole };
+    ghost invariant = { λ t. IsKept t.version t.base t.levels.items t.whole };
 }
 
-/// Builds the counter of a plan. It takes all the memory that the counter ever needs; steps need a [`Tower::work`] beside it. The only error is want of memory.
+/// Builds the counter of a plan. It takes all the memory that the counter ever needs; steps need a
+/// [`Tower::work`] beside it. The only error is want of memory.
 pub fn build(alloc: Global, plan: &Plan) -> Result<Tower, NoMemory>
     ensures plan { IfOk result (λ tower. tower ≡ plan.now) }
     ensures settles { IfOk result (λ tower. Settles tower) }
@@ -54,6 +57,7 @@ pub fn build(alloc: Global, plan: &Plan) -> Result<Tower, NoMemory>
         bits: plan.bits(),
     };
     Ok(Tower {
+        version: plan.version(),
         base: plan.base_modulus(),
         levels,
         whole,
@@ -61,26 +65,13 @@ pub fn build(alloc: Global, plan: &Plan) -> Result<Tower, NoMemory>
 }
 
 impl Tower {
-    /// The room that steps of this counter need, with each inner output 0. The only error is want of memory.
+    /// The room that steps of this counter need, with each inner output 0. The only error is want
+    /// of memory.
     pub fn work(&self, alloc: Global) -> Result<Work, NoMemory>
         ensures room { IfOk result (IsFor (plan_nodes self.now)) }
         ensures outputs { IfOk result (λ work. work.outputs.items ≡ replicate (plan_nodes self.now) 0) }
     {
         Work::new(alloc, self.whole.nodes)
-    }
-
-    /// The register of node `v` at a level after its step, the lowest level being 0.
-    fn register(&self, level: usize, v: u32, heard: &Heard<'_>, work: &mut Work) -> Reg
-        requires level { level < plan_depth self.now }
-        requires node { v < plan_nodes self.now }
-        requires heard { length heard.now ≡ plan_nodes self.now }
-        requires range { All (IsInRange self.now) heard.now }
-        requires deep { All (λ s. plan_depth self.now ≤ length s.registers) heard.now }
-        requires work { IsFor (plan_nodes self.now) work.old }
-        ensures register { result ≡ register_at level (step_of self.now v heard.now) }
-        ensures work { IsAsRoomy work.old work.new }
-    {
-        new_register(&self.levels[level], level, v, heard, work)
     }
 }
 
@@ -111,6 +102,10 @@ impl Counter for Tower {
         self.levels.len()
     }
 
+    fn low(&self, place: u32) -> usize {
+        low_in(&self.levels, place)
+    }
+
     fn tell(&self) {
         let _base = self.base;
     }
@@ -121,12 +116,7 @@ impl Counter for Tower {
 
     fn advance(&self, place: u32, heard: &Heard<'_>, work: &mut Work, out: &mut NodeState) {
         self.tell();
-        for level in 0..self.levels.len() {
-            let register = self.register(level, place, heard, work);
-            out.set_reg(level, register);
-        }
-        let own = heard.state(place).x();
-        out.set_x((own + 1) % self.base);
+        step_in(self.base, &self.levels, place, heard, work, out);
     }
 
     ghost sizes = { plan_sizes };

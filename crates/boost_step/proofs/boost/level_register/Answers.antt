@@ -1,12 +1,12 @@
-use Rattle.std.proofs.Common.{◌≡◌, ℕ, ◌*◌, ◌%◌, List, length, take, map, ap, sym, ◌∙◌}
+use Rattle.std.proofs.Common.{◌≡◌, ℕ, ◌*◌, ◌%◌, List, take, map, ap, sym, ◌∙◌}
 use Rattle.std.specs.List.{range_with_len}
 use Rattle.sync_types.specs.States.{register_at}
 use Rattle.construction.specs.Steps.{state_of, register_after}
-use Rattle.plan_numbers.specs.declared.numbers.LevelNums.{LevelNums}
 use Rattle.plan_numbers.specs.Numbers.{level_of}
 use Rattle.level_laws.specs.Boosted.{outputs_heard}
-use Rattle.boost_step.specs.Groups.{told_by}
-use Rattle.boost_step.proofs.Numbers.{block_nodes_below}
+use Rattle.boost_step.specs.Groups.{counter_below}
+use Rattle.boost_step.specs.Numbers.{block_nodes, in_blocks}
+use Rattle.boost_step.proofs.Numbers.{block_nodes_below, related}
 use Rattle.boost_step.proofs.boost.level_register.Goals as goal
 
 pub returns-clause-register : goal.returns-clause-register
@@ -18,10 +18,18 @@ returns-clause-register g c =
     let items = c.hear_outputs.new.work.outputs.items in
     let d = c.depth.result in
     let by = λ (n d : ℕ) (outputs : List ℕ). register_after n level (register_at d (state_of heard c.args.place)) outputs (map (λ s. (register_at d s).a) heard) in
-    let size : length heard ≡ level.blocks * m.nodes = c.requires.heard ∙ ap (λ (x : LevelNums). x.nodes) c.requires.numbers.numbers in
-    let outputs : take nums.nodes items ≡ outputs_heard m level heard =
-    ap (λ l. take l items) (sym c.requires.heard)
-    ∙ (c.hear_outputs.ensures.outputs ∙ ap (λ l. map (λ u. m.shows (u % m.nodes) (state_of heard u)) (range_with_len 0 l)) size) in
+    let block : block_nodes nums ≡ m.nodes =
+    block_nodes_below (counter_below m) nums c.requires.numbers in
+    let outputs : take (in_blocks nums) items ≡ outputs_heard m level heard =
+    ap (λ n. take (nums.blocks * n) items) (sym c.block_nodes.ensures)
+    ∙ (c.hear_outputs.ensures.outputs
+    ∙ ap (λ n. map (λ u. m.shows (u % m.nodes) (state_of heard u))
+    (range_with_len 0 (nums.blocks * n))) (c.block_nodes.ensures ∙ block)) in
     c.level_step.ensures.register
-    ∙ (ap (λ n. by n d (take nums.nodes items)) (block_nodes_below (told_by m) nums c.requires.numbers)
+    ∙ (ap (λ n. by n d (take (in_blocks nums) items)) block
     ∙ (ap (by m.nodes d) outputs ∙ ap (λ d. by m.nodes d (outputs_heard m level heard)) c.depth.ensures))
+
+pub block_nodes-requires : goal.block_nodes-requires
+block_nodes-requires g c =
+    (related c.args.nums.now
+    (counter_below (g.A.Counter.meaning c.args.inner.now), c.requires.numbers)).sized

@@ -3,7 +3,7 @@ use Rattle.std.proofs.lemmas.List.Elements.{All-same}
 use Rattle.sync_types.specs.States.{State}
 use Rattle.construction.specs.Votes.{block}
 use Rattle.counter_core.specs.Meanings.{written}
-use Rattle.level_laws.proofs.BoostLaws.{All-block}
+use Rattle.construction.proofs.Blocks.{All-block}
 use Rattle.boost_step.proofs.Stepping.{own_block}
 use Rattle.boost_step.proofs.boost.step_in_block.Goals as goal
 
@@ -12,15 +12,17 @@ block-block-requires g c =
     let inner = c.args.inner.now in
     let m = g.A.Counter.meaning inner in
     let heard = c.args.heard.now in
-    (own_block m.nodes c.args.place c.nodes-n.result c.block_of.result heard (block c.nodes-n.result c.block_of.result heard) (g.met.A.Counter.sizes inner c.tell.ensures).some
-    c.requires.blocks c.requires.place c.nodes-n.ensures c.block_of.ensures refl).fits
+    (own_block m.nodes c.args.place c.nodes-n.result c.block_of.result heard
+    (block c.nodes-n.result c.block_of.result heard) c.requires.block c.nodes-n.ensures
+    c.block_of.ensures refl).fits
 
 pub advance-requires-clause-heard : goal.advance-requires-clause-heard
 advance-requires-clause-heard g c =
     let inner = c.args.inner.now in
     let m = g.A.Counter.meaning inner in
-    (own_block m.nodes c.args.place c.nodes-n.result c.block_of.result c.args.heard.now c.block-block.result (g.met.A.Counter.sizes inner c.tell.ensures).some
-    c.requires.blocks c.requires.place c.nodes-n.ensures c.block_of.ensures c.block-block.ensures).size
+    (own_block m.nodes c.args.place c.nodes-n.result c.block_of.result c.args.heard.now
+    c.block-block.result c.requires.block c.nodes-n.ensures c.block_of.ensures
+    c.block-block.ensures).size
 
 pub advance-requires-clause-range : goal.advance-requires-clause-range
 advance-requires-clause-range g c =
@@ -40,8 +42,8 @@ returns-clause-out g c =
     let m = g.A.Counter.meaning inner in
     let v = c.args.place in
     let heard = c.args.heard.now in
-    let own = own_block m.nodes v c.nodes-n.result c.block_of.result heard c.block-block.result (g.met.A.Counter.sizes inner c.tell.ensures).some
-    c.requires.blocks c.requires.place c.nodes-n.ensures c.block_of.ensures c.block-block.ensures in
+    let own = own_block m.nodes v c.nodes-n.result c.block_of.result heard c.block-block.result
+    c.requires.block c.nodes-n.ensures c.block_of.ensures c.block-block.ensures in
     c.advance.ensures.out
     ∙ ap (λ s. written m.depth s c.args.out.now)
     (ap (λ p. m.next p c.block-block.result) (c.place_in.ensures ∙ ap (λ n. v % n) c.nodes-n.ensures) ∙ ap (m.next (v % m.nodes)) own.block)

@@ -10,22 +10,25 @@ pub loop-i-preserved : goal.loop-i-preserved
 loop-i-preserved c =
     let x = c.level.result.now in
     let pushed = rw c.unwrap.ensures at c.push.ensures.items in
+    let next = take_next (level_numbers c.args.plan.now) c.loop-i.i x c.level.ensures.value in
     record {
-      numbers = pushed ∙ (ap (λ items. items ++ x ∷ []) c.loop-i.invariant.numbers ∙ sym (take_next (level_numbers c.args.plan.now) c.loop-i.i x c.level.ensures.value));
+      numbers = pushed ∙ (ap (λ items. items ++ x ∷ []) c.loop-i.invariant.numbers ∙ sym next);
       room = omega (arith, c.loop-i.invariant.room, c.push.ensures.capacity);
     }
 
 pub invariant_of-result : goal.invariant_of-result
 invariant_of-result c =
-    let plan = c.args.plan.now in
-    kept plan c.base_modulus.result c.loop-i.i c.loop-i.levels.items _ c.tell.ensures.accepted c.base_modulus.ensures (omega (arith, c.loop-i-test.false, c.depth-i-end.ensures.value)) c.loop-i.invariant.numbers (cc)
+    kept c.args.plan.now _ _ _ _ c.version.ensures c.base_modulus.ensures
+    (omega (arith, c.loop-i-test.false, c.depth-i-end.ensures.value))
+    c.loop-i.invariant.numbers _ c.tell.ensures.accepted (cc)
 
 pub returns-clause-plan : goal.returns-clause-plan
 returns-clause-plan c =
-    same_plan c.args.plan.now c.base_modulus.result c.loop-i.i c.loop-i.levels.items c.base_modulus.ensures (omega (arith, c.loop-i-test.false, c.depth-i-end.ensures.value)) c.loop-i.invariant.numbers
+    same_plan c.args.plan.now _ _ _ _ c.version.ensures c.base_modulus.ensures
+    (omega (arith, c.loop-i-test.false, c.depth-i-end.ensures.value))
+    c.loop-i.invariant.numbers
 
 pub returns-clause-settles : goal.returns-clause-settles
 returns-clause-settles c =
-    let plan = c.args.plan.now in
-    let same = same_plan plan c.base_modulus.result c.loop-i.i c.loop-i.levels.items c.base_modulus.ensures (omega (arith, c.loop-i-test.false, c.depth-i-end.ensures.value)) c.loop-i.invariant.numbers in
-    subst (λ (p : Plan). Settles p) (sym same) (every_plan_settles plan c.tell.ensures.accepted)
+    subst (λ (p : Plan). Settles p) (sym (returns-clause-plan c))
+    (every_plan_settles c.args.plan.now c.tell.ensures.accepted)

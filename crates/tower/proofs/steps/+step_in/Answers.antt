@@ -1,0 +1,139 @@
+use Rattle.std.proofs.Common.{◌≡◌, subst, ℕ, All, ◌/◌, ◌%◌, ◌<◌, ◌≤◌, length, ap, ◌∙◌, arith}
+use Rattle.std.proofs.lemmas.List.{length-replicate}
+use Rattle.std.proofs.lemmas.List.Elements.{All-same, All-weaker}
+use Rattle.sync_types.specs.States.{State, zero_state, zero_register}
+use Rattle.construction.specs.Votes.{block}
+use Rattle.construction.specs.Steps.{step_in}
+use Rattle.construction.proofs.Blocks.{All-block, length-block-most}
+use Rattle.construction.proofs.Ranges.{length-step_in}
+use Rattle.plan_numbers.specs.Numbers.{levels_in}
+use Rattle.plan_numbers.proofs.Stacking.{length-levels_in}
+use Rattle.counter_core.specs.Meanings.{written}
+use Rattle.counter_core.specs.Working.{IsFor}
+use Rattle.boost_step.proofs.Stepping.{length_written}
+use Rattle.plan_laws.specs.PlanMeaning.{IsWithin}
+use Rattle.tower.proofs.Descent.{below_levels, top_numbers, top_sized, group_nodes, top_range, below_range, place_below, block_size, block_written, spare_written}
+use Rattle.tower.proofs.steps.+step_in.Goals as goal
+use Rattle.tower.proofs.steps.+step_in.Goals.{then-place-nums, else-place-nums}
+
+pub new_register-register-requires-clause-numbers : goal.new_register-register-requires-clause-numbers
+new_register-register-requires-clause-numbers t c =
+    top_numbers _ _ _ _ c.in-Some.ensures.cases.0 c.requires.levels
+
+pub new_register-register-requires-clause-range : goal.new_register-register-requires-clause-range
+new_register-register-requires-clause-range t c =
+    top_range _ _ _ _ c.in-Some.ensures.cases.0 c.requires.levels c.args.group.now c.requires.range
+
+pub block_nodes-n-requires : goal.block_nodes-n-requires
+block_nodes-n-requires t c = top_sized _ _ _ _ c.in-Some.ensures.cases.0 c.requires.levels
+
+-- that the list falls, and the clauses in their order
+pub step_in-requires : goal.step_in-requires
+step_in-requires t c =
+    let e = c.in-Some.ensures.cases.0 in
+    let are = c.requires.levels in
+    let below = c.in-Some.below.now in
+    let group = c.args.group.now in
+    let place = c.args.place in
+    let n = c.block_nodes-n.result in
+    let same = c.block_nodes-n.ensures in
+    let lt = c.if-place-nums.true in
+    let own = c.block-block.result in
+    let mine = c.block-block.ensures in
+    let fewer : length below ≤ length c.args.levels.now =
+    omega (arith, c.in-Some.ensures.cases.1) in
+    let size = c.requires.group ∙ group_nodes _ _ _ _ e are in
+    let less : length own ≤ length group =
+    omega (arith, ap length mine, length-block-most n (place / n) group) in
+    let InBelow : State → Type 0 = IsWithin c.args.base (levels_in below) in
+    let HasBelow : State → Type 0 = λ s. length below ≤ length s.registers in
+    let within : All InBelow group = below_range _ _ _ _ e are group c.requires.range in
+    let deep : All HasBelow group =
+    All-weaker (λ (s : State). length c.args.levels.now ≤ length s.registers) HasBelow
+    (λ s h. omega arith) group c.requires.deep in
+    let room = c.requires.work in
+    let roomy = c.new_register-register.ensures.work in
+    let own_within = All-same InBelow own (block n (place / n) group) mine
+    (All-block InBelow n (place / n) group within) in
+    let own_deep = All-same HasBelow own (block n (place / n) group) mine
+    (All-block HasBelow n (place / n) group deep) in
+    let for_work : IsFor (length own) c.new_register-register.new.work = record {
+      outputs = omega (arith, room.outputs, roomy.outputs, less);
+      values = omega (arith, room.values, roomy.values, less);
+      votes = omega (arith, room.votes, roomy.votes, less);
+    } in
+    let falls : length below < t = omega (arith, c.decreases, c.in-Some.ensures.cases.1) in
+    let stays = below_levels _ _ _ _ e are in
+    let stands = place_below _ _ _ _ e are place n group same lt in
+    let has = block_size _ _ _ _ e are place n group same lt size own mine in (
+      falls,
+      (
+        c.requires.least,
+        (
+          c.requires.most,
+          (
+            stays,
+            (
+              stands,
+              (
+                has,
+                (
+                  own_within,
+                  (
+                    own_deep,
+                    (for_work, omega (arith, c.requires.out, fewer)),
+                  ),
+                ),
+              ),
+            ),
+          ),
+        ),
+      ),
+    )
+
+pub set_reg-requires : goal.set_reg-requires
+set_reg-requires t c =
+    let long = c.in-Some.ensures.cases.1 in
+    let room = c.requires.out in
+    let below = c.in-Some.below.now in
+    let out = c.args.out.now in
+    let registers : State → ℕ = λ s. length s.registers in
+    elim c.if-place-nums.branch [
+      | then-place-nums w ↦
+          let place : ℕ = c.args.place % c.block_nodes-n.result in
+          let own = w.block-block.result in
+          let low : State = step_in c.args.base (levels_in below) place own in
+          let is = ap registers (w.out-is ∙ w.step_in.ensures.out) in
+          let deep =
+          length-step_in c.args.base (levels_in below) place own ∙ length-levels_in below in
+          omega (arith, is, length_written (length below) low out deep (omega arith))
+      | else-place-nums w ↦
+          let low : State = zero_state (length below) in
+          let is = ap registers (w.out-is ∙ w.clear.ensures) in
+          let deep = length-replicate (length below) zero_register in
+          omega (arith, is, length_written (length below) low out deep (omega arith))
+    ]
+
+pub returns-clause-out : goal.returns-clause-out
+returns-clause-out t c =
+    let e = c.in-Some.ensures.cases.0 in
+    let are = c.requires.levels in
+    let long = c.in-Some.ensures.cases.1 in
+    let room = c.requires.out in
+    let group = c.args.group.now in
+    let place = c.args.place in
+    let same = c.block_nodes-n.ensures in
+    let out = c.args.out.now in
+    let whole : State = step_in c.args.base (levels_in c.args.levels.now) place group in
+    subst (λ d. c.set_reg.new.self ≡ written d whole out) long
+    (elim c.if-place-nums.branch [
+      | then-place-nums w ↦
+          block_written _ _ _ _ e are place _ group same w.if-place-nums.true out _ _ _ _
+          w.block-block.ensures (omega arith) (w.out-is ∙ w.step_in.ensures.out)
+          c.new_register-register.ensures.register c.set_reg.ensures
+      | else-place-nums w ↦
+          spare_written _ _ _ _ e are place _ group same out _ _ _ w.if-place-nums.false
+          (omega arith)
+          (w.out-is ∙ w.clear.ensures) c.new_register-register.ensures.register
+          c.set_reg.ensures
+    ])

@@ -1,0 +1,53 @@
+ghost use Rattle.std.specs.Prelude.{◌≡◌, ◌≤◌, ◌<◌, ◌^◌, length, All};
+ghost use Rattle.construction.specs.Plans.{nodes_of};
+ghost use Rattle.construction.specs.Steps.{step_in};
+ghost use Rattle.plan_numbers.specs.Numbers.{levels_in};
+ghost use Rattle.plan_numbers.specs.Stacked.{AreLevels};
+ghost use Rattle.counter_core.specs.Meanings.{written};
+ghost use Rattle.counter_core.specs.Working.{IsFor, IsAsRoomy};
+ghost use Rattle.plan_laws.specs.PlanMeaning.{IsWithin};
+
+use crate::registers::new_register;
+use counter_core::{Heard, Work, clear};
+use plan_numbers::LevelNums;
+use sync_types::NodeState;
+
+/// The step of the node at a place of a group of these levels, the lowest of which stands first, by
+/// what the node hears of the group: its register at the group's level, and below that its step in
+/// its block, or nothing where it is a spare.
+pub(crate) fn step_in(
+    base: u64,
+    levels: &[LevelNums],
+    place: u32,
+    group: &Heard<'_>,
+    work: &mut Work,
+    out: &mut NodeState,
+)
+    requires least { 2 ≤ base }
+    requires most { base ≤ 2 ^ 40 }
+    requires levels { AreLevels base levels.now }
+    requires place { place < nodes_of (levels_in levels.now) }
+    requires group { length group.now ≡ nodes_of (levels_in levels.now) }
+    requires range { All (IsWithin base (levels_in levels.now)) group.now }
+    requires deep { All (λ s. length levels.now ≤ length s.registers) group.now }
+    requires work { IsFor (length group.now) work.old }
+    requires out { length levels.now ≤ length out.old.registers }
+    ensures work { IsAsRoomy work.old work.new }
+    ensures out { out.new ≡ written (length levels.now)
+        (step_in base (levels_in levels.now) place group.now) out.old }
+{
+    let Some((nums, below)) = levels.split_last() else {
+        let own = group.state(place).x();
+        out.set_x((own + 1) % base);
+        return;
+    };
+    let register = new_register(nums, below.len(), place, group, work);
+    let n = nums.block_nodes();
+    if place < nums.blocks * n {
+        let block = group.block(place / n, n);
+        step_in(base, below, place % n, &block, work, out);
+    } else {
+        clear(below.len(), out);
+    }
+    out.set_reg(below.len(), register);
+}
