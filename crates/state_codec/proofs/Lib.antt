@@ -4,5 +4,14 @@ pub mod RegisterSteps
 pub mod Whole
 pub mod Back
 pub mod Ranged
-pub mod Plans
 pub mod Digits
+pub mod Lows
+pub mod Plans
+pub mod LevelModuli
+pub mod PlanStates
+pub mod Further
+pub mod Windows
+pub mod PackedFields
+pub mod Packing
+pub mod PackFacts
+pub mod ZeroBytes

@@ -5,3 +5,5 @@ pub mod Reading
 pub mod Texts
 pub mod Cursors
 pub mod Kept
+pub mod ShapesKept
+pub mod Packs

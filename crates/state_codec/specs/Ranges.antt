@@ -1,15 +1,22 @@
--- States of a shape.
-use Rattle.std.specs.Prelude.{◌≡◌, ℕ, ◌<◌, List, length, slice_index, slice_index_or, IfSome}
+-- States of a node's fields.
+use Rattle.std.specs.Prelude.{◌≡◌, ℕ, ◌<◌, List, length, slice_index, slice_index_or, not, ◌==◌}
 use Rattle.sync_types.specs.States.{State, zero_register}
 use Rattle.sync_types.specs.declared.states.Reg.{Reg}
-use Rattle.state_codec.specs.Shapes.{Shape}
+use Rattle.construction.specs.Runs.{IsRegister}
+use Rattle.state_codec.specs.Shapes.{Fields}
 
--- each finite value is below its register's modulus
+-- a finite value is below the register's modulus, and a register that is lacking is zero
+abbrev pub IsField : (modulus : ℕ) → Reg → Type 0
+IsField modulus register = IsRegister (not (modulus == 0)) modulus register
+
+-- for each register
 abbrev pub AreBelow : List ℕ → List Reg → Type 0
-AreBelow moduli registers = (i : ℕ) → i < length moduli → IfSome (slice_index_or registers i zero_register).a (λ a. a < slice_index moduli i)
+AreBelow moduli registers = (i : ℕ) → i < length moduli
+    → IsField (slice_index moduli i) (slice_index_or registers i zero_register)
 
--- a state with a register for each modulus, its number and its finite values below their moduli
-pub record InRange (shape : Shape) (state : State) : Type 0 where
-  pub depth : length state.registers ≡ length shape.moduli
-  pub x : state.x < shape.base
-  pub values : AreBelow shape.moduli state.registers
+-- a state with a register for each modulus, its number and its finite values below their moduli,
+-- and what is lacking zero
+pub record InRange (fields : Fields) (state : State) : Type 0 where
+  pub depth : length state.registers ≡ length fields.moduli
+  pub x : state.x < fields.base
+  pub values : AreBelow fields.moduli state.registers

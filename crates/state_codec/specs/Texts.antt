@@ -4,7 +4,7 @@ use Rattle.std.specs.List.{list_all}
 use Rattle.sync_types.specs.States.{State}
 use Rattle.hex.specs.Hex.{encode_lower, decode_of}
 use Rattle.hex.specs.declared.error.FromHexError.{FromHexError}
-use Rattle.state_codec.specs.Shapes.{Shape, bytes_in}
+use Rattle.state_codec.specs.Shapes.{Fields, bytes_in}
 use Rattle.state_codec.specs.Writing.{written}
 use Rattle.state_codec.specs.Reading.{read}
 
@@ -13,12 +13,12 @@ abbrev pub is_lower_digit : ℕ → Bool
 is_lower_digit c = (nat_le 48 c && nat_le c 57) || (nat_le 97 c && nat_le c 102)
 
 -- two digits for each byte of a state, and nothing else
-abbrev pub is_state_text : Shape → List ℕ → Bool
-is_state_text shape text = length text == 2 * bytes_in shape && list_all is_lower_digit text
+abbrev pub is_state_text : Fields → List ℕ → Bool
+is_state_text fields text = length text == 2 * bytes_in fields && list_all is_lower_digit text
 
 -- the digits of a state
-abbrev pub written_text : Shape → State → List ℕ
-written_text shape state = encode_lower (written shape state)
+abbrev pub written_text : Fields → State → List ℕ
+written_text fields state = encode_lower (written fields state)
 
 -- the bytes of a text that was decoded, or none
 abbrev pub bytes_or_none : Result (List ℕ) FromHexError → List ℕ
@@ -30,5 +30,5 @@ abbrev pub decoded : List ℕ → List ℕ
 decoded text = bytes_or_none (decode_of text)
 
 -- the state of digits
-abbrev pub read_text : Shape → List ℕ → State
-read_text shape text = read shape (decoded text)
+abbrev pub read_text : Fields → List ℕ → State
+read_text fields text = read fields (decoded text)

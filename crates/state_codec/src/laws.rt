@@ -1,11 +1,11 @@
-//! Laws of states, bytes and digits, for every shape within the limits.
+//! Laws of states, bytes and digits, for all fields within the limits, and of the shapes of plans.
 
-ghost use Rattle.std.specs.Prelude.{◌≡◌, ◌↔◌, ℕ, List, true, length};
+ghost use Rattle.std.specs.Prelude.{◌≡◌, ◌↔◌, ◌<◌, ℕ, List, true, length};
 ghost use Rattle.sync_types.specs.States.{State};
-ghost use Rattle.construction.specs.Plans.{Plan, plan_bits, plan_depth};
+ghost use Rattle.construction.specs.Plans.{Plan, plan_nodes, plan_bits, plan_depth};
 ghost use Rattle.construction.specs.Runs.{IsState};
 ghost use Rattle.plan_numbers.specs.Premises.{IsAccepted};
-ghost use Rattle.state_codec.specs.Shapes.{Shape, IsShape, shape_of, bits_in};
+ghost use Rattle.state_codec.specs.Shapes.{Fields, IsFields, bits_in, Shape, IsShape, shape_of, shape_with, with_further, fields_from, fields_at};
 ghost use Rattle.state_codec.specs.Ranges.{InRange};
 ghost use Rattle.state_codec.specs.Writing.{written};
 ghost use Rattle.state_codec.specs.Reading.{read};
@@ -13,28 +13,44 @@ ghost use Rattle.state_codec.specs.Texts.{is_state_text, written_text, read_text
 
 /// What was written reads back.
 pub fn written_reads_back()
-    ensures { (shape : Shape) (state : State) → IsShape shape → InRange shape state → read shape (written shape state) ≡ state }
+    ensures { (fields : Fields) (state : State) → IsFields fields → InRange fields state
+        → read fields (written fields state) ≡ state }
 {}
 
-/// What is read from any bytes is a state of the shape.
+/// What is read from any bytes is a state of these fields.
 pub fn read_is_in_range()
-    ensures { (shape : Shape) (bytes : List ℕ) → IsShape shape → InRange shape (read shape bytes) }
+    ensures { (fields : Fields) (bytes : List ℕ) → IsFields fields
+        → InRange fields (read fields bytes) }
 {}
 
 /// The digits of a state are taken, and read back.
 pub fn text_reads_back()
-    ensures taken { (shape : Shape) (state : State) → is_state_text shape (written_text shape state) ≡ true }
-    ensures back { (shape : Shape) (state : State) → IsShape shape → InRange shape state → read_text shape (written_text shape state) ≡ state }
+    ensures taken { (fields : Fields) (state : State)
+        → is_state_text fields (written_text fields state) ≡ true }
+    ensures back { (fields : Fields) (state : State) → IsFields fields → InRange fields state
+        → read_text fields (written_text fields state) ≡ state }
 {}
 
-/// The shape of an accepted plan is within the limits, and has the plan's bits and depth.
+/// The shape of an accepted plan is within the limits, and has the plan's bits, depth and nodes;
+/// where a shape is within the limits, so are the fields of each of its nodes.
 pub fn plans_have_shapes()
     ensures shape { (plan : Plan) → IsAccepted plan → IsShape (shape_of plan) }
-    ensures bits { (plan : Plan) → bits_in (shape_of plan) ≡ plan_bits plan }
+    ensures fields { (shape : Shape) (low : ℕ) → IsShape shape → IsFields (fields_from shape low) }
+    ensures bits { (plan : Plan) → IsAccepted plan
+        → bits_in (fields_from (shape_of plan) 0) ≡ plan_bits plan }
     ensures depth { (plan : Plan) → length (shape_of plan).moduli ≡ plan_depth plan }
+    ensures nodes { (plan : Plan) → length (shape_of plan).lows ≡ plan_nodes plan }
 {}
 
-/// The states of a plan's shape are those of the plan.
+/// The states of a node's fields are those of the plan's node.
 pub fn range_is_of_plan()
-    ensures { (plan : Plan) (state : State) → IsState plan state ↔ InRange (shape_of plan) state }
+    ensures { (plan : Plan) → IsAccepted plan → (v : ℕ) → v < plan_nodes plan → (state : State)
+        → IsState plan v state ↔ InRange (fields_at (shape_of plan) v) state }
+{}
+
+/// Further registers stand behind those of the plan, and no node lacks them.
+pub fn further_registers_are_every_nodes()
+    ensures { (plan : Plan) (values count v : ℕ) → v < plan_nodes plan
+        → fields_at (shape_with plan values count) v
+        ≡ with_further (fields_at (shape_of plan) v) values count }
 {}

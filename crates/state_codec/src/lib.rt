@@ -1,9 +1,16 @@
-//! States of nodes as bits: a state is read from any bytes, and written as bytes or as hex digits. Where a plan says what numbers its states have, [`StateShape`] says which bits these take.
+//! States of nodes as bits: a state is read from any bytes, and written as bytes or as hex digits.
+//! Where a plan says which fields its nodes have, [`StateShape`] says which bits these take.
 //!
-//! The bits of a state are its number, then for each register, the lowest first, its value and its mark, each most significant bit first, and then zeros up to a whole byte.
+//! The bits of a state are its number, then for each register, the lowest first, its value and its
+//! mark, each most significant bit first, and then zeros up to a whole byte. A field that the node
+//! lacks has no bits, and is zero.
 #![tactic(auto)]
 
+mod field_bits;
+mod fields;
 pub mod laws;
+mod making;
+mod packed;
 mod reader;
 mod registers;
 mod shapes;
@@ -13,5 +20,6 @@ mod texts;
 mod widths;
 mod writer;
 
+pub use packed::Packed;
 pub use shapes::StateShape;
 pub use texts::NotState;

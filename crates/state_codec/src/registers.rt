@@ -1,25 +1,36 @@
 ghost use Rattle.std.specs.Prelude.{◌≡◌, ◌≤◌, ◌<◌, ◌+◌, ◌*◌, ◌^◌, ◌++◌, length, drop, All, IfSome};
 ghost use Rattle.sync_types.specs.States.{zero_state};
+ghost use Rattle.construction.specs.Widths.{width};
+ghost use Rattle.bit_lists.specs.Bits.{bits_of_bytes};
 ghost use Rattle.state_codec.specs.Shapes.{register_bits, registers_bits};
-ghost use Rattle.state_codec.specs.Ranges.{AreBelow};
-ghost use Rattle.state_codec.specs.Writing.{bits_of_register, bits_of_registers};
-ghost use Rattle.state_codec.specs.Reading.{below, register_from, registers_from};
+ghost use Rattle.state_codec.specs.Ranges.{IsField, AreBelow};
+ghost use Rattle.state_codec.specs.Writing.{full_bits, bits_of_register, bits_of_registers};
+ghost use Rattle.state_codec.specs.Reading.{below, full_register, register_from, registers_from};
 ghost use Rattle.state_codec.specs.Cursors.{so_far};
 
+use crate::field_bits::field_at;
 use crate::reader::BitReader;
 use crate::widths::bit_length;
 use crate::writer::{Pending, put};
 use sync_types::{NodeState, Reg};
 
-/// Writes a register behind what was written.
-fn put_register(out: &mut [u8], pending: Pending, modulus: u64, register: Reg) -> Pending
+/// The zero register.
+pub const ZERO: Reg = Reg {
+    a: Some(0),
+    d: false,
+};
+
+/// Writes a register that is there behind what was written.
+fn put_full(out: &mut [u8], pending: Pending, modulus: u64, register: Reg) -> Pending
     requires modulus { modulus ≤ 2 ^ 40 }
     requires value { IfSome register.a (λ a. a < modulus) }
-    requires room { 8 * pending.at + pending.count + register_bits modulus ≤ 8 * length out.old }
+    requires room { 8 * pending.at + pending.count + (width (modulus + 1) + 1)
+        ≤ 8 * length out.old }
     ensures length { length out.new ≡ length out.old }
     ensures text { so_far out.new result.at result.count result.held
-        ≡ so_far out.old pending.at pending.count pending.held ++ bits_of_register modulus register }
-    ensures place { 8 * result.at + result.count ≡ 8 * pending.at + pending.count + register_bits modulus }
+        ≡ so_far out.old pending.at pending.count pending.held ++ full_bits modulus register }
+    ensures place { 8 * result.at + result.count
+        ≡ 8 * pending.at + pending.count + (width (modulus + 1) + 1) }
 {
     let value = register.a.unwrap_or(modulus);
     put(
@@ -30,16 +41,37 @@ fn put_register(out: &mut [u8], pending: Pending, modulus: u64, register: Reg) -
     )
 }
 
+/// Writes a register behind what was written; one that is lacking has no bits.
+fn put_register(out: &mut [u8], pending: Pending, modulus: u64, register: Reg) -> Pending
+    requires modulus { modulus ≤ 2 ^ 40 }
+    requires value { IsField modulus register }
+    requires room { 8 * pending.at + pending.count + register_bits modulus ≤ 8 * length out.old }
+    ensures length { length out.new ≡ length out.old }
+    ensures text { so_far out.new result.at result.count result.held
+        ≡ so_far out.old pending.at pending.count pending.held
+        ++ bits_of_register modulus register }
+    ensures place { 8 * result.at + result.count
+        ≡ 8 * pending.at + pending.count + register_bits modulus }
+{
+    if modulus == 0 {
+        pending
+    } else {
+        put_full(out, pending, modulus, register)
+    }
+}
+
 /// Writes all registers behind what was written.
 pub fn put_registers(out: &mut [u8], start: Pending, moduli: &[u64], state: &NodeState) -> Pending
-    requires moduli { All (λ modulus. (2 ≤ modulus) × (modulus ≤ 2 ^ 40)) moduli.now }
+    requires moduli { All (λ modulus. modulus ≤ 2 ^ 40) moduli.now }
     requires depth { length state.now.registers ≡ length moduli.now }
     requires values { AreBelow moduli.now state.now.registers }
     requires room { 8 * start.at + start.count + registers_bits moduli.now ≤ 8 * length out.old }
     ensures length { length out.new ≡ length out.old }
     ensures text { so_far out.new result.at result.count result.held
-        ≡ so_far out.old start.at start.count start.held ++ bits_of_registers moduli.now state.now.registers }
-    ensures place { 8 * result.at + result.count ≡ 8 * start.at + start.count + registers_bits moduli.now }
+        ≡ so_far out.old start.at start.count start.held
+        ++ bits_of_registers moduli.now state.now.registers }
+    ensures place { 8 * result.at + result.count
+        ≡ 8 * start.at + start.count + registers_bits moduli.now }
 {
     let mut pending = start;
     for i in 0..moduli.len() {
@@ -55,12 +87,12 @@ pub fn below(modulus: u64, n: u64) -> Option<u64>
     if n < modulus { Some(n) } else { None }
 }
 
-/// Takes a register from the front.
-fn take_register(reader: &mut BitReader<'_>, modulus: u64) -> Reg
+/// Takes a register that is there from the front.
+fn take_full(reader: &mut BitReader<'_>, modulus: u64) -> Reg
     requires modulus { modulus ≤ 2 ^ 40 }
-    requires enough { register_bits modulus ≤ length reader.old }
-    ensures value { result ≡ register_from modulus reader.old }
-    ensures rest { reader.new ≡ drop (register_bits modulus) reader.old }
+    requires enough { width (modulus + 1) + 1 ≤ length reader.old }
+    ensures value { result ≡ full_register modulus reader.old }
+    ensures rest { reader.new ≡ drop (width (modulus + 1) + 1) reader.old }
 {
     let value = reader.take(bit_length(modulus));
     let mark = reader.take(1);
@@ -70,9 +102,37 @@ fn take_register(reader: &mut BitReader<'_>, modulus: u64) -> Reg
     }
 }
 
+/// A register that is there, whose bits begin at bit `from`; eight bytes more stand behind them.
+pub fn full_register_at(bytes: &[u8], from: usize, modulus: u64) -> Reg
+    requires least { 1 ≤ modulus }
+    requires most { modulus ≤ 2 ^ 40 }
+    requires small { from < 2 ^ 40 }
+    requires within { from + (width (modulus + 1) + 1) + 64 ≤ 8 * length bytes.now }
+    ensures { result ≡ full_register modulus (drop from (bits_of_bytes bytes.now)) }
+{
+    let width = bit_length(modulus);
+    let a = below(modulus, field_at(bytes, from, width));
+    let mark = field_at(bytes, from + width as usize, 1);
+    Reg { a, d: mark == 1 }
+}
+
+/// Takes a register from the front; one that is lacking is zero.
+fn take_register(reader: &mut BitReader<'_>, modulus: u64) -> Reg
+    requires modulus { modulus ≤ 2 ^ 40 }
+    requires enough { register_bits modulus ≤ length reader.old }
+    ensures value { result ≡ register_from modulus reader.old }
+    ensures rest { reader.new ≡ drop (register_bits modulus) reader.old }
+{
+    if modulus == 0 {
+        ZERO
+    } else {
+        take_full(reader, modulus)
+    }
+}
+
 /// Takes all registers from the front.
 pub fn take_registers(reader: &mut BitReader<'_>, moduli: &[u64], state: &mut NodeState)
-    requires moduli { All (λ modulus. (2 ≤ modulus) × (modulus ≤ 2 ^ 40)) moduli.now }
+    requires moduli { All (λ modulus. modulus ≤ 2 ^ 40) moduli.now }
     requires depth { length state.old.registers ≡ length moduli.now }
     requires enough { registers_bits moduli.now ≤ length reader.old }
     ensures { state.new ≡ record state.old { registers = registers_from moduli.now reader.old } }
@@ -87,12 +147,8 @@ pub fn take_registers(reader: &mut BitReader<'_>, moduli: &[u64], state: &mut No
 pub fn set_zero(state: &mut NodeState)
     ensures { state.new ≡ zero_state (length state.old.registers) }
 {
-    let zero = Reg {
-        a: Some(0),
-        d: false,
-    };
     state.set_x(0);
     for i in 0..state.depth() {
-        state.set_reg(i, zero);
+        state.set_reg(i, ZERO);
     }
 }

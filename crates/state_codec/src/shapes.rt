@@ -1,88 +1,138 @@
-ghost use Rattle.std.specs.Prelude.{◌≡◌, ◌<◌, ◌≤◌, ◌^◌, length, slice_index, IfOk};
-ghost use Rattle.std.specs.Int.{div_ceil};
-ghost use Rattle.construction.specs.Plans.{plan_bits, plan_depth};
-ghost use Rattle.state_codec.specs.Shapes.{Shape, moduli_of, shape_of, bits_in, bytes_in, IsShape};
+ghost use Rattle.std.specs.Prelude.{◌≡◌, ◌<◌, ◌≤◌, ◌*◌, ◌^◌, length, slice_index, All, true, false, IfOk, OnOk, OnErr};
+ghost use Rattle.construction.specs.Plans.{plan_bits, plan_depth, plan_nodes};
+ghost use Rattle.state_codec.specs.Shapes.{shape_over, shape_of, shape_with, fields_from, fields_at, bits_in, bytes_in, IsShape};
 ghost use Rattle.state_codec.specs.Ranges.{InRange};
 ghost use Rattle.state_codec.specs.Writing.{written};
 ghost use Rattle.state_codec.specs.Reading.{read};
+ghost use Rattle.state_codec.specs.Texts.{is_state_text, written_text, read_text};
 
-use crate::reader::BitReader;
-use crate::registers::{below, put_registers, set_zero, take_registers};
-use crate::widths::bit_length;
-use crate::writer::{Pending, put};
+use crate::fields::Fields;
+use crate::making::{kinds, level_moduli, node_lows};
+use crate::texts::NotState;
 use plan_numbers::Plan;
 use std::alloc::Global;
 use std::marker::Model;
 use sync_types::{NoMemory, NodeState};
 
-/// Which numbers a plan's states have, and so which bits they take: the modulus of the number, and that of each register, the lowest first, each 2 to 2^40.
+/// Which fields the states of a plan's nodes have, and so which bits they take: the modulus of the
+/// number, that of each register, the lowest first, each 2 to 2^40, and for each node the level
+/// from which on it takes part. A node that is no spare has all fields.
 #[derive(Debug, Drop)]
 pub struct StateShape {
     base: u64,
     moduli: Vec<u64>,
-    size: u32,
+    lows: Vec<usize>,
+    // For each low from 0 on the fields of its nodes.
+    kinds: Vec<Fields>,
 }
 
 impl Model for StateShape {
     ghost use Rattle.state_codec.specs.Shapes.{Shape};
-    ghost use Rattle.state_codec.specs.Kept.{IsKept};
+    ghost use Rattle.state_codec.specs.ShapesKept.{IsKept};
 
     ghost Value = { Shape };
 
-    ghost view = { λ s. record { base = s.base; moduli = s.moduli.items } };
+    ghost view = { λ s. record { base = s.base; moduli = s.moduli.items; lows = s.lows.items } };
 
-    ghost invariant = { λ s. IsKept s.base s.moduli.items s.size };
-}
-
-/// The moduli of a plan's levels, the lowest first.
-fn level_moduli(alloc: Global, plan: &Plan) -> Result<Vec<u64>, NoMemory>
-    ensures { IfOk result (λ moduli. moduli.items ≡ moduli_of plan.now.levels) }
-{
-    let mut moduli = vec![in alloc; 0; plan.depth()]?;
-    for i in 0..plan.depth() {
-        moduli[i] = plan.level(i).modulus;
-    }
-    Ok(moduli)
+    ghost invariant = { λ s.
+        IsKept (record { base = s.base; moduli = s.moduli.items; lows = s.lows.items })
+        s.kinds.items };
 }
 
 impl StateShape {
     /// The shape of the states of a plan. It takes all the memory that the shape ever needs.
     pub fn of(alloc: Global, plan: &Plan) -> Result<StateShape, NoMemory>
         ensures shape { IfOk result (λ shape. shape ≡ shape_of plan.now) }
-        ensures bits { IfOk result (λ shape. bits_in shape ≡ plan_bits plan.now) }
-        ensures bytes { IfOk result (λ shape. bytes_in shape ≡ div_ceil (plan_bits plan.now) 8) }
+        ensures bits { IfOk result (λ shape. bits_in (fields_from shape 0) ≡ plan_bits plan.now) }
         ensures depth { IfOk result (λ shape. length shape.moduli ≡ plan_depth plan.now) }
+        ensures nodes { IfOk result (λ shape. length shape.lows ≡ plan_nodes plan.now) }
+    {
+        plan.tell();
+        let moduli = level_moduli(alloc, plan)?;
+        StateShape::over(alloc, plan, moduli)
+    }
+
+    /// The shape of a plan's states with one further register behind, which every node has and
+    /// whose values are those below `values`, 2 to 65536. It takes all the memory that the shape
+    /// ever needs.
+    pub fn with_register(alloc: Global, plan: &Plan, values: u64) -> Result<StateShape, NoMemory>
+        requires least { 2 ≤ values }
+        requires most { values ≤ 65536 }
+        ensures { IfOk result (λ shape. shape ≡ shape_with plan.now values 1) }
+    {
+        StateShape::with_registers(alloc, plan, values, 1)
+    }
+
+    /// The shape of a plan's states with `count` further registers behind, at most 2, which every
+    /// node has and whose values are those below `values`, 2 to 65536. It takes all the memory that
+    /// the shape ever needs.
+    pub fn with_registers(
+        alloc: Global,
+        plan: &Plan,
+        values: u64,
+        count: usize,
+    ) -> Result<StateShape, NoMemory>
+        requires least { 2 ≤ values }
+        requires most { values ≤ 65536 }
+        requires few { count ≤ 2 }
+        ensures { IfOk result (λ shape. shape ≡ shape_with plan.now values count) }
+    {
+        let mut moduli = level_moduli(alloc, plan)?;
+        for _ in 0..count {
+            moduli.push(values).map_err(|_| NoMemory)?;
+        }
+        StateShape::over(alloc, plan, moduli)
+    }
+
+    /// A shape of these registers over a plan's number.
+    fn over(alloc: Global, plan: &Plan, moduli: Vec<u64>) -> Result<StateShape, NoMemory>
+        requires moduli { All (λ modulus. (2 ≤ modulus) × (modulus ≤ 2 ^ 40)) moduli.items }
+        requires few { length moduli.items ≤ 16 }
+        ensures { IfOk result (λ shape. shape ≡ shape_over plan.now moduli.items) }
     {
         plan.tell();
         let base = plan.base_modulus();
-        let size = plan.bits();
-        let moduli = level_moduli(alloc, plan)?;
-        Ok(StateShape { base, moduli, size })
+        let lows = node_lows(alloc, plan)?;
+        let kinds = kinds(alloc, base, &moduli, plan.depth() + 1)?;
+        Ok(StateShape {
+            base,
+            moduli,
+            lows,
+            kinds,
+        })
     }
 
-    /// How many bits a state has, without padding.
-    pub fn bits(&self) -> u32
-        ensures { result ≡ bits_in self.now }
+    /// How many nodes there are, 1 to 256.
+    pub fn nodes(&self) -> u32
+        ensures value { result ≡ length self.now.lows }
+        ensures most { result ≤ 256 }
     {
-        self.size
+        self.lows.len() as u32
     }
 
-    /// How many bytes a state has, at most 128.
+    /// How many bits a state with all fields has, without padding.
+    pub fn bits(&self) -> u32
+        ensures { result ≡ bits_in (fields_from self.now 0) }
+    {
+        self.kinds[0].bits()
+    }
+
+    /// How many bytes a state with all fields has, at most 128.
     pub fn bytes(&self) -> usize
-        ensures value { result ≡ bytes_in self.now }
+        ensures value { result ≡ bytes_in (fields_from self.now 0) }
         ensures most { result ≤ 128 }
     {
-        self.size.div_ceil(8) as usize
+        self.kinds[0].bytes()
     }
 
-    /// How many registers a state has.
+    /// How many registers a state has, those that a node lacks among them.
     pub fn depth(&self) -> usize
         ensures { result ≡ length self.now.moduli }
     {
         self.moduli.len()
     }
 
-    /// The modulus of register `i`, the lowest being 0. It is 2 to 2^40.
+    /// The modulus of register `i`, the lowest being 0, at a node that has it. It is 2 to 2^40.
     pub fn modulus(&self, i: usize) -> u64
         requires { i < length self.now.moduli }
         ensures value { result ≡ slice_index self.now.moduli i }
@@ -96,48 +146,102 @@ impl StateShape {
     pub fn tell(&self)
         ensures { IsShape self.now }
     {
-        let _size = self.size;
+        let _base = self.base;
     }
 
-    /// Writes the bytes of a state of this shape into `out`, which has just their length.
-    pub fn write_state(&self, state: &NodeState, out: &mut [u8])
-        requires range { InRange self.now state.now }
-        requires length { length out.old ≡ bytes_in self.now }
-        ensures { out.new ≡ written self.now state.now }
+    /// The fields of node `v`.
+    pub(crate) fn fields(&self, v: u32) -> &Fields
+        requires { v < length self.now.lows }
+        ensures { result.now ≡ fields_at self.now v }
     {
-        let start = Pending {
-            at: 0,
-            held: 0,
-            count: 0,
-        };
-        let front = put(out, start, bit_length(self.base - 1), state.x());
-        let end = put_registers(out, front, &self.moduli, state);
-        let padding = self.size.div_ceil(8) * 8 - self.size;
-        let _whole = put(out, end, padding, 0);
+        &self.kinds[self.lows[v as usize]]
     }
 
-    /// Reads a state from any bytes into `out`, which has the depth of the shape. Bytes that are not just so many as a state has stand for the zero state. A number of its modulus or more is read as 0, and a value as infinity; padding is ignored.
-    pub fn read_state(&self, bytes: &[u8], out: &mut NodeState)
-        requires { length out.old.registers ≡ length self.now.moduli }
-        ensures value { out.new ≡ read self.now bytes.now }
-        ensures range { InRange self.now out.new }
+    /// The modulus of the number of node `v`, at most 2^40; it is 1 where the node lacks a number.
+    pub fn base_of(&self, v: u32) -> u64
+        requires { v < length self.now.lows }
+        ensures value { result ≡ (fields_at self.now v).base }
+        ensures least { 1 ≤ result }
+        ensures most { result ≤ 2 ^ 40 }
     {
-        self.tell();
-        self.read_bits(bytes, out);
+        self.fields(v).base()
     }
 
-    /// Reads a state from any bytes.
-    fn read_bits(&self, bytes: &[u8], out: &mut NodeState)
-        requires { length out.old.registers ≡ length self.now.moduli }
-        ensures { out.new ≡ read self.now bytes.now }
+    /// The modulus of register `i` of node `v`, the lowest being 0. It is at most 2^40, and 0 where
+    /// the node lacks the register.
+    pub fn modulus_of(&self, v: u32, i: usize) -> u64
+        requires node { v < length self.now.lows }
+        requires register { i < length self.now.moduli }
+        ensures value { result ≡ slice_index (fields_at self.now v).moduli i }
+        ensures most { result ≤ 2 ^ 40 }
     {
-        if bytes.len() == self.bytes() {
-            let mut reader = BitReader::new(bytes);
-            let x = reader.take(bit_length(self.base - 1));
-            out.set_x(below(self.base, x).unwrap_or(0));
-            take_registers(&mut reader, &self.moduli, out);
-        } else {
-            set_zero(out);
-        }
+        self.fields(v).modulus(i)
+    }
+
+    /// How many bits a state of node `v` has, without padding.
+    pub fn bits_of(&self, v: u32) -> u32
+        requires { v < length self.now.lows }
+        ensures { result ≡ bits_in (fields_at self.now v) }
+    {
+        self.fields(v).bits()
+    }
+
+    /// How many bytes a state of node `v` has, at most 128.
+    pub fn bytes_of(&self, v: u32) -> usize
+        requires { v < length self.now.lows }
+        ensures value { result ≡ bytes_in (fields_at self.now v) }
+        ensures most { result ≤ 128 }
+    {
+        self.fields(v).bytes()
+    }
+
+    /// Writes the bytes of a state of node `v` into `out`, which has just their length,
+    /// `bytes_of(v)`.
+    pub fn write_state(&self, v: u32, state: &NodeState, out: &mut [u8])
+        requires node { v < length self.now.lows }
+        requires range { InRange (fields_at self.now v) state.now }
+        requires length { length out.old ≡ bytes_in (fields_at self.now v) }
+        ensures { out.new ≡ written (fields_at self.now v) state.now }
+    {
+        self.fields(v).write_state(state, out);
+    }
+
+    /// Reads a state of node `v` from any bytes into `out`, which has the depth of the shape. Bytes
+    /// that are not just so many as a state of the node has stand for the zero state. A number of
+    /// its modulus or more is read as 0, and a value as infinity; padding is ignored, and what the
+    /// node lacks is zero.
+    pub fn read_state(&self, v: u32, bytes: &[u8], out: &mut NodeState)
+        requires node { v < length self.now.lows }
+        requires depth { length out.old.registers ≡ length self.now.moduli }
+        ensures value { out.new ≡ read (fields_at self.now v) bytes.now }
+        ensures range { InRange (fields_at self.now v) out.new }
+    {
+        self.fields(v).read_state(bytes, out);
+    }
+
+    /// Writes the bytes of a state of node `v` as digits of `0-9a-f` into `out`, which has just
+    /// their length, `2 * bytes_of(v)`.
+    pub fn write_hex(&self, v: u32, state: &NodeState, out: &mut [u8])
+        requires node { v < length self.now.lows }
+        requires range { InRange (fields_at self.now v) state.now }
+        requires length { length out.old ≡ 2 * bytes_in (fields_at self.now v) }
+        ensures { out.new ≡ written_text (fields_at self.now v) state.now }
+    {
+        self.fields(v).write_hex(state, out);
+    }
+
+    /// Reads a state of node `v` from hex digits into `out`, which has the depth of the shape. The
+    /// error comes where the text is not `2 * bytes_of(v)` digits of `0-9a-f`, and leaves the state
+    /// as it was.
+    pub fn read_hex(&self, v: u32, text: &[u8], out: &mut NodeState) -> Result<(), NotState>
+        requires node { v < length self.now.lows }
+        requires depth { length out.old.registers ≡ length self.now.moduli }
+        ensures accepted { OnOk result (is_state_text (fields_at self.now v) text.now ≡ true) }
+        ensures value { OnOk result (out.new ≡ read_text (fields_at self.now v) text.now) }
+        ensures range { OnOk result (InRange (fields_at self.now v) out.new) }
+        ensures refused { OnErr result (is_state_text (fields_at self.now v) text.now ≡ false) }
+        ensures unchanged { OnErr result (out.new ≡ out.old) }
+    {
+        self.fields(v).read_hex(text, out)
     }
 }

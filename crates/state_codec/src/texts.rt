@@ -4,7 +4,7 @@ ghost use Rattle.state_codec.specs.Shapes.{bytes_in};
 ghost use Rattle.state_codec.specs.Ranges.{InRange};
 ghost use Rattle.state_codec.specs.Texts.{is_lower_digit, is_state_text, decoded, written_text, read_text};
 
-use crate::shapes::StateShape;
+use crate::fields::Fields;
 use sync_types::NodeState;
 use thiserror::Error;
 
@@ -34,8 +34,9 @@ fn decode_lower(text: &[u8], bytes: &mut [u8])
     let _fits = hex::decode_to_slice(text, bytes);
 }
 
-impl StateShape {
-    /// Writes the bytes of a state of this shape as digits of `0-9a-f` into `out`, which has just their length, `2 * bytes()`.
+impl Fields {
+    /// Writes the bytes of a state as digits of `0-9a-f` into `out`, which has just their length,
+    /// `2 * bytes()`.
     pub fn write_hex(&self, state: &NodeState, out: &mut [u8])
         requires range { InRange self.now state.now }
         requires length { length out.old ≡ 2 * bytes_in self.now }
@@ -47,7 +48,8 @@ impl StateShape {
         let _fits = hex::encode_to_slice(&*bytes, out);
     }
 
-    /// Reads a state from hex digits into `out`, which has the depth of the shape. The error comes where the text is not `2 * bytes()` digits of `0-9a-f`, and leaves the state as it was.
+    /// Reads a state from hex digits into `out`, which has the fields' depth. The error comes where
+    /// the text is not `2 * bytes()` digits of `0-9a-f`, and leaves the state as it was.
     pub fn read_hex(&self, text: &[u8], out: &mut NodeState) -> Result<(), NotState>
         requires { length out.old.registers ≡ length self.now.moduli }
         ensures accepted { OnOk result (is_state_text self.now text.now ≡ true) }

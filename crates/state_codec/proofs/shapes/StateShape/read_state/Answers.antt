@@ -1,5 +1,9 @@
-use Rattle.state_codec.proofs.Ranged.{read_is_in_range}
+use Rattle.std.proofs.Common.{length, ap, sym, ◌∙◌}
+use Rattle.state_codec.specs.Shapes.{Fields}
+use Rattle.state_codec.proofs.Lows.{length-moduli_from}
 use Rattle.state_codec.proofs.shapes.StateShape.read_state.Goals as goal
 
-pub returns-clause-range : goal.returns-clause-range
-returns-clause-range c = rw c.read_bits.ensures (read_is_in_range c.args.self.now c.args.bytes.now c.tell.ensures)
+pub read_state-requires : goal.read_state-requires
+read_state-requires c = c.requires.depth
+    ∙ sym (ap (λ (f : Fields). length f.moduli) c.fields.ensures
+    ∙ length-moduli_from _ c.args.self.now.moduli)

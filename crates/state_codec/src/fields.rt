@@ -1,0 +1,190 @@
+ghost use Rattle.std.specs.Prelude.{◌≡◌, ◌<◌, ◌≤◌, ◌+◌, ◌*◌, ◌^◌, length, take, drop, slice_index, All};
+ghost use Rattle.std.specs.Int.{div_ceil};
+ghost use Rattle.sync_types.specs.States.{register_at};
+ghost use Rattle.state_codec.specs.Shapes.{Fields, register_bits, registers_bits, bits_in, bytes_in, IsFields};
+ghost use Rattle.state_codec.specs.Ranges.{InRange};
+ghost use Rattle.state_codec.specs.Writing.{written};
+ghost use Rattle.state_codec.specs.Reading.{read};
+
+use crate::field_bits::field_at;
+use crate::reader::BitReader;
+use crate::registers::{ZERO, below, full_register_at, put_registers, set_zero, take_registers};
+use crate::widths::bit_length;
+use crate::writer::{Pending, put};
+use std::marker::Model;
+use sync_types::{NodeState, Reg};
+
+/// The fields of a node's state, and so which bits it takes: the modulus of the number, and that of
+/// each register, the lowest first. A number that the node lacks has the modulus 1, and a register
+/// that it lacks has 0.
+#[derive(Debug, Drop)]
+pub struct Fields {
+    base: u64,
+    moduli: Vec<u64>,
+    size: u32,
+}
+
+impl Model for Fields {
+    ghost use Rattle.state_codec.specs.Shapes.{Fields};
+    ghost use Rattle.state_codec.specs.Kept.{IsKept};
+
+    ghost Value = { Fields };
+
+    ghost view = { λ s. record { base = s.base; moduli = s.moduli.items } };
+
+    ghost invariant = { λ s. IsKept s.base s.moduli.items s.size };
+}
+
+/// How many bits registers of these moduli have.
+fn size_of(moduli: &[u64]) -> u32
+    requires moduli { All (λ modulus. modulus ≤ 2 ^ 40) moduli.now }
+    requires few { length moduli.now ≤ 16 }
+    ensures value { result ≡ registers_bits moduli.now }
+    ensures most { result ≤ 16 * 42 }
+{
+    let mut bits = 0;
+    for i in 0..moduli.len() {
+        bits += size_of_register(moduli[i]);
+    }
+    bits
+}
+
+/// How many bits a register has; one that is lacking has none.
+fn size_of_register(modulus: u64) -> u32
+    requires { modulus ≤ 2 ^ 40 }
+    ensures value { result ≡ register_bits modulus }
+    ensures most { result ≤ 42 }
+{
+    if modulus == 0 {
+        0
+    } else {
+        bit_length(modulus) + 1
+    }
+}
+
+impl Fields {
+    /// Fields of these moduli.
+    pub fn new(base: u64, moduli: Vec<u64>) -> Fields
+        requires least { 1 ≤ base }
+        requires most { base ≤ 2 ^ 40 }
+        requires moduli { All (λ modulus. modulus ≤ 2 ^ 40) moduli.items }
+        requires few { length moduli.items ≤ 16 }
+        ensures { result ≡ record { base = base; moduli = moduli.items } }
+    {
+        let size = bit_length(base - 1) + size_of(&moduli);
+        Fields { base, moduli, size }
+    }
+
+    /// How many bits a state has, without padding.
+    pub fn bits(&self) -> u32
+        ensures { result ≡ bits_in self.now }
+    {
+        self.size
+    }
+
+    /// How many bytes a state has, at most 128.
+    pub fn bytes(&self) -> usize
+        ensures value { result ≡ bytes_in self.now }
+        ensures most { result ≤ 128 }
+    {
+        self.size.div_ceil(8) as usize
+    }
+
+    /// The modulus of the number.
+    pub fn base(&self) -> u64
+        ensures value { result ≡ self.now.base }
+        ensures least { 1 ≤ result }
+        ensures most { result ≤ 2 ^ 40 }
+    {
+        self.base
+    }
+
+    /// The modulus of register `i`, the lowest being 0.
+    pub fn modulus(&self, i: usize) -> u64
+        requires { i < length self.now.moduli }
+        ensures value { result ≡ slice_index self.now.moduli i }
+        ensures most { result ≤ 2 ^ 40 }
+    {
+        self.moduli[i]
+    }
+
+    /// Tells a caller's proof that the moduli are within the limits. It does nothing when it runs.
+    pub fn tell(&self)
+        ensures { IsFields self.now }
+    {
+        let _size = self.size;
+    }
+
+    /// Writes the bytes of a state into `out`, which has just their length.
+    pub fn write_state(&self, state: &NodeState, out: &mut [u8])
+        requires range { InRange self.now state.now }
+        requires length { length out.old ≡ bytes_in self.now }
+        ensures { out.new ≡ written self.now state.now }
+    {
+        let start = Pending {
+            at: 0,
+            held: 0,
+            count: 0,
+        };
+        let front = put(out, start, bit_length(self.base - 1), state.x());
+        let end = put_registers(out, front, &self.moduli, state);
+        let padding = self.size.div_ceil(8) * 8 - self.size;
+        let _whole = put(out, end, padding, 0);
+    }
+
+    /// Reads a state from any bytes into `out`, which has the fields' depth. Bytes that are not
+    /// just so many as a state has stand for the zero state. A number of its modulus or more is
+    /// read as 0, and a value as infinity; padding is ignored.
+    pub fn read_state(&self, bytes: &[u8], out: &mut NodeState)
+        requires { length out.old.registers ≡ length self.now.moduli }
+        ensures value { out.new ≡ read self.now bytes.now }
+        ensures range { InRange self.now out.new }
+    {
+        self.tell();
+        self.read_bits(bytes, out);
+    }
+
+    /// The number of a state whose bytes begin at `start`; eight bytes more stand behind them.
+    pub fn number_at(&self, bytes: &[u8], start: usize) -> u64
+        requires small { start < 2 ^ 32 }
+        requires within { start + bytes_in self.now + 8 ≤ length bytes.now }
+        ensures { result ≡ (read self.now (take (bytes_in self.now) (drop start bytes.now))).x }
+    {
+        let width = bit_length(self.base - 1);
+        if width == 0 {
+            return 0;
+        }
+        below(self.base, field_at(bytes, 8 * start, width)).unwrap_or(0)
+    }
+
+    /// Register `i` of a state whose bytes begin at `start`; eight bytes more stand behind them.
+    pub fn register_at(&self, bytes: &[u8], start: usize, i: usize) -> Reg
+        requires small { start < 2 ^ 32 }
+        requires within { start + bytes_in self.now + 8 ≤ length bytes.now }
+        requires register { i < length self.now.moduli }
+        ensures { result
+            ≡ register_at i (read self.now (take (bytes_in self.now) (drop start bytes.now))) }
+    {
+        let modulus = self.moduli[i];
+        if modulus == 0 {
+            return ZERO;
+        }
+        let front = bit_length(self.base - 1) + size_of(&self.moduli[..i]);
+        full_register_at(bytes, 8 * start + front as usize, modulus)
+    }
+
+    /// Reads a state from any bytes.
+    fn read_bits(&self, bytes: &[u8], out: &mut NodeState)
+        requires { length out.old.registers ≡ length self.now.moduli }
+        ensures { out.new ≡ read self.now bytes.now }
+    {
+        if bytes.len() == self.bytes() {
+            let mut reader = BitReader::new(bytes);
+            let x = reader.take(bit_length(self.base - 1));
+            out.set_x(below(self.base, x).unwrap_or(0));
+            take_registers(&mut reader, &self.moduli, out);
+        } else {
+            set_zero(out);
+        }
+    }
+}

@@ -1,0 +1,80 @@
+ghost use Rattle.std.specs.Prelude.{◌≡◌, ◌<◌, ◌≤◌, ◌+◌, ◌^◌, nat_lt, if◌then◌else◌, length, map, All, [], IfOk};
+ghost use Rattle.std.specs.List.{range_with_len};
+ghost use Rattle.state_codec.specs.Shapes.{moduli_of, lows_of, moduli_from, fields_from};
+
+use crate::fields::Fields;
+use plan_numbers::Plan;
+use std::alloc::Global;
+use sync_types::NoMemory;
+
+/// The moduli of a plan's levels, the lowest first.
+pub fn level_moduli(alloc: Global, plan: &Plan) -> Result<Vec<u64>, NoMemory>
+    ensures value { IfOk result (λ moduli. moduli.items ≡ moduli_of plan.now.levels) }
+    ensures limits { IfOk result
+        (λ moduli. All (λ modulus. (2 ≤ modulus) × (modulus ≤ 2 ^ 40)) moduli.items) }
+    ensures few { IfOk result (λ moduli. length moduli.items ≤ 5) }
+{
+    plan.tell();
+    let mut moduli = vec![in alloc; 0; plan.depth()]?;
+    for i in 0..plan.depth() {
+        moduli[i] = plan.level(i).modulus;
+    }
+    Ok(moduli)
+}
+
+/// The low of each node of a plan.
+#[tactic(auto, using(crate::proofs::Lows::made_more))]
+pub fn node_lows(alloc: Global, plan: &Plan) -> Result<Vec<usize>, NoMemory>
+    ensures { IfOk result (λ lows. lows.items ≡ lows_of plan.now) }
+{
+    let nodes = plan.nodes();
+    let mut lows = Vec::with_capacity(alloc, nodes as usize)?;
+    for v in 0..nodes {
+        lows.push(plan.low(v)).map_err(|_| NoMemory)?;
+    }
+    Ok(lows)
+}
+
+/// The modulus of register `i` at a node of that low: 0 where the node lacks it.
+fn modulus_from(low: usize, i: usize, modulus: u64) -> u64
+    requires { i < 2 ^ 32 }
+    ensures { result ≡ if nat_lt (i + 1) low then 0 else modulus }
+{
+    if i + 1 < low { 0 } else { modulus }
+}
+
+/// The moduli of the registers that a node of that low has.
+#[tactic(auto, using(crate::proofs::Lows::made_more))]
+fn moduli_from(alloc: Global, low: usize, moduli: &[u64]) -> Result<Vec<u64>, NoMemory>
+    requires { length moduli.now ≤ 16 }
+    ensures { IfOk result (λ found. found.items ≡ moduli_from low moduli.now) }
+{
+    let mut found = Vec::with_capacity(alloc, moduli.len())?;
+    for i in 0..moduli.len() {
+        found
+            .push(modulus_from(low, i, moduli[i]))
+            .map_err(|_| NoMemory)?;
+    }
+    Ok(found)
+}
+
+/// The fields for each low below `lows`.
+#[tactic(auto, using(crate::proofs::Lows::made_more))]
+pub fn kinds(alloc: Global, base: u64, moduli: &[u64], lows: usize) -> Result<Vec<Fields>, NoMemory>
+    requires least { 2 ≤ base }
+    requires most { base ≤ 2 ^ 40 }
+    requires moduli { All (λ modulus. (2 ≤ modulus) × (modulus ≤ 2 ^ 40)) moduli.now }
+    requires few { length moduli.now ≤ 16 }
+    requires lows { lows ≤ 17 }
+    ensures { IfOk result (λ kinds. kinds.items
+        ≡ map (fields_from (record { base = base; moduli = moduli.now; lows = [] }))
+        (range_with_len 0 lows)) }
+{
+    let mut kinds = Vec::with_capacity(alloc, lows)?;
+    for low in 0..lows {
+        let own = if low == 0 { base } else { 1 };
+        let fields = Fields::new(own, moduli_from(alloc, low, moduli)?);
+        kinds.push(fields).map_err(|_| NoMemory)?;
+    }
+    Ok(kinds)
+}
