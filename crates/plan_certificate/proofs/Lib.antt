@@ -1,1 +1,4 @@
 mod LevelLines
+mod LevelTexts
+pub mod ReadBack
+mod StatedLines

@@ -1,17 +1,26 @@
 -- The table text of a plan: its numbers, and those of each level, line by line.
-use Rattle.std.specs.Prelude.{ℕ, List, [], ◌∷◌, codes, decimal}
+use Rattle.std.specs.Prelude.{ℕ, List, [], ◌∷◌, ◌++◌, ◌==◌, if◌then◌else◌, codes, decimal}
 use Rattle.std.specs.Int.{div_ceil}
 use Rattle.std.specs.List.{concat, flat_map, enumerate_from}
 use Rattle.construction.specs.Plans.{Plan, plan_nodes, plan_faults, plan_modulus, plan_bound, plan_bits}
 use Rattle.plan_numbers.specs.declared.numbers.LevelNums.{LevelNums}
 use Rattle.plan_numbers.specs.Numbers.{level_numbers}
 
+-- the first line of a text: what it is, and its version
+abbrev pub version_line : (kind : List ℕ) (version : ℕ) → List ℕ
+version_line kind version = concat (kind ∷ decimal version ∷ codes "\n" ∷ [])
+
 abbrev pub base_line : ℕ → List ℕ
 base_line base = concat (codes "base " ∷ decimal base ∷ codes "\n" ∷ [])
 
--- the line of a level, with its index
-abbrev pub level_line : ℕ × LevelNums → List ℕ
-level_line (index, nums) = concat (
+-- the end of a level's line: its spares, which a text of version 1 has not
+abbrev pub spares_end : (version spares : ℕ) → List ℕ
+spares_end version spares =
+    if version == 1 then codes "\n" else concat (codes " spare " ∷ decimal spares ∷ codes "\n" ∷ [])
+
+-- the numbers of a level that stand in each version, with its index
+abbrev pub level_front : ℕ → LevelNums → List ℕ
+level_front index nums = concat (
     codes "level " ∷ decimal index
     ∷ codes " blocks " ∷ decimal nums.blocks
     ∷ codes " leaders " ∷ decimal nums.leaders
@@ -21,14 +30,21 @@ level_line (index, nums) = concat (
     ∷ codes " span " ∷ decimal nums.span
     ∷ codes " modulus " ∷ decimal nums.modulus
     ∷ codes " bound " ∷ decimal nums.bound
-    ∷ codes " bits " ∷ decimal nums.bits
-    ∷ codes "\n" ∷ [])
+    ∷ codes " bits " ∷ decimal nums.bits ∷ [])
+
+-- the line of a level, with its index
+abbrev pub level_line : (version : ℕ) → ℕ × LevelNums → List ℕ
+level_line version (index, nums) = level_front index nums ++ spares_end version nums.spares
 
 -- the levels, indexed from 1, the lowest first
 abbrev pub indexed_levels : Plan → List (ℕ × LevelNums)
 indexed_levels plan = enumerate_from 1 (level_numbers plan)
 
--- the numbers of the whole plan, with the bytes that a state's bits fill, the last one perhaps in part
+abbrev pub level_lines : Plan → List ℕ
+level_lines plan = flat_map (level_line plan.version) (indexed_levels plan)
+
+-- the numbers of the whole plan, with the bytes that a state's bits fill, the last one perhaps in
+-- part
 abbrev pub plan_line : Plan → List ℕ
 plan_line plan = concat (
     codes "plan nodes " ∷ decimal (plan_nodes plan)
@@ -40,4 +56,9 @@ plan_line plan = concat (
     ∷ codes "\n" ∷ [])
 
 abbrev pub table_text : Plan → List ℕ
-table_text plan = concat (codes "table 1\n" ∷ base_line plan.base ∷ flat_map level_line (indexed_levels plan) ∷ plan_line plan ∷ codes "end\n" ∷ [])
+table_text plan = concat (
+    version_line (codes "table ") plan.version
+    ∷ base_line plan.base
+    ∷ level_lines plan
+    ∷ plan_line plan
+    ∷ codes "end\n" ∷ [])

@@ -1,10 +1,15 @@
 -- The plan of a part that was read so far.
-use Rattle.std.specs.Prelude.{Option, Some, None}
+use Rattle.std.specs.Prelude.{⊤, ◌≤◌, Option, Some, None}
 use Rattle.construction.specs.Plans.{Plan}
-use Rattle.plan_reader.specs.declared.plan_lines.PlanStage.{PlanStage}
-use Rattle.plan_reader.specs.declared.plan_lines.PlanStage.TheVariants.{Built}
+use Rattle.plan_reader.specs.declared.stages.PlanStage.{PlanStage}
+use Rattle.plan_reader.specs.declared.stages.PlanStage.TheVariants.{Begun, Built}
 
 -- the plan that was built, where the base line was read
 abbrev pub built_plan : PlanStage → Option Plan
 built_plan (Built plan) = Some plan
 built_plan other = None
+
+-- the version that a part began with is 1 or 2
+abbrev pub HasVersion : PlanStage → Type 0
+HasVersion (Begun version) = (1 ≤ version) × (version ≤ 2)
+HasVersion other = ⊤
