@@ -5,7 +5,12 @@ pub mod WordBytes
 pub mod Linked
 pub mod FaultyIds
 pub mod Shifted
+pub mod Fitted
+pub mod EraLists
+pub mod FormedEras
+pub mod DraftEras
 pub mod LineByLine
-pub mod ForPlans
-pub mod WellFormed
-pub mod ToldInRange
+pub mod SoundLines
+pub mod ReadScripts
+pub mod LiesInRange
+pub mod Hits

@@ -6,35 +6,52 @@ use Rattle.std.specs.Str.{bytes_eq}
 use Rattle.std.specs.Global.{Global}
 use Rattle.indexmap.specs.IndexMap.{insert_entry}
 use Rattle.sync_types.specs.FaultSets.{FaultIds}
-use Rattle.adversary_script.specs.Scripts.{Group, group_seen}
+use Rattle.adversary_script.specs.Scripts.{Group}
+use Rattle.adversary_script.specs.Seen.{group_seen}
 
-position_or_len-map : {X Y : Type 0} (f : X → Y) (p : Y → Bool) (xs : List X) → position_or_len p (map f xs) ≡ position_or_len (λ x. p (f x)) xs
+position_or_len-map : {X Y : Type 0} (f : X → Y) (p : Y → Bool) (xs : List X)
+    → position_or_len p (map f xs) ≡ position_or_len (λ x. p (f x)) xs
 position_or_len-map f p [] = refl
-position_or_len-map f p (x ∷ xs) = ap (λ n. cond (not (p (f x))) (1 + n) 0) (position_or_len-map f p xs)
+position_or_len-map f p (x ∷ xs) =
+    ap (λ n. cond (not (p (f x))) (1 + n) 0) (position_or_len-map f p xs)
 
-pub position-map : {X Y : Type 0} (f : X → Y) (p : Y → Bool) (xs : List X) → position p (map f xs) ≡ position (λ x. p (f x)) xs
+pub position-map : {X Y : Type 0} (f : X → Y) (p : Y → Bool) (xs : List X)
+    → position p (map f xs) ≡ position (λ x. p (f x)) xs
 position-map f p xs =
     ap (λ n. cond (ltb n (length (map f xs))) (Some n) None) (position_or_len-map f p xs)
-    ∙ ap (λ m. cond (ltb (position_or_len (λ x. p (f x)) xs) m) (Some (position_or_len (λ x. p (f x)) xs)) None) (length-map xs f)
+    ∙ ap (λ m. cond (ltb (position_or_len (λ x. p (f x)) xs) m)
+    (Some (position_or_len (λ x. p (f x)) xs)) None) (length-map xs f)
 
-none_at : {X : Type 0} (p : X → Bool) (xs : List X) → position p xs ≡ None → length xs ≤ position_or_len p xs
+none_at : {X : Type 0} (p : X → Bool) (xs : List X) → position p xs ≡ None
+    → length xs ≤ position_or_len p xs
 none_at p xs none = grind arith
 
 -- a key that no entry has goes last
-last_entry : (k : Vec ℕ Global) (v : FaultIds) (es : List (Vec ℕ Global × FaultIds)) → length es ≤ position_or_len (λ e. bytes_eq k.items e.0.items) es → insert_entry (λ x y. bytes_eq x.items y.items) es k v ≡ es ++ (k, v) ∷ []
+last_entry : (k : Vec ℕ Global) (v : FaultIds) (es : List (Vec ℕ Global × FaultIds))
+    → length es ≤ position_or_len (λ e. bytes_eq k.items e.0.items) es
+    → insert_entry (λ x y. bytes_eq x.items y.items) es k v ≡ es ++ (k, v) ∷ []
 last_entry k v [] far = refl
 last_entry k v (e ∷ es) far = by (bytes_eq k.items e.0.items) refl (λ near. last_entry k v es near)
   where
-    by : (b : Bool) → bytes_eq k.items e.0.items ≡ b → (length es ≤ position_or_len (λ e. bytes_eq k.items e.0.items) es → insert_entry (λ x y. bytes_eq x.items y.items) es k v ≡ es ++ (k, v) ∷ []) → insert_entry (λ x y. bytes_eq x.items y.items) (e ∷ es) k v ≡ (e ∷ es) ++ (k, v) ∷ []
+    by : (b : Bool) → bytes_eq k.items e.0.items ≡ b
+        → (length es ≤ position_or_len (λ e. bytes_eq k.items e.0.items) es
+        → insert_entry (λ x y. bytes_eq x.items y.items) es k v ≡ es ++ (k, v) ∷ [])
+        → insert_entry (λ x y. bytes_eq x.items y.items) (e ∷ es) k v ≡ (e ∷ es) ++ (k, v) ∷ []
     by true same rest =
         let none : position_or_len (λ e. bytes_eq k.items e.0.items) (e ∷ es) ≡ 0 = rw same refl in
         absurd (omega (arith, far, none))
     by false same rest =
-        let more : position_or_len (λ e. bytes_eq k.items e.0.items) (e ∷ es) ≡ 1 + position_or_len (λ e. bytes_eq k.items e.0.items) es = rw same refl in
+        let more : position_or_len (λ e. bytes_eq k.items e.0.items) (e ∷ es) ≡ 1 + position_or_len
+        (λ e. bytes_eq k.items e.0.items) es = rw same refl in
         rw same (ap (λ l. e ∷ l) (rest (omega (arith, far, more))))
 
 -- the groups after one of a new name
-pub group_added : (k : Vec ℕ Global) (v : FaultIds) (es new : List (Vec ℕ Global × FaultIds)) → position (λ (g : Group). bytes_eq k.items g.name) (map group_seen es) ≡ None → new ≡ insert_entry (λ x y. bytes_eq x.items y.items) es k v → map group_seen new ≡ map group_seen es ++ record { name = k.items; ids = v.ids } ∷ []
+pub group_added : (k : Vec ℕ Global) (v : FaultIds) (es new : List (Vec ℕ Global × FaultIds))
+    → position (λ (g : Group). bytes_eq k.items g.name) (map group_seen es) ≡ None
+    → new ≡ insert_entry (λ x y. bytes_eq x.items y.items) es k v
+    → map group_seen new ≡ map group_seen es ++ record { name = k.items; ids = v.ids } ∷ []
 group_added k v es new none is =
-    let here : position (λ e. bytes_eq k.items e.0.items) es ≡ None = sym (position-map group_seen (λ g. bytes_eq k.items g.name) es) ∙ none in
-    ap (map group_seen) (is ∙ last_entry k v es (none_at _ es here)) ∙ map-append group_seen es ((k, v) ∷ [])
+    let here : position (λ e. bytes_eq k.items e.0.items) es ≡ None =
+    sym (position-map group_seen (λ g. bytes_eq k.items g.name) es) ∙ none in
+    ap (map group_seen) (is ∙ last_entry k v es (none_at _ es here))
+    ∙ map-append group_seen es ((k, v) ∷ [])

@@ -1,5 +1,5 @@
 -- The kinds of a script's lines, and in which order they may stand.
-use Rattle.std.specs.Prelude.{◌≡◌, ℕ, List, [], ◌∷◌, Bool, true, false, Option, Some, None, if◌then◌else◌, codes}
+use Rattle.std.specs.Prelude.{ℕ, List, [], ◌∷◌, Bool, true, false, Option, Some, None, if◌then◌else◌, codes}
 use Rattle.std.specs.Str.{bytes_eq}
 use Rattle.adversary_script.specs.declared.kinds.Kind.{Kind}
 use Rattle.adversary_script.specs.declared.kinds.Kind.TheVariants as kind
@@ -23,19 +23,16 @@ kind_of (word ∷ words) =
     else if bytes_eq word (codes "script") then Some (kind.Script, words)
     else if bytes_eq word (codes "faulty") then Some (kind.Faulty, words)
     else if bytes_eq word (codes "seed") then Some (kind.Seed, words)
+    else if bytes_eq word (codes "era") then Some (kind.Era, words)
     else if bytes_eq word (codes "rounds") then Some (kind.Rounds, words)
     else if bytes_eq word (codes "show") then Some (kind.Show, words)
     else if bytes_eq word (codes "end") then Some (kind.End, words)
     else None
 
--- the kind that was read is the one defined, and these words are left
-abbrev pub KindRead : Option Kind → Option (Kind × List (List ℕ)) → List (List ℕ) → Type 0
-KindRead None defined left = defined ≡ None
-KindRead (Some k) defined left = defined ≡ Some (k, left)
-
--- what may stand behind a start: further starts of nodes, groups, lies, and the rounds
+-- what may stand behind a start: further starts of nodes, eras, groups, lies, and the rounds
 abbrev pub may_follow_start : Kind → Bool
 may_follow_start kind.StartNode = true
+may_follow_start kind.Era = true
 may_follow_start kind.Group = true
 may_follow_start kind.Lie = true
 may_follow_start kind.Rounds = true
@@ -53,6 +50,7 @@ may_follow (Some kind.Seed) kind.StartNoise = true
 may_follow (Some kind.StartZero) k = may_follow_start k
 may_follow (Some kind.StartNoise) k = may_follow_start k
 may_follow (Some kind.StartNode) k = may_follow_start k
+may_follow (Some kind.Era) k = may_follow_start k
 may_follow (Some kind.Group) kind.Group = true
 may_follow (Some kind.Group) kind.Lie = true
 may_follow (Some kind.Group) kind.Rounds = true

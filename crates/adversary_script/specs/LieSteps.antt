@@ -5,7 +5,7 @@ use Rattle.std.specs.Str.{bytes_eq}
 use Rattle.sync_types.specs.declared.answers.Rule.{Rule}
 use Rattle.sync_types.specs.declared.answers.Rule.TheVariants.{Form, Limit, Node, Range, Hex, Name}
 use Rattle.sync_types.specs.States.{State}
-use Rattle.state_codec.specs.Shapes.{Shape}
+use Rattle.state_codec.specs.Shapes.{Fields, fields_at}
 use Rattle.state_codec.specs.Texts.{is_state_text, read_text}
 use Rattle.adversary_script.specs.declared.lies.Who.{Who}
 use Rattle.adversary_script.specs.declared.lies.Who.TheVariants.{All, Ids, Group}
@@ -14,11 +14,12 @@ use Rattle.adversary_script.specs.declared.lies.What.TheVariants as what
 use Rattle.adversary_script.specs.LieWords.{WhoSaid, everyone, between, named, WhatSaid, noise, copy, digits, shift, LieSaid, lie_words}
 use Rattle.adversary_script.specs.WordTests.{are_ids, is_crossed}
 use Rattle.adversary_script.specs.Scripts as scripts
-use Rattle.adversary_script.specs.Scripts.{Script}
+use Rattle.adversary_script.specs.Scripts.{Script, faulty_sets}
 
--- the state of hex digits, where they are just those of a state
-abbrev pub state_of_digits : Shape → List ℕ → Option State
-state_of_digits shape word = if is_state_text shape word then Some (read_text shape word) else None
+-- the state of hex digits, where they are just those of a state with these fields
+abbrev pub state_of_digits : Fields → List ℕ → Option State
+state_of_digits fields word =
+    if is_state_text fields word then Some (read_text fields word) else None
 
 -- the place of the group of a name
 abbrev pub group_at : List scripts.Group → List ℕ → Option ℕ
@@ -30,26 +31,30 @@ who_of groups everyone = Some All
 who_of groups (between p q) = Some (Ids p q)
 who_of groups (named name) = option_map Group (group_at groups name)
 
--- what is told, where hex digits are those of a state
-abbrev pub what_of : Shape → WhatSaid → Option What
-what_of shape noise = Some what.Noise
-what_of shape (copy w) = Some (what.Copy w)
-what_of shape (digits h) = option_map what.State (state_of_digits shape h)
-what_of shape (shift d) = Some (what.Shift d)
+-- what the lie says of a sender with these fields, where hex digits are those of a state of it
+abbrev pub what_of : Fields → WhatSaid → Option What
+what_of fields noise = Some what.Noise
+what_of fields (copy w) = Some (what.Copy w)
+what_of fields (digits h) = option_map what.State (state_of_digits fields h)
+what_of fields (shift d) = Some (what.Shift d)
 
 -- one more lie, unless a state or a name is wrong
 abbrev pub with_lie : Script → LieSaid → Option What → Option Who → Result Script Rule
 with_lie s l None who = Err Hex
-with_lie s l (Some told) None = Err Name
-with_lie s l (Some told) (Some who) = Ok (record s { lies = s.lies ++ record { first = l.first; last = l.last; sender = l.sender; who = who; what = told } ∷ [] })
+with_lie s l (Some what) None = Err Name
+with_lie s l (Some what) (Some who) = Ok (record s {
+  lies =
+      s.lies ++ record { first = l.first; last = l.last; sender = l.sender; who = who; what = what }
+      ∷ [];
+})
 
 abbrev pub lie_tested : Script → Option LieSaid → Result Script Rule
 lie_tested s None = Err Form
 lie_tested s (Some l) =
     if nat_le 256 (length s.lies) then Err Limit
-    else if not (are_ids s.nodes s.faulty l) then Err Node
+    else if not (are_ids s.nodes (faulty_sets s) l) then Err Node
     else if nat_lt l.last l.first || is_crossed l.who then Err Range
-    else with_lie s l (what_of s.shape l.what) (who_of s.groups l.who)
+    else with_lie s l (what_of (fields_at s.shape l.sender) l.what) (who_of s.groups l.who)
 
 -- `lie A B U to WHO WHAT`, by the words behind the first
 abbrev pub lie_step : Script → List (List ℕ) → Result Script Rule

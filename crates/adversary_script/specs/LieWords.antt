@@ -43,7 +43,9 @@ who_by (Some p) word words = up_to p words
 -- WHO, and the words behind
 abbrev pub who_words : List (List ℕ) → Option (WhoSaid × List (List ℕ))
 who_words [] = None
-who_words (word ∷ words) = if bytes_eq word (codes "all") then Some (everyone, words) else who_by (number_of word) word words
+who_words (word ∷ words) =
+    if bytes_eq word (codes "all") then Some (everyone, words) else who_by (number_of word) word
+    words
 
 -- WHAT, which ends the line
 abbrev pub what_words : List (List ℕ) → Option WhatSaid
@@ -57,7 +59,8 @@ what_words (key ∷ word ∷ []) =
 what_words other = None
 
 abbrev pub with_what : (a b u : ℕ) → WhoSaid → Option WhatSaid → Option LieSaid
-with_what a b u who found = option_map (λ what. record { first = a; last = b; sender = u; who = who; what = what }) found
+with_what a b u who found =
+    option_map (λ what. record { first = a; last = b; sender = u; who = who; what = what }) found
 
 abbrev pub with_who : (a b u : ℕ) → Option (WhoSaid × List (List ℕ)) → Option LieSaid
 with_who a b u None = None
@@ -69,7 +72,9 @@ with_numbers a b u words = None
 
 -- `A B U to WHO WHAT`
 abbrev pub lie_words : List (List ℕ) → Option LieSaid
-lie_words (a ∷ b ∷ u ∷ to ∷ words) = if bytes_eq to (codes "to") then with_numbers (number_of a) (number_of b) (number_of u) words else None
+lie_words (a ∷ b ∷ u ∷ to ∷ words) =
+    if bytes_eq to (codes "to") then with_numbers (number_of a) (number_of b) (number_of u) words
+    else None
 lie_words other = None
 
 -- what the words of the code stand for
@@ -85,7 +90,15 @@ what_seen (what.Hex h) = digits h.now
 what_seen (what.Shift d) = shift d
 
 abbrev pub lie_seen : LieWords → LieSaid
-lie_seen l = record { first = l.first; last = l.last; sender = l.sender; who = who_seen l.who; what = what_seen l.what }
+lie_seen l =
+    record {
+      first = l.first;
+      last = l.last;
+      sender = l.sender;
+      who = who_seen l.who;
+      what =
+          what_seen l.what;
+    }
 
 -- the receivers that were read are those defined, and these words are left
 abbrev pub WhoRead : Option WhoWords → List (List ℕ) → List (List ℕ) → Type 0

@@ -7,12 +7,14 @@ use Rattle.adversary_script.specs.declared.lies.Lie.{Lie}
 abbrev pub place_from : List Lie → (u from : ℕ) → ℕ
 place_from lies u from = from + position_or_len (λ lie. lie.sender == u) (drop from lies)
 
--- the first lie of each of n nodes, from a place on, and behind each lie from there on the next one of its sender
+-- the first lie of each of n nodes, from a place on, and behind each lie from there on the next one
+-- of its sender
 pub record IsLinkedFrom (from n : ℕ) (lies : List Lie) (firsts nexts : List ℕ) : Type 0 where
   pub nodes : length firsts ≡ n
   pub count : length nexts ≡ length lies
   pub first : (u : ℕ) → u < n → slice_index firsts u ≡ place_from lies u from
-  pub next : (i : ℕ) (d : Lie) → from ≤ i → i < length lies → slice_index nexts i ≡ place_from lies (slice_index_or lies i d).sender (i + 1)
+  pub next : (i : ℕ) (d : Lie) → from ≤ i → i < length lies → slice_index nexts i ≡ place_from lies
+      (slice_index_or lies i d).sender (i + 1)
 
 -- the same of all lies
 abbrev pub IsLinked : (n : ℕ) → List Lie → (firsts nexts : List ℕ) → Type 0

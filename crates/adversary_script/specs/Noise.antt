@@ -4,7 +4,7 @@ use Rattle.std.specs.List.{range_with_len, flat_map}
 use Rattle.std.specs.Int.{w32, to_le_bytes, div_ceil}
 use Rattle.rand_chacha.specs.ChaCha.{word_at, key_of}
 use Rattle.sync_types.specs.States.{State}
-use Rattle.state_codec.specs.Shapes.{Shape, bytes_in}
+use Rattle.state_codec.specs.Shapes.{Fields, bytes_in}
 use Rattle.state_codec.specs.Reading.{read}
 
 -- the words of a key of 32 bytes
@@ -17,7 +17,8 @@ noise_word key stream place = word_at 4 key stream place
 
 -- so many words of a stream from a place on
 abbrev pub noise_words : List ℕ → (stream first count : ℕ) → List ℕ
-noise_words key stream first count = map (λ i. noise_word key stream (first + i)) (range_with_len 0 count)
+noise_words key stream first count =
+    map (λ i. noise_word key stream (first + i)) (range_with_len 0 count)
 
 -- words as bytes, the low byte of each first, cut to so many
 abbrev pub bytes_of : List ℕ → (count : ℕ) → List ℕ
@@ -25,12 +26,14 @@ bytes_of words count = take count (flat_map (to_le_bytes w32) words)
 
 -- so many bytes of a stream from a place on, for a key of 32 bytes
 abbrev pub noise_bytes : (key : List ℕ) → (stream first count : ℕ) → List ℕ
-noise_bytes key stream first count = bytes_of (noise_words (key_in key) stream first (div_ceil count 4)) count
+noise_bytes key stream first count =
+    bytes_of (noise_words (key_in key) stream first (div_ceil count 4)) count
 
--- how many words the noise of a state has
-abbrev pub words_in : Shape → ℕ
-words_in shape = div_ceil (bytes_in shape) 4
+-- how many words the noise of a state with these fields has
+abbrev pub words_in : Fields → ℕ
+words_in fields = div_ceil (bytes_in fields) 4
 
 -- the state of noise of a turn: each turn of a stream has the words behind those of the turn before
-unfoldable pub noise_state : Shape → (key : List ℕ) → (stream turn : ℕ) → State
-noise_state shape key stream turn = read shape (noise_bytes key stream (turn * words_in shape) (bytes_in shape))
+unfoldable pub noise_state : Fields → (key : List ℕ) → (stream turn : ℕ) → State
+noise_state fields key stream turn =
+    read fields (noise_bytes key stream (turn * words_in fields) (bytes_in fields))

@@ -1,6 +1,5 @@
 -- The script part of an input, line by line, to the end of the input.
-use Rattle.std.specs.Prelude.{◌≡◌, ℕ, ◌+◌, ◌==◌, Bool, List, Option, Some, None, Result, Ok, Err, if◌then◌else◌}
-use Rattle.std.specs.List.{list_any}
+use Rattle.std.specs.Prelude.{◌≡◌, ⊤, ℕ, ◌+◌, List, All, Option, Some, None, Result, Ok, Err, if◌then◌else◌}
 use Rattle.texts.specs.Lines.{words_of}
 use Rattle.texts.specs.Parts.{Next, goes, ends, refuses, with_skips, Found, At, part_from}
 use Rattle.sync_types.specs.declared.answers.Rule.{Rule}
@@ -9,10 +8,12 @@ use Rattle.construction.specs.Plans.{Plan, plan_nodes, plan_faults}
 use Rattle.construction.specs.Runs.{IsBorne}
 use Rattle.state_codec.specs.Shapes.{Shape}
 use Rattle.plan_reader.specs.Skipped.{first_unskipped}
+use Rattle.adversary_script.specs.declared.refusals.ScriptError.{ScriptError}
 use Rattle.adversary_script.specs.declared.kinds.Kind.{Kind}
 use Rattle.adversary_script.specs.declared.kinds.Kind.TheVariants as kind
 use Rattle.adversary_script.specs.Kinds.{kind_of, may_follow}
-use Rattle.adversary_script.specs.Scripts.{Script, empty_script}
+use Rattle.adversary_script.specs.Scripts.{Script, empty_script, faulty_sets, AreWithin}
+use Rattle.adversary_script.specs.ScriptRefusals.{FailsAsDefined}
 use Rattle.adversary_script.specs.Steps.{line_step}
 
 -- how many ids may be faulty, the kind of the last line, and what was said so far
@@ -23,7 +24,8 @@ pub record ScriptSoFar : Type 0 where
 
 -- a part of which nothing was read
 abbrev pub nothing_read : (nodes faults : ℕ) → Shape → ScriptSoFar
-nothing_read nodes faults shape = record { faults = faults; last = None; script = empty_script nodes shape }
+nothing_read nodes faults shape =
+    record { faults = faults; last = None; script = empty_script nodes shape }
 
 -- behind a line of a kind the part goes on, or ends, or the line is refused
 abbrev pub passed : ScriptSoFar → Kind → Result Script Rule → Next ScriptSoFar Script Rule
@@ -34,19 +36,20 @@ passed s k (Ok script) = goes (record s { last = Some k; script = script })
 -- a line of a kind with these words behind
 abbrev pub read_as : ScriptSoFar → Option (Kind × List (List ℕ)) → Next ScriptSoFar Script Rule
 read_as s None = refuses Form
-read_as s (Some (k, words)) = if may_follow s.last k then passed s k (line_step s.faults k s.script words) else refuses Form
-
--- whether a line holds a carriage return, which is no part of any word
-abbrev pub holds_return : List ℕ → Bool
-holds_return line = list_any (λ b. b == 13) line
+read_as s (Some (k, words)) =
+    if may_follow s.last k then passed s k (line_step s.faults k s.script words) else refuses Form
 
 -- a line behind those that were read
 abbrev pub script_step : ScriptSoFar → List ℕ → Next ScriptSoFar Script Rule
-script_step s line = if holds_return line then refuses Form else read_as s (kind_of (words_of line))
+script_step s line = read_as s (kind_of (words_of line))
 
--- The script part at the front of these lines, of which the first has that number: its script, how many lines it took through `end`, and the lines behind; or the first line that fails, with the first rule that it fails.
+-- The script part at the front of these lines, of which the first has that number: its script, how
+-- many lines it took through `end`, and the lines behind; or the first line that fails, with the
+-- first rule that it fails.
 abbrev pub part_of : Plan → Shape → (number : ℕ) → List (List ℕ) → Result (Found Script) (At Rule)
-part_of plan shape number lines = part_from (with_skips script_step Form) Form (nothing_read (plan_nodes plan) (plan_faults plan) shape) 0 number lines
+part_of plan shape number lines =
+    part_from (with_skips script_step Form) Form
+    (nothing_read (plan_nodes plan) (plan_faults plan) shape) 0 number lines
 
 -- the script, unless the line with that number follows it
 abbrev pub unless_followed : Option ℕ → Script → Result Script (At Rule)
@@ -54,15 +57,32 @@ unless_followed None script = Ok script
 unless_followed (Some number) script = Err (record { line = number; rule = Form })
 
 abbrev pub alone : (number : ℕ) → Result (Found Script) (At Rule) → Result Script (At Rule)
-alone number (Ok found) = unless_followed (first_unskipped (number + found.taken) found.behind) found.value
+alone number (Ok found) =
+    unless_followed (first_unskipped (number + found.taken) found.behind) found.value
 alone number (Err refusal) = Err refusal
 
--- The script of these lines, of which the first has that number and behind whose `end` only skipped ones stand; or the first line that fails, with the first rule that it fails.
+-- The script of these lines, of which the first has that number and behind whose `end` only skipped
+-- ones stand; or the first line that fails, with the first rule that it fails.
 unfoldable pub script_of : Plan → Shape → (number : ℕ) → List (List ℕ) → Result Script (At Rule)
 script_of plan shape number lines = alone number (part_of plan shape number lines)
 
--- a script for a plan: for its nodes, for states of that shape, with a faulty set that the plan bears
+-- a script for a plan: for its nodes, for states of that shape, with faulty sets that the plan
+-- bears
 pub record IsFor (plan : Plan) (shape : Shape) (script : Script) : Type 0 where
   pub nodes : script.nodes ≡ plan_nodes plan
   pub states : script.shape ≡ shape
-  pub borne : IsBorne plan script.faulty
+  pub borne : All (IsBorne plan) (faulty_sets script)
+
+-- reading these lines answers the script that is defined, or fails as defined
+abbrev pub IsAnswer : Plan → Shape → (number : ℕ) → List (List ℕ) → Result Script ScriptError
+    → Type 0
+IsAnswer plan shape number lines (Ok script) = script_of plan shape number lines ≡ Ok script
+IsAnswer plan shape number lines (Err error) =
+    FailsAsDefined error (script_of plan shape number lines)
+
+-- where the rounds were said, all eras begin within them
+abbrev pub IsClosed : Option Kind → Script → Type 0
+IsClosed (Some kind.Rounds) script = AreWithin script
+IsClosed (Some kind.Show) script = AreWithin script
+IsClosed (Some kind.End) script = AreWithin script
+IsClosed last script = ⊤

@@ -1,8 +1,7 @@
 -- What a script says.
-use Rattle.std.specs.Prelude.{ℕ, ◌<◌, ◌≤◌, List, [], map, replicate, All, ⊤, Vec}
-use Rattle.std.specs.Global.{Global}
-use Rattle.sync_types.specs.FaultSets.{FaultIds}
-use Rattle.state_codec.specs.Shapes.{Shape}
+use Rattle.std.specs.Prelude.{ℕ, ◌<◌, ◌≤◌, List, [], ◌∷◌, length, map, replicate, All, ⊤}
+use Rattle.std.specs.List.Sorted.{IsStrictlyIncreasing}
+use Rattle.state_codec.specs.Shapes.{Fields, Shape, fields_at}
 use Rattle.state_codec.specs.Ranges.{InRange}
 use Rattle.adversary_script.specs.declared.lies.CommonStart.{CommonStart}
 use Rattle.adversary_script.specs.declared.lies.CommonStart.TheVariants as common
@@ -16,14 +15,25 @@ pub record Group : Type 0 where
   pub name : List ℕ
   pub ids : List ℕ
 
--- A script for so many nodes with states of that shape: the faulty ids, the 32 bytes of the noise key, the start of all nodes and those of single nodes, the groups and the lies in their order, how many rounds are played, and the first and the last configuration that is shown.
+-- from configuration `first` on these nodes are faulty, and there some nodes are put into states
+pub record Era : Type 0 where
+  pub first : ℕ
+  pub faulty : List ℕ
+  pub starts : List Start
+
+-- A script for so many nodes with states of that shape: its version, the ids that are faulty at
+-- first, the 32 bytes of the noise key, the start of all nodes and those of single nodes, the
+-- further eras, the groups and the lies in their order, how many rounds are played, and the first
+-- and the last configuration that is shown.
 pub record Script : Type 0 where
+  pub version : ℕ
   pub nodes : ℕ
   pub shape : Shape
   pub faulty : List ℕ
   pub key : List ℕ
   pub common : CommonStart
   pub starts : List Start
+  pub eras : List Era
   pub groups : List Group
   pub lies : List Lie
   pub rounds : ℕ
@@ -32,28 +42,60 @@ pub record Script : Type 0 where
 
 -- the script that says nothing
 abbrev pub empty_script : (nodes : ℕ) → Shape → Script
-empty_script nodes shape = record { nodes = nodes; shape = shape; faulty = []; key = replicate 32 0; common = common.Zero; starts = []; groups = []; lies = []; rounds = 0; first = 0; last = 0 }
+empty_script nodes shape = record {
+  version = 1;
+  nodes = nodes;
+  shape = shape;
+  faulty = [];
+  key = replicate 32 0;
+  common = common.Zero;
+  starts = [];
+  eras = [];
+  groups = [];
+  lies = [];
+  rounds = 0;
+  first = 0;
+  last = 0;
+}
 
--- a node that is copied is one of n, and a state that is told is in range
-abbrev pub IsTold : (n : ℕ) → Shape → What → Type 0
-IsTold n shape what.Noise = ⊤
-IsTold n shape (what.Copy w) = w < n
-IsTold n shape (what.State s) = InRange shape s
-IsTold n shape (what.Shift d) = ⊤
+-- the first configuration of each era, era 0 among them
+abbrev pub firsts : Script → List ℕ
+firsts s = 0 ∷ map (λ era. era.first) s.eras
+
+-- the faulty nodes of each era
+abbrev pub faulty_sets : Script → List (List ℕ)
+faulty_sets s = s.faulty ∷ map (λ era. era.faulty) s.eras
+
+-- what is said of a node with these fields: a node that is copied is one of n, and a state is in
+-- range
+abbrev pub IsLying : (n : ℕ) → Fields → What → Type 0
+IsLying n fields what.Noise = ⊤
+IsLying n fields (what.Copy w) = w < n
+IsLying n fields (what.State s) = InRange fields s
+IsLying n fields (what.Shift d) = ⊤
+
+-- the states of start lines are in range, each at its node's fields
+abbrev pub AreInRange : Shape → List Start → Type 0
+AreInRange shape starts = All (λ start. InRange (fields_at shape start.node) start.state) starts
+
+-- what holds of a script behind each of its lines
+pub record IsFormed (s : Script) : Type 0 where
+  pub ids : All (All (λ id. id < s.nodes)) (faulty_sets s)
+  pub senders : All (λ lie. lie.sender < s.nodes) s.lies
+  pub lies : All (λ lie. IsLying s.nodes (fields_at s.shape lie.sender) lie.what) s.lies
+  pub starts : AreInRange s.shape s.starts
+  pub hits : All (λ era. AreInRange s.shape era.starts) s.eras
+  pub many : length s.eras ≤ 16
+  pub rising : IsStrictlyIncreasing (firsts s)
+  pub few : s.rounds ≤ 1000000
+  pub order : s.first ≤ s.last
+  pub shown : s.last ≤ s.rounds
+
+-- each era begins with a configuration that is played
+abbrev pub AreWithin : Script → Type 0
+AreWithin s = All (λ first. first ≤ s.rounds) (firsts s)
 
 -- what holds of every script that was read
 pub record IsScript (s : Script) : Type 0 where
-  pub senders : All (λ lie. lie.sender < s.nodes) s.lies
-  pub lies : All (λ lie. IsTold s.nodes s.shape lie.what) s.lies
-  pub starts : All (λ start. InRange s.shape start.state) s.starts
-  pub few : s.rounds ≤ 1000000
-  pub order : s.first ≤ s.last
-  pub within : s.last ≤ s.rounds
-
--- what an entry of the code's map of groups stands for
-abbrev pub group_seen : Vec ℕ Global × FaultIds → Group
-group_seen entry = record { name = entry.0.items; ids = entry.1.ids }
-
--- what the parts that the code keeps stand for
-abbrev pub script_seen : Shape → FaultIds → (key : List ℕ) → CommonStart → List Start → List (Vec ℕ Global × FaultIds) → List Lie → (rounds first last : ℕ) → Script
-script_seen shape faulty key common starts groups lies rounds first last = record { nodes = faulty.nodes; shape = shape; faulty = faulty.ids; key = key; common = common; starts = starts; groups = map group_seen groups; lies = lies; rounds = rounds; first = first; last = last }
+  pub formed : IsFormed s
+  pub within : AreWithin s

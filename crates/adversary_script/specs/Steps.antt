@@ -1,39 +1,32 @@
 -- A script after each of its lines, with the line's tests in their order.
-use Rattle.std.specs.Prelude.{ℕ, ◌==◌, List, [], ◌∷◌, ◌++◌, length, Bool, ◌&&◌, ◌||◌, not, nat_le, nat_lt, Option, Some, None, is_some, Result, Ok, Err, codes, if◌then◌else◌}
+use Rattle.std.specs.Prelude.{ℕ, ◌==◌, List, [], ◌∷◌, ◌++◌, length, ◌&&◌, ◌||◌, not, nat_le, nat_lt, Option, Some, None, is_some, Result, Ok, Err, codes, if◌then◌else◌}
 use Rattle.std.specs.List.{list_all}
 use Rattle.std.specs.Str.{bytes_eq}
 use Rattle.hex.specs.Hex.{decode_of}
-use Rattle.texts.specs.Numbers.{number_of}
 use Rattle.sync_types.specs.declared.answers.Rule.{Rule}
 use Rattle.sync_types.specs.declared.answers.Rule.TheVariants as rule
-use Rattle.sync_types.specs.States.{State}
 use Rattle.state_codec.specs.Texts.{is_lower_digit}
 use Rattle.adversary_script.specs.declared.kinds.Kind.{Kind}
 use Rattle.adversary_script.specs.declared.kinds.Kind.TheVariants as kind
 use Rattle.adversary_script.specs.declared.lies.CommonStart.TheVariants as common
-use Rattle.adversary_script.specs.declared.lies.Start.{Start}
 use Rattle.adversary_script.specs.WordTests.{numbers_in, only, both, is_name, are_below, is_rising}
 use Rattle.adversary_script.specs.Scripts.{Script}
-use Rattle.adversary_script.specs.LieSteps.{state_of_digits, group_at, lie_step}
+use Rattle.adversary_script.specs.FaultySteps.{faulty_tested, last_first, era_step}
+use Rattle.adversary_script.specs.StartSteps.{start_step}
+use Rattle.adversary_script.specs.LieSteps.{group_at, lie_step}
 
 -- nothing stands behind the words of the kind
 abbrev pub done : Script → List (List ℕ) → Result Script Rule
 done s [] = Ok s
 done s (word ∷ words) = Err rule.Form
 
--- `script 1`
+-- `script 1` or `script 2`
 abbrev pub head_tested : Script → Option (List ℕ) → Result Script Rule
 head_tested s None = Err rule.Form
-head_tested s (Some word) = if bytes_eq word (codes "1") then Ok s else Err rule.Form
-
--- `faulty` and ids, of which there are f at most
-abbrev pub faulty_tested : (f : ℕ) → Script → Option (List ℕ) → Result Script Rule
-faulty_tested f s None = Err rule.Form
-faulty_tested f s (Some ids) =
-    if not (are_below s.nodes ids) then Err rule.Node
-    else if not (is_rising ids) then Err rule.Order
-    else if nat_lt f (length ids) then Err rule.Faults
-    else Ok (record s { faulty = ids })
+head_tested s (Some word) =
+    if bytes_eq word (codes "1") then Ok (record s { version = 1 })
+    else if bytes_eq word (codes "2") then Ok (record s { version = 2 })
+    else Err rule.Form
 
 abbrev pub decoded_bytes : {E : Type 0} → Result (List ℕ) E → Option (List ℕ)
 decoded_bytes (Ok bytes) = Some bytes
@@ -41,7 +34,9 @@ decoded_bytes (Err e) = None
 
 -- the 32 bytes of 64 hex digits
 abbrev pub key_of_digits : List ℕ → Option (List ℕ)
-key_of_digits word = if length word == 64 && list_all is_lower_digit word then decoded_bytes (decode_of word) else None
+key_of_digits word =
+    if length word == 64 && list_all is_lower_digit word then decoded_bytes (decode_of word)
+    else None
 
 abbrev pub with_key : Script → Option (List ℕ) → Result Script Rule
 with_key s None = Err rule.Hex
@@ -52,26 +47,6 @@ abbrev pub seed_tested : Script → Option (List ℕ) → Result Script Rule
 seed_tested s None = Err rule.Form
 seed_tested s (Some word) = with_key s (key_of_digits word)
 
--- a node is above those that have a start
-abbrev pub is_above : List Start → ℕ → Bool
-is_above starts v = list_all (λ start. nat_lt start.node v) starts
-
-abbrev pub with_start : Script → ℕ → Option State → Result Script Rule
-with_start s v None = Err rule.Hex
-with_start s v (Some state) = Ok (record s { starts = s.starts ++ record { node = v; state = state } ∷ [] })
-
-abbrev pub start_tested : Script → Option ℕ → List ℕ → Result Script Rule
-start_tested s None word = Err rule.Form
-start_tested s (Some v) word =
-    if nat_le s.nodes v then Err rule.Node
-    else if not (is_above s.starts v) then Err rule.Order
-    else with_start s v (state_of_digits s.shape word)
-
--- `start node V H`
-abbrev pub start_step : Script → Option (List ℕ × List ℕ) → Result Script Rule
-start_step s None = Err rule.Form
-start_step s (Some words) = start_tested s (number_of words.0) words.1
-
 abbrev pub group_tested : Script → List ℕ → Option (List ℕ) → Result Script Rule
 group_tested s name None = Err rule.Form
 group_tested s name (Some []) = Err rule.Form
@@ -79,7 +54,8 @@ group_tested s name (Some (id ∷ ids)) =
     if nat_le 256 (length s.groups) then Err rule.Limit
     else if not (are_below s.nodes (id ∷ ids)) then Err rule.Node
     else if not (is_rising (id ∷ ids)) then Err rule.Order
-    else if not (is_name name) || bytes_eq name (codes "all") || is_some (group_at s.groups name) then Err rule.Name
+    else if not (is_name name) || bytes_eq name (codes "all") || is_some (group_at s.groups name)
+    then Err rule.Name
     else Ok (record s { groups = s.groups ++ record { name = name; ids = id ∷ ids } ∷ [] })
 
 -- `group NAME` and ids
@@ -89,12 +65,17 @@ group_step s (name ∷ words) = group_tested s name (numbers_in words)
 
 -- `rounds R`; what is shown of them is said by the next line
 abbrev pub rounds_tested : Script → Option (List ℕ) → Result Script Rule
-rounds_tested s (Some (r ∷ [])) = if nat_lt 1000000 r then Err rule.Limit else Ok (record s { rounds = r; first = 0; last = 0 })
+rounds_tested s (Some (r ∷ [])) =
+    if nat_lt 1000000 r then Err rule.Limit
+    else if nat_lt r (last_first s) then Err rule.Range
+    else Ok (record s { rounds = r; first = 0; last = 0 })
 rounds_tested s other = Err rule.Form
 
 -- `show A B`
 abbrev pub show_tested : Script → Option (List ℕ) → Result Script Rule
-show_tested s (Some (a ∷ b ∷ [])) = if nat_lt b a || nat_lt s.rounds b then Err rule.Range else Ok (record s { first = a; last = b })
+show_tested s (Some (a ∷ b ∷ [])) =
+    if nat_lt b a || nat_lt s.rounds b then Err rule.Range
+    else Ok (record s { first = a; last = b })
 show_tested s other = Err rule.Form
 
 -- a line of a kind, by the words behind; f ids at most may be faulty
@@ -105,6 +86,7 @@ line_step f kind.Seed s words = seed_tested s (only words)
 line_step f kind.StartZero s words = done (record s { common = common.Zero }) words
 line_step f kind.StartNoise s words = done (record s { common = common.Noise }) words
 line_step f kind.StartNode s words = start_step s (both words)
+line_step f kind.Era s words = era_step f s words
 line_step f kind.Group s words = group_step s words
 line_step f kind.Lie s words = lie_step s words
 line_step f kind.Rounds s words = rounds_tested s (numbers_in words)

@@ -1,6 +1,6 @@
 -- The tests of a script's words and numbers.
 use Rattle.std.specs.Prelude.{ℕ, List, [], ◌∷◌, length, Bool, true, false, ◌&&◌, nat_le, nat_lt, Option, Some, None}
-use Rattle.std.specs.List.{list_all}
+use Rattle.std.specs.List.{list_all, list_any}
 use Rattle.texts.specs.Numbers.{number_of}
 use Rattle.texts.specs.Shapes.{onto_numbers}
 use Rattle.sync_types.specs.FaultSets.{is_in}
@@ -50,9 +50,11 @@ abbrev pub what_below : ℕ → WhatSaid → Bool
 what_below n (copy w) = nat_lt w n
 what_below n other = true
 
--- the ids of a lie are those of n nodes, and its sender's is that of a faulty one
-abbrev pub are_ids : ℕ → List ℕ → LieSaid → Bool
-are_ids n faulty lie = nat_lt lie.sender n && is_in faulty lie.sender && who_below n lie.who && what_below n lie.what
+-- the ids of a lie are those of n nodes, and its sender's is in one of these faulty sets
+abbrev pub are_ids : ℕ → List (List ℕ) → LieSaid → Bool
+are_ids n sets lie =
+    nat_lt lie.sender n && list_any (λ ids. is_in ids lie.sender) sets && who_below n lie.who &&
+    what_below n lie.what
 
 -- the first of two ids is above the last
 abbrev pub is_crossed : WhoSaid → Bool

@@ -1,14 +1,19 @@
-ghost use Rattle.std.specs.Prelude.{◌≡◌, ◌<◌, ◌≤◌, ◌++◌, ◌∷◌, [], None, IfOk};
+ghost use Rattle.std.specs.Prelude.{◌≡◌, ◌<◌, ◌≤◌, ◌++◌, ◌∷◌, [], None, All, IfOk, length, map};
+ghost use Rattle.std.specs.List.{list_any};
+ghost use Rattle.sync_types.specs.FaultSets.{is_in};
 ghost use Rattle.construction.specs.Plans.{plan_nodes};
-ghost use Rattle.state_codec.specs.Shapes.{shape_of};
+ghost use Rattle.state_codec.specs.Shapes.{shape_of, fields_at};
 ghost use Rattle.state_codec.specs.Ranges.{InRange};
-ghost use Rattle.adversary_script.specs.Scripts.{Group, IsTold, empty_script};
+ghost use Rattle.adversary_script.specs.Scripts.{Group, IsLying, AreWithin, empty_script};
+ghost use Rattle.adversary_script.specs.Seen.{faulty_or_none};
 ghost use Rattle.adversary_script.specs.LieSteps.{group_at};
+ghost use Rattle.adversary_script.specs.FaultySteps.{last_era, last_first, with_era};
+ghost use Rattle.adversary_script.specs.StartSteps.{started};
 
 use crate::lies::{CommonStart, Lie, Start};
 use crate::links::link;
+use crate::parts::{Era, Parts};
 use crate::scripts::Script;
-use indexmap::IndexMap;
 use plan_numbers::Plan;
 use state_codec::StateShape;
 use std::alloc::{AllocError, AllocFailed, Global};
@@ -22,124 +27,140 @@ pub struct Draft<'a> {
     alloc: Global,
     plan: &'a Plan,
     shape: &'a StateShape,
-    faulty: FaultSet,
-    key: [u8; 32],
-    common: CommonStart,
-    starts: Vec<Start>,
-    groups: IndexMap<Vec<u8>, FaultSet>,
-    lies: Vec<Lie>,
-    rounds: u64,
-    first: u64,
-    last: u64,
+    faulty: Option<FaultSet>,
+    parts: Parts,
 }
 
 impl<'a> Model for Draft<'a> {
     ghost use Rattle.std.specs.Prelude.{◌≡◌};
+    ghost use Rattle.construction.specs.Plans.{plan_nodes};
     ghost use Rattle.state_codec.specs.Shapes.{shape_of};
-    ghost use Rattle.adversary_script.specs.Scripts.{Script as ScriptSaid, IsScript, script_seen};
+    ghost use Rattle.adversary_script.specs.Scripts.{Script as ScriptSaid, IsFormed};
+    ghost use Rattle.adversary_script.specs.Seen.{script_seen, faulty_or_none, IsOver};
 
     ghost Value = { ScriptSaid };
 
-    ghost view = { λ d. script_seen d.shape.now d.faulty d.key d.common d.starts.items d.groups.entries d.lies.items d.rounds d.first d.last };
+    ghost view = { λ d.
+        script_seen d.shape.now (faulty_or_none (plan_nodes d.plan.now) d.faulty) d.parts };
 
-    ghost invariant = { λ d. IsScript (script_seen d.shape.now d.faulty d.key d.common d.starts.items d.groups.entries d.lies.items d.rounds d.first d.last) × (d.shape.now ≡ shape_of d.plan.now) };
+    ghost invariant = { λ d.
+        IsFormed (script_seen d.shape.now (faulty_or_none (plan_nodes d.plan.now) d.faulty) d.parts)
+        × IsOver (plan_nodes d.plan.now) d.faulty d.parts
+        × (d.shape.now ≡ shape_of d.plan.now) };
 }
 
 impl<'a> Draft<'a> {
     /// A script that says nothing yet.
-    pub fn new(alloc: Global, plan: &'a Plan, shape: &'a StateShape) -> Result<Draft<'a>, NoMemory>
+    pub fn new(alloc: Global, plan: &'a Plan, shape: &'a StateShape) -> Draft<'a>
         requires { shape.now ≡ shape_of plan.now }
-        ensures { IfOk result (λ draft. draft ≡ empty_script (plan_nodes plan.now) shape.now) }
+        ensures { result ≡ empty_script (plan_nodes plan.now) shape.now }
     {
-        let faulty = FaultSet::new(alloc, plan.nodes())?;
-        Ok(Draft {
+        Draft {
             alloc,
             plan,
             shape,
-            faulty,
-            key: [0; 32],
-            common: CommonStart::Zero,
-            starts: Vec::new(alloc),
-            groups: IndexMap::new(alloc),
-            lies: Vec::new(alloc),
-            rounds: 0,
-            first: 0,
-            last: 0,
-        })
+            faulty: None,
+            parts: Parts::none(alloc),
+        }
     }
 
     /// Gives away what was said.
     pub fn finish(&mut self) -> Result<Script, NoMemory>
+        requires { AreWithin self.old }
         ensures { IfOk result (λ script. script ≡ self.old) }
     {
+        let nodes = self.plan.nodes();
         let shape = StateShape::of(self.alloc, self.plan)?;
-        let fresh = Draft::new(self.alloc, self.plan, self.shape)?;
-        let done = mem::replace(self, fresh);
-        let links = link(done.alloc, done.faulty.nodes(), &done.lies)?;
+        let links = link(self.alloc, nodes, &self.parts.lies)?;
+        let parts = mem::replace(&mut self.parts, Parts::none(self.alloc));
+        let faulty = faulty_or_none(self.alloc, nodes, self.faulty.take())?;
         Ok(Script {
-            base: self.plan.base_modulus(),
             shape,
-            faulty: done.faulty,
-            key: done.key,
-            common: done.common,
-            starts: done.starts,
-            groups: done.groups,
-            lies: done.lies,
+            faulty,
+            parts,
             links,
-            rounds: done.rounds,
-            first: done.first,
-            last: done.last,
         })
     }
 
-    /// Says which nodes are faulty.
+    /// Says of which version the script is.
+    pub fn set_version(&mut self, version: u32)
+        ensures { self.new ≡ record self.old { version = version } }
+    {
+        self.parts.version = version;
+    }
+
+    /// Says which nodes are faulty at first.
     pub fn set_faulty(&mut self, faulty: FaultSet)
-        requires { faulty.nodes ≡ self.old.nodes }
+        requires nodes { faulty.nodes ≡ self.old.nodes }
+        requires ids { All (λ id. id < self.old.nodes) faulty.ids }
         ensures { self.new ≡ record self.old { faulty = faulty.ids } }
     {
-        self.faulty = faulty;
+        self.faulty = Some(faulty);
     }
 
     /// Says the key of the noise.
     pub fn set_key(&mut self, key: [u8; 32])
         ensures { self.new ≡ record self.old { key = key } }
     {
-        self.key = key;
+        self.parts.key = key;
     }
 
     /// Says how the nodes start that have no start line of their own.
     pub fn set_common(&mut self, common: CommonStart)
         ensures { self.new ≡ record self.old { common = common } }
     {
-        self.common = common;
+        self.parts.common = common;
     }
 
-    /// Adds the start of a node.
+    /// Adds the start of a node, in the last era that was said.
     pub fn add_start(&mut self, start: Start) -> Result<(), AllocFailed<Start>>
-        requires { InRange self.old.shape start.state }
-        ensures { IfOk result (λ _. self.new ≡ record self.old { starts = self.old.starts ++ start ∷ [] }) }
+        requires { InRange (fields_at self.old.shape start.node) start.state }
+        ensures { IfOk result (λ _. self.new ≡ started self.old (last_era self.old.eras) start) }
     {
-        self.starts.push(start)
+        let count = self.parts.eras.len();
+        if count == 0 {
+            return self.parts.starts.push(start);
+        }
+        self.parts.eras[count - 1].starts.push(start)
+    }
+
+    /// Adds an era, which begins above the last one.
+    pub fn add_era(&mut self, first: u64, faulty: FaultSet) -> Result<(), AllocFailed<Era>>
+        requires many { length self.old.eras < 16 }
+        requires above { last_first self.old < first }
+        requires nodes { faulty.nodes ≡ self.old.nodes }
+        requires ids { All (λ id. id < self.old.nodes) faulty.ids }
+        ensures { IfOk result (λ _. self.new ≡ with_era self.old first faulty.ids) }
+    {
+        self.parts.eras.push(Era {
+            first,
+            faulty,
+            starts: Vec::new(self.alloc),
+        })
     }
 
     /// Adds a group of a new name.
     pub fn add_group(&mut self, name: &[u8], ids: FaultSet) -> Result<(), AllocError>
         requires { group_at self.old.groups name.now ≡ None }
-        ensures { IfOk result (λ _. self.new ≡ record self.old { groups = self.old.groups ++ record { name = name.now; ids = ids.ids } ∷ [] }) }
+        ensures { IfOk result
+            (λ _. self.new
+            ≡ record self.old
+            { groups = self.old.groups ++ record { name = name.now; ids = ids.ids } ∷ [] }) }
     {
         let mut key = Vec::with_capacity(self.alloc, name.len())?;
         key.extend_from_slice(name)?;
-        self.groups.insert(key, ids)?;
+        self.parts.groups.insert(key, ids)?;
         Ok(())
     }
 
     /// Adds a rule of lies.
     pub fn add_lie(&mut self, lie: Lie) -> Result<(), AllocFailed<Lie>>
         requires sender { lie.sender < self.old.nodes }
-        requires told { IsTold self.old.nodes self.old.shape lie.what }
-        ensures { IfOk result (λ _. self.new ≡ record self.old { lies = self.old.lies ++ lie ∷ [] }) }
+        requires what { IsLying self.old.nodes (fields_at self.old.shape lie.sender) lie.what }
+        ensures { IfOk result
+            (λ _. self.new ≡ record self.old { lies = self.old.lies ++ lie ∷ [] }) }
     {
-        self.lies.push(lie)
+        self.parts.lies.push(lie)
     }
 
     /// Says how many rounds are played. What is shown of them is still to be said.
@@ -147,9 +168,9 @@ impl<'a> Draft<'a> {
         requires { rounds ≤ 1000000 }
         ensures { self.new ≡ record self.old { rounds = rounds; first = 0; last = 0 } }
     {
-        self.rounds = rounds;
-        self.first = 0;
-        self.last = 0;
+        self.parts.rounds = rounds;
+        self.parts.first = 0;
+        self.parts.last = 0;
     }
 
     /// Says which configurations are shown.
@@ -158,66 +179,137 @@ impl<'a> Draft<'a> {
         requires within { last ≤ self.old.rounds }
         ensures { self.new ≡ record self.old { first = first; last = last } }
     {
-        self.first = first;
-        self.last = last;
+        self.parts.first = first;
+        self.parts.last = last;
+    }
+}
+
+/// Whether a node is faulty in one of these eras.
+fn is_faulty_in(eras: &[Era], id: u32) -> bool
+    ensures { result ≡ list_any (λ era. is_in era.faulty.ids id) eras.now }
+{
+    eras.iter().any(|era| era.faulty.contains(id))
+}
+
+/// The set, or that of no faulty node.
+fn faulty_or_none(alloc: Global, nodes: u32, faulty: Option<FaultSet>) -> Result<FaultSet, NoMemory>
+    ensures { IfOk result (λ set. set ≡ faulty_or_none nodes faulty) }
+{
+    match faulty {
+        Some(faulty) => Ok(faulty),
+        None => FaultSet::new(alloc, nodes),
     }
 }
 
 impl<'a> Draft<'a> {
-    ghost use Rattle.std.specs.Prelude.{length};
-    ghost use Rattle.sync_types.specs.FaultSets.{FaultIds};
+    ghost use Rattle.adversary_script.specs.Scripts.{faulty_sets, IsFormed};
+    ghost use Rattle.adversary_script.specs.StartSteps.{last_starts};
 
-    /// Where what grows takes its memory from.
-    pub fn alloc(&self) -> Global {
+    /// Where what grows takes its memory from. What was said so far is well formed.
+    pub fn alloc(&self) -> Global
+        ensures { IsFormed self.now }
+    {
         self.alloc
     }
 
-    /// The faulty nodes.
-    pub fn faulty(&self) -> &FaultSet
-        ensures { result.now ≡ record { nodes = self.now.nodes; ids = self.now.faulty } }
+    /// Of which version the script is.
+    pub fn version(&self) -> u32
+        ensures { result ≡ self.now.version }
     {
-        &self.faulty
+        self.parts.version
+    }
+
+    /// How many nodes there are.
+    pub fn nodes(&self) -> u32
+        ensures { result ≡ self.now.nodes }
+    {
+        self.plan.nodes()
+    }
+
+    /// Whether a node is faulty in era 0.
+    fn is_faulty_at_first(&self, id: u32) -> bool
+        ensures { result ≡ is_in self.now.faulty id }
+    {
+        match &self.faulty {
+            Some(faulty) => faulty.contains(id),
+            None => false,
+        }
+    }
+
+    /// Whether a node is faulty in a further era.
+    fn is_faulty_later(&self, id: u32) -> bool
+        ensures { result ≡ list_any (λ ids. is_in ids id) (map (λ era. era.faulty) self.now.eras) }
+    {
+        is_faulty_in(&self.parts.eras, id)
+    }
+
+    /// Whether a node is faulty in some era.
+    pub fn is_faulty(&self, id: u32) -> bool
+        ensures { result ≡ list_any (λ ids. is_in ids id) (faulty_sets self.now) }
+    {
+        self.is_faulty_at_first(id) || self.is_faulty_later(id)
     }
 
     /// The shape of the states.
     pub fn shape(&self) -> &StateShape
-        ensures { result.now ≡ self.now.shape }
+        ensures value { result.now ≡ self.now.shape }
+        ensures nodes { length result.now.lows ≡ self.now.nodes }
     {
         self.shape
     }
 
-    /// The starts of single nodes.
-    pub fn starts(&self) -> &[Start]
-        ensures { result.now ≡ self.now.starts }
+    /// How many eras there are behind the first.
+    pub fn era_count(&self) -> usize
+        ensures { result ≡ length self.now.eras }
     {
-        &self.starts
+        self.parts.eras.len()
+    }
+
+    /// The first configuration of the last era.
+    pub fn last_first(&self) -> u64
+        ensures { result ≡ last_first self.now }
+    {
+        match self.parts.eras.last() {
+            Some(era) => era.first,
+            None => 0,
+        }
+    }
+
+    /// The starts of single nodes in the last era.
+    pub fn last_starts(&self) -> &[Start]
+        ensures { result.now ≡ last_starts self.now }
+    {
+        match self.parts.eras.last() {
+            Some(era) => &era.starts,
+            None => &self.parts.starts,
+        }
     }
 
     /// How many groups there are.
     pub fn group_count(&self) -> usize
         ensures { result ≡ length self.now.groups }
     {
-        self.groups.len()
+        self.parts.groups.len()
     }
 
     /// The place of the group of a name.
     pub fn group_at(&self, name: &[u8]) -> Option<usize>
         ensures { result ≡ group_at self.now.groups name.now }
     {
-        self.groups.get_index_of(name)
+        self.parts.groups.get_index_of(name)
     }
 
     /// How many rules of lies there are.
     pub fn lie_count(&self) -> usize
         ensures { result ≡ length self.now.lies }
     {
-        self.lies.len()
+        self.parts.lies.len()
     }
 
     /// How many rounds are played.
     pub fn rounds(&self) -> u64
         ensures { result ≡ self.now.rounds }
     {
-        self.rounds
+        self.parts.rounds
     }
 }

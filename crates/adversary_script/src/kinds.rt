@@ -1,12 +1,13 @@
 ghost use Rattle.std.specs.Prelude.{◌≡◌};
-ghost use Rattle.adversary_script.specs.Kinds.{KindRead, start_kind, kind_of, may_follow};
+ghost use Rattle.adversary_script.specs.Kinds.{start_kind, kind_of, may_follow_start, may_follow};
+ghost use Rattle.adversary_script.specs.Answers.{ReadsFront};
 
 use edge_io::Words;
 
 /// The kinds of a script's lines.
 #[derive(Clone, Copy, Debug, PartialEq, Eq)]
 pub enum Kind {
-    /// `script 1`
+    /// `script 1` or `script 2`
     Script,
     /// `faulty`
     Faulty,
@@ -18,6 +19,8 @@ pub enum Kind {
     StartNoise,
     /// `start node`
     StartNode,
+    /// `era`
+    Era,
     /// `group`
     Group,
     /// `lie`
@@ -32,7 +35,7 @@ pub enum Kind {
 
 /// Takes the word behind `start`, which says of which kind the line is.
 fn start_kind(words: &mut Words) -> Option<Kind>
-    ensures { KindRead result (start_kind words.old) words.new }
+    ensures { ReadsFront result (start_kind words.old) words.new }
 {
     let word = words.next()?;
     if word == b"zero".as_slice() {
@@ -49,7 +52,7 @@ fn start_kind(words: &mut Words) -> Option<Kind>
 
 /// Takes the one or two words that say of which kind a line is.
 pub fn read_kind(words: &mut Words) -> Option<Kind>
-    ensures { KindRead result (kind_of words.old) words.new }
+    ensures { ReadsFront result (kind_of words.old) words.new }
 {
     let word = words.next()?;
     if word == b"start".as_slice() {
@@ -70,6 +73,9 @@ pub fn read_kind(words: &mut Words) -> Option<Kind>
     if word == b"seed".as_slice() {
         return Some(Kind::Seed);
     }
+    if word == b"era".as_slice() {
+        return Some(Kind::Era);
+    }
     if word == b"rounds".as_slice() {
         return Some(Kind::Rounds);
     }
@@ -80,6 +86,17 @@ pub fn read_kind(words: &mut Words) -> Option<Kind>
         return Some(Kind::End);
     }
     None
+}
+
+/// Whether a line of a kind may stand behind a start, or behind an era.
+fn may_follow_start(kind: Kind) -> bool
+    ensures { result ≡ may_follow_start kind }
+{
+    kind == Kind::StartNode
+        || kind == Kind::Era
+        || kind == Kind::Group
+        || kind == Kind::Lie
+        || kind == Kind::Rounds
 }
 
 /// Whether a line of a kind may stand behind one of another, or first where there is no other.
@@ -93,12 +110,8 @@ pub fn may_follow(last: Option<Kind>, kind: Kind) -> bool
             kind == Kind::Seed || kind == Kind::StartZero || kind == Kind::StartNoise
         }
         Some(Kind::Seed) => kind == Kind::StartZero || kind == Kind::StartNoise,
-        Some(Kind::StartZero) | Some(Kind::StartNoise) | Some(Kind::StartNode) => {
-            kind == Kind::StartNode
-                || kind == Kind::Group
-                || kind == Kind::Lie
-                || kind == Kind::Rounds
-        }
+        Some(Kind::StartZero) | Some(Kind::StartNoise) | Some(Kind::StartNode) | Some(Kind::Era) =>
+            may_follow_start(kind),
         Some(Kind::Group) => kind == Kind::Group || kind == Kind::Lie || kind == Kind::Rounds,
         Some(Kind::Lie) => kind == Kind::Lie || kind == Kind::Rounds,
         Some(Kind::Rounds) => kind == Kind::Show,

@@ -1,9 +1,21 @@
-//! Scripts: what an adversary does with a plan. A script says which nodes are faulty, in which states all nodes start, what the faulty nodes tell the others in which rounds, how many rounds are played and which configurations are shown.
+//! Scripts: what an adversary does with a plan. A script says which nodes are faulty, in which
+//! states all nodes start, what the faulty nodes tell the others in which rounds, how many rounds
+//! are played and which configurations are shown. One of version 2 may have eras: from some
+//! configurations on other nodes are faulty, and there it may put nodes into states.
 //!
-//! [`read_script`] reads a script line by line and refuses the first line that fails, with the first rule that it fails. [`Script`] gives the states that it says: those in which nodes start, and those that faulty nodes tell. States of noise come from ChaCha8 by the script's key: the lies from node u to node v have the stream 256u + v, in which each round has its own words, and the start of node v has the stream 65536 + v. [`Noise`] keeps generators that stand where these streams were last read.
+//! [`read_script`] reads a script line by line and refuses the first line that fails, with the
+//! first rule that it fails. [`Script`] gives the states that it says: those in which nodes start,
+//! those into which they are put where an era begins, and those that faulty nodes tell. The states
+//! of a node have the fields of that node. States of noise come from ChaCha8 by the script's key:
+//! the lies from node u to node v have the stream 256u + v, in which each round has its own words,
+//! and the start of node v has the stream 65536 + v. [`Noise`] keeps generators that stand where
+//! these streams were last read.
 #![tactic(auto)]
 
 mod drafts;
+mod eras;
+mod faulty_lines;
+mod group_lines;
 mod id_sets;
 mod kinds;
 mod lie_lines;
@@ -11,14 +23,16 @@ mod lie_words;
 mod lies;
 mod links;
 mod lookup;
+mod lying;
 mod noise;
-mod other_lines;
+mod parts;
 mod reading;
 mod refusals;
 mod script_lines;
 mod scripts;
 mod shifting;
-mod telling;
+mod single_lines;
+mod start_lines;
 #[cfg(test)]
 mod tests;
 #[cfg(test)]

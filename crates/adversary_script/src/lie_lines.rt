@@ -1,15 +1,16 @@
-ghost use Rattle.std.specs.Prelude.{◌≡◌, IfOk, IfSome, true};
+ghost use Rattle.std.specs.Prelude.{◌≡◌, ◌<◌, ◌^◌, length, IfOk, IfSome, true};
+ghost use Rattle.state_codec.specs.Shapes.{fields_at};
 ghost use Rattle.state_codec.specs.Ranges.{InRange};
-ghost use Rattle.adversary_script.specs.LieWords.{who_seen, what_seen};
-ghost use Rattle.adversary_script.specs.WordTests.{what_below};
+ghost use Rattle.adversary_script.specs.LieWords.{who_seen, what_seen, lie_seen};
+ghost use Rattle.adversary_script.specs.WordTests.{what_below, are_ids};
 ghost use Rattle.adversary_script.specs.Answers.{Adds, Gives};
-ghost use Rattle.adversary_script.specs.Scripts.{IsTold};
+ghost use Rattle.adversary_script.specs.Scripts.{IsLying, faulty_sets};
 ghost use Rattle.adversary_script.specs.LieSteps.{state_of_digits, who_of, what_of, lie_step};
 
 use crate::drafts::Draft;
-use crate::lie_words::{WhatWords, WhoWords, lie_words};
+use crate::lie_words::{LieWords, WhatWords, WhoWords, lie_words};
 use crate::lies::{Lie, What, Who};
-use crate::word_tests::{are_ids, is_crossed};
+use crate::word_tests::{is_crossed, what_below, who_below};
 use edge_io::{TakeError, Words};
 use state_codec::{NotState, StateShape};
 use std::alloc::Global;
@@ -18,39 +19,45 @@ use sync_types::{NoMemory, NodeState, Rule};
 /// The most rules of lies that a script may have.
 const MOST_LIES: usize = 256;
 
-/// The state of hex digits, or none where they are not just those of a state.
+/// The state of hex digits, or none where they are not just those of a state of node `v`.
 pub fn state_of_digits(
     alloc: Global,
     shape: &StateShape,
+    v: u32,
     word: &[u8],
 ) -> Result<Option<NodeState>, TakeError<Rule>>
-    ensures value { Gives (state_of_digits shape.now word.now) result }
-    ensures range { IfOk result (λ found. IfSome found (λ state. InRange shape.now state)) }
+    requires { v < length shape.now.lows }
+    ensures value { Gives (state_of_digits (fields_at shape.now v) word.now) result }
+    ensures range { IfOk result (λ found. IfSome found (λ state. InRange (fields_at shape.now v) state)) }
 {
     match NodeState::zero(alloc, shape.depth()) {
         Err(NoMemory) => Err(TakeError::NoMemory),
-        Ok(mut state) => match shape.read_hex(word, &mut state) {
+        Ok(mut state) => match shape.read_hex(v, word, &mut state) {
             Ok(()) => Ok(Some(state)),
             Err(NotState) => Ok(None),
         },
     }
 }
 
-/// What a lie tells, or nothing where its hex digits are not just those of a state.
+/// What a lie of a sender says, or nothing where its hex digits are not just those of a state of
+/// it.
 fn what_of(
     alloc: Global,
-    nodes: u32,
     shape: &StateShape,
+    sender: u32,
     what: &WhatWords,
 ) -> Result<Option<What>, TakeError<Rule>>
-    requires { what_below nodes (what_seen what.now) ≡ true }
-    ensures value { Gives (what_of shape.now (what_seen what.now)) result }
-    ensures told { IfOk result (λ found. IfSome found (λ what. IsTold nodes shape.now what)) }
+    requires sender { sender < length shape.now.lows }
+    requires copied { what_below (length shape.now.lows) (what_seen what.now) ≡ true }
+    ensures value { Gives (what_of (fields_at shape.now sender) (what_seen what.now)) result }
+    ensures what { IfOk result
+        (λ found. IfSome found
+        (λ what. IsLying (length shape.now.lows) (fields_at shape.now sender) what)) }
 {
     Ok(match *what {
         WhatWords::Noise => Some(What::Noise),
         WhatWords::Copy(node) => Some(What::Copy(node)),
-        WhatWords::Hex(word) => match state_of_digits(alloc, shape, word)? {
+        WhatWords::Hex(word) => match state_of_digits(alloc, shape, sender, word)? {
             Some(state) => Some(What::State(state)),
             None => None,
         },
@@ -73,8 +80,26 @@ impl<'a> Draft<'a> {
         }
     }
 
+    /// Whether all ids of a lie are those of nodes, and its sender's of one that is faulty in some
+    /// era.
+    fn are_ids(&self, line: &LieWords) -> bool
+        ensures value { result ≡ are_ids self.now.nodes (faulty_sets self.now) (lie_seen line.now) }
+        ensures sender { result ≡ true → line.now.sender < self.now.nodes }
+        ensures small { result ≡ true → line.now.sender < 2 ^ 32 }
+        ensures copied { result ≡ true → what_below self.now.nodes (what_seen line.now.what)
+            ≡ true }
+    {
+        let nodes = self.nodes();
+        if line.sender >= u64::from(nodes) {
+            return false;
+        }
+        self.is_faulty(line.sender as u32)
+            && who_below(nodes, &line.who)
+            && what_below(nodes, &line.what)
+    }
+
     /// Takes a line of a lie, behind its first word.
-    pub fn take_lie(&mut self, words: &mut Words) -> Result<(), TakeError<Rule>>
+    pub fn take_lie(&mut self, alloc: Global, words: &mut Words) -> Result<(), TakeError<Rule>>
         ensures { Adds (lie_step self.old words.old) self.new result }
     {
         let Some(line) = lie_words(words) else {
@@ -83,14 +108,13 @@ impl<'a> Draft<'a> {
         if self.lie_count() >= MOST_LIES {
             return Err(TakeError::Refused(Rule::Limit));
         }
-        if !are_ids(self.faulty(), &line) {
+        if !self.are_ids(&line) {
             return Err(TakeError::Refused(Rule::Node));
         }
         if line.first > line.last || is_crossed(&line.who) {
             return Err(TakeError::Refused(Rule::Range));
         }
-        let nodes = self.faulty().nodes();
-        let Some(what) = what_of(self.alloc(), nodes, self.shape(), &line.what)? else {
+        let Some(what) = what_of(alloc, self.shape(), line.sender as u32, &line.what)? else {
             return Err(TakeError::Refused(Rule::Hex));
         };
         let Some(who) = self.who_of(&line.who) else {

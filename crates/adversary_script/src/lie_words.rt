@@ -15,7 +15,7 @@ pub enum WhoWords<'a> {
     Named(&'a [u8]),
 }
 
-/// What a lie tells, as its line has it.
+/// What a lie says, as its line has it.
 #[derive(Clone, Copy, Debug)]
 pub enum WhatWords<'a> {
     /// `noise`
@@ -38,7 +38,8 @@ pub struct LieWords<'a> {
     pub what: WhatWords<'a>,
 }
 
-/// Takes the words of who hears a lie. A number begins two ids; a word that is none and is not `all` is a name.
+/// Takes the words of who hears a lie. A number begins two ids; a word that is none and is not
+/// `all` is a name.
 fn who_words<'a>(words: &mut Words<'a>) -> Option<WhoWords<'a>>
     ensures { WhoRead result words.old words.new }
 {
@@ -55,7 +56,7 @@ fn who_words<'a>(words: &mut Words<'a>) -> Option<WhoWords<'a>>
     }
 }
 
-/// Takes the words of what a lie tells, to the end of the line.
+/// Takes the words of what a lie says, to the end of the line.
 fn what_words<'a>(words: &mut Words<'a>) -> Option<WhatWords<'a>>
     ensures { option_map what_seen result ≡ what_words words.old }
 {

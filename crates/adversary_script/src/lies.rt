@@ -20,7 +20,7 @@ pub enum Who {
     Group(usize),
 }
 
-/// What a lie tells.
+/// What a lie says.
 #[derive(Debug, Drop)]
 pub enum What {
     /// A state of noise.
@@ -33,7 +33,8 @@ pub enum What {
     Shift(u64),
 }
 
-/// A rule of lies: from the round `first` to the round `last`, both included, the node `sender` tells those nodes that.
+/// A rule of lies: from the round `first` to the round `last`, both included, the node `sender`
+/// tells those nodes that.
 #[derive(Debug, Drop)]
 pub struct Lie {
     pub first: u64,

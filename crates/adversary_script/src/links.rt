@@ -5,7 +5,8 @@ use crate::lies::Lie;
 use std::alloc::Global;
 use sync_types::NoMemory;
 
-/// Where the lies of each sender stand among all lies, so that those of one are found without the others. Where there is none, a place is the number of lies.
+/// Where the lies of each sender stand among all lies, so that those of one are found without the
+/// others. Where there is none, a place is the number of lies.
 #[derive(Debug, Drop)]
 pub struct Links {
     /// For each node the place of its first lie.

@@ -1,19 +1,20 @@
-ghost use Rattle.std.specs.Prelude.{◌≡◌, ◌<◌, slice_get, IfSome};
+ghost use Rattle.std.specs.Prelude.{◌≡◌, ◌<◌, ◌≤◌, true, slice_get, IfSome};
 ghost use Rattle.std.specs.Option.{option_map};
-ghost use Rattle.adversary_script.specs.Scripts.{IsTold};
-ghost use Rattle.adversary_script.specs.Lookup.{in_group, hears, speaks, lie_for, start_for};
-ghost use Rattle.state_codec.specs.Ranges.{InRange};
+ghost use Rattle.state_codec.specs.Shapes.{fields_at};
+ghost use Rattle.adversary_script.specs.Scripts.{IsLying};
+ghost use Rattle.sync_types.specs.FaultSets.{is_in};
+ghost use Rattle.adversary_script.specs.Eras.{faulty_at};
+ghost use Rattle.adversary_script.specs.Lookup.{in_group, hears, speaks, lie_for};
 
 use crate::lies::{Lie, Who};
 use crate::scripts::Script;
-use sync_types::NodeState;
 
 impl Script {
     /// Whether a node is in the group at a place.
     fn is_member(&self, group: usize, v: u32) -> bool
         ensures { result ≡ in_group (slice_get self.now.groups group) v }
     {
-        match self.groups.get_index(group) {
+        match self.parts.groups.get_index(group) {
             Some((_, ids)) => ids.contains(v),
             None => false,
         }
@@ -37,32 +38,22 @@ impl Script {
         lie.sender == u64::from(u) && lie.first <= t && t <= lie.last && self.hears(lie.who, v)
     }
 
-    /// The first rule that says what node `u` tells node `v` in round `t`.
+    /// The first rule that says what node `u`, faulty in round `t`, tells node `v` in it.
     pub(crate) fn lie_for(&self, t: u64, u: u32, v: u32) -> Option<&Lie>
-        requires { u < self.now.nodes }
+        requires { is_in (faulty_at self.now t) u ≡ true }
         ensures found { option_map (λ lie. lie.now) result ≡ lie_for self.now t u v }
-        ensures told { IfSome result (λ lie. IsTold self.now.nodes self.now.shape lie.now.what) }
+        ensures sender { u < self.now.nodes }
+        ensures few { self.now.rounds ≤ 1000000 }
+        ensures what { IfSome result
+            (λ lie. IsLying self.now.nodes (fields_at self.now.shape u) lie.now.what) }
     {
         let mut at = self.links.firsts[u as usize];
-        while at < self.lies.len() {
-            let lie = &self.lies[at];
+        while at < self.parts.lies.len() {
+            let lie = &self.parts.lies[at];
             if self.speaks(t, u, v, lie) {
                 return Some(lie);
             }
             at = self.links.nexts[at];
-        }
-        None
-    }
-
-    /// The state in which node `v` starts by a line of its own.
-    pub(crate) fn start_for(&self, v: u32) -> Option<&NodeState>
-        ensures found { option_map (λ state. state.now) result ≡ start_for self.now v }
-        ensures range { IfSome result (λ state. InRange self.now.shape state.now) }
-    {
-        for start in &self.starts {
-            if start.node == u64::from(v) {
-                return Some(&start.state);
-            }
         }
         None
     }

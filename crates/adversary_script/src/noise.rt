@@ -16,7 +16,8 @@ const MOST_WORDS: usize = 32;
 
 /// The noise of a script. Each word of it is given by the script's key, a stream and a place.
 ///
-/// It keeps generators that stand where streams were last read, since the next words of a stream cost little there.
+/// It keeps generators that stand where streams were last read, since the next words of a stream
+/// cost little there.
 #[derive(Drop)]
 pub struct Noise {
     generators: [ChaCha8Rng; GENERATORS],
@@ -32,7 +33,8 @@ impl Model for Noise {
 
     ghost view = { λ n. n.key };
 
-    ghost invariant = { λ n. (All (λ g. g.key ≡ key_in n.key) n.generators) × (length n.generators ≡ 256) };
+    ghost invariant = { λ n. (All (λ g. g.key ≡ key_in n.key) n.generators)
+        × (length n.generators ≡ 256) };
 }
 
 /// A generator of a key, at the first word of stream 0.
@@ -78,13 +80,14 @@ impl Noise {
         let key = script.key();
         let nodes = u64::from(script.faulty().nodes());
         Noise {
-            generators: generators_of(key),
+            generators: array::repeat(generator_of(key)),
             key,
             nodes,
         }
     }
 
-    /// Where the generator of a stream is kept: streams of two nodes have places of their own, as far as the places go.
+    /// Where the generator of a stream is kept: streams of two nodes have places of their own, as
+    /// far as the places go.
     fn place_of(&self, stream: u64) -> usize
         ensures { result < 256 }
     {
@@ -126,16 +129,4 @@ impl Noise {
         self.fill_words(stream, first, words);
         spread(words, bytes);
     }
-}
-
-/// Generators of a key.
-fn generators_of(key: [u8; 32]) -> [ChaCha8Rng; GENERATORS]
-    ensures keys { All (λ g. g.key ≡ key_in key) result }
-    ensures long { length result ≡ 256 }
-{
-    let mut generators: [ChaCha8Rng; GENERATORS] = array::from_fn(|_| generator_of([0; 32]));
-    for i in 0..generators.len() {
-        generators[i] = generator_of(key);
-    }
-    generators
 }

@@ -1,8 +1,7 @@
-ghost use Rattle.std.specs.Prelude.{◌≡◌, ◌≤◌, ◌<◌, ◌+◌, ◌^◌, length, Ok, IfOk, MatchResult};
+ghost use Rattle.std.specs.Prelude.{◌≡◌, ◌≤◌, ◌<◌, ◌+◌, ◌^◌, length, IfOk};
 ghost use Rattle.texts.specs.Lines.{lines_of};
 ghost use Rattle.state_codec.specs.Shapes.{shape_of};
-ghost use Rattle.adversary_script.specs.ScriptPart.{script_of, IsFor};
-ghost use Rattle.adversary_script.specs.ScriptRefusals.{FailsAsDefined};
+ghost use Rattle.adversary_script.specs.ScriptPart.{IsAnswer, IsFor};
 
 use crate::refusals::{ScriptError, ScriptRefusal};
 use crate::script_lines::ScriptLines;
@@ -14,9 +13,13 @@ use state_codec::StateShape;
 use std::alloc::Global;
 use sync_types::Rule;
 
-/// Reads a script for a plan, to the end of the input. `shape` is the shape of the plan's states, and the first line of `bytes` has the number `first_line`, which is at least 1 and whose sum with the length of `bytes` is below 2^64.
+/// Reads a script for a plan, to the end of the input. `shape` is the shape of the plan's states,
+/// and the first line of `bytes` has the number `first_line`, which is at least 1 and whose sum
+/// with the length of `bytes` is below 2^64.
 ///
-/// `Refused` is the first line that fails, with the first rule that it fails. A script that lacks its `end` is refused `Form` at the line after the last, and so is the first line behind `end` that is not skipped.
+/// `Refused` is the first line that fails, with the first rule that it fails. A script that lacks
+/// its `end` is refused `Form` at the line after the last, and so is the first line behind `end`
+/// that is not skipped. `NoMemory` comes where memory was refused.
 pub fn read_script(
     alloc: Global,
     plan: &Plan,
@@ -27,11 +30,10 @@ pub fn read_script(
     requires shape { shape.now ≡ shape_of plan.now }
     requires first { 1 ≤ first_line }
     requires count { first_line + length bytes.now < 2 ^ 64 }
-    ensures exact { MatchResult result
-        (λ script. script_of plan.now shape.now first_line (lines_of bytes.now) ≡ Ok script)
-        (λ error. FailsAsDefined error (script_of plan.now shape.now first_line (lines_of bytes.now))) }
+    ensures exact { IsAnswer plan.now shape.now first_line (lines_of bytes.now) result }
     ensures borne { IfOk result (λ script. IsFor plan.now shape.now script) }
 {
+    shape.tell();
     read_exactly(alloc, plan, shape, bytes, first_line)
 }
 
@@ -47,11 +49,9 @@ fn read_exactly(
     requires shape { shape.now ≡ shape_of plan.now }
     requires first { 1 ≤ first_line }
     requires count { first_line + length bytes.now < 2 ^ 64 }
-    ensures { MatchResult result
-        (λ script. script_of plan.now shape.now first_line (lines_of bytes.now) ≡ Ok script)
-        (λ error. FailsAsDefined error (script_of plan.now shape.now first_line (lines_of bytes.now))) }
+    ensures { IsAnswer plan.now shape.now first_line (lines_of bytes.now) result }
 {
-    let lines = ScriptLines::new(alloc, plan, shape)?;
+    let lines = ScriptLines::new(alloc, plan, shape);
     let read = read_part(lines, Rule::Form, bytes, first_line)?;
     match first_unskipped(&bytes[read.bytes..], first_line + read.lines) {
         Some(line) => Err(ScriptError::Refused(ScriptRefusal {

@@ -7,7 +7,8 @@ use thiserror::Error;
 /// The line of a script that is refused, and why.
 #[derive(Clone, Copy, Debug, PartialEq, Eq)]
 pub struct ScriptRefusal {
-    /// The line's number in the whole input, skipped lines counted. Where the part lacks its end it is the line after the last.
+    /// The line's number in the whole input, skipped lines counted. Where the part lacks its end it
+    /// is the line after the last.
     pub line: u64,
     /// The first rule that the line fails.
     pub rule: Rule,

@@ -1,11 +1,11 @@
-ghost use Rattle.std.specs.Prelude.{◌≡◌, IfOk, Ok};
+ghost use Rattle.std.specs.Prelude.{◌≡◌, true, Some, IfOk, Ok};
 ghost use Rattle.construction.specs.Plans.{plan_nodes, plan_faults};
 ghost use Rattle.state_codec.specs.Shapes.{shape_of};
 ghost use Rattle.edge_io.specs.Taking.{Takes};
 ghost use Rattle.adversary_script.specs.Answers.{Adds};
 ghost use Rattle.adversary_script.specs.Steps.{line_step};
-ghost use Rattle.adversary_script.specs.Kinds.{kind_of};
-ghost use Rattle.adversary_script.specs.ScriptPart.{nothing_read, passed, read_as, holds_return};
+ghost use Rattle.adversary_script.specs.Kinds.{kind_of, may_follow};
+ghost use Rattle.adversary_script.specs.ScriptPart.{nothing_read, passed, read_as};
 
 use crate::drafts::Draft;
 use crate::kinds::{Kind, may_follow, read_kind};
@@ -26,29 +26,26 @@ pub struct ScriptLines<'a> {
 }
 
 impl<'a> Model for ScriptLines<'a> {
-    ghost use Rattle.adversary_script.specs.ScriptPart.{ScriptSoFar};
+    ghost use Rattle.adversary_script.specs.ScriptPart.{ScriptSoFar, IsClosed};
 
     ghost Value = { ScriptSoFar };
 
     ghost view = { λ l. record { faults = l.faults; last = l.last; script = l.draft } };
+
+    ghost invariant = { λ l. IsClosed l.last l.draft };
 }
 
 impl<'a> ScriptLines<'a> {
     /// A reader of a part of which nothing was read.
-    pub fn new(
-        alloc: Global,
-        plan: &'a Plan,
-        shape: &'a StateShape,
-    ) -> Result<ScriptLines<'a>, NoMemory>
+    pub fn new(alloc: Global, plan: &'a Plan, shape: &'a StateShape) -> ScriptLines<'a>
         requires { shape.now ≡ shape_of plan.now }
-        ensures { IfOk result (λ lines. lines ≡ nothing_read (plan_nodes plan.now) (plan_faults plan.now) shape.now) }
+        ensures { result ≡ nothing_read (plan_nodes plan.now) (plan_faults plan.now) shape.now }
     {
-        let draft = Draft::new(alloc, plan, shape)?;
-        Ok(ScriptLines {
+        ScriptLines {
             faults: plan.faults(),
             last: None,
-            draft,
-        })
+            draft: Draft::new(alloc, plan, shape),
+        }
     }
 
     /// The kind of the last line.
@@ -58,27 +55,39 @@ impl<'a> ScriptLines<'a> {
         self.last
     }
 
-    /// Takes a line of a kind, by the words behind those that say the kind.
-    fn take_line(&mut self, kind: Kind, words: Words) -> Result<(), TakeError<Rule>>
-        ensures said { Adds (line_step self.old.faults kind self.old.script words.entry) self.new.script result }
-        ensures same { self.new ≡ record self.old { script = self.new.script } }
+    /// Takes a line of a kind that may stand here, by the words behind those that say the kind.
+    /// Where the line is refused, the reader is at its end.
+    fn take_kind(&mut self, kind: Kind, words: Words) -> Result<(), TakeError<Rule>>
+        requires { may_follow self.old.last kind ≡ true }
+        ensures said { Adds (line_step self.old.faults kind self.old.script words.entry)
+            self.new.script result }
+        ensures same { IfOk result
+            (λ _. self.new ≡ record self.old { last = Some kind; script = self.new.script }) }
     {
-        self.draft.take_line(kind, words, self.faults)
+        match self.draft.take_line(kind, words, self.faults) {
+            Ok(()) => {
+                self.last = Some(kind);
+                Ok(())
+            }
+            Err(error) => {
+                self.last = None;
+                Err(error)
+            }
+        }
     }
 
-    /// Goes behind a line of a kind, and gives the script behind the last.
-    fn pass(&mut self, kind: Kind) -> Result<Option<Script>, TakeError<Rule>>
+    /// Gives the script where the line that was taken is the last of the part.
+    fn give(&mut self, kind: Kind) -> Result<Option<Script>, TakeError<Rule>>
+        requires { self.old.last ≡ Some kind }
         ensures { Takes (passed self.old kind (Ok self.old.script)) self.new result }
     {
-        match kind {
-            Kind::End => match self.draft.finish() {
-                Ok(script) => Ok(Some(script)),
-                Err(NoMemory) => Err(TakeError::NoMemory),
-            },
-            _ => {
-                self.last = Some(kind);
-                Ok(None)
-            }
+        if kind != Kind::End {
+            return Ok(None);
+        }
+        self.last = None;
+        match self.draft.finish() {
+            Ok(script) => Ok(Some(script)),
+            Err(NoMemory) => Err(TakeError::NoMemory),
         }
     }
 
@@ -93,16 +102,9 @@ impl<'a> ScriptLines<'a> {
         if !may_follow(self.last(), kind) {
             return Err(TakeError::Refused(Rule::Form));
         }
-        self.take_line(kind, words)?;
-        self.pass(kind)
+        self.take_kind(kind, words)?;
+        self.give(kind)
     }
-}
-
-/// Whether a line holds a carriage return.
-fn holds_return(line: &[u8]) -> bool
-    ensures { result ≡ holds_return line.now }
-{
-    line.iter().any(|byte| *byte == b'\r')
 }
 
 impl<'a> LineReader for ScriptLines<'a> {
@@ -115,9 +117,6 @@ impl<'a> LineReader for ScriptLines<'a> {
     ghost step = { script_step };
 
     fn take(&mut self, line: &[u8]) -> Result<Option<Script>, TakeError<Rule>> {
-        if holds_return(line) {
-            return Err(TakeError::Refused(Rule::Form));
-        }
         self.take_words(Words::new(line))
     }
 }

@@ -5,16 +5,102 @@ use std::alloc::Global;
 use std::test::Fail;
 use sync_types::Rule;
 
-const ONE_NODE: &str = "plan 1\nbase 5\nend\n";
+/// Four nodes, of which one may be faulty.
+const PLAN: &str = "plan 1\nbase 2304\nlevel 4 1 10\nend\n";
 
-const ONE_LEVEL: &str = "plan 1\nbase 2304\nlevel 4 1 10\nend\n";
+/// What stands before the text of a row.
+const HEADS: [&str; 3] = [
+    "",
+    "script 1\nfaulty 3\nstart zero\n",
+    "script 2\nfaulty 3\nstart zero\n",
+];
 
-/// The answer to a script for a plan, whose first line has the number 5. A script of 100,000 bytes or more is read as an empty one.
-fn read(alloc: Global, plan: &str, script: &[u8]) -> Result<Result<Script, ScriptError>, Fail> {
-    let plan = read_whole_plan(alloc, plan.as_bytes())?;
+/// For each rule lines that fail it, beside lines that just pass it: the head, the text behind it,
+/// and the line and the rule of the answer.
+const ROWS: [(usize, &str, u64, Rule); 64] = [
+    (0, "", 5, Rule::Form),
+    (0, "script 3", 5, Rule::Form),
+    (0, "faulty", 5, Rule::Form),
+    (0, "script 1\nfaulty 03", 6, Rule::Form),
+    (0, "script 1\nfaulty 0 0 4", 6, Rule::Node),
+    (0, "script 1\nfaulty 0 0", 6, Rule::Order),
+    (0, "script 1\nfaulty 1 3", 6, Rule::Faults),
+    (0, "script 1\nfaulty 3\n\n# a key\nseed 00", 9, Rule::Hex),
+    (0, "script 1\nfaulty 3\nseed ", 7, Rule::Form),
+    (0, "script 1\nfaulty 3\nstart zero\r", 7, Rule::Form),
+    (1, "", 8, Rule::Form),
+    (1, "start node 4 000000", 8, Rule::Node),
+    (1, "start node 3 ", 8, Rule::Form),
+    (1, "start node 9 ", 8, Rule::Form),
+    (1, "start node 0 0000", 8, Rule::Hex),
+    (1, "start node 0 00000A", 8, Rule::Hex),
+    (1, "start node 1 000000\nstart node 1 0", 9, Rule::Order),
+    (1, "start node 1 000000\nstart node 2 0", 9, Rule::Hex),
+    (1, "group left 4 3", 8, Rule::Node),
+    (1, "group Left 1 0", 8, Rule::Order),
+    (1, "group Left 0 1", 8, Rule::Name),
+    (1, "group  0 1", 8, Rule::Form),
+    (1, "group all 1", 8, Rule::Name),
+    (1, "group left", 8, Rule::Form),
+    (1, "group left 1\ngroup left 2", 9, Rule::Name),
+    (1, "group le\tft 1", 8, Rule::Name),
+    (1, "lie 5 4 3 to all hex 0", 8, Rule::Range),
+    (1, "lie 4 4 3 to all hex 0", 8, Rule::Hex),
+    (1, "lie 0 4 3 to 2 1 hex 0", 8, Rule::Range),
+    (1, "lie 0 4 3 to 2 2 hex 0", 8, Rule::Hex),
+    (1, "lie 0 4 3 to 0 4 noise", 8, Rule::Node),
+    (1, "lie 0 4 2 to all noise", 8, Rule::Node),
+    (1, "lie 0 4 3 to all copy 4", 8, Rule::Node),
+    (1, "lie 0 4 3 to left hex 0007", 8, Rule::Hex),
+    (1, "lie 0 4 3 to left noise", 8, Rule::Name),
+    (1, "lie 0 4 3 to 007 noise", 8, Rule::Name),
+    (1, "lie 0 4 3 to 0 noise", 8, Rule::Form),
+    (1, "lie 0 4 3 to all shift", 8, Rule::Form),
+    (1, "lie 0 4 3 to all hex ", 8, Rule::Form),
+    (1, "lie 0 4 3 to  noise", 8, Rule::Form),
+    (1, "lie 0 4 3 to  copy 1", 8, Rule::Form),
+    (1, "lie 0 4 3 to  shift 1", 8, Rule::Form),
+    (1, "lie 0 4 3 to all noise\ngroup left 1", 9, Rule::Form),
+    (1, "rounds 1000001", 8, Rule::Limit),
+    (1, "rounds 1000000\nshow 1 0", 9, Rule::Range),
+    (1, "rounds 3\nshow 0 4", 9, Rule::Range),
+    (1, "rounds 3\nshow 0 3", 10, Rule::Form),
+    (1, "rounds 3\nshow 3 3\nend\n\n# more\nend", 13, Rule::Form),
+    (1, "era 2 faulty", 8, Rule::Form),
+    (2, "era 2", 8, Rule::Form),
+    (2, "era 2 faulty 0 4", 8, Rule::Node),
+    (2, "era 2 faulty 1 0", 8, Rule::Order),
+    (2, "era 2 faulty 0 1", 8, Rule::Faults),
+    (2, "era 0 faulty", 8, Rule::Order),
+    (2, "era 1 faulty\nera 1 faulty", 9, Rule::Order),
+    (2, "era 1 faulty\nera 2 faulty 1 2", 9, Rule::Faults),
+    (2, "era 2 faulty\nrounds 1", 9, Rule::Range),
+    (2, "era 2 faulty\nrounds 2\nshow 0 3", 10, Rule::Range),
+    (2, "era 2 faulty 1\nlie 0 4 2 to all noise", 9, Rule::Node),
+    (2, "era 2 faulty 1\nlie 0 4 1 to all hex 0", 9, Rule::Hex),
+    (2, "era 2 faulty\nstart node 1 0", 9, Rule::Hex),
+    (
+        2,
+        "start node 1 000000\nera 2 faulty\nstart node 1 0",
+        10,
+        Rule::Hex,
+    ),
+    (
+        2,
+        "era 2 faulty\nstart node 1 000000\nstart node 1 0",
+        10,
+        Rule::Order,
+    ),
+    (2, "group left 1\nera 2 faulty", 9, Rule::Form),
+];
+
+/// The answer to a script, whose first line has the number 5. A script of 100,000 bytes or more is
+/// read as an empty one.
+fn read(alloc: Global, script: &[u8]) -> Result<Option<ScriptError>, Fail> {
+    let plan = read_whole_plan(alloc, PLAN.as_bytes())?;
     let shape = StateShape::of(alloc, &plan)?;
     let script = if script.len() < 100_000 { script } else { &[] };
-    Ok(read_script(alloc, &plan, &shape, script, 5))
+    Ok(read_script(alloc, &plan, &shape, script, 5).err())
 }
 
 /// The answer to a script that is refused at a line by a rule.
@@ -23,95 +109,49 @@ fn refused(line: u64, rule: Rule) -> Option<ScriptError> {
 }
 
 #[test]
-fn scripts_are_refused(rt: HostRuntime) -> Result<(), Fail> {
-    let rows = [
-        ("", 5, Rule::Form),
-        ("script 2\n", 5, Rule::Form),
-        ("faulty\n", 5, Rule::Form),
-        ("script 1\nfaulty 1 3\n", 6, Rule::Faults),
-        ("script 1\nfaulty 3 1\n", 6, Rule::Order),
-        ("script 1\nfaulty 4\n", 6, Rule::Node),
-        ("script 1\nfaulty 0 0 4\n", 6, Rule::Node),
-        ("script 1\nfaulty 0 0\n", 6, Rule::Order),
-        ("script 1\nfaulty 03\n", 6, Rule::Form),
-        ("script 1\nfaulty 3\n\n# a key\nseed 00\n", 9, Rule::Hex),
-        ("script 1\nfaulty 3\nseed\n", 7, Rule::Form),
-        ("script 1\nfaulty 3\nseed 00\r\n", 7, Rule::Form),
-        ("script 1\nfaulty 3\nstart\n", 7, Rule::Form),
-        ("script 1\nfaulty 3\nstart zero\r\n", 7, Rule::Form),
-        ("script 1\nfaulty 3\nstart zero\n", 8, Rule::Form),
-    ];
-    for (text, line, rule) in rows {
-        let error = read(rt.alloc(), ONE_LEVEL, text.as_bytes())?.err();
-        assert_eq!(rt; error, refused(line, rule), "at {text}");
-    }
-    let one_node = "script 1\nfaulty\nstart zero\nlie 0 0 0 to all noise\n";
-    let error = read(rt.alloc(), ONE_NODE, one_node.as_bytes())?.err();
-    assert_eq!(rt; error, refused(8, Rule::Node));
-    let error = read(rt.alloc(), ONE_NODE, b"script 1\nfaulty 0\n")?.err();
-    assert_eq!(rt; error, refused(6, Rule::Faults));
-    Ok(())
-}
-
-#[test]
-fn lines_behind_the_start_are_refused(rt: HostRuntime) -> Result<(), Fail> {
-    let rows = [
-        ("start node 4 000000", 8, Rule::Node),
-        ("start node 0 0000", 8, Rule::Hex),
-        ("start node 0 00000A", 8, Rule::Hex),
-        ("start node 1 000000\nstart node 1 0", 9, Rule::Order),
-        ("start node 0", 8, Rule::Form),
-        ("start node 0 000000\r", 8, Rule::Form),
-        ("group left 4 3", 8, Rule::Node),
-        ("group Left 1 0", 8, Rule::Order),
-        ("group Left 1", 8, Rule::Name),
-        ("group all 1", 8, Rule::Name),
-        ("group left", 8, Rule::Form),
-        ("group left 1\ngroup left 2", 9, Rule::Name),
-        ("group le\rft 1", 8, Rule::Form),
-        ("group le\tft 1", 8, Rule::Name),
-        ("lie 5 4 3 to all noise", 8, Rule::Range),
-        ("lie 0 4 3 to 2 1 hex 0007", 8, Rule::Range),
-        ("lie 0 4 3 to 0 4 noise", 8, Rule::Node),
-        ("lie 0 4 2 to all noise", 8, Rule::Node),
-        ("lie 0 4 3 to all copy 4", 8, Rule::Node),
-        ("lie 0 4 3 to left hex 0007", 8, Rule::Hex),
-        ("lie 0 4 3 to all hex 0007\r", 8, Rule::Form),
-        ("lie 0 4 3 to left noise", 8, Rule::Name),
-        ("lie 0 4 3 to 007 noise", 8, Rule::Name),
-        ("lie 0 4 3 to 0 noise", 8, Rule::Form),
-        ("lie 0 4 3 to all shift", 8, Rule::Form),
-        ("lie 0 4 3 to all noise\ngroup left 1", 9, Rule::Form),
-        ("rounds 1000001", 8, Rule::Limit),
-        ("rounds 3\nshow 2 1", 9, Rule::Range),
-        ("rounds 3\nshow 0 4", 9, Rule::Range),
-        ("rounds 3\nshow 0 3", 10, Rule::Form),
-        ("rounds 3\nshow 0 3\nend\n\n# more\nend", 13, Rule::Form),
-        ("end", 8, Rule::Form),
-    ];
-    for (text, line, rule) in rows {
-        let mut script = Vec::from_slice(
-            rt.alloc(),
-            b"script 1\nfaulty 3\nstart zero\n".as_slice(),
-        )?;
+fn each_rule_has_its_edge(rt: HostRuntime) -> Result<(), Fail> {
+    for (head, text, line, rule) in ROWS {
+        let mut script = Vec::new(rt.alloc());
+        if head < HEADS.len() {
+            script.extend_from_slice(HEADS[head].as_bytes())?;
+        }
         script.extend_from_slice(text.as_bytes())?;
-        let error = read(rt.alloc(), ONE_LEVEL, &script)?.err();
+        let error = read(rt.alloc(), &script)?;
         assert_eq!(rt; error, refused(line, rule), "at {text}");
     }
     Ok(())
 }
 
-#[test]
-fn a_script_has_256_lies_at_most(rt: HostRuntime) -> Result<(), Fail> {
-    let mut script = Vec::from_slice(rt.alloc(), b"script 1\nfaulty 3\nstart zero\n".as_slice())?;
-    for _ in 0..256 {
-        script.extend_from_slice(b"lie 0 4 3 to all noise\n")?;
+/// A script of version 2 with so many lines of a kind: eras, groups or lies.
+fn with_lines(alloc: Global, kind: &str, count: u64) -> Result<Vec<u8>, Fail> {
+    let mut script = Vec::from_slice(alloc, HEADS[2].as_bytes())?;
+    for i in 1..=count {
+        match kind {
+            "era" => {
+                let line = format!(in alloc; "era {i} faulty\n")?;
+                script.extend_from_slice(line.as_bytes())?;
+            }
+            "group" => {
+                let name = [b'a' + (i / 26 % 26) as u8, b'a' + (i % 26) as u8];
+                script.extend_from_slice(b"group ")?;
+                script.extend_from_slice(&name)?;
+                script.extend_from_slice(b" 1\n")?;
+            }
+            _ => script.extend_from_slice(b"lie 0 4 3 to all noise\n")?,
+        }
     }
-    let mut whole = Vec::from_slice(rt.alloc(), &script)?;
-    whole.extend_from_slice(b"rounds 3\nshow 0 3\nend\n")?;
-    assert!(rt; read(rt.alloc(), ONE_LEVEL, &whole)?.is_ok());
-    script.extend_from_slice(b"lie 0 4 3 to all noise\n")?;
-    let error = read(rt.alloc(), ONE_LEVEL, &script)?.err();
-    assert_eq!(rt; error, refused(264, Rule::Limit));
+    script.extend_from_slice(b"rounds 300\nshow 0 300\nend\n")?;
+    Ok(script)
+}
+
+#[test]
+fn as_many_lines_of_a_kind_as_there_may_be(rt: HostRuntime) -> Result<(), Fail> {
+    for (kind, most) in [("era", 16), ("group", 256), ("lie", 256)] {
+        let script = with_lines(rt.alloc(), kind, most)?;
+        assert_eq!(rt; read(rt.alloc(), &script)?, None, "{most} of {kind}");
+        let script = with_lines(rt.alloc(), kind, most + 1)?;
+        let error = read(rt.alloc(), &script)?;
+        assert_eq!(rt; error, refused(8 + most, Rule::Limit), "{kind}");
+    }
     Ok(())
 }

@@ -1,14 +1,14 @@
-ghost use Rattle.std.specs.Prelude.{◌≡◌, ◌<◌, true};
+ghost use Rattle.std.specs.Prelude.{◌≡◌};
 ghost use Rattle.std.specs.List.{list_all};
 ghost use Rattle.std.specs.Option.{option_map};
-ghost use Rattle.adversary_script.specs.LieWords.{who_seen, what_seen, lie_seen};
-ghost use Rattle.adversary_script.specs.WordTests.{is_letter, is_name, are_below, is_rising, numbers_in, only, both, who_below, what_below, are_ids, is_crossed};
+ghost use Rattle.adversary_script.specs.LieWords.{who_seen, what_seen};
+ghost use Rattle.adversary_script.specs.WordTests.{is_letter, is_name, are_below, is_rising, numbers_in, only, both, who_below, what_below, is_crossed};
 ghost use Rattle.adversary_script.specs.Answers.{GivesSeen};
 
-use crate::lie_words::{LieWords, WhatWords, WhoWords};
+use crate::lie_words::{WhatWords, WhoWords};
 use edge_io::{TakeError, Words, number};
 use std::alloc::Global;
-use sync_types::{FaultSet, Rule};
+use sync_types::Rule;
 
 /// The most letters that a name may have.
 const LONGEST_NAME: usize = 16;
@@ -50,6 +50,7 @@ pub fn both<'a>(words: &mut Words<'a>) -> Option<(&'a [u8], &'a [u8])>
     }
 }
 
+/// Whether each byte is a letter `a-z`.
 fn all_letters(word: &[u8]) -> bool
     ensures { result ≡ list_all is_letter word.now }
 {
@@ -84,7 +85,8 @@ pub fn is_rising(ids: &[u64]) -> bool
     true
 }
 
-fn who_below(nodes: u32, who: &WhoWords) -> bool
+/// Whether the ids of who hears a lie are those of nodes.
+pub fn who_below(nodes: u32, who: &WhoWords) -> bool
     ensures { result ≡ who_below nodes (who_seen who.now) }
 {
     match *who {
@@ -93,28 +95,14 @@ fn who_below(nodes: u32, who: &WhoWords) -> bool
     }
 }
 
-fn what_below(nodes: u32, what: &WhatWords) -> bool
+/// Whether the id that a lie copies is that of a node.
+pub fn what_below(nodes: u32, what: &WhatWords) -> bool
     ensures { result ≡ what_below nodes (what_seen what.now) }
 {
     match *what {
         WhatWords::Copy(node) => node < u64::from(nodes),
         _ => true,
     }
-}
-
-/// Whether all ids of a lie are those of nodes, and its sender's of a faulty one.
-pub fn are_ids(faulty: &FaultSet, line: &LieWords) -> bool
-    ensures value { result ≡ are_ids faulty.now.nodes faulty.now.ids (lie_seen line.now) }
-    ensures sender { result ≡ true → line.now.sender < faulty.now.nodes }
-    ensures copied { result ≡ true → what_below faulty.now.nodes (what_seen line.now.what) ≡ true }
-{
-    let nodes = faulty.nodes();
-    if line.sender >= u64::from(nodes) {
-        return false;
-    }
-    faulty.contains(line.sender as u32)
-        && who_below(nodes, &line.who)
-        && what_below(nodes, &line.what)
 }
 
 /// Whether the first of two ids is above the last.

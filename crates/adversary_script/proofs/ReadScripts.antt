@@ -1,0 +1,156 @@
+-- Every script that is read is well formed and for its plan.
+use Rattle.std.proofs.Common.{◌≡◌, ℕ, map, get_or, ◌<◌, ◌≤◌, List, [], ◌∷◌, length, Bool, true, false, ◌||◌, nat_lt, Option, Some, None, Result, Ok, Err, refl, sym, arith}
+use Rattle.std.specs.Prelude.{⊤, All, IfOk}
+use Rattle.std.proofs.lemmas.Bool.{ltb-false, true≢false}
+use Rattle.std.proofs.lemmas.List.{length-map}
+use Rattle.std.proofs.lemmas.List.Elements.{All-cons}
+use Rattle.texts.specs.Parts.{At}
+use Rattle.sync_types.specs.declared.answers.Rule.{Rule}
+use Rattle.sync_types.specs.declared.answers.Rule.TheVariants as rule
+use Rattle.construction.specs.Plans.{Plan, plan_nodes, plan_faults}
+use Rattle.construction.specs.Runs.{IsBorne}
+use Rattle.state_codec.specs.Shapes.{Shape, IsShape}
+use Rattle.adversary_script.specs.declared.kinds.Kind.{Kind}
+use Rattle.adversary_script.specs.declared.kinds.Kind.TheVariants as kind
+use Rattle.adversary_script.specs.declared.refusals.ScriptError.{ScriptError}
+use Rattle.adversary_script.specs.Kinds.{may_follow}
+use Rattle.adversary_script.specs.WordTests.{numbers_in}
+use Rattle.adversary_script.specs.Scripts.{Era, Script, firsts, AreWithin, IsFormed, IsScript, empty_script}
+use Rattle.adversary_script.specs.FaultySteps.{last_first}
+use Rattle.adversary_script.specs.Steps.{done, rounds_tested, show_tested, line_step}
+use Rattle.adversary_script.specs.ScriptPart.{IsClosed, IsAnswer, IsFor, script_of}
+use Rattle.adversary_script.proofs.EraLists.{last_is, most_last}
+use Rattle.adversary_script.proofs.LineByLine.{script_has}
+use Rattle.adversary_script.proofs.SoundLines.{guarded, IsSound, line_kept}
+
+-- the eras of a script begin within so many rounds as reach its last one
+all_within : (s : Script) (rounds : ℕ) → IsFormed s → last_first s ≤ rounds → (k d : ℕ)
+    → k < length (firsts s) → get_or (firsts s) k d ≤ rounds
+all_within s rounds formed most k d lt =
+    let size = length-map s.eras (λ (era : Era). era.first) in
+    let last : last_first s ≡ get_or (firsts s) (length (map (λ (era : Era). era.first) s.eras)) 0 =
+    rw size (last_is 0 s.eras) in
+    let here = most_last 0 (map (λ (era : Era). era.first) s.eras) formed.rising k d lt in
+    omega (arith, last)
+
+rounds_close : (s : Script) (numbers : Option (List ℕ)) → IsFormed s
+    → IfOk (rounds_tested s numbers) AreWithin
+rounds_close s (Some (r ∷ [])) formed =
+    guarded AreWithin (nat_lt 1000000 r) rule.Limit _ (λ _.
+    guarded AreWithin (nat_lt r (last_first s)) rule.Range _
+    (λ reach. all_within s r formed (ltb-false r (last_first s) reach)))
+rounds_close s other formed = tt
+
+show_closes : (s : Script) (numbers : Option (List ℕ)) → AreWithin s → IfOk (show_tested s numbers)
+    AreWithin
+show_closes s (Some (a ∷ b ∷ [])) within =
+    guarded AreWithin (nat_lt b a || nat_lt s.rounds b) rule.Range _ (λ _. within)
+show_closes s other within = tt
+
+end_closes : (s : Script) (words : List (List ℕ)) → AreWithin s → IfOk (done s words) AreWithin
+end_closes s [] within = within
+end_closes s (word ∷ words) within = tt
+
+any_ok : (r : Result Script Rule) → IfOk r (λ _. ⊤)
+any_ok (Ok s) = tt
+any_ok (Err e) = tt
+
+-- what stands before what is shown, and before the end
+shown_behind : (last : Option Kind) (s : Script) → may_follow last kind.Show ≡ true
+    → IsClosed last s → AreWithin s
+shown_behind (Some kind.Rounds) s may closed = closed
+shown_behind last s may closed = absurd (true≢false (sym may))
+
+ended_behind : (last : Option Kind) (s : Script) → may_follow last kind.End ≡ true → IsClosed last s
+    → AreWithin s
+ended_behind (Some kind.Show) s may closed = closed
+ended_behind last s may closed = absurd (true≢false (sym may))
+
+-- a line that may stand behind those that were read keeps that all eras begin within the rounds
+pub line_closes : (f : ℕ) (last : Option Kind) (k : Kind) (s : Script) (words : List (List ℕ))
+    → may_follow last k ≡ true → IsFormed s → IsClosed last s → IfOk (line_step f k s words)
+    (IsClosed (Some k))
+line_closes f last kind.Rounds s words may formed closed = rounds_close s (numbers_in words) formed
+line_closes f last kind.Show s words may formed closed =
+    show_closes s (numbers_in words) (shown_behind last s may closed)
+line_closes f last kind.End s words may formed closed =
+    end_closes s words (ended_behind last s may closed)
+line_closes f last k s words may formed closed = any_ok (line_step f k s words)
+
+-- what holds of what was said, behind a line of a kind
+record IsSoFar (plan : Plan) (shape : Shape) (last : Option Kind) (s : Script) : Type 0 where
+  sound : IsSound plan shape s
+  closed : IsClosed last s
+
+both_ok : (plan : Plan) (shape : Shape) (last : Option Kind) (r : Result Script Rule)
+    → IfOk r (IsSound plan shape) → IfOk r (IsClosed last) → IfOk r (IsSoFar plan shape last)
+both_ok plan shape last (Ok s) sound closed = record { sound = sound; closed = closed }
+both_ok plan shape last (Err e) sound closed = tt
+
+pub empty_is : (nodes : ℕ) (shape : Shape) → IsFormed (empty_script nodes shape)
+empty_is nodes shape = record {
+  ids =
+      All-cons (All (λ id. id < nodes)) [] [] (λ k d lt. absurd (omega arith))
+      (λ k d lt. absurd (omega arith));
+  senders = λ k d lt. absurd (omega arith);
+  lies = λ k d lt. absurd (omega arith);
+  starts = λ k d lt. absurd (omega arith);
+  hits = λ k d lt. absurd (omega arith);
+  many = omega arith;
+  rising = λ k lt. absurd (omega arith);
+  few = omega arith;
+  order = omega arith;
+  shown = omega arith;
+}
+
+elim_ok : {P Q : Script → Type 0} (r : Result Script (At Rule)) → IfOk r P
+    → ((s : Script) → P s → Q s) → IfOk r Q
+elim_ok (Ok s) h f = f s h
+elim_ok (Err e) h f = tt
+
+module _ (plan : Plan) (shape : Shape) (sound : IsShape shape) (number : ℕ) (lines : List (List ℕ))
+  where
+    script_is : IfOk (script_of plan shape number lines) (IsSoFar plan shape (Some kind.End))
+    script_is =
+        script_has plan shape (IsSoFar plan shape)
+        (λ last k s words may h. both_ok plan shape (Some k) (line_step (plan_faults plan) k s words)
+        (line_kept plan shape sound s h.sound k words)
+        (line_closes (plan_faults plan) last k s words may h.sound.formed h.closed))
+        (record {
+          sound = record {
+            formed = empty_is (plan_nodes plan) shape;
+            right =
+                record {
+                  nodes = refl;
+                  states = refl;
+                  borne = All-cons (IsBorne plan) [] [] none_borne
+                      (λ k d lt. absurd (omega arith));
+                };
+          };
+          closed = tt;
+        })
+        number lines
+      where
+        none_borne : IsBorne plan []
+        none_borne =
+            record {
+              rising = λ k lt. absurd (omega arith);
+              ids = λ k d lt. absurd (omega arith);
+              few = omega arith;
+            }
+
+    pub script_is_script : IfOk (script_of plan shape number lines) IsScript
+    script_is_script =
+        elim_ok (script_of plan shape number lines) script_is
+        (λ s h. record { formed = h.sound.formed; within = h.closed })
+
+    pub script_is_for : IfOk (script_of plan shape number lines) (IsFor plan shape)
+    script_is_for = elim_ok (script_of plan shape number lines) script_is (λ s h. h.sound.right)
+
+-- a reading that is exact gives a script for its plan
+pub read_is_for : (plan : Plan) (shape : Shape) → IsShape shape
+    → (number : ℕ) (lines : List (List ℕ)) (r : Result Script ScriptError)
+    → IsAnswer plan shape number lines r → IfOk r (IsFor plan shape)
+read_is_for plan shape sound number lines (Ok script) is =
+    rw is at (script_is_for plan shape sound number lines)
+read_is_for plan shape sound number lines (Err e) is = tt

@@ -1,5 +1,0 @@
-use Rattle.std.proofs.Common.{◌≡◌}
-use Rattle.adversary_script.proofs.value_tests.starts_and_lies_are_those_of_the_script.Given as goal
-
-abbrev pub invariant-loop-t : goal.invariant-loop-t
-invariant-loop-t g l = l.noise ≡ l.script-inside.key

@@ -1,0 +1,58 @@
+ghost use Rattle.std.specs.Prelude.{◌≡◌};
+ghost use Rattle.adversary_script.specs.Scripts.{empty_script};
+ghost use Rattle.adversary_script.specs.Seen.{script_seen};
+
+use crate::lies::{CommonStart, Lie, Start};
+use indexmap::IndexMap;
+use std::alloc::Global;
+use sync_types::FaultSet;
+
+/// An era behind the first: from a configuration on these nodes are faulty, and there some nodes
+/// are put into states.
+#[derive(Drop)]
+pub struct Era {
+    pub first: u64,
+    pub faulty: FaultSet,
+    pub starts: Vec<Start>,
+}
+
+/// What the lines of a script say, but for the nodes that are faulty at first.
+#[derive(Drop)]
+pub struct Parts {
+    pub version: u32,
+    pub key: [u8; 32],
+    pub common: CommonStart,
+    pub starts: Vec<Start>,
+    pub eras: Vec<Era>,
+    pub groups: IndexMap<Vec<u8>, FaultSet>,
+    pub lies: Vec<Lie>,
+    pub rounds: u64,
+    pub first: u64,
+    pub last: u64,
+}
+
+impl Parts {
+    ghost use Rattle.std.specs.Prelude.{ℕ, []};
+    ghost use Rattle.state_codec.specs.Shapes.{Shape};
+
+    /// Parts that say nothing. They take no memory.
+    pub fn none(alloc: Global) -> Parts
+        ensures says { (shape : Shape) (nodes : ℕ)
+            → script_seen shape (record { nodes = nodes; ids = [] }) result
+            ≡ empty_script nodes shape }
+        ensures eras { result.eras.items ≡ [] }
+    {
+        Parts {
+            version: 1,
+            key: [0; 32],
+            common: CommonStart::Zero,
+            starts: Vec::new(alloc),
+            eras: Vec::new(alloc),
+            groups: IndexMap::new(alloc),
+            lies: Vec::new(alloc),
+            rounds: 0,
+            first: 0,
+            last: 0,
+        }
+    }
+}
