@@ -1,109 +1,263 @@
 -- A plan's shape with a layer's registers behind fits the plan's counter and the layer.
-use Rattle.std.proofs.Common.{◌≡◌, ℕ, ◌+◌, ◌-◌, ◌<◌, ◌≤◌, inl, inr, List, ◌++◌, length, replicate, take, get_or, refl, sym, ap, ap₂, ◌∙◌, subst, arith, length-append}
+use Rattle.std.proofs.Common.{◌≡◌, ℕ, ◌+◌, ◌-◌, ◌<◌, ◌≤◌, inl, inr, not, List, ◌++◌, length, map, replicate, take, get_or, refl, sym, ap, ap₂, ◌∙◌, subst, arith, length-append}
 use Rattle.std.specs.Prelude.{IfSome, slice_index}
-use Rattle.std.proofs.lemmas.Bool.{cases_lt}
+use Rattle.std.specs.List.{range_with_len}
+use Rattle.std.proofs.lemmas.Bool.{cases_lt, ne_eqb}
+use Rattle.std.proofs.lemmas.List.FromFn.{fill_by_all, length-map-range_with_len, get_or-map-range_with_len}
 use Rattle.std.proofs.lemmas.List.{append-nil, get_or_append_left, get_or-append-add, get_or-append_right, get_or-replicate, length-replicate, length-take-le, get_or-take}
 use Rattle.sync_types.specs.declared.states.Reg.{Reg}
 use Rattle.sync_types.specs.States.{State, register_at, zero_register}
-use Rattle.construction.specs.Plans.{Plan, plan_depth}
+use Rattle.construction.specs.Plans.{Plan, plan_nodes, plan_depth}
+use Rattle.construction.specs.Runs.{IsState, IsRegister}
+use Rattle.construction.specs.Steps.{step_of}
+use Rattle.construction.proofs.Ranges.{step_is_state}
+use Rattle.plan_numbers.specs.Premises.{IsAccepted}
 use Rattle.plan_laws.specs.PlanMeaning.{plan_meaning, IsInRange}
-use Rattle.plan_laws.proofs.Ranges.{range_from_cut}
-use Rattle.state_codec.specs.Shapes.{Shape, moduli_of, shape_of}
-use Rattle.state_codec.specs.Ranges.{InRange}
-use Rattle.state_codec.proofs.Plans.{length-moduli_of, in_range_of_plan, state_of_range}
+use Rattle.plan_laws.proofs.PlanCounter.{positive}
+use Rattle.plan_laws.proofs.Ranges.{range_from_cut, range_of_state}
+use Rattle.state_codec.specs.Shapes.{Fields, Shape, IsShape, moduli_of, shape_of, shape_over, shape_with, lows_of, fields_at}
+use Rattle.state_codec.specs.Ranges.{IsField, InRange}
+use Rattle.state_codec.proofs.Further.{fields_with_further}
+use Rattle.state_codec.proofs.Lows.{length-moduli_from}
+use Rattle.state_codec.proofs.Plans.{shape_of_accepted, length-moduli_of, nodes_of_shape}
+use Rattle.state_codec.proofs.PlanStates.{in_range_of_node, state_of_node}
 use Rattle.counter_core.specs.Meanings.{cut}
-use Rattle.counter_core.specs.Overlays.{Layer, StandsOver, HasValues}
-use Rattle.counter_core.specs.Overlays as layers
+use Rattle.counter_core.specs.Overlays.{Layer, StandsOver, HasValues, AreBelow}
 use Rattle.counter_core.specs.NoLayers.{no_layer}
 use Rattle.adversary_script.specs.Scripts.{Script}
 use Rattle.adversary_script.specs.ScriptPart as part
+use Rattle.adversary_script.specs.Lies.{fitted_register, fitted}
+use Rattle.adversary_script.proofs.Fitted.{fitted_in_range}
 use Rattle.round_runner.specs.Fits.{Fits}
-use Rattle.round_runner.specs.Runners.{HasLayer, IsFor}
+use Rattle.round_runner.specs.Runners.{IsFor}
 
-module _ {Kept : Type 0} (plan : Plan) (layer : Layer Kept) (shape : Shape) (has : HasLayer plan layer shape) where
-  abbrev own : List ℕ
-  own = moduli_of plan.levels
+-- a register that a node has is below its modulus, and one that is below it is the node's
+finite_below : (modulus : ℕ) (r : Reg) → 2 ≤ modulus → IsField modulus r
+    → IfSome r.a (λ a. a < modulus)
+finite_below modulus r two is = subst (λ b. IsRegister (not b) modulus r)
+    (ne_eqb modulus 0 (λ e. absurd (omega arith))) is
+
+below_finite : (modulus : ℕ) (r : Reg) → 2 ≤ modulus → IfSome r.a (λ a. a < modulus)
+    → IsField modulus r
+below_finite modulus r two is = subst (λ b. IsRegister (not b) modulus r)
+    (sym (ne_eqb modulus 0 (λ e. absurd (omega arith)))) is
+
+-- the fields of the nodes, those of the plan with the layer's registers behind
+module _ {Kept : Type 0} (plan : Plan) (layer : Layer Kept) (accepted : IsAccepted plan)
+    (sound : IsShape (shape_with plan layer.values layer.extra)) where
+  abbrev depth : ℕ
+  depth = plan_depth plan
+
+  abbrev shape : Shape
+  shape = shape_with plan layer.values layer.extra
 
   abbrev behind : List ℕ
   behind = replicate layer.extra layer.values
 
-  long : length shape.moduli ≡ plan_depth plan + layer.extra
-  long = ap (λ (m : List ℕ). length m) has.moduli ∙ (length-append own behind ∙ ap₂ (λ (a b : ℕ). a + b) (length-moduli_of plan.levels) (length-replicate layer.extra layer.values))
+  long : length shape.moduli ≡ depth + layer.extra
+  long = length-append (moduli_of plan.levels) behind
+      ∙ ap₂ (λ (a b : ℕ). a + b) (length-moduli_of plan.levels)
+      (length-replicate layer.extra layer.values)
 
-  modulus_own : (i : ℕ) → i < plan_depth plan → slice_index shape.moduli i ≡ slice_index own i
-  modulus_own i lt = ap (λ (m : List ℕ). slice_index m i) has.moduli ∙ get_or_append_left own behind 0 i (let size = length-moduli_of plan.levels in omega (arith, lt, size))
+  -- the layer's values are a modulus of the shape
+  some_values : (i : ℕ) → i < layer.extra → 2 ≤ layer.values
+  some_values i lt =
+      let at : get_or shape.moduli (depth + i) 0 ≡ layer.values =
+      ap (λ (n : ℕ). get_or shape.moduli (n + i) 0) (sym (length-moduli_of plan.levels))
+      ∙ get_or-append-add (moduli_of plan.levels) behind i 0
+      ∙ get_or-replicate layer.extra i layer.values 0 lt in
+      let two = (sound.moduli (depth + i) 0 (omega (arith, lt, long))).0 in
+      omega (arith, at, two)
 
-  modulus_behind : (i : ℕ) → i < layer.extra → slice_index shape.moduli (plan_depth plan + i) ≡ layer.values
-  modulus_behind i lt =
-      ap (λ (m : List ℕ). slice_index m (plan_depth plan + i)) has.moduli
-      ∙ (ap (λ (n : ℕ). get_or (own ++ behind) (n + i) 0) (sym (length-moduli_of plan.levels)) ∙ (get_or-append-add own behind i 0 ∙ get_or-replicate layer.extra i layer.values 0 lt))
+  module _ (v : ℕ) (node : v < plan_nodes plan) where
+    -- the fields of the node in the plan
+    abbrev own : Fields
+    own = fields_at (shape_of plan) v
 
-  counts : (s : State) → InRange shape s → IsInRange plan s
-  counts s range =
-      let size : length (take (plan_depth plan) s.registers) ≡ plan_depth plan = length-take-le (plan_depth plan) s.registers (let d = range.depth in omega (arith, d, long)) in
-      let front : InRange (shape_of plan) (cut (plan_depth plan) s) = record {
-        depth = size ∙ sym (length-moduli_of plan.levels);
-        x = let x = range.x in omega (arith, x, has.base);
-        values = λ i lt. let inside : i < plan_depth plan = (let l = length-moduli_of plan.levels in omega (arith, lt, l)) in
-            subst (λ (r : Reg). IfSome r.a (λ a. a < slice_index own i)) (sym (get_or-take (plan_depth plan) s.registers i zero_register inside))
-            (subst (λ (c : ℕ). IfSome (register_at i s).a (λ a. a < c)) (modulus_own i inside) (range.values i (omega (arith, inside, long))));
-      } in
-      let state = state_of_range plan (cut (plan_depth plan) s) front in
-      record { x = state.x; values = range_from_cut plan.levels (plan_depth plan) (omega arith) s state.range }
+    fields_are : fields_at shape v ≡ record own { moduli = own.moduli ++ behind }
+    fields_are = fields_with_further plan layer.values layer.extra v node
 
-  values : StandsOver layer (plan_meaning plan) → (s : State) → InRange shape s → HasValues layer s
-  values over s range = λ i lt.
-      let depth : layer.depth ≡ plan_depth plan = (over (omega (arith, lt))).depth in
-      let at = range.values (plan_depth plan + i) (omega (arith, lt, long)) in
-      subst (λ (d : ℕ). IfSome (register_at (d + i) s).a (λ a. a < layer.values)) (sym depth) (subst (λ (c : ℕ). IfSome (register_at (plan_depth plan + i) s).a (λ a. a < c)) (modulus_behind i lt) at)
+    own_long : length own.moduli ≡ depth
+    own_long = length-moduli_from (get_or (lows_of plan) v 0) (moduli_of plan.levels)
+        ∙ length-moduli_of plan.levels
 
-  -- a register behind the counter's own is one of the layer's
-  behind_is : (s : State) (registers : List Reg) → length s.registers ≡ plan_depth plan → length registers ≡ layer.extra → layers.AreBelow layer.values registers
-      → (i : ℕ) → i < length shape.moduli → plan_depth plan ≤ i → IfSome (get_or (s.registers ++ registers) i zero_register).a (λ a. a < slice_index shape.moduli i)
-  behind_is s registers depth extra below i lt over =
-      let k : ℕ = i - plan_depth plan in
-      let at : plan_depth plan + k ≡ i = omega (arith, over) in
-      let inside : k < layer.extra = omega (arith, lt, long, over) in
-      let register : get_or (s.registers ++ registers) i zero_register ≡ get_or registers k zero_register = get_or-append_right s.registers registers (plan_depth plan) i zero_register depth over in
-      let modulus : slice_index shape.moduli i ≡ layer.values = ap (λ (j : ℕ). slice_index shape.moduli j) (sym at) ∙ modulus_behind k inside in
-      subst (λ (c : ℕ). IfSome (get_or (s.registers ++ registers) i zero_register).a (λ a. a < c)) (sym modulus)
-      (subst (λ (r : Reg). IfSome r.a (λ a. a < layer.values)) (sym register) (below k zero_register (omega (arith, inside, extra))))
+    fields_long : length (own.moduli ++ behind) ≡ depth + layer.extra
+    fields_long = length-append own.moduli behind
+        ∙ ap₂ (λ (a b : ℕ). a + b) own_long (length-replicate layer.extra layer.values)
 
-  joined : (s : State) (registers : List Reg) → IsInRange plan s → length s.registers ≡ plan_depth plan → length registers ≡ layer.extra → layers.AreBelow layer.values registers
-      → InRange shape (record { x = s.x; registers = s.registers ++ registers })
-  joined s registers is depth extra below =
-      let front : InRange (shape_of plan) s = in_range_of_plan plan s (record { depth = depth; x = is.x; range = is.values }) in
-      record {
-        depth = length-append s.registers registers ∙ (ap₂ (λ (a b : ℕ). a + b) depth extra ∙ sym long);
-        x = let x = is.x in omega (arith, x, has.base);
-        values = λ i lt. elim (cases_lt i (plan_depth plan)) [
-          | inl inside ↦ subst (λ (c : ℕ). IfSome (get_or (s.registers ++ registers) i zero_register).a (λ a. a < c)) (sym (modulus_own i inside))
-              (subst (λ (r : Reg). IfSome r.a (λ a. a < slice_index own i)) (sym (get_or_append_left s.registers registers zero_register i (omega (arith, inside, depth))))
-              (front.values i (let l = length-moduli_of plan.levels in omega (arith, inside, l))))
-          | inr over ↦ behind_is s registers depth extra below i lt over
-        ];
-      }
+    modulus_own : (i : ℕ) → i < depth → slice_index (own.moduli ++ behind) i
+        ≡ slice_index own.moduli i
+    modulus_own i lt = get_or_append_left own.moduli behind 0 i (omega (arith, lt, own_long))
 
-pub layer_fits : {Kept : Type 0} (plan : Plan) (layer : Layer Kept) (shape : Shape) → HasLayer plan layer shape → StandsOver layer (plan_meaning plan) → Fits shape (plan_meaning plan) (IsInRange plan) layer
-layer_fits plan layer shape has over = record {
-  depth = long plan layer shape has;
-  counts = counts plan layer shape has;
-  values = values plan layer shape has over;
-  joined = joined plan layer shape has;
-}
+    modulus_behind : (i : ℕ) → i < layer.extra
+        → slice_index (own.moduli ++ behind) (depth + i) ≡ layer.values
+    modulus_behind i lt = ap (λ (n : ℕ). get_or (own.moduli ++ behind) (n + i) 0) (sym own_long)
+        ∙ get_or-append-add own.moduli behind i 0 ∙ get_or-replicate layer.extra i layer.values 0 lt
+
+    -- the front of a state of the node is one of the plan
+    pub front_is : (s : State) → InRange (fields_at shape v) s → IsState plan v (cut depth s)
+    front_is s range =
+        let here : InRange (record own { moduli = own.moduli ++ behind }) s =
+        subst (λ f. InRange f s) fields_are range in
+        let size : length (take depth s.registers) ≡ depth =
+        length-take-le depth s.registers (let d = here.depth in
+        omega (arith, d, fields_long)) in
+        state_of_node plan accepted v node (cut depth s) (record {
+          depth = size ∙ sym own_long;
+          x = here.x;
+          values = λ i lt.
+              let inside : i < depth = omega (arith, lt, own_long) in
+              subst (λ (r : Reg). IsField (slice_index own.moduli i) r)
+              (sym (get_or-take depth s.registers i zero_register inside))
+              (subst (λ (c : ℕ). IsField c (register_at i s)) (modulus_own i inside)
+              (here.values i (omega (arith, inside, fields_long))));
+        })
+
+    counts : (s : State) → InRange (fields_at shape v) s → IsInRange plan s
+    counts s range =
+        let some = positive plan.base plan.levels accepted.levels in
+        let within = range_of_state plan some.0 some.1 v (cut depth s) (front_is s range) in
+        record {
+          x = within.x;
+          values = range_from_cut plan.levels depth
+              (omega arith) s within.values;
+        }
+
+    values : StandsOver layer (plan_meaning plan) → (s : State) → InRange (fields_at shape v) s
+        → HasValues layer s
+    values over s range = λ i lt.
+        let here : InRange (record own { moduli = own.moduli ++ behind }) s =
+        subst (λ f. InRange f s) fields_are range in
+        let same : layer.depth ≡ depth = (over (omega (arith, lt))).depth in
+        let at : IsField layer.values (register_at (depth + i) s) =
+        subst (λ (c : ℕ). IsField c (register_at (depth + i) s)) (modulus_behind i lt)
+        (here.values (depth + i) (omega (arith, lt, fields_long))) in
+        subst (λ (d : ℕ). IfSome (register_at (d + i) s).a (λ a. a < layer.values)) (sym same)
+        (finite_below layer.values (register_at (depth + i) s) (some_values i lt) at)
+
+    -- the front of those of a state's fields that the node has is those of its front
+    fitted_front : (s : State) → cut depth (fitted (fields_at shape v) s) ≡ fitted own (cut depth s)
+    fitted_front s =
+        let full : Fields = record own { moduli = own.moduli ++ behind } in
+        let made : ℕ → Reg = λ i. fitted_register (slice_index full.moduli i) (register_at i s) in
+        let cut_made : ℕ → Reg = λ i. fitted_register (slice_index own.moduli i)
+        (register_at i (cut depth s)) in
+        let all : List Reg = map made (range_with_len 0 (length full.moduli)) in
+        let size : length (take depth all) ≡ length own.moduli =
+        length-take-le depth all (omega (
+          arith,
+          length-map-range_with_len made 0 (length full.moduli),
+          fields_long,
+        )) ∙ sym own_long in
+        let each : (i : ℕ) → i < length own.moduli
+        → get_or (take depth all) i zero_register ≡ cut_made i = λ i lt.
+        let inside : i < depth = omega (arith, lt, own_long) in
+        get_or-take depth all i zero_register inside
+        ∙ get_or-map-range_with_len made 0 (length full.moduli) i i zero_register
+        (omega (arith, inside, fields_long)) (omega arith)
+        ∙ ap₂ fitted_register (modulus_own i inside)
+        (sym (get_or-take depth s.registers i zero_register inside)) in
+        ap (λ f. cut depth (fitted f s)) fields_are
+        ∙ ap (λ (registers : List Reg). let t : State =
+        record { x = (fitted own s).x; registers = registers } in t)
+        (fill_by_all cut_made (take depth all) (length own.moduli) zero_register size each)
+
+    -- so they are a state of the node where its front is one of another node
+    pub fitted_is : (w : ℕ) → w < plan_nodes plan → (s : State) → IsState plan w (cut depth s)
+        → IsState plan v (cut depth (fitted (fields_at shape v) s))
+    fitted_is w other s is =
+        let range = in_range_of_node plan accepted w other (cut depth s) is in
+        subst (IsState plan v) (sym (fitted_front s))
+        (state_of_node plan accepted v node (fitted own (cut depth s))
+        (fitted_in_range (shape_of plan) v w (cut depth s) (shape_of_accepted plan accepted) range))
+
+    -- a state of the plan's node with registers of the layer behind is one of the node
+    module _ (s : State) (registers : List Reg) (is : IsState plan v s)
+        (extra : length registers ≡ layer.extra) (below : AreBelow layer.values registers) where
+      behind_is : (i : ℕ) → i < depth + layer.extra → depth ≤ i
+          → IsField (slice_index (own.moduli ++ behind) i)
+          (get_or (s.registers ++ registers) i zero_register)
+      behind_is i lt over =
+          let j : ℕ = i - depth in
+          let inside : j < layer.extra = omega (arith, lt, over) in
+          let back : depth + j ≡ i = omega (arith, over) in
+          let modulus : slice_index (own.moduli ++ behind) i ≡ layer.values =
+          ap (slice_index (own.moduli ++ behind)) (sym back) ∙ modulus_behind j inside in
+          let register : get_or (s.registers ++ registers) i zero_register
+          ≡ get_or registers j zero_register =
+          get_or-append_right s.registers registers depth i zero_register is.depth over in
+          subst (λ (c : ℕ). IsField c (get_or (s.registers ++ registers) i zero_register))
+          (sym modulus)
+          (subst (λ (r : Reg). IsField layer.values r) (sym register)
+          (below_finite layer.values (get_or registers j zero_register) (some_values j inside)
+          (below j zero_register (omega (arith, inside, extra)))))
+
+      pub joined : InRange (fields_at shape v)
+          (record { x = s.x; registers = s.registers ++ registers })
+      joined =
+          let front = in_range_of_node plan accepted v node s is in
+          subst (λ f. InRange f (record { x = s.x; registers = s.registers ++ registers }))
+          (sym fields_are) (record {
+            depth = length-append s.registers registers
+                ∙ (ap₂ (λ (a b : ℕ). a + b) is.depth extra ∙ sym fields_long);
+            x = front.x;
+            values = λ i lt. elim (cases_lt i depth) [
+              | inl inside ↦ subst (λ (c : ℕ).
+                  IsField c (get_or (s.registers ++ registers) i zero_register))
+                  (sym (modulus_own i inside))
+                  (subst (λ (r : Reg). IsField (slice_index own.moduli i) r)
+                  (sym (get_or_append_left s.registers registers zero_register i
+                  (let d = is.depth in omega (arith, inside, d))))
+                  (front.values i (omega (arith, inside, own_long))))
+              | inr over ↦ behind_is i (omega (arith, lt, fields_long)) over
+            ];
+          })
+
+    stepped : (heard : List State) (registers : List Reg) → length registers ≡ layer.extra
+        → AreBelow layer.values registers
+        → InRange (fields_at shape v) (record {
+          x = (step_of plan v heard).x;
+          registers =
+              (step_of plan v heard).registers ++ registers;
+        })
+    stepped heard registers extra below =
+        let some = positive plan.base plan.levels accepted.levels in
+        joined (step_of plan v heard) registers
+        (step_is_state plan some.0 some.1 v heard) extra below
+
+pub layer_fits : {Kept : Type 0} (plan : Plan) (layer : Layer Kept) (shape : Shape)
+    → IsAccepted plan → shape ≡ shape_with plan layer.values layer.extra → IsShape shape
+    → StandsOver layer (plan_meaning plan) → Fits shape (plan_meaning plan) (IsInRange plan) layer
+layer_fits plan layer states accepted is sound over =
+    let whole : IsShape (shape_with plan layer.values layer.extra) = subst IsShape is sound in
+    subst (λ (s : Shape). Fits s (plan_meaning plan) (IsInRange plan) layer) (sym is) (record {
+      nodes = nodes_of_shape plan (moduli_of plan.levels ++ replicate layer.extra layer.values);
+      depth = long plan layer accepted whole;
+      counts = λ v node s range. counts plan layer accepted whole v node s range;
+      values = λ v node s range. values plan layer accepted whole v node over s range;
+      stepped = λ v node heard registers extra below.
+          stepped plan layer accepted whole v node heard registers extra below;
+    })
+
+-- the shape of a plan is that with no registers behind
+no_further : (plan : Plan) (values count : ℕ) → count ≡ 0
+    → shape_of plan ≡ shape_with plan values count
+no_further plan values count none =
+    ap (shape_over plan) (sym (append-nil (moduli_of plan.levels))
+    ∙ ap (λ (n : ℕ). moduli_of plan.levels ++ replicate n values) (sym none))
 
 -- a script that was read for a plan is one to play with a layer that has no registers
-pub without_registers : {Kept : Type 0} (plan : Plan) (script : Script) (layer : Layer Kept) → layer.extra ≡ 0 → part.IsFor plan (shape_of plan) script → IsFor plan layer script
+pub without_registers : {Kept : Type 0} (plan : Plan) (script : Script) (layer : Layer Kept)
+    → layer.extra ≡ 0
+    → part.IsFor plan (shape_of plan) script → IsFor plan layer script
 without_registers plan script layer none is = record {
   nodes = is.nodes;
-  shape = record {
-    base = ap (λ (s : Shape). s.base) is.states;
-    moduli = ap (λ (s : Shape). s.moduli) is.states ∙ (sym (append-nil (moduli_of plan.levels)) ∙ ap (λ (n : ℕ). moduli_of plan.levels ++ replicate n layer.values) (sym none));
-  };
+  shape = is.states ∙ no_further plan layer.values layer.extra none;
   over = λ lt. absurd (omega (arith, lt, none));
   borne = is.borne;
 }
 
 -- so it is one to play without a layer
-pub without_layer : (plan : Plan) (script : Script) → part.IsFor plan (shape_of plan) script → IsFor plan no_layer script
+pub without_layer : (plan : Plan) (script : Script) → part.IsFor plan (shape_of plan) script
+    → IsFor plan no_layer script
 without_layer plan script is = without_registers plan script no_layer refl is

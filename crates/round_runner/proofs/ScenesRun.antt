@@ -1,32 +1,35 @@
--- The scenes of a script with a layer above, cut to the registers of the plan, are a run of the plan.
-use Rattle.std.proofs.Common.{◌≡◌, ℕ, zero, suc, ◌+◌, ◌<◌, Bool, true, false, cond, not, ◌||◌, ◌==◌, List, [], length, map, get_or, All, add-one, refl, sym, ap, ap₂, ◌∙◌, subst, arith}
+-- The scenes of a script with a layer above, cut to the registers of the plan, are a run of the
+-- plan.
+use Rattle.std.proofs.Common.{◌≡◌, ℕ, zero, suc, ◌+◌, ◌<◌, ◌≤◌, Bool, true, false, cond, not, ◌||◌, ◌==◌, List, [], length, map, get_or, None, unwrap_or, add-one, refl, sym, ap, ap₂, ◌∙◌, subst, arith}
 use Rattle.std.specs.List.{range_with_len}
-use Rattle.std.proofs.lemmas.List.{length-map, length-take-le, take_at}
-use Rattle.std.proofs.lemmas.List.Elements.{All-map}
+use Rattle.std.proofs.lemmas.List.{length-map, take_at}
 use Rattle.std.proofs.lemmas.List.FromFn.{fill_by_all, length-map-range_with_len, get_or-map-range_with_len}
 use Rattle.sync_types.specs.declared.states.Reg.{Reg}
 use Rattle.sync_types.specs.States.{State, zero_state}
 use Rattle.construction.specs.Plans.{Plan, plan_nodes, plan_depth}
-use Rattle.construction.specs.PhaseKing.{up}
-use Rattle.construction.specs.Steps.{state_of, new_registers, step_of}
-use Rattle.construction.specs.Runs.{is_in, IsState, IsConfiguration, IsTable, IsNext, Run, configuration, heard_of, heard_by}
-use Rattle.construction.proofs.Ranges.{new_registers-length, step_is_state}
+use Rattle.construction.specs.Steps.{state_of, step_of}
+use Rattle.construction.specs.Runs.{is_in, IsState, IsConfiguration, IsTold, IsTable, IsNext, Run, configuration, heard_of, heard_by}
+use Rattle.construction.proofs.Ranges.{length-step_in, step_is_state}
 use Rattle.plan_numbers.specs.Premises.{IsAccepted}
 use Rattle.plan_laws.specs.PlanMeaning.{plan_meaning}
 use Rattle.plan_laws.proofs.PlanCounter.{positive}
-use Rattle.plan_laws.proofs.Ranges.{range_of_cut, state_of-cut, step_of-cut}
+use Rattle.plan_laws.proofs.Ranges.{state_of-cut, step_of-cut}
 use Rattle.counter_core.specs.Meanings.{cut}
 use Rattle.counter_core.specs.Overlays.{Layer}
-use Rattle.state_codec.specs.Shapes.{IsShape}
+use Rattle.state_codec.specs.Shapes.{Shape, IsShape, shape_with, fields_at}
 use Rattle.state_codec.specs.Ranges.{InRange}
 use Rattle.adversary_script.specs.Scripts.{Script, IsScript}
-use Rattle.adversary_script.specs.Told.{start_of, lie_of}
-use Rattle.adversary_script.proofs.ToldInRange.{starts_in_range, lies_have}
-use Rattle.round_runner.specs.Played.{lies_at, heard_at}
+use Rattle.adversary_script.specs.Eras.{first_of_era, end_of_era, faulty_of_era, faulty_at}
+use Rattle.adversary_script.specs.Lookup.{hit_at}
+use Rattle.adversary_script.specs.Lies.{fitted, start_of, lie_of}
+use Rattle.adversary_script.proofs.LiesInRange.{starts_in_range, lies_have}
+use Rattle.round_runner.specs.Played.{heard_at}
 use Rattle.round_runner.specs.Runners.{IsFor}
-use Rattle.round_runner.specs.Scenes.{layer_step, new_state, scene_at}
-use Rattle.round_runner.proofs.Fitting.{layer_fits}
-use Rattle.round_runner.proofs.Runs.{each}
+use Rattle.round_runner.specs.Scenes.{layer_step, new_state, state_behind, scene_at}
+use Rattle.round_runner.proofs.Fitting.{front_is, fitted_is}
+use Rattle.round_runner.proofs.Firsts.{in_era, none_inside, none_hit}
+use Rattle.round_runner.proofs.Hits.{put_has, hit_has}
+use Rattle.round_runner.proofs.Places.{each, placed}
 
 -- a choice of two states, cut
 cut_choice : (d : ℕ) (b : Bool) (s t : State) → cond b (cut d s) (cut d t) ≡ cut d (cond b s t)
@@ -34,7 +37,8 @@ cut_choice d true s t = refl
 cut_choice d false s t = refl
 
 -- what is heard of cut states is what is heard, cut
-module _ (d n : ℕ) (faulty : List ℕ) (config : List State) (lie : ℕ → ℕ → State) (v : ℕ) (size : length config ≡ n) (vlt : v < n) where
+module _ (d n : ℕ) (faulty : List ℕ) (config : List State) (lie : ℕ → ℕ → State) (v : ℕ)
+    (vlt : v < n) where
   abbrev table : (ℕ → ℕ → State) → List (List State)
   table lie = map (λ u. map (λ w. lie u w) (range_with_len 0 n)) (range_with_len 0 n)
 
@@ -43,25 +47,33 @@ module _ (d n : ℕ) (faulty : List ℕ) (config : List State) (lie : ℕ → �
 
   table_at : (lie : ℕ → ℕ → State) (u : ℕ) → u < n → state_of (get_or (table lie) u []) v ≡ lie u v
   table_at lie u ult =
-      ap (λ (row : List State). state_of row v) (get_or-map-range_with_len (λ u. map (λ w. lie u w) (range_with_len 0 n)) 0 n u u [] ult (omega arith))
+      ap (λ (row : List State). state_of row v)
+      (get_or-map-range_with_len (λ u. map (λ w. lie u w) (range_with_len 0 n)) 0 n u u [] ult
+      (omega arith))
       ∙ get_or-map-range_with_len (λ w. lie u w) 0 n v v (zero_state 0) vlt (omega arith)
 
-  one_cut : (u : ℕ) → u < n → heard_of faulty (map (cut d) config) (table cut_lie) v u ≡ cut d (heard_of faulty config (table lie) v u)
+  one_cut : (u : ℕ) → u < n → heard_of faulty (map (cut d) config) (table cut_lie) v u
+      ≡ cut d (heard_of faulty config (table lie) v u)
   one_cut u ult =
       let test : Bool = u == v || not (is_in faulty u) in
-      ap₂ (λ (s t : State). cond test s t) (state_of-cut d config u (omega (arith, ult, size))) (table_at cut_lie u ult ∙ ap (cut d) (sym (table_at lie u ult)))
+      ap₂ (λ (s t : State). cond test s t) (state_of-cut d config u)
+      (table_at cut_lie u ult ∙ ap (cut d) (sym (table_at lie u ult)))
       ∙ cut_choice d test (state_of config u) (state_of (get_or (table lie) u []) v)
 
-  pub heard_cut : heard_by n faulty (map (cut d) config) (table cut_lie) v ≡ map (cut d) (heard_by n faulty config (table lie) v)
+  pub heard_cut : heard_by n faulty (map (cut d) config) (table cut_lie) v
+      ≡ map (cut d) (heard_by n faulty config (table lie) v)
   heard_cut =
       let f : ℕ → State = heard_of faulty (map (cut d) config) (table cut_lie) v in
       let g : ℕ → State = heard_of faulty config (table lie) v in
       let all : List State = map g (range_with_len 0 n) in
       let long : length all ≡ n = length-map-range_with_len g 0 n in
       sym (fill_by_all f (map (cut d) all) n (zero_state 0) (length-map all (cut d) ∙ long)
-      (λ u ult. state_of-cut d all u (omega (arith, ult, long)) ∙ (ap (cut d) (get_or-map-range_with_len g 0 n u u (zero_state 0) ult (omega arith)) ∙ sym (one_cut u ult))))
+      (λ u ult. state_of-cut d all u
+      ∙ (ap (cut d) (get_or-map-range_with_len g 0 n u u (zero_state 0) ult (omega arith))
+      ∙ sym (one_cut u ult))))
 
-module _ {Kept : Type 0} (plan : Plan) (script : Script) (layer : Layer Kept) (began : List Kept) where
+module _ {Kept : Type 0} (plan : Plan) (script : Script) (layer : Layer Kept)
+    (began : List Kept) where
   abbrev depth : ℕ
   depth = plan_depth plan
 
@@ -73,103 +85,168 @@ module _ {Kept : Type 0} (plan : Plan) (script : Script) (layer : Layer Kept) (b
   size_at zero = length-map-range_with_len (start_of script) 0 script.nodes
   size_at (suc t) =
       let before = scene_at (plan_meaning plan) script layer began t in
-      length-map-range_with_len (λ v. new_state (plan_meaning plan) layer before.kept v (heard_at script t before.states v)) 0 script.nodes
+      length-map-range_with_len (state_behind
+      (plan_meaning plan) script layer t before.states before.kept) 0 script.nodes
 
   -- configuration t, cut
   abbrev pub cut_at : ℕ → List State
   cut_at t = map (cut depth) (states_at t)
 
-  -- the run of so many rounds, cut
-  abbrev pub cut_run : ℕ → List (List State)
-  cut_run last = map cut_at (range_with_len 0 (last + 1))
+  -- so many configurations from that one on, cut
+  abbrev pub cut_run : (first count : ℕ) → List (List State)
+  cut_run first count = map (λ i. cut_at (first + i)) (range_with_len 0 count)
 
-  pub cut_length : (last : ℕ) → length (cut_run last) ≡ last + 1
-  cut_length last = length-map-range_with_len cut_at 0 (last + 1)
+  pub cut_length : (first count : ℕ) → length (cut_run first count) ≡ count
+  cut_length first count = length-map-range_with_len (λ i. cut_at (first + i)) 0 count
 
-  pub cut_configuration : (last t : ℕ) → t < last + 1 → configuration (cut_run last) t ≡ cut_at t
-  cut_configuration last t lt = get_or-map-range_with_len cut_at 0 (last + 1) t t [] lt (omega arith)
+  pub cut_configuration : (first count i : ℕ) → i < count
+      → configuration (cut_run first count) i ≡ cut_at (first + i)
+  cut_configuration first count i lt = get_or-map-range_with_len
+      (λ i. cut_at (first + i)) 0 count i i [] lt (omega arith)
 
-  module _ (accepted : IsAccepted plan) (right : IsFor plan layer script) (sound : IsShape script.shape) (is : IsScript script) where
-    -- a state whose front is one of the plan
-    abbrev HasFront : State → Type 0
-    HasFront s = IsState plan (cut depth s)
+  module _ (accepted : IsAccepted plan) (right : IsFor plan layer script)
+      (sound : IsShape script.shape) (whole : IsScript script) where
+    -- a state whose front is one of the plan's node
+    abbrev HasFront : ℕ → State → Type 0
+    HasFront v s = IsState plan v (cut depth s)
 
-    front_is : (s : State) → InRange script.shape s → HasFront s
-    front_is s range =
-        let fits = layer_fits plan layer script.shape right.shape right.over in
-        let own = fits.counts s range in
-        record {
-          depth = length-take-le depth s.registers (let long = range.depth in let all = fits.depth in omega (arith, long, all));
-          x = own.x;
-          range = range_of_cut plan.levels depth (omega arith) s own.values;
-        }
+    further : IsShape (shape_with plan layer.values layer.extra)
+    further = subst IsShape right.shape sound
 
-    -- the front of a new state is the step of the plan
-    new_front : (kept : List Kept) (v : ℕ) (heard : List State) → cut depth (new_state (plan_meaning plan) layer kept v heard) ≡ step_of plan v heard
+    front_of : (v : ℕ) → v < script.nodes → (s : State) → InRange (fields_at script.shape v) s
+        → HasFront v s
+    front_of v lt s range =
+        front_is plan layer accepted further v (let n = right.nodes in omega arith) s
+        (subst (λ (shape : Shape). InRange (fields_at shape v) s) right.shape range)
+
+    -- that of a new state is the step of the plan
+    new_front : (kept : List Kept) (v : ℕ) (heard : List State)
+        → cut depth (new_state (plan_meaning plan) layer kept v heard) ≡ step_of plan v heard
     new_front kept v heard =
-        ap (λ (registers : List Reg). let s : State = record { x = up plan.base (state_of heard v).x; registers = registers } in s)
-        (take_at (new_registers plan.levels v heard) (layer_step (plan_meaning plan) layer kept v heard).registers depth (new_registers-length plan.levels v heard))
+        let step : State = step_of plan v heard in
+        ap (λ (registers : List Reg). let s : State =
+        record { x = step.x; registers = registers } in s)
+        (take_at step.registers (layer_step (plan_meaning plan) layer kept v heard).registers depth
+        (length-step_in plan.base plan.levels v heard))
 
-    new_has : (kept : List Kept) (v : ℕ) (heard : List State) → HasFront (new_state (plan_meaning plan) layer kept v heard)
+    new_has : (kept : List Kept) (v : ℕ) (heard : List State)
+        → HasFront v (new_state (plan_meaning plan) layer kept v heard)
     new_has kept v heard =
-        let moduli = positive plan.base plan.levels accepted in
-        subst (IsState plan) (sym (new_front kept v heard)) (step_is_state plan moduli.0 moduli.1 v heard)
+        let some = positive plan.base plan.levels accepted.levels in
+        subst (IsState plan v) (sym (new_front kept v heard))
+        (step_is_state plan some.0 some.1 v heard)
 
-    fronts_at : (t : ℕ) → All HasFront (states_at t)
-    fronts_at zero = each HasFront (start_of script) script.nodes (λ v lt. front_is (start_of script v) (starts_in_range script is sound v))
+    fronts_at : (t v : ℕ) → v < script.nodes → HasFront v (state_of (states_at t) v)
+    fronts_at zero = placed HasFront (start_of script) script.nodes
+        (λ v lt. front_of v lt (start_of script v) (starts_in_range script whole sound v))
     fronts_at (suc t) =
         let before = scene_at (plan_meaning plan) script layer began t in
-        each HasFront (λ v. new_state (plan_meaning plan) layer before.kept v (heard_at script t before.states v)) script.nodes (λ v lt. new_has before.kept v (heard_at script t before.states v))
+        placed HasFront (state_behind (plan_meaning plan) script layer t before.states before.kept)
+        script.nodes (λ v lt. put_has (HasFront v) (hit_at script (t + 1) v) _
+        (hit_has script whole (HasFront v) (t + 1) v (front_of v lt))
+        (new_has before.kept v (heard_at script t before.states v)))
 
     cut_is : (t : ℕ) → IsConfiguration plan (cut_at t)
     cut_is t = record {
       size = length-map (states_at t) (cut depth) ∙ (size_at t ∙ right.nodes);
-      states = All-map (IsState plan) (cut depth) (states_at t) (fronts_at t);
+      states = λ v lt. subst (IsState plan v) (sym (state_of-cut depth (states_at t) v))
+          (fronts_at t v (let n = right.nodes in omega arith));
     }
 
     -- what is told in round t, cut
     abbrev cut_lies : ℕ → List (List State)
-    cut_lies t = map (λ u. map (λ v. cut depth (lie_of script t u v (states_at t))) (range_with_len 0 script.nodes)) (range_with_len 0 script.nodes)
+    cut_lies t = map (λ u. map (λ v. cut depth (lie_of script t u v (states_at t)))
+        (range_with_len 0 script.nodes)) (range_with_len 0 script.nodes)
+
+    -- it is that of the sender
+    lie_front : (t u v : ℕ) → u < script.nodes → HasFront u (lie_of script t u v (states_at t))
+    lie_front t u v node =
+        let inside : u < plan_nodes plan = (let n = right.nodes in omega arith) in
+        lies_have script whole sound (HasFront u) t u v (states_at t) (front_of u node)
+        (fronts_at t u node) (λ w lt.
+        subst (λ (shape : Shape). HasFront u (fitted (fields_at shape u)
+        (state_of (states_at t) w)))
+        (sym right.shape) (fitted_is plan layer accepted further u inside w
+        (let n = right.nodes in omega arith) (state_of (states_at t) w) (fronts_at t w lt)))
 
     lies_are : (t : ℕ) → IsTable plan (cut_lies t)
     lies_are t =
-        let row : ℕ → List State = λ u. map (λ v. cut depth (lie_of script t u v (states_at t))) (range_with_len 0 script.nodes) in
+        let lie : ℕ → ℕ → State = λ u v. cut depth (lie_of script t u v (states_at t)) in
+        let row : ℕ → List State = λ u. map (lie u) (range_with_len 0 script.nodes) in
+        let told : (u : ℕ) → u < script.nodes → IsTold plan u (row u) = λ u node. record {
+          size = length-map-range_with_len (lie u) 0 script.nodes ∙ right.nodes;
+          states = each (IsState plan u) (lie u) script.nodes (λ v lt. lie_front t u v node);
+        } in
         record {
           size = length-map-range_with_len row 0 script.nodes ∙ right.nodes;
-          rows = each (IsConfiguration plan) row script.nodes (λ u node. record {
-            size = length-map-range_with_len (λ v. cut depth (lie_of script t u v (states_at t))) 0 script.nodes ∙ right.nodes;
-            states = each (IsState plan) (λ v. cut depth (lie_of script t u v (states_at t))) script.nodes
-                (λ v lt. lies_have script is sound HasFront front_is t u v (states_at t) (size_at t) (fronts_at t) node);
-          });
+          rows = λ u lt.
+              let node : u < script.nodes = (let n = right.nodes in omega arith) in
+              subst (IsTold plan u)
+              (sym (get_or-map-range_with_len row 0 script.nodes u u [] node (omega arith)))
+              (told u node);
         }
 
-    -- the cut new state of each node is its step from what it hears of cut states
-    stepped : (t v n : ℕ) → script.nodes ≡ n → v < n → state_of (cut_at (suc t)) v ≡ step_of plan v (heard_by n script.faulty (cut_at t) (cut_lies t) v)
-    stepped t v n nodes lt =
+    -- where nobody is put into a state, the cut new state of each node is its step from what it
+    -- hears of cut states
+    stepped : (t v n : ℕ) (faulty : List ℕ) → script.nodes ≡ n → faulty_at script t ≡ faulty → v < n
+        → hit_at script (t + 1) v ≡ None
+        → state_of (cut_at (suc t)) v ≡ step_of plan v (heard_by n faulty (cut_at t) (cut_lies t) v)
+    stepped t v n faulty nodes same lt none =
         let before = scene_at (plan_meaning plan) script layer began t in
         let config : List State = before.states in
         let vlt : v < script.nodes = omega (arith, nodes) in
         let heard : List State = heard_at script t config v in
-        let long : length heard ≡ script.nodes = length-map-range_with_len (heard_of script.faulty config (lies_at script t config) v) 0 script.nodes in
-        subst (λ (n : ℕ). state_of (cut_at (suc t)) v ≡ step_of plan v (heard_by n script.faulty (cut_at t) (cut_lies t) v)) nodes
-        (state_of-cut depth (states_at (suc t)) v (omega (arith, vlt, size_at (suc t)))
-        ∙ (ap (cut depth) (get_or-map-range_with_len (λ u. new_state (plan_meaning plan) layer before.kept u (heard_at script t config u)) 0 script.nodes v v (zero_state 0) vlt (omega arith))
-        ∙ (new_front before.kept v heard
-        ∙ (sym (step_of-cut plan v heard (omega (arith, vlt, long)))
-        ∙ ap (step_of plan v) (sym (heard_cut depth script.nodes script.faulty config (λ u w. lie_of script t u w config) v (size_at t) vlt))))))
+        state_of-cut depth (states_at (suc t)) v
+        ∙ ap (cut depth) (get_or-map-range_with_len
+        (state_behind (plan_meaning plan) script layer t config before.kept) 0 script.nodes v v
+        (zero_state 0) vlt (omega arith))
+        ∙ ap (λ hit. cut depth (unwrap_or hit
+        (new_state (plan_meaning plan) layer before.kept v heard))) none
+        ∙ new_front before.kept v heard
+        ∙ sym (step_of-cut plan v heard)
+        ∙ ap (step_of plan v) (sym (heard_cut depth script.nodes (faulty_at script t) config
+        (λ u w. lie_of script t u w config) v vlt))
+        ∙ ap (λ f. step_of plan v (heard_by script.nodes f (cut_at t) (cut_lies t) v)) same
+        ∙ ap (λ m. step_of plan v (heard_by m faulty (cut_at t) (cut_lies t) v)) nodes
 
-    next_is : (t : ℕ) → IsNext plan script.faulty (cut_at t) (cut_at (t + 1))
-    next_is t = rw (add-one t) (record {
-      lies = cut_lies t;
-      round = record { table = lies_are t; steps = λ v lt correct. stepped t v (plan_nodes plan) right.nodes lt };
-    })
+    module _ (j : ℕ) (among : j ≤ length script.eras) where
+      next_is : (t : ℕ) → first_of_era script j ≤ t → t + 1 < end_of_era script j
+          → IsNext plan (faulty_of_era script j) (cut_at t) (cut_at (t + 1))
+      next_is t low high =
+          let rising = whole.formed.rising in
+          let same : faulty_at script t ≡ faulty_of_era script j =
+          ap (faulty_of_era script) (in_era script rising j t among low (omega arith)) in
+          let none = none_inside script rising j t among low high in
+          rw (add-one t) (record {
+            lies = cut_lies t;
+            round = record {
+              table = lies_are t;
+              steps =
+                  λ v lt correct. stepped t v (plan_nodes plan)
+                  (faulty_of_era script j) right.nodes same lt (none_hit script (t + 1) v none);
+            };
+          })
 
-    pub scenes_run : (last : ℕ) → Run plan script.faulty (cut_run last)
-    scenes_run last = record {
-      some = omega (arith, cut_length last);
-      configurations = each (IsConfiguration plan) cut_at (last + 1) (λ t lt. cut_is t);
-      rounds = λ t lt.
-          let here = cut_configuration last t (omega (arith, cut_length last)) in
-          let there = cut_configuration last (t + 1) (omega (arith, cut_length last)) in
-          rw (here, there) (next_is t);
-    }
+      -- the scenes of an era, as many of its first ones as one wants, are a run
+      pub scenes_run : (count : ℕ) → 0 < count → first_of_era script j + count ≤ end_of_era script j
+          → Run plan (faulty_of_era script j) (cut_run (first_of_era script j) count)
+      scenes_run count some within =
+          let first : ℕ = first_of_era script j in
+          let long = cut_length (first_of_era script j) count in
+          record {
+            some = omega (arith, long, some);
+            configurations = each (IsConfiguration plan)
+                (λ i. cut_at (first_of_era script j + i)) count
+                (λ i lt. cut_is (first_of_era script j + i));
+            rounds = λ i lt.
+                let here = cut_configuration (first_of_era script j) count i
+                (omega (arith, long)) in
+                let there = cut_configuration (first_of_era script j) count (i + 1)
+                (omega (arith, long)) in
+                let next : first_of_era script j + i + 1 ≡ first_of_era script j + (i + 1) =
+                omega arith in
+                rw (here, there) (subst (λ t.
+                IsNext plan (faulty_of_era script j) (cut_at (first_of_era script j + i))
+                (cut_at t)) next (next_is (first_of_era script j + i) (omega arith)
+                (omega (arith, long, within))));
+          }

@@ -4,11 +4,11 @@ use Rattle.sync_types.specs.FaultSets.{is_in}
 use Rattle.sync_types.specs.States.{State}
 use Rattle.construction.specs.Steps.{state_of}
 use Rattle.adversary_script.specs.Scripts.{Script}
-use Rattle.adversary_script.specs.Told.{lie_of}
+use Rattle.adversary_script.specs.Lies.{lie_of}
 
 -- what node v hears of a faulty node u in round t: its lie, and of itself its state
-abbrev pub told_to : Script → (t v : ℕ) → List State → (u : ℕ) → State
-told_to script t v config u = if u == v then state_of config u else lie_of script t u v config
+abbrev pub heard_from : Script → (t v : ℕ) → List State → (u : ℕ) → State
+heard_from script t v config u = if u == v then state_of config u else lie_of script t u v config
 
 -- the faulty nodes are marked, by place
 pub record AreMarked (nodes : ℕ) (faulty : List ℕ) (marks : List Bool) : Type 0 where

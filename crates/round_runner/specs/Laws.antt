@@ -1,19 +1,24 @@
--- What holds of the played configurations of every script that was read for an accepted plan.
-use Rattle.std.specs.Prelude.{◌≡◌, ℕ, ◌+◌, ◌%◌, ◌≤◌, Option, Some}
+-- What holds of the configurations that are played of a script that was read for an accepted plan.
+use Rattle.std.specs.Prelude.{◌≡◌, ℕ, ◌+◌, ◌%◌, ◌<◌, ◌≤◌, ◌↔◌, List, [], length, true, Option, Some}
+use Rattle.sync_types.specs.States.{State}
 use Rattle.construction.specs.Plans.{Plan, plan_modulus, plan_bound}
-use Rattle.construction.specs.Runs.{Run, Round, AllShow}
+use Rattle.construction.specs.Runs.{Run, Round, AllShow, IsLocked}
 use Rattle.plan_numbers.specs.Premises.{IsAccepted}
 use Rattle.state_codec.specs.Shapes.{shape_of}
+use Rattle.counter_core.specs.declared.overlays.NoOverlay.{NoOverlay}
+use Rattle.counter_core.specs.NoLayers.{no_layer}
 use Rattle.adversary_script.specs.Scripts.{Script, IsScript}
+use Rattle.adversary_script.specs.Eras.{era_of, first_of_era, end_of_era, faulty_of_era, faulty_at}
 use Rattle.adversary_script.specs.ScriptPart.{IsFor}
-use Rattle.round_runner.specs.Locks.{is_locked, first_locked}
-use Rattle.round_runner.specs.Played.{played_at, played, lies_at}
+use Rattle.round_runner.specs.Locks.{is_locked, first_locked, era_locked}
+use Rattle.round_runner.specs.Played.{played_at, era_run, lies_at}
+use Rattle.round_runner.specs.Runners.{Running, IsPlaying}
 
 -- a script that was read for an accepted plan
 pub record IsReadFor (plan : Plan) (script : Script) : Type 0 where
   pub accepted : IsAccepted plan
   pub right : IsFor plan (shape_of plan) script
-  pub formed : IsScript script
+  pub whole : IsScript script
 
 -- a number is known, which is at most this one
 pub record IsUpTo (limit : ℕ) (known : Option ℕ) : Type 0 where
@@ -21,26 +26,74 @@ pub record IsUpTo (limit : ℕ) (known : Option ℕ) : Type 0 where
   pub is : known ≡ Some number
   pub most : number ≤ limit
 
--- from the bound on all correct nodes show one number, which grows by one modulo C
-pub record ShowsCount (plan : Plan) (script : Script) : Type 0 where
+-- Configuration t is of one era.
+pub record IsOfOneEra (script : Script) (t : ℕ) : Type 0 where
+  pub among : era_of script t ≤ length script.eras
+  pub from : first_of_era script (era_of script t) ≤ t
+  pub before : t < end_of_era script (era_of script t)
+  pub only : (j : ℕ) → j ≤ length script.eras → first_of_era script j ≤ t → t < end_of_era script j
+      → j ≡ era_of script t
+
+-- What is played of era j is a run of the plan with that era's faulty nodes, and each of its rounds
+-- has what they tell as its table of lies.
+pub record EraIsRun (plan : Plan) (script : Script) (j : ℕ) : Type 0 where
+  pub run : Run plan (faulty_of_era script j) (era_run plan script j)
+  pub rounds : (t : ℕ) → first_of_era script j ≤ t → t + 1 < end_of_era script j
+      → Round plan (faulty_of_era script j) (played_at plan script t)
+      (lies_at script t (played_at plan script t)) (played_at plan script (t + 1))
+
+-- From that configuration to the end of era j all nodes that are correct in it show one number,
+-- which grows by one modulo C.
+pub record EraCountsFrom (plan : Plan) (script : Script) (j from : ℕ) : Type 0 where
   pub output : ℕ → ℕ
-  pub shows : (t : ℕ) → plan_bound plan ≤ t → t ≤ script.rounds → AllShow plan script.faulty (played_at plan script t) (output t)
-  pub grows : (t : ℕ) → plan_bound plan ≤ t → t + 1 ≤ script.rounds → output (t + 1) ≡ (output t + 1) % plan_modulus plan
+  pub shows : (t : ℕ) → from ≤ t → t < end_of_era script j
+      → AllShow plan (faulty_at script t) (played_at plan script t) (output t)
+  pub grows : (t : ℕ) → from ≤ t → t + 1 < end_of_era script j
+      → output (t + 1) ≡ (output t + 1) % plan_modulus plan
 
--- the played configurations are a run of the plan, and each round has what the script's faulty nodes tell as its table of lies
-pub record RunsAsScripted (plan : Plan) (script : Script) : Type 0 where
-  pub run : Run plan script.faulty (played plan script)
-  pub rounds : (t : ℕ) → Round plan script.faulty (played_at plan script t) (lies_at script t (played_at plan script t)) (played_at plan script (t + 1))
+-- from that configuration to the end of era j each one is locked, and they count
+pub record EraStaysLocked (plan : Plan) (script : Script) (j from : ℕ) : Type 0 where
+  pub locked : (t : ℕ) → from ≤ t → t < end_of_era script j
+      → IsLocked plan (faulty_at script t) (played_at plan script t)
+  pub counts : EraCountsFrom plan script j from
 
--- What is played is the script's run.
-abbrev pub PlayedIsRun : Type 0
-PlayedIsRun = (plan : Plan) (script : Script) → IsReadFor plan script → RunsAsScripted plan script
+-- Each configuration up to the last is of exactly one era.
+abbrev pub EachIsOfOneEra : Type 0
+EachIsOfOneEra = (script : Script) → IsScript script → (t : ℕ) → t ≤ script.rounds
+    → IsOfOneEra script t
 
--- Where the rounds reach the bound, there is a first locked configuration, at the bound or before.
-abbrev pub LocksByBound : Type 0
-LocksByBound = (plan : Plan) (script : Script) → IsReadFor plan script → plan_bound plan ≤ script.rounds
-    → IsUpTo (plan_bound plan) (first_locked (λ t. is_locked plan script.faulty (played_at plan script t)) script.rounds)
+-- What is played of each era is a run, with the script's lies.
+abbrev pub ErasAreRuns : Type 0
+ErasAreRuns = (plan : Plan) (script : Script) → IsReadFor plan script
+    → (j : ℕ) → j ≤ length script.eras → EraIsRun plan script j
 
--- The outputs count from the bound on.
-abbrev pub ShownCount : Type 0
-ShownCount = (plan : Plan) (script : Script) → IsReadFor plan script → ShowsCount plan script
+-- Where an era reaches the bound, it has a first locked configuration, at the bound or before.
+abbrev pub ErasLock : Type 0
+ErasLock = (plan : Plan) (script : Script) → IsReadFor plan script → (j : ℕ)
+    → j ≤ length script.eras
+    → first_of_era script j + plan_bound plan < end_of_era script j
+    → IsUpTo (first_of_era script j + plan_bound plan)
+    (first_locked (era_locked plan script (played_at plan script) j) script.rounds)
+
+-- The outputs count from the bound on, in each era to its end.
+abbrev pub ErasCount : Type 0
+ErasCount = (plan : Plan) (script : Script) → IsReadFor plan script → (j : ℕ)
+    → j ≤ length script.eras
+    → EraCountsFrom plan script j (first_of_era script j + plan_bound plan)
+
+-- What is locked stays locked and counts, to the end of its era, before the bound too.
+abbrev pub ErasStayLocked : Type 0
+ErasStayLocked = (plan : Plan) (script : Script) → IsReadFor plan script → (j : ℕ)
+    → j ≤ length script.eras
+    → (t : ℕ) → first_of_era script j ≤ t → t < end_of_era script j
+    → IsLocked plan (faulty_at script t) (played_at plan script t) → EraStaysLocked plan script j t
+
+-- The test for locked passes just the locked configurations.
+abbrev pub LockTestIsExact : Type 0
+LockTestIsExact = (plan : Plan) (faulty : List ℕ) (config : List State)
+    → (is_locked plan faulty config ≡ true) ↔ IsLocked plan faulty config
+
+-- A runner without a layer that plays its script is at the configuration that is played.
+abbrev pub BareRunnersArePlayed : Type 0
+BareRunnersArePlayed = (r : Running NoOverlay) → IsPlaying (λ o. no_layer) (λ o. []) [] r
+    → r.states ≡ played_at r.plan r.script r.at

@@ -1,12 +1,14 @@
 -- Whether a configuration is locked.
-use Rattle.std.specs.Prelude.{ℕ, zero, suc, List, [], ◌∷◌, length, map, filter, not, nat_eq, Bool, true, ◌&&◌, Option, Some, None, unwrap_or, if◌then◌else◌}
+use Rattle.std.specs.Prelude.{ℕ, zero, suc, ◌<◌, ◌≤◌, List, [], ◌∷◌, length, map, filter, not, nat_eq, ◌==◌, Bool, true, ◌&&◌, Option, Some, None, unwrap_or, if◌then◌else◌}
 use Rattle.std.specs.List.{list_all, range_with_len}
 use Rattle.std.specs.Option.{option_eq}
 use Rattle.sync_types.specs.declared.states.Reg.{Reg}
 use Rattle.sync_types.specs.States.{State, register_at}
 use Rattle.construction.specs.Plans.{Level, Plan, nodes_of}
 use Rattle.construction.specs.Steps.{state_of}
-use Rattle.construction.specs.Runs.{is_in}
+use Rattle.construction.specs.Runs.{is_in, IsLocked}
+use Rattle.adversary_script.specs.Scripts.{Script}
+use Rattle.adversary_script.specs.Eras.{era_of, first_of_era, end_of_era, faulty_of_era, faulty_at}
 
 -- whether a register is marked and has the value a
 abbrev pub is_locked_at : ℕ → Reg → Bool
@@ -27,12 +29,14 @@ correct_nodes n faulty = filter (λ v. not (is_in faulty v)) (range_with_len 0 n
 
 -- the registers of the correct nodes at a level
 abbrev pub correct_registers : (level n : ℕ) → (faulty : List ℕ) → List State → List Reg
-correct_registers level n faulty config = map (λ v. register_at level (state_of config v)) (correct_nodes n faulty)
+correct_registers level n faulty config = map (λ v. register_at level (state_of config v))
+    (correct_nodes n faulty)
 
 -- whether the top registers of the correct nodes are; with no level every configuration is locked
 abbrev pub is_locked_in : List Level → (faulty : List ℕ) → List State → Bool
 is_locked_in [] faulty config = true
-is_locked_in (level ∷ below) faulty config = are_locked (correct_registers (length below) (nodes_of (level ∷ below)) faulty config)
+is_locked_in (level ∷ below) faulty config = are_locked
+    (correct_registers (length below) (nodes_of (level ∷ below)) faulty config)
 
 abbrev pub is_locked : Plan → (faulty : List ℕ) → List State → Bool
 is_locked plan faulty config = is_locked_in plan.levels faulty config
@@ -46,3 +50,30 @@ first_of None locked now = if locked then Some now else None
 abbrev pub first_locked : (locked : ℕ → Bool) → ℕ → Option ℕ
 first_locked locked zero = first_of None (locked zero) zero
 first_locked locked (suc t) = first_of (first_locked locked t) (locked (suc t)) (suc t)
+
+-- Of a script's configurations: whether configuration t is one of era j, and locked.
+abbrev pub era_locked : Plan → Script → (config_at : ℕ → List State) → (j : ℕ) → ℕ → Bool
+era_locked plan script config_at j t =
+    era_of script t == j && is_locked plan (faulty_at script t) (config_at t)
+
+-- none of the configurations of era j before number `end` is locked
+abbrev pub NoneIsLocked : Plan → Script → (config_at : ℕ → List State) → (j end : ℕ) → Type 0
+NoneIsLocked plan script config_at j end =
+    (t : ℕ) → first_of_era script j ≤ t → t < end_of_era script j → t < end
+    → IsLocked plan (faulty_of_era script j) (config_at t) → ⊥
+
+-- configuration t is of era j and locked, and none of that era before it is
+pub record IsLockedFirst (plan : Plan) (script : Script) (config_at : ℕ → List State)
+    (j t : ℕ) : Type 0 where
+  pub from : first_of_era script j ≤ t
+  pub before : t < end_of_era script j
+  pub locked : IsLocked plan (faulty_of_era script j) (config_at t)
+  pub first : NoneIsLocked plan script config_at j t
+
+-- The first locked one of the configurations of era j up to number `at`; none, where none of them
+-- is.
+abbrev pub IsFirstLocked : Plan → Script → (config_at : ℕ → List State) → (j at : ℕ) → Option ℕ
+    → Type 0
+IsFirstLocked plan script config_at j at (Some t) = (t ≤ at)
+    × IsLockedFirst plan script config_at j t
+IsFirstLocked plan script config_at j at None = NoneIsLocked plan script config_at j (suc at)

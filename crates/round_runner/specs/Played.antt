@@ -1,12 +1,14 @@
 -- The run of a script: configurations 0 to its last round.
-use Rattle.std.specs.Prelude.{ℕ, zero, suc, ◌+◌, List, map}
+use Rattle.std.specs.Prelude.{ℕ, zero, suc, ◌+◌, ◌-◌, List, map, unwrap_or}
 use Rattle.std.specs.List.{range_with_len}
 use Rattle.sync_types.specs.States.{State}
 use Rattle.construction.specs.Plans.{Plan}
 use Rattle.construction.specs.Steps.{step_of}
 use Rattle.construction.specs.Runs.{heard_by}
 use Rattle.adversary_script.specs.Scripts.{Script}
-use Rattle.adversary_script.specs.Told.{start_of, lie_of}
+use Rattle.adversary_script.specs.Eras.{first_of_era, end_of_era, faulty_at}
+use Rattle.adversary_script.specs.Lookup.{hit_at}
+use Rattle.adversary_script.specs.Lies.{start_of, lie_of}
 
 -- the start of every node
 abbrev pub starts : Script → List State
@@ -14,20 +16,29 @@ starts script = map (start_of script) (range_with_len 0 script.nodes)
 
 -- what each node tells each other in round t; what correct nodes would tell is not heard
 abbrev pub lies_at : Script → (t : ℕ) → List State → List (List State)
-lies_at script t config = map (λ u. map (λ v. lie_of script t u v config) (range_with_len 0 script.nodes)) (range_with_len 0 script.nodes)
+lies_at script t config =
+    map (λ u. map (λ v. lie_of script t u v config) (range_with_len 0 script.nodes))
+    (range_with_len 0 script.nodes)
 
 -- what node v hears in round t
 abbrev pub heard_at : Script → (t : ℕ) → List State → (v : ℕ) → List State
-heard_at script t config v = heard_by script.nodes script.faulty config (lies_at script t config) v
+heard_at script t config v =
+    heard_by script.nodes (faulty_at script t) config (lies_at script t config) v
 
--- every node, the puppets of faulty ones too, steps from what it hears
+-- Every node, the puppets of faulty ones too, steps from what it hears; where an era begins behind
+-- the round, a node with a start line there is put into its state.
 abbrev pub after_round : Plan → Script → (t : ℕ) → List State → List State
-after_round plan script t config = map (λ v. step_of plan v (heard_at script t config v)) (range_with_len 0 script.nodes)
+after_round plan script t config =
+    map (λ v. unwrap_or (hit_at script (t + 1) v) (step_of plan v (heard_at script t config v)))
+    (range_with_len 0 script.nodes)
 
 -- configuration t
 abbrev pub played_at : Plan → Script → ℕ → List State
 played_at plan script zero = starts script
 played_at plan script (suc t) = after_round plan script t (played_at plan script t)
 
-abbrev pub played : Plan → Script → List (List State)
-played plan script = map (played_at plan script) (range_with_len 0 (script.rounds + 1))
+-- the configurations of era j
+abbrev pub era_run : Plan → Script → (j : ℕ) → List (List State)
+era_run plan script j =
+    map (λ i. played_at plan script (first_of_era script j + i))
+    (range_with_len 0 (end_of_era script j - first_of_era script j))

@@ -1,36 +1,39 @@
 -- What a runner of a script is, and that it plays the script.
-use Rattle.std.specs.Prelude.{◌≡◌, ℕ, ◌+◌, List, ◌++◌, replicate, Option, None}
+use Rattle.std.specs.Prelude.{◌≡◌, ℕ, ◌+◌, List, ◌∷◌, length, map, All, replicate, slice_set, slice_index_or, Option, None}
+use Rattle.std.specs.List.{range_with_len}
 use Rattle.sync_types.specs.States.{State}
 use Rattle.construction.specs.Plans.{Plan, plan_nodes}
 use Rattle.construction.specs.Runs.{IsBorne}
 use Rattle.plan_laws.specs.PlanMeaning.{plan_meaning}
-use Rattle.state_codec.specs.Shapes.{Shape, moduli_of}
+use Rattle.state_codec.specs.Shapes.{shape_with}
 use Rattle.counter_core.specs.Overlays.{Layer, StandsOver}
-use Rattle.adversary_script.specs.Scripts.{Script}
-use Rattle.round_runner.specs.Locks.{is_locked, first_of, first_locked}
+use Rattle.adversary_script.specs.Scripts.{Script, faulty_sets}
+use Rattle.adversary_script.specs.Eras.{era_of, faulty_at}
+use Rattle.round_runner.specs.Locks.{is_locked, first_of, first_locked, era_locked}
 use Rattle.round_runner.specs.Played.{starts}
-use Rattle.round_runner.specs.Scenes.{next_scene, scene_at}
+use Rattle.round_runner.specs.Scenes.{Scene, next_scene, scene_at}
 
--- a runner: its plan, script and layer, and configuration `at` with the first locked one so far
+-- A runner: its plan, script and layer, and configuration `at`; of each era the first configuration
+-- so far that is locked.
 pub record Running (O : Type 0) : Type 0 where
   pub plan : Plan
   pub script : Script
   pub overlay : O
   pub at : ℕ
   pub states : List State
-  pub locked : Option ℕ
+  pub locks : List (Option ℕ)
 
--- the shape of a plan's states with a layer's registers behind
-pub record HasLayer {Kept : Type 0} (plan : Plan) (layer : Layer Kept) (shape : Shape) : Type 0 where
-  pub base : shape.base ≡ plan.base
-  pub moduli : shape.moduli ≡ moduli_of plan.levels ++ replicate layer.extra layer.values
-
--- the script was read for the plan, and states have the layer's registers
+-- the script was read for the plan, and states have the layer's registers behind those of the plan
 pub record IsFor {Kept : Type 0} (plan : Plan) (layer : Layer Kept) (script : Script) : Type 0 where
   pub nodes : script.nodes ≡ plan_nodes plan
-  pub shape : HasLayer plan layer script.shape
+  pub shape : script.shape ≡ shape_with plan layer.values layer.extra
   pub over : StandsOver layer (plan_meaning plan)
-  pub borne : IsBorne plan script.faulty
+  pub borne : All (IsBorne plan) (faulty_sets script)
+
+-- the first locked configuration of each era, where configuration 0 is that one
+abbrev pub begun_locks : Plan → Script → List State → List (Option ℕ)
+begun_locks plan script config = first_of None (is_locked plan script.faulty config) 0 ∷ replicate
+    (length script.eras) None
 
 -- the runner before its first round
 abbrev pub begun : {O : Type 0} → Plan → Script → O → Running O
@@ -40,21 +43,47 @@ begun plan script overlay = record {
   overlay = overlay;
   at = 0;
   states = starts script;
-  locked = first_of None (is_locked plan script.faulty (starts script)) 0;
+  locks = begun_locks plan script (starts script);
 }
 
+-- the scene of a runner
+abbrev pub scene_of : {O Kept : Type 0} → (kept_of : O → List Kept) → Running O → Scene Kept
+scene_of kept_of r = record { states = r.states; kept = kept_of r.overlay }
+
+-- the first locked configuration of each era, where the next configuration is that one
+abbrev pub next_locks : Plan → Script → List (Option ℕ) → (at : ℕ) → List State → List (Option ℕ)
+next_locks plan script locks at config =
+    let era = era_of script at in
+    slice_set locks era (first_of (slice_index_or locks era None)
+    (is_locked plan (faulty_at script at) config) at)
+
 -- What a round does: the layer's step is added to each step.
-pub record Advances {O Kept : Type 0} (layer_of : O → Layer Kept) (kept_of : O → List Kept) (old new : Running O) : Type 0 where
+pub record Advances {O Kept : Type 0} (layer_of : O → Layer Kept) (kept_of : O → List Kept)
+    (old new : Running O) : Type 0 where
   pub plan : new.plan ≡ old.plan
   pub script : new.script ≡ old.script
   pub layer : layer_of new.overlay ≡ layer_of old.overlay
   pub at : new.at ≡ old.at + 1
-  pub states : new.states ≡ (next_scene (plan_meaning old.plan) old.script (layer_of old.overlay) old.at (record { states = old.states; kept = kept_of old.overlay })).states
-  pub kept : kept_of new.overlay ≡ (next_scene (plan_meaning old.plan) old.script (layer_of old.overlay) old.at (record { states = old.states; kept = kept_of old.overlay })).kept
-  pub locked : new.locked ≡ first_of old.locked (is_locked old.plan old.script.faulty new.states) new.at
+  pub scene : scene_of kept_of new ≡ next_scene (plan_meaning old.plan) old.script
+      (layer_of old.overlay) old.at (scene_of kept_of old)
+  pub locks : new.locks ≡ next_locks old.plan old.script old.locks new.at new.states
 
--- The runner plays the script, with a layer in which the nodes began with these things kept: its configuration is always the played one.
-pub record IsPlaying {O Kept : Type 0} (layer_of : O → Layer Kept) (kept_of : O → List Kept) (began : List Kept) (r : Running O) : Type 0 where
-  pub states : r.states ≡ (scene_at (plan_meaning r.plan) r.script (layer_of r.overlay) began r.at).states
-  pub kept : kept_of r.overlay ≡ (scene_at (plan_meaning r.plan) r.script (layer_of r.overlay) began r.at).kept
-  pub locked : r.locked ≡ first_locked (λ t. is_locked r.plan r.script.faulty (scene_at (plan_meaning r.plan) r.script (layer_of r.overlay) began t).states) r.at
+-- scene t of what a runner plays, with a layer in which the nodes began with these things kept
+abbrev pub played_scene : {O Kept : Type 0} → (layer_of : O → Layer Kept) → (began : List Kept)
+    → Running O → ℕ → Scene Kept
+played_scene layer_of began r t = scene_at (plan_meaning r.plan) r.script
+    (layer_of r.overlay) began t
+
+-- configuration t of it
+abbrev pub configuration_of : {O Kept : Type 0} → (layer_of : O → Layer Kept) → (began : List Kept)
+    → Running O → ℕ → List State
+configuration_of layer_of began r t = (played_scene layer_of began r t).states
+
+-- The runner plays the script, with a layer in which the nodes began with these things kept: its
+-- configuration is always the played one.
+pub record IsPlaying {O Kept : Type 0} (layer_of : O → Layer Kept) (kept_of : O → List Kept)
+    (began : List Kept) (r : Running O) : Type 0 where
+  pub scene : scene_of kept_of r ≡ played_scene layer_of began r r.at
+  pub locks : r.locks ≡ map (λ j. first_locked
+      (era_locked r.plan r.script (configuration_of layer_of began r) j) r.at)
+      (range_with_len 0 (length r.script.eras + 1))

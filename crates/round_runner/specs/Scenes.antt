@@ -1,24 +1,44 @@
 -- The run of a script on a counter with a layer above: the layer's step is added to each step.
-use Rattle.std.specs.Prelude.{ℕ, zero, suc, List, ◌++◌, length, map, nat_lt, slice_index_or, if◌then◌else◌}
+use Rattle.std.specs.Prelude.{ℕ, zero, suc, ◌+◌, List, ◌++◌, length, map, nat_lt, slice_index_or, unwrap_or, if◌then◌else◌}
 use Rattle.std.specs.List.{range_with_len}
 use Rattle.sync_types.specs.States.{State}
 use Rattle.construction.specs.Steps.{state_of}
 use Rattle.counter_core.specs.Meanings.{Meaning}
 use Rattle.counter_core.specs.Overlays.{Layer, LayerStep, after}
 use Rattle.adversary_script.specs.Scripts.{Script}
+use Rattle.adversary_script.specs.Lookup.{hit_at}
 use Rattle.round_runner.specs.Played.{starts, heard_at}
 
 -- the layer's step of node v, from the output that it shows itself
-abbrev pub layer_step : {Kept : Type 0} → Meaning → Layer Kept → (kept : List Kept) → (v : ℕ) → (heard : List State) → LayerStep Kept
-layer_step counter layer kept v heard = after layer kept v (counter.shows v (state_of heard v)) heard
+abbrev pub layer_step : {Kept : Type 0} → Meaning → Layer Kept → (kept : List Kept) → (v : ℕ)
+    → (heard : List State) → LayerStep Kept
+layer_step counter layer kept v heard = after layer kept v
+    (counter.shows v (state_of heard v)) heard
 
 -- the new state of node v: the counter's registers, and behind them the layer's
-abbrev pub new_state : {Kept : Type 0} → Meaning → Layer Kept → (kept : List Kept) → (v : ℕ) → (heard : List State) → State
-new_state counter layer kept v heard = record { x = (counter.next v heard).x; registers = (counter.next v heard).registers ++ (layer_step counter layer kept v heard).registers }
+abbrev pub new_state : {Kept : Type 0} → Meaning → Layer Kept → (kept : List Kept) → (v : ℕ)
+    → (heard : List State) → State
+new_state counter layer kept v heard = record {
+  x = (counter.next v heard).x;
+  registers =
+      (counter.next v heard).registers ++ (layer_step counter layer kept v heard).registers;
+}
 
--- what is kept at place v after round t
-abbrev pub kept_at : {Kept : Type 0} → Meaning → Script → Layer Kept → (t : ℕ) → List State → (kept : List Kept) → (v : ℕ) → Kept
-kept_at counter script layer t states kept v = if nat_lt v script.nodes then (layer_step counter layer kept v (heard_at script t states v)).kept else slice_index_or kept v layer.first
+-- the state of node v behind round t: its new state, or that into which it is put where an era
+-- begins
+abbrev pub state_behind : {Kept : Type 0} → Meaning → Script → Layer Kept → (t : ℕ) → List State
+    → (kept : List Kept) → (v : ℕ) → State
+state_behind counter script layer t states kept v =
+    unwrap_or (hit_at script (t + 1) v) (new_state counter layer kept v
+    (heard_at script t states v))
+
+-- what is kept at place v after round t: what the layer's step left, also where the node is put
+-- into a state
+abbrev pub kept_at : {Kept : Type 0} → Meaning → Script → Layer Kept → (t : ℕ) → List State
+    → (kept : List Kept) → (v : ℕ) → Kept
+kept_at counter script layer t states kept v =
+    if nat_lt v script.nodes then (layer_step counter layer kept v
+    (heard_at script t states v)).kept else slice_index_or kept v layer.first
 
 -- a configuration, and what the nodes keep beside their states
 pub record Scene (Kept : Type 0) : Type 0 where
@@ -29,8 +49,10 @@ module _ {Kept : Type 0} (counter : Meaning) (script : Script) (layer : Layer Ke
   -- the scene after round t
   abbrev pub next_scene : (t : ℕ) → Scene Kept → Scene Kept
   next_scene t scene = record {
-    states = map (λ v. new_state counter layer scene.kept v (heard_at script t scene.states v)) (range_with_len 0 script.nodes);
-    kept = map (kept_at counter script layer t scene.states scene.kept) (range_with_len 0 (length scene.kept));
+    states = map (state_behind counter script layer t scene.states scene.kept)
+        (range_with_len 0 script.nodes);
+    kept = map (kept_at counter script layer t scene.states scene.kept)
+        (range_with_len 0 (length scene.kept));
   }
 
   -- scene t, where the nodes begin with these things kept

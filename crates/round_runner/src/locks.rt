@@ -5,11 +5,13 @@ ghost use Rattle.std.specs.List.{list_all};
 
 use sync_types::{FaultSet, NodeState, Reg};
 
-/// The value of the first correct node's register at a level, or 0 where that is infinite or no node is correct.
+/// The value of the first correct node's register at a level, or 0 where that is infinite or no
+/// node is correct.
 fn first_value(level: usize, faulty: &FaultSet, config: &[NodeState]) -> u64
     requires nodes { length config.now ≡ faulty.now.nodes }
     requires deep { All (λ s. level < length s.registers) config.now }
-    ensures { result ≡ first_value (correct_registers level faulty.now.nodes faulty.now.ids config.now) }
+    ensures { result ≡ first_value (correct_registers level faulty.now.nodes faulty.now.ids
+        config.now) }
 {
     for v in 0..faulty.nodes() {
         if !faulty.contains(v) {
@@ -30,7 +32,8 @@ fn is_locked_at(value: u64, register: Reg) -> bool
 fn all_locked_at(level: usize, value: u64, faulty: &FaultSet, config: &[NodeState]) -> bool
     requires nodes { length config.now ≡ faulty.now.nodes }
     requires deep { All (λ s. level < length s.registers) config.now }
-    ensures { result ≡ list_all (is_locked_at value) (correct_registers level faulty.now.nodes faulty.now.ids config.now) }
+    ensures { result ≡ list_all (is_locked_at value)
+        (correct_registers level faulty.now.nodes faulty.now.ids config.now) }
 {
     for v in 0..faulty.nodes() {
         if !faulty.contains(v) && !is_locked_at(value, config[v as usize].reg(level)) {
@@ -44,7 +47,8 @@ fn all_locked_at(level: usize, value: u64, faulty: &FaultSet, config: &[NodeStat
 pub fn are_locked(level: usize, faulty: &FaultSet, config: &[NodeState]) -> bool
     requires nodes { length config.now ≡ faulty.now.nodes }
     requires deep { All (λ s. level < length s.registers) config.now }
-    ensures { result ≡ are_locked (correct_registers level faulty.now.nodes faulty.now.ids config.now) }
+    ensures { result ≡ are_locked (correct_registers level faulty.now.nodes faulty.now.ids
+        config.now) }
 {
     let value = first_value(level, faulty, config);
     all_locked_at(level, value, faulty, config)

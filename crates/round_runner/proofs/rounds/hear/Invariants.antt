@@ -1,5 +1,5 @@
-use Rattle.round_runner.proofs.Begun.{ToldBelow}
+use Rattle.round_runner.proofs.Begun.{HeardBelow}
 use Rattle.round_runner.proofs.rounds.hear.Given as goal
 
 abbrev pub invariant-loop-i : goal.invariant-loop-i
-invariant-loop-i l = ToldBelow l.script l.t l.v l.config l.fn.noise l.i l.lies l.noise
+invariant-loop-i l = HeardBelow l.script l.t l.v l.config l.fn.noise l.i l.lies l.noise
