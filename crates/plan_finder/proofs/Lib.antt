@@ -1,0 +1,12 @@
+pub mod Orders
+pub mod Paths
+pub mod Potentials
+pub mod Rising
+pub mod Bests
+pub mod Sets
+pub mod Moduli
+pub mod Gathered
+pub mod Answered
+pub mod Members
+pub mod Enumerated
+pub mod FitWants

@@ -1,0 +1,11 @@
+pub mod Steps
+pub mod Orders
+pub mod Wanted
+pub mod Costs
+pub mod Potentials
+pub mod Best
+pub mod Building
+pub mod FindPart
+pub mod FindRefusals
+pub mod FindText
+pub mod Least

@@ -1,0 +1,29 @@
+ghost use Rattle.std.specs.Prelude.{◌≡◌, ◌<◌, ◌≤◌, ◌^◌, MatchOption};
+ghost use Rattle.plan_finder.specs.Steps.{cost_of};
+
+/// The largest cost of a step, and the largest modulus.
+pub const MOST_COST: u64 = 1 << 40;
+
+/// The cost of a step to `g` faults by `k` blocks, which may be above any modulus.
+fn wide_cost(k: u64, g: u64) -> u128
+    requires blocks { (3 ≤ k) × (k ≤ 16) }
+    requires faults { g ≤ 85 }
+    ensures { result ≡ cost_of k g }
+{
+    let turns = 2 * u128::from(k.div_ceil(2));
+    u128::from(3 * (g + 2)) * turns.pow(k as u32)
+}
+
+/// The cost of a step to `g` faults by `k` blocks, where it is at most 2^40.
+pub fn step_cost(k: u64, g: u64) -> Option<u64>
+    requires blocks { (3 ≤ k) × (k ≤ 16) }
+    requires faults { g ≤ 85 }
+    ensures { MatchOption result (2 ^ 40 < cost_of k g)
+        (λ cost. (cost ≡ cost_of k g) × (cost ≤ 2 ^ 40)) }
+{
+    let cost = wide_cost(k, g);
+    if cost > u128::from(MOST_COST) {
+        return None;
+    }
+    Some(cost as u64)
+}
