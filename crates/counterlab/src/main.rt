@@ -3,6 +3,7 @@
 
 use edge_io::{StdSink, StdSource};
 use std::alloc::{AllocError, Global};
+use std::io::ErrorKind;
 use std::process::ExitCode;
 use std::{env, io};
 use sync_types::Status;
@@ -11,9 +12,16 @@ use workbench::counterlab;
 /// The words behind the program's own name. Arguments that are no text are no words.
 fn words(rt: &HostRuntime, alloc: Global) -> Result<Vec<String>, AllocError> {
     let mut words = Vec::new(alloc);
-    if let Ok(args) = env::args(rt) {
-        for word in args.skip(1) {
-            words.push(word)?;
+    match env::args(rt) {
+        Ok(args) => {
+            for word in args.skip(1) {
+                words.push(word)?;
+            }
+        }
+        Err(error) => {
+            if error.kind() == ErrorKind::OutOfMemory {
+                return Err(AllocError);
+            }
         }
     }
     Ok(words)

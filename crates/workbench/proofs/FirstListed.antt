@@ -1,9 +1,10 @@
--- The first locked number that a runner knows is the place of the first locked one in the list of all.
-use Rattle.std.proofs.Common.{◌≡◌, ℕ, zero, suc, ◌+◌, ◌<◌, ◌≤◌, inl, inr, Bool, true, false, cond, Option, Some, None, List, length, map, get_or, refl, ap, sym, ◌∙◌, subst, arith}
+-- The first locked number that a runner knows is the place of the first that passes in the list of
+-- all numbers.
+use Rattle.std.proofs.Common.{◌≡◌, ℕ, zero, suc, ◌+◌, ◌<◌, ◌≤◌, inl, inr, Bool, true, false, cond, Option, Some, None, List, length, get_or, refl, ap, sym, ◌∙◌, subst, arith}
 use Rattle.std.specs.Prelude.{position, nat_lt}
 use Rattle.std.specs.List.{range_with_len, position_or_len}
 use Rattle.std.proofs.lemmas.Bool.{cases_lt, lt-ltb, le-ltb}
-use Rattle.std.proofs.lemmas.List.FromFn.{length-map-range_with_len, get_or-map-range_with_len}
+use Rattle.std.proofs.lemmas.List.FromFn.{length-range_with_len, get_or-range_with_len}
 use Rattle.std.proofs.lemmas.List.Sums.{position_or_len_is}
 use Rattle.round_runner.specs.Locks.{first_of, first_locked}
 
@@ -29,25 +30,36 @@ module _ (locked : ℕ → Bool) where
   first_is zero = at_zero (locked 0) refl
   first_is (suc n) = one_more (first_locked locked n) (locked (suc n)) n (first_is n) refl
 
-module _ {X : Type 0} (p : X → Bool) (f : ℕ → X) (n : ℕ) where
-  abbrev listed : List X
-  listed = map f (range_with_len 0 (n + 1))
+module _ (p : ℕ → Bool) (n : ℕ) where
+  abbrev numbers : List ℕ
+  numbers = range_with_len 0 (n + 1)
 
-  size : length listed ≡ n + 1
-  size = length-map-range_with_len f 0 (n + 1)
+  size : length numbers ≡ n + 1
+  size = length-range_with_len 0 (n + 1)
 
-  at : (t : ℕ) → t ≤ n → p (get_or listed t (f 0)) ≡ p (f t)
-  at t le = ap p (get_or-map-range_with_len f 0 (n + 1) t t (f 0) (omega (arith, le)) (omega arith))
+  at : (t : ℕ) → t ≤ n → p (get_or numbers t 0) ≡ p t
+  at t le =
+      let here : get_or numbers t 0 ≡ t =
+      omega (arith, get_or-range_with_len 0 (n + 1) t 0 (omega (arith, le))) in
+      ap p here
 
-  found : (known : Option ℕ) → IsFirst (λ t. p (f t)) n known → position p listed ≡ known
+  found : (known : Option ℕ) → IsFirst p n known → position p numbers ≡ known
   found (Some w) h =
       let le = h.0 in
-      let place : position_or_len p listed ≡ w = position_or_len_is p listed w (f 0) (omega (arith, le, size)) (λ k lt. at k (omega (arith, le, lt)) ∙ h.2 k lt) (λ lt. at w le ∙ h.1) in
-      ap (λ (i : ℕ). cond (nat_lt i (length listed)) (Some i) None) place ∙ ap (λ (b : Bool). cond b (Some w) None) (lt-ltb w (length listed) (omega (arith, le, size)))
+      let place : position_or_len p numbers ≡ w = position_or_len_is p numbers w 0
+      (omega (arith, le, size)) (λ k lt. at k (omega (arith, le, lt)) ∙ h.2 k lt)
+      (λ lt. at w le ∙ h.1) in
+      ap (λ (i : ℕ). cond (nat_lt i (length numbers)) (Some i) None) place
+      ∙ ap (λ (b : Bool). cond b (Some w) None) (lt-ltb w (length numbers) (omega (arith, le, size)))
   found None h =
-      let place : position_or_len p listed ≡ length listed = position_or_len_is p listed (length listed) (f 0) (omega arith) (λ k lt. at k (omega (arith, lt, size)) ∙ h k (omega (arith, lt, size))) (λ lt. absurd (omega (arith, lt))) in
-      ap (λ (i : ℕ). cond (nat_lt i (length listed)) (Some i) None) place ∙ ap (λ (b : Bool). cond b (Some (length listed)) None) (le-ltb (length listed) (length listed) (omega arith))
+      let place : position_or_len p numbers ≡ length numbers =
+      position_or_len_is p numbers (length numbers) 0 (omega arith)
+      (λ k lt. at k (omega (arith, lt, size)) ∙ h k (omega (arith, lt, size)))
+      (λ lt. absurd (omega (arith, lt))) in
+      ap (λ (i : ℕ). cond (nat_lt i (length numbers)) (Some i) None) place
+      ∙ ap (λ (b : Bool). cond b (Some (length numbers)) None)
+      (le-ltb (length numbers) (length numbers) (omega arith))
 
   -- so the two are one
-  pub first_listed : first_locked (λ t. p (f t)) n ≡ position p listed
-  first_listed = sym (found (first_locked (λ t. p (f t)) n) (first_is (λ t. p (f t)) n))
+  pub first_listed : first_locked p n ≡ position p numbers
+  first_listed = sym (found (first_locked p n) (first_is p n))

@@ -2,6 +2,10 @@ pub mod Settled
 pub mod Shown
 pub mod Rows
 pub mod Words
+pub mod Locks
 pub mod Promise
 pub mod ReadRun
 pub mod FirstListed
+pub mod Whole
+pub mod Unread
+pub mod Complete

@@ -10,9 +10,12 @@ use Rattle.adversary_script.specs.ScriptPart.{script_of}
 use Rattle.workbench.specs.RunText.{run_text}
 use Rattle.workbench.specs.Answers.{run_answer}
 
-pub answer_is : (input : List ℕ) (plan : Plan) (bytes lines : ℕ) (shape : Shape) (script played : Script) → plan_of input ≡ Ok (found_in input (plan, bytes, lines))
-    → shape ≡ shape_of plan → script_of plan shape (1 + lines) (lines_of (take (length input - bytes) (drop bytes input))) ≡ Ok script → played ≡ script → run_answer input ≡ Ok (run_text plan played)
-answer_is input plan bytes lines shape script played read is said same =
+pub answer_is : (input : List ℕ) (plan : Plan) (bytes lines : ℕ) (shape : Shape) (script : Script) (played_plan : Plan) (played : Script)
+    → plan_of input ≡ Ok (found_in input (plan, bytes, lines))
+    → shape ≡ shape_of plan
+    → script_of plan shape (1 + lines) (lines_of (take (length input - bytes) (drop bytes input))) ≡ Ok script
+    → played_plan ≡ plan → played ≡ script → run_answer input ≡ Ok (run_text played_plan played)
+answer_is input plan bytes lines shape script played_plan played read is said same_plan same =
     let behind : take (length input - bytes) (drop bytes input) ≡ drop bytes input = take_all (length input - bytes) (drop bytes input) (omega (arith, length-drop bytes input)) in
     let here : script_of plan shape (1 + lines) (lines_of (drop bytes input)) ≡ Ok script = rw (← behind) said in
-    rw (read, ← is, here, same) refl
+    rw (read, ← is, here, same_plan, same) refl

@@ -1,9 +1,9 @@
 -- The rows that are written while a runner plays.
-use Rattle.std.proofs.Common.{◌≡◌, ℕ, ◌+◌, ◌-◌, ◌<◌, ◌≤◌, ◌&&◌, cond, Bool, false, Option, List, [], ◌++◌, drop, Result, Ok, Err, refl, sym, ap, ap₂, ◌∙◌, subst, arith}
+use Rattle.std.proofs.Common.{◌≡◌, ℕ, ◌+◌, ◌-◌, ◌<◌, ◌≤◌, ◌&&◌, cond, Bool, false, List, [], ◌++◌, drop, Result, Ok, Err, refl, sym, ap, ap₂, ◌∙◌, subst, arith}
 use Rattle.std.specs.Prelude.{nat_le, OnOk}
-use Rattle.std.proofs.Math.Path.{fun_ext}
 use Rattle.std.specs.List.{flat_map, range_with_len}
-use Rattle.std.proofs.lemmas.List.{append_assoc, append-nil}
+use Rattle.std.proofs.lemmas.List.{append_assoc}
+use Rattle.sync_types.specs.FaultSets.{FaultIds}
 use Rattle.sync_types.specs.States.{State}
 use Rattle.construction.specs.Plans.{Plan}
 use Rattle.texts.specs.Growth.{Told, Wrote, Cut, Puts}
@@ -11,49 +11,42 @@ use Rattle.texts.proofs.Growth.{wrote_none, wrote_then, cut_then, cut_more, puts
 use Rattle.counter_core.specs.declared.overlays.NoOverlay.{NoOverlay}
 use Rattle.counter_core.specs.NoLayers.{no_layer}
 use Rattle.adversary_script.specs.Scripts.{Script}
-use Rattle.round_runner.specs.Locks.{is_locked, first_locked}
+use Rattle.adversary_script.specs.Eras.{faulty_at}
 use Rattle.round_runner.specs.Runners.{Running, Advances}
-use Rattle.round_runner.specs.Played.{played_at}
-use Rattle.round_runner.proofs.Playing.{scene_played}
-use Rattle.workbench.specs.RunText.{configuration_row, row_text, rows_text, locked_line, run_locks}
-use Rattle.workbench.specs.Playing.{Plays, IsAtEnd, shown_row}
-use Rattle.workbench.proofs.FirstListed.{first_listed}
+use Rattle.round_runner.proofs.Playing.{bare_is_played}
+use Rattle.workbench.specs.RunText.{configuration_row, row_text, rows_text}
+use Rattle.workbench.specs.Playing.{Plays, HasPlayed, shown_row}
 use Rattle.workbench.proofs.Shown.{rows_before, row_if_shown, rows_more, rows_rest, none_before, all_before}
-
--- its states are the played configuration
-pub plays_played : (r : Running NoOverlay) → Plays r → r.states ≡ played_at r.plan r.script r.at
-plays_played r p = p.states ∙ scene_played r.plan r.script [] r.at
-
--- and it knows the first locked one
-pub plays_locked : (r : Running NoOverlay) → Plays r → r.locked ≡ first_locked (λ t. is_locked r.plan r.script.faulty (played_at r.plan r.script t)) r.at
-plays_locked r p = p.locked ∙ ap (λ (locked : ℕ → Bool). first_locked locked r.at) (fun_ext (λ t. ap (is_locked r.plan r.script.faulty) (scene_played r.plan r.script [] t)))
 
 -- what holds holds where there is a value
 pub on_ok : {T E P : Type 0} (result : Result T E) → P → OnOk result P
 on_ok (Ok value) p = p
 on_ok (Err error) p = tt
 
+-- the faulty nodes that a script lends for a configuration
+pub faulty_ids : (lent : FaultIds) (read script : Script) (t at : ℕ)
+    → lent ≡ record { nodes = read.nodes; ids = faulty_at read t } → read ≡ script → t ≡ at
+    → lent.ids ≡ faulty_at script at
+faulty_ids lent read script t at is same here =
+    ap (λ (s : FaultIds). s.ids) is ∙ ap₂ (λ (s : Script) (t : ℕ). faulty_at s t) same here
+
 -- the row of a runner is that of its script
-row_is : (r : Running NoOverlay) (first last : ℕ) → Plays r → shown_row r first last ≡ row_if_shown (row_text r.plan r.script) first last r.at
-row_is r first last p = ap (λ (states : List State). cond (nat_le first r.at && nat_le r.at last) (configuration_row r.plan r.script.faulty r.at states) []) (plays_played r p)
+row_is : (r : Running NoOverlay) (first last : ℕ) → Plays r
+    → shown_row r first last ≡ row_if_shown (row_text r.plan r.script) first last r.at
+row_is r first last p =
+    ap (λ (states : List State). cond (nat_le first r.at && nat_le r.at last)
+    (configuration_row r.plan (faulty_at r.script r.at) r.at states) []) (bare_is_played r p)
 
 -- a row that is not shown is not written
-pub hidden_row : (r : Running NoOverlay) (first last t : ℕ) (shows : Bool) (sink : Told) → t ≡ r.at → shows ≡ nat_le first t && nat_le t last → shows ≡ false → Wrote (shown_row r first last) sink sink
-hidden_row r first last t shows sink at is hidden = let out : nat_le first r.at && nat_le r.at last ≡ false = rw (← at, ← is) hidden in rw out (wrote_none sink)
+pub hidden_row : (r : Running NoOverlay) (first last t : ℕ) (shows : Bool) (sink : Told) → t ≡ r.at
+    → shows ≡ nat_le first t && nat_le t last → shows ≡ false
+    → Wrote (shown_row r first last) sink sink
+hidden_row r first last t shows sink at is hidden =
+    let out : nat_le first r.at && nat_le r.at last ≡ false = rw (← at, ← is) hidden in
+    rw out (wrote_none sink)
 
--- what a runner at the end of its script knows is the first locked configuration
-pub locked_at_end : (plan : Plan) (start r : Running NoOverlay) → start.plan ≡ plan → IsAtEnd start r → r.locked ≡ run_locks plan start.script
-locked_at_end plan start r plan_is end =
-    plays_locked r end.plays
-    ∙ (ap₂ (λ (p : Plan) (s : Script). first_locked (λ t. is_locked p s.faulty (played_at p s t)) r.at) (end.plan ∙ plan_is) end.script
-    ∙ (ap (first_locked (λ t. is_locked plan start.script.faulty (played_at plan start.script t))) end.at
-    ∙ first_listed (is_locked plan start.script.faulty) (played_at plan start.script) start.script.rounds))
-
--- so its line ends the text
-pub puts_locked : {T E : Type 0} (result : Result T E) (locked run : Option ℕ) (s t : Told) → locked ≡ run → Puts result (locked_line locked) s t → Puts result (locked_line run ++ []) s t
-puts_locked result locked run s t is puts = subst (λ (text : List ℕ). Puts result text s t) (ap locked_line is ∙ sym (append-nil (locked_line run))) puts
-
--- The rows before row t are written, by a runner of this plan and script that is at configuration t.
+-- The rows before row t are written, by a runner of this plan and script that is at configuration
+-- t.
 pub record RowsSoFar (plan : Plan) (script : Script) (t : ℕ) (r : Running NoOverlay) (old now : Told) : Type 0 where
   pub plan_is : r.plan ≡ plan
   pub script_is : r.script ≡ script
@@ -115,10 +108,13 @@ module _ (plan : Plan) (script : Script) (first last : ℕ) (first_is : first �
       let all : rows_text plan script ≡ before t ++ here = sym (all_before (row_text plan script) script.first script.last (t + 1) (omega (arith, le))) ∙ rows_more (row_text plan script) script.first script.last t in
       subst (λ (text : List ℕ). Puts result text old now) (sym all) (puts_then result old mid now (before t) here so_far.wrote (rw (← row_of) puts))
 
-  pub is_at_end : (start : Running NoOverlay) → start.plan ≡ plan → start.script ≡ script → t ≡ script.rounds → IsAtEnd start r
-  is_at_end start p s last = record {
+  pub has_played : (start : Running NoOverlay) → start.plan ≡ plan → start.script ≡ script
+      → t ≡ script.rounds → HasPlayed start r
+  has_played start p s last = record {
     plan = so_far.plan_is ∙ sym p;
     script = so_far.script_is ∙ sym s;
-    at = so_far.at ∙ (last ∙ ap (λ (s : Script). s.rounds) (sym s));
-    plays = so_far.plays;
+    end = record {
+      at = so_far.at ∙ (last ∙ ap (λ (s : Script). s.rounds) (sym so_far.script_is));
+      plays = so_far.plays;
+    };
   }

@@ -1,35 +1,51 @@
 -- What holds of every input, whatever becomes of it.
-use Rattle.std.specs.Prelude.{◌≡◌, ℕ, ◌+◌, ◌%◌, ◌<◌, ◌≤◌, ◌↔◌, List, true, false, IfOk}
-use Rattle.sync_types.specs.States.{State}
+use Rattle.std.specs.Prelude.{◌≡◌, ℕ, ◌+◌, ◌%◌, ◌<◌, ◌≤◌, List, length, Some, false, IfOk}
 use Rattle.construction.specs.Plans.{Plan, plan_nodes, plan_bound, plan_modulus}
-use Rattle.construction.specs.Runs.{is_in, IsBorne, Settles, IsLocked}
+use Rattle.construction.specs.Runs.{is_in, IsBorne, Settles}
 use Rattle.plan_reader.specs.PlanPart.{plan_of}
 use Rattle.adversary_script.specs.Scripts.{Script}
-use Rattle.round_runner.specs.Laws.{IsUpTo, RunsAsScripted}
-use Rattle.round_runner.specs.Locks.{is_locked}
+use Rattle.adversary_script.specs.Eras.{first_of_era, end_of_era, faulty_of_era, faulty_at}
+use Rattle.round_runner.specs.Laws.{IsUpTo, IsOfOneEra, EraIsRun}
+use Rattle.round_runner.specs.Locks.{IsFirstLocked}
 use Rattle.round_runner.specs.Played.{played_at}
-use Rattle.workbench.specs.RunText.{number_word, node_word, run_locks}
+use Rattle.workbench.specs.RunText.{number_word, node_word, lock_of_era}
 use Rattle.workbench.specs.Answers.{scripted_of}
 
 -- where the plan part of an input is accepted the plan settles
 abbrev pub AcceptedPlansSettle : Type 0
 AcceptedPlansSettle = (input : List ℕ) → IfOk (plan_of input) (λ found. Settles found.value)
 
--- From the bound on, the words of all correct nodes in a row are one number, which grows by one modulo C from row to row.
-pub record RowsCount (plan : Plan) (script : Script) : Type 0 where
+-- From a configuration to the end of era j, the words of all nodes that are correct in it are one
+-- number in each played row, which grows by one modulo C from row to row.
+pub record RowsCountFrom (plan : Plan) (script : Script) (j from : ℕ) : Type 0 where
   pub output : ℕ → ℕ
-  pub words : (t v : ℕ) → plan_bound plan ≤ t → t ≤ script.rounds → v < plan_nodes plan → is_in script.faulty v ≡ false
-      → node_word plan script.faulty (played_at plan script t) v ≡ number_word (output t)
-  pub grows : (t : ℕ) → plan_bound plan ≤ t → t + 1 ≤ script.rounds → output (t + 1) ≡ (output t + 1) % plan_modulus plan
+  pub words : (t v : ℕ) → from ≤ t → t < end_of_era script j
+      → v < plan_nodes plan → is_in (faulty_at script t) v ≡ false
+      → node_word plan (faulty_at script t) (played_at plan script t) v ≡ number_word (output t)
+  pub grows : (t : ℕ) → from ≤ t → t + 1 < end_of_era script j
+      → output (t + 1) ≡ (output t + 1) % plan_modulus plan
 
--- The played configurations are the script's run of the plan, with few faulty nodes; the rows that are written of them count from the bound on, and where the rounds reach the bound the text ends in `locked W` with W at most the bound. The test that finds W passes just the locked configurations.
+-- What is played of era j is a run of the plan, with few faulty nodes. Its rows count from the bound
+-- on, which is counted from its first configuration. The W of its line `locked W` is its first locked
+-- configuration, at the bound or before where the era reaches the bound, and the rows count from W on.
+pub record EraKeepsPromise (plan : Plan) (script : Script) (j : ℕ) : Type 0 where
+  pub borne : IsBorne plan (faulty_of_era script j)
+  pub run : EraIsRun plan script j
+  pub rows : RowsCountFrom plan script j (first_of_era script j + plan_bound plan)
+  pub locked : IsFirstLocked plan script (played_at plan script) j script.rounds
+      (lock_of_era plan script j)
+  pub locks : first_of_era script j + plan_bound plan < end_of_era script j
+      → IsUpTo (first_of_era script j + plan_bound plan) (lock_of_era plan script j)
+  pub locked_rows : (w : ℕ) → lock_of_era plan script j ≡ Some w → RowsCountFrom plan script j w
+
+-- All rows that are shown are of configurations that are played, each of these is of one era, and
+-- each era keeps the promise.
 pub record KeepsPromise (plan : Plan) (script : Script) : Type 0 where
-  pub borne : IsBorne plan script.faulty
-  pub run : RunsAsScripted plan script
-  pub rows : RowsCount plan script
-  pub locks : plan_bound plan ≤ script.rounds → IsUpTo (plan_bound plan) (run_locks plan script)
-  pub lock_test : (config : List State) → (is_locked plan script.faulty config ≡ true) ↔ IsLocked plan script.faulty config
+  pub shown : script.last ≤ script.rounds
+  pub all : (t : ℕ) → t ≤ script.rounds → IsOfOneEra script t
+  pub eras : (j : ℕ) → j ≤ length script.eras → EraKeepsPromise plan script j
 
 -- where an input is a plan and a script, the promise is kept
 abbrev pub PromiseIsKept : Type 0
-PromiseIsKept = (input : List ℕ) → IfOk (scripted_of input) (λ scripted. KeepsPromise scripted.plan scripted.script)
+PromiseIsKept = (input : List ℕ)
+    → IfOk (scripted_of input) (λ scripted. KeepsPromise scripted.plan scripted.script)

@@ -2,6 +2,10 @@ pub mod Refusals
 pub mod RunText
 pub mod Playing
 pub mod Answers
+pub mod Outcomes
 pub mod Commands
+pub mod Conduct
+pub mod Ends
 pub mod Readings
+pub mod Completeness
 pub mod Laws

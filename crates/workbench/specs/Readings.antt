@@ -5,6 +5,8 @@ use Rattle.plan_reader.specs.declared.refusals.PlanError.{PlanError}
 use Rattle.plan_reader.specs.declared.refusals.PlanError.TheVariants as plan
 use Rattle.adversary_script.specs.declared.refusals.ScriptError.{ScriptError}
 use Rattle.adversary_script.specs.declared.refusals.ScriptError.TheVariants as script
+use Rattle.plan_finder.specs.declared.refusals.FindError.{FindError}
+use Rattle.plan_finder.specs.declared.refusals.FindError.TheVariants as find
 use Rattle.workbench.specs.declared.refusals.Refusal.{Refusal}
 use Rattle.workbench.specs.declared.refusals.Refusal.TheVariants as refusal
 use Rattle.workbench.specs.declared.refusals.ReadError.{ReadError}
@@ -23,3 +25,8 @@ plan_error (plan.Refused refused) = read.Refused (refusal.Plan refused.line refu
 abbrev pub script_error : ScriptError → ReadError
 script_error script.NoMemory = read.NoMemory
 script_error (script.Refused refused) = read.Refused (refusal.Part part.Script refused.line refused.rule)
+
+-- the error of wants, of an input
+abbrev pub wants_error : FindError → ReadError
+wants_error find.NoMemory = read.NoMemory
+wants_error (find.Refused refused) = read.Refused (refusal.Part part.Find refused.line refused.rule)

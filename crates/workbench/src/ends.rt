@@ -1,5 +1,14 @@
-use edge_io::WriteFault;
+//! How a command ends that reads all of its input before it writes.
+
+ghost use Rattle.std.specs.Prelude.{◌≡◌};
+ghost use Rattle.workbench.specs.Ends.{fault_status, end_status};
+
+use edge_io::{InputFault, WriteFault};
+use sync_types::Status;
 use thiserror::Error;
+
+/// How many bytes an input may have that is read whole first.
+pub const LONGEST_INPUT: usize = 1 << 20;
 
 /// Why a command that has its input gave no whole answer.
 #[derive(Clone, Copy, Debug, PartialEq, Eq, Error)]
@@ -20,5 +29,27 @@ impl From<WriteFault> for End {
 
     fn from(_: WriteFault) -> Self {
         End::Write
+    }
+}
+
+/// The status where the input was not read.
+pub fn fault_status(fault: InputFault) -> Status
+    ensures { result ≡ fault_status fault }
+{
+    match fault {
+        InputFault::ReadFault => Status::ReadFault,
+        InputFault::TooLong => Status::TooLong,
+        InputFault::NoMemory => Status::NoMemory,
+    }
+}
+
+/// The status where it was.
+pub fn end_status(ended: Result<Status, End>) -> Status
+    ensures { result ≡ end_status ended }
+{
+    match ended {
+        Ok(status) => status,
+        Err(End::Write) => Status::WriteFault,
+        Err(End::Memory) => Status::NoMemory,
     }
 }

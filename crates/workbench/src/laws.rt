@@ -1,9 +1,13 @@
-//! What holds of every input, whatever becomes of it. Each function does nothing: its clause is the law.
+//! What holds of every input, whatever becomes of it. Each function does nothing: its clause is the
+//! law.
 
+ghost use Rattle.workbench.specs.Completeness.{UndisturbedIsDefined, PlainIsDefined, RoomIsDefined, CutsAreUnseen};
 ghost use Rattle.workbench.specs.Laws.{AcceptedPlansSettle, PromiseIsKept};
 
 use plan_laws::laws::every_plan_settles;
-use round_runner::laws::{locks_by_bound, played_is_run, shown_count};
+use round_runner::laws::{
+    each_is_of_one_era, eras_are_runs, eras_count, eras_lock, eras_stay_locked,
+};
 
 /// Where the plan part of an input is accepted the plan settles.
 pub fn accepted_plans_settle()
@@ -12,11 +16,41 @@ pub fn accepted_plans_settle()
     every_plan_settles();
 }
 
-/// Where an input is a plan and a script, what is played of them is a run of the plan with few faulty nodes, and the text that is written of it counts from the bound on.
+/// Where an input is a plan and a script, all rows that are shown are played ones. What is played of
+/// each era is a run of the plan with few faulty nodes; what is written of it counts from the bound
+/// on, and from its first locked configuration on, to the era's end.
 pub fn promise_is_kept()
     ensures { PromiseIsKept }
 {
-    played_is_run();
-    locks_by_bound();
-    shown_count();
+    each_is_of_one_era();
+    eras_are_runs();
+    eras_lock();
+    eras_count();
+    eras_stay_locked();
 }
+
+/// A call of `counterlab` whose source tells its bytes, and in which no fault is counted, has the
+/// outcome that is defined for these bytes, or wants memory and writes nothing. Words outside the
+/// table want none.
+pub fn undisturbed_is_defined()
+    ensures { UndisturbedIsDefined }
+{}
+
+/// So has every call over a source and a sink that count no faults, as `PlainSource` and
+/// `NullSink`.
+pub fn plain_is_defined()
+    ensures { PlainIsDefined }
+{}
+
+/// So has every call over such a source and a `MemSink` of which no call is to fail, and that has
+/// room for the text.
+pub fn room_is_defined()
+    ensures { RoomIsDefined }
+{}
+
+/// The outcome depends on the bytes alone, and not on how the reads cut them: two such calls with
+/// the same words over the same bytes answer one status and write one text, unless one of them
+/// wants memory.
+pub fn cuts_are_unseen()
+    ensures { CutsAreUnseen }
+{}

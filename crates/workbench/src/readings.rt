@@ -1,15 +1,15 @@
 ghost use Rattle.std.specs.Prelude.{◌≡◌, ◌≤◌, ◌^◌, length, MatchResult, IfOk, Ok};
 ghost use Rattle.state_codec.specs.Shapes.{shape_of};
-ghost use Rattle.plan_certificate.specs.Tables.{table_text};
 ghost use Rattle.adversary_script.specs.ScriptPart.{IsFor};
 ghost use Rattle.workbench.specs.Readings.{Refuses};
-ghost use Rattle.workbench.specs.Answers.{plan_answer, run_answer};
-ghost use Rattle.workbench.specs.Playing.{IsAtStart};
-ghost use Rattle.workbench.specs.RunText.{run_text};
+ghost use Rattle.plan_finder.specs.FindPart.{IsFit};
+ghost use Rattle.workbench.specs.Answers.{plan_alone, run_answer, wants_of};
+ghost use Rattle.workbench.specs.Playing.{IsAtStart, IsToPlay, text_of};
 
 use crate::refusals::ReadError;
 use adversary_script::{Script, read_script};
 use counter_core::NoOverlay;
+use plan_finder::{Want, read_find};
 use plan_numbers::Plan;
 use plan_reader::{read_plan, read_whole_plan};
 use round_runner::Runner;
@@ -19,7 +19,6 @@ use sync_types::NoMemory;
 use tower::build;
 
 /// The runner of a script that was read for a plan, at configuration 0.
-#[tactic(auto, using(round_runner::proofs::Fitting::without_layer))]
 fn runner_of(
     alloc: Global,
     plan: &Plan,
@@ -36,23 +35,37 @@ fn runner_of(
     Runner::new(alloc, tower, shape, script, NoOverlay)
 }
 
-/// The plan and the script of an input of the word `run`, as the runner that plays them.
-pub fn read_run(alloc: Global, input: &[u8]) -> Result<(Plan, Runner<NoOverlay>), ReadError>
+/// The plan and the script of an input of the word `run`: the plan's bound, and the runner that
+/// plays them.
+pub fn read_run(alloc: Global, input: &[u8]) -> Result<(u64, Runner<NoOverlay>), ReadError>
     requires { length input.now ≤ 2 ^ 20 }
-    ensures exact { MatchResult result (λ read. run_answer input.now ≡ Ok (run_text read.0 read.1.script)) (λ error. Refuses error (run_answer input.now)) }
-    ensures plan { IfOk result (λ read. read.1.plan ≡ read.0) }
-    ensures start { IfOk result (λ read. IsAtStart read.1) }
+    ensures exact { MatchResult result
+        (λ run. run_answer input.now ≡ Ok (text_of run.1))
+        (λ error. Refuses error (run_answer input.now)) }
+    ensures start { IfOk result (λ run. IsToPlay run.0 run.1) }
 {
     let (plan, bytes, lines) = read_plan(alloc, input)?;
     let shape = StateShape::of(alloc, &plan)?;
     let script = read_script(alloc, &plan, &shape, &input[bytes..], 1 + lines)?;
     let runner = runner_of(alloc, &plan, shape, script)?;
-    Ok((plan, runner))
+    Ok((plan.bound(), runner))
 }
 
-/// The plan of an input of the word `plan`, behind which only skipped lines stand.
+/// The plan of an input, behind which only skipped lines stand.
 pub fn read_plan_alone(alloc: Global, input: &[u8]) -> Result<Plan, ReadError>
-    ensures { MatchResult result (λ plan. plan_answer input.now ≡ Ok (table_text plan)) (λ error. Refuses error (plan_answer input.now)) }
+    ensures { MatchResult result
+        (λ plan. plan_alone input.now ≡ Ok plan)
+        (λ error. Refuses error (plan_alone input.now)) }
 {
     Ok(read_whole_plan(alloc, input)?)
+}
+
+/// The wants of an input, behind which only skipped lines stand.
+pub fn read_wants(input: &[u8]) -> Result<Want, ReadError>
+    ensures exact { MatchResult result
+        (λ want. wants_of input.now ≡ Ok want)
+        (λ error. Refuses error (wants_of input.now)) }
+    ensures fits { IfOk result (λ want. IsFit want) }
+{
+    Ok(read_find(input)?)
 }

@@ -4,6 +4,7 @@ ghost use Rattle.workbench.specs.Refusals.{part_word, premise_word, rule_word, r
 
 use adversary_script::ScriptError;
 use edge_io::{Piece, Sink, WriteFault, put_pieces};
+use plan_finder::FindError;
 use plan_reader::PlanError;
 use sync_types::{NoMemory, Part, Premise, Rule, Status};
 use thiserror::Error;
@@ -69,6 +70,23 @@ impl From<ScriptError> for ReadError {
                 rule: refused.rule,
             }),
             ScriptError::NoMemory => ReadError::NoMemory,
+        }
+    }
+}
+
+impl From<FindError> for ReadError {
+    ghost use Rattle.workbench.specs.Readings.{wants_error};
+
+    ghost from_gives = { λ error e. e ≡ wants_error error };
+
+    fn from(error: FindError) -> Self {
+        match error {
+            FindError::Refused(refused) => ReadError::Refused(Refusal::Part {
+                part: Part::Find,
+                line: refused.line,
+                rule: refused.rule,
+            }),
+            FindError::NoMemory => ReadError::NoMemory,
         }
     }
 }

@@ -1,21 +1,30 @@
-ghost use Rattle.std.specs.Prelude.{◌≡◌, ◌<◌, ◌&&◌, nat_le, OnOk};
-ghost use Rattle.std.specs.List.{flat_map, range_with_len};
+ghost use Rattle.std.specs.Prelude.{◌≡◌, ◌<◌, ◌≤◌, ◌&&◌, nat_le, length, OnOk};
 ghost use Rattle.texts.specs.Growth.{Puts};
 ghost use Rattle.construction.specs.Plans.{plan_nodes};
-ghost use Rattle.workbench.specs.RunText.{bound_line, configuration_row, locked_line, node_word, run_text, rows_text};
-ghost use Rattle.workbench.specs.Playing.{IsAtStart, IsAtEnd, shown_row};
+ghost use Rattle.adversary_script.specs.Eras.{faulty_at};
+ghost use Rattle.workbench.specs.RunText.{bound_line, era_line, lock_lines, locked_line};
+ghost use Rattle.workbench.specs.RunText.{node_word, node_words, rows_text};
+ghost use Rattle.workbench.specs.Playing.{HasPlayed, IsAtStart, IsAtEnd, IsToPlay};
+ghost use Rattle.workbench.specs.Playing.{own_row, shown_row, text_of};
 
 use counter_core::NoOverlay;
 use edge_io::{Gathered, Piece, Sink, WriteFault, put_all, put_pieces};
-use plan_numbers::Plan;
 use round_runner::Runner;
+use sync_types::FaultSet;
 
-/// Writes a node's word in the row of the runner's configuration: what it shows, or a star where it is faulty.
-fn put_word<K: Sink>(sink: &mut K, runner: &Runner<NoOverlay>, v: u32) -> Result<(), WriteFault>
+/// Writes a node's word in the row of the runner's configuration: what it shows, or a star where it
+/// is one of these faulty ones.
+fn put_word<K: Sink>(
+    sink: &mut K,
+    runner: &Runner<NoOverlay>,
+    faulty: &FaultSet,
+    v: u32,
+) -> Result<(), WriteFault>
     requires { v < plan_nodes runner.now.plan }
-    ensures { Puts result (node_word runner.now.plan runner.now.script.faulty runner.now.states v) (K.told sink.old) (K.told sink.new) }
+    ensures { Puts result (node_word runner.now.plan faulty.now.ids runner.now.states v)
+        (K.told sink.old) (K.told sink.new) }
 {
-    if runner.script().faulty().contains(v) {
+    if faulty.contains(v) {
         put_all(sink, b" *")
     } else {
         put_pieces(sink, &[Piece::Text(b" "), Piece::Number(runner.output(v))])
@@ -23,11 +32,16 @@ fn put_word<K: Sink>(sink: &mut K, runner: &Runner<NoOverlay>, v: u32) -> Result
 }
 
 /// Writes the words of all nodes.
-fn put_words<K: Sink>(sink: &mut K, runner: &Runner<NoOverlay>) -> Result<(), WriteFault>
-    ensures { Puts result (flat_map (node_word runner.now.plan runner.now.script.faulty runner.now.states) (range_with_len 0 (plan_nodes runner.now.plan))) (K.told sink.old) (K.told sink.new) }
+fn put_words<K: Sink>(
+    sink: &mut K,
+    runner: &Runner<NoOverlay>,
+    faulty: &FaultSet,
+) -> Result<(), WriteFault>
+    ensures { Puts result (node_words runner.now.plan faulty.now.ids runner.now.states)
+        (K.told sink.old) (K.told sink.new) }
 {
     for v in 0..runner.nodes() {
-        match put_word(sink, runner, v) {
+        match put_word(sink, runner, faulty, v) {
             Ok(()) => {}
             Err(WriteFault) => return Err(WriteFault),
         }
@@ -37,10 +51,10 @@ fn put_words<K: Sink>(sink: &mut K, runner: &Runner<NoOverlay>) -> Result<(), Wr
 
 /// Writes the row of the runner's configuration.
 fn put_row<K: Sink>(sink: &mut K, runner: &Runner<NoOverlay>) -> Result<(), WriteFault>
-    ensures { Puts result (configuration_row runner.now.plan runner.now.script.faulty runner.now.at runner.now.states) (K.told sink.old) (K.told sink.new) }
+    ensures { Puts result (own_row runner.now) (K.told sink.old) (K.told sink.new) }
 {
     put_pieces(sink, &[Piece::Text(b"row "), Piece::Number(runner.at())])?;
-    put_words(sink, runner)?;
+    put_words(sink, runner, runner.script().faulty_at(runner.at()))?;
     put_all(sink, b"\n")
 }
 
@@ -70,8 +84,9 @@ fn put_if_shown<K: Sink>(
 /// Plays all rounds of a script, and writes the rows that it shows.
 fn put_rows<K: Sink>(sink: &mut K, runner: &mut Runner<NoOverlay>) -> Result<(), WriteFault>
     requires { IsAtStart runner.old }
-    ensures rows { Puts result (rows_text runner.old.plan runner.old.script) (K.told sink.old) (K.told sink.new) }
-    ensures played { OnOk result (IsAtEnd runner.old runner.new) }
+    ensures rows { Puts result (rows_text runner.old.plan runner.old.script)
+        (K.told sink.old) (K.told sink.new) }
+    ensures played { OnOk result (HasPlayed runner.old runner.new) }
 {
     let rounds = runner.script().rounds();
     let (first, last) = runner.script().shown();
@@ -102,15 +117,51 @@ fn put_locked<K: Sink>(sink: &mut K, locked: Option<u64>) -> Result<(), WriteFau
     }
 }
 
+/// Writes the line of an era, of a runner at the end.
+fn put_era<K: Sink>(sink: &mut K, runner: &Runner<NoOverlay>, era: usize) -> Result<(), WriteFault>
+    requires end { IsAtEnd runner.now }
+    requires among { era ≤ length runner.now.script.eras }
+    ensures { Puts result (era_line runner.now.plan runner.now.script era)
+        (K.told sink.old) (K.told sink.new) }
+{
+    put_pieces(
+        sink,
+        &[
+            Piece::Text(b"era "),
+            Piece::Number(runner.script().era_start(era)),
+            Piece::Text(b" "),
+        ],
+    )?;
+    put_locked(sink, runner.locked_in(era))
+}
+
+/// Writes the first locked configuration of each era, of a runner at the end.
+fn put_locks<K: Sink>(sink: &mut K, runner: &Runner<NoOverlay>) -> Result<(), WriteFault>
+    requires { IsAtEnd runner.now }
+    ensures { Puts result (lock_lines runner.now.plan runner.now.script)
+        (K.told sink.old) (K.told sink.new) }
+{
+    if runner.script().version() == 1 {
+        return put_locked(sink, runner.locked_in(0));
+    }
+    for era in 0..runner.script().eras() {
+        match put_era(sink, runner, era) {
+            Ok(()) => {}
+            Err(WriteFault) => return Err(WriteFault),
+        }
+    }
+    Ok(())
+}
+
 /// Writes the bound.
-fn put_bound<K: Sink>(sink: &mut K, plan: &Plan) -> Result<(), WriteFault>
-    ensures { Puts result (bound_line plan.now) (K.told sink.old) (K.told sink.new) }
+fn put_bound<K: Sink>(sink: &mut K, bound: u64) -> Result<(), WriteFault>
+    ensures { Puts result (bound_line bound) (K.told sink.old) (K.told sink.new) }
 {
     put_pieces(
         sink,
         &[
             Piece::Text(b"bound "),
-            Piece::Number(plan.bound()),
+            Piece::Number(bound),
             Piece::Text(b"\n"),
         ],
     )
@@ -119,29 +170,29 @@ fn put_bound<K: Sink>(sink: &mut K, plan: &Plan) -> Result<(), WriteFault>
 /// Writes the lines of a run.
 fn put_run_lines<K: Sink>(
     sink: &mut K,
-    plan: &Plan,
+    bound: u64,
     runner: &mut Runner<NoOverlay>,
 ) -> Result<(), WriteFault>
-    requires plan { runner.old.plan ≡ plan.now }
-    requires start { IsAtStart runner.old }
-    ensures { Puts result (run_text plan.now runner.old.script) (K.told sink.old) (K.told sink.new) }
+    requires { IsToPlay bound runner.old }
+    ensures { Puts result (text_of runner.old) (K.told sink.old) (K.told sink.new) }
 {
-    put_bound(sink, plan)?;
+    put_bound(sink, bound)?;
     put_rows(sink, runner)?;
-    put_locked(sink, runner.locked_at())
+    put_locks(sink, runner)
 }
 
-/// Writes what the word `run` writes: the bound, the rows that the script shows, and the first locked configuration. It plays all rounds, and takes no memory.
+/// Writes what the word `run` writes: the bound, the rows that the script shows, and the first
+/// locked configuration of each era. It plays all rounds, and takes no memory. `bound` is that of
+/// the runner's plan.
 pub fn put_run<K: Sink>(
     sink: &mut K,
-    plan: &Plan,
+    bound: u64,
     runner: &mut Runner<NoOverlay>,
 ) -> Result<(), WriteFault>
-    requires plan { runner.old.plan ≡ plan.now }
-    requires start { IsAtStart runner.old }
-    ensures { Puts result (run_text plan.now runner.old.script) (K.told sink.old) (K.told sink.new) }
+    requires { IsToPlay bound runner.old }
+    ensures { Puts result (text_of runner.old) (K.told sink.old) (K.told sink.new) }
 {
     let mut lines = Gathered::new(sink);
-    let written = put_run_lines(&mut lines, plan, runner);
+    let written = put_run_lines(&mut lines, bound, runner);
     lines.finish(written)
 }

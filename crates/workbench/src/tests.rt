@@ -4,7 +4,7 @@ use crate::counterlab;
 use edge_io::{MemSink, MemSource};
 use std::alloc::Global;
 use std::test::Fail;
-use sync_types::{Part, Premise, Rule, Status};
+use sync_types::{Premise, Status};
 
 /// A one-node counter, six rounds of it.
 const COUNTS: &str = "plan 1\nbase 5\nend\nscript 1\nfaulty\nstart zero\nrounds 6\nshow 0 6\nend\n";
@@ -16,6 +16,13 @@ const TWO_LEVELS: &str = "plan 1\nbase 2304\nlevel 4 1 960\nlevel 3 3 10\nend\n"
 
 const TABLE: &str =
     "table 1\nbase 2304\nlevel 1 blocks 4 leaders 2 nodes 4 faults 1 beat 9 span 2304 modulus 960 bound 2304 bits 23\nlevel 2 blocks 3 leaders 2 nodes 12 faults 3 beat 15 span 960 modulus 10 bound 3264 bits 28\nplan nodes 12 faults 3 modulus 10 bound 3264 bits 28 bytes 4\nend\n";
+
+const UPGRADED: &str = "plan 2\nbase 2304\nlevel 4 1 960 spare 0\nlevel 3 3 10 spare 0\nend\n";
+
+const WANTS: &str = "find 1\nwant 1 10 4\nend\n";
+
+const FOUND: &str =
+    "plan 1\nbase 2304\nlevel 4 1 10\nend\npot 1 0 0\npot 3 0 384\npot 4 0 1536\npot 4 1 2304\n";
 
 /// The words that are parted by single spaces.
 fn words_of(alloc: Global, line: &str) -> Result<Vec<String>, Fail> {
@@ -29,7 +36,7 @@ fn words_of(alloc: Global, line: &str) -> Result<Vec<String>, Fail> {
 }
 
 /// What the workbench answers to some words and an input, and the sink that it wrote to.
-pub(crate) fn answer(alloc: Global, line: &str, input: &[u8]) -> Result<(Status, MemSink), Fail> {
+fn answer(alloc: Global, line: &str, input: &[u8]) -> Result<(Status, MemSink), Fail> {
     let none = Vec::new(alloc);
     let mut source = MemSource::new(Vec::from_slice(alloc, input)?, Vec::new(alloc), none);
     let mut sink = MemSink::new(alloc, 4096, Vec::new(alloc), Vec::new(alloc))?;
@@ -40,26 +47,12 @@ pub(crate) fn answer(alloc: Global, line: &str, input: &[u8]) -> Result<(Status,
 
 #[test]
 fn accepted_inputs_are_answered(rt: HostRuntime) -> Result<(), Fail> {
-    let rows = [
+    for (words, input, text) in [
         ("run", COUNTS, COUNTED),
-        (
-            "run",
-            "# a comment\nplan 1\n\nbase 2\nend\n#\nscript 1\nfaulty\nstart zero\nrounds 3\nshow 2 3\nend\n\n# behind",
-            "bound 0\nrow 2 0\nrow 3 1\nlocked 0\n",
-        ),
-        (
-            "run",
-            "plan 1\nbase 1099511627776\nend\nscript 1\nfaulty\nstart zero\nrounds 0\nshow 0 0\nend",
-            "bound 0\nrow 0 0\nlocked 0\n",
-        ),
-        (
-            "plan",
-            "plan 1\nbase 5\nend\n",
-            "table 1\nbase 5\nplan nodes 1 faults 0 modulus 5 bound 0 bits 3 bytes 1\nend\n",
-        ),
         ("plan", TWO_LEVELS, TABLE),
-    ];
-    for (words, input, text) in rows {
+        ("upgrade", TWO_LEVELS, UPGRADED),
+        ("find", WANTS, FOUND),
+    ] {
         let (status, sink) = answer(rt.alloc(), words, input.as_bytes())?;
         assert_eq!(rt; status, Status::Ok, "at {input}");
         assert_eq!(rt; sink.taken(), text.as_bytes(), "at {input}");
@@ -82,111 +75,67 @@ fn words_outside_the_table_are_usage(rt: HostRuntime) -> Result<(), Fail> {
 }
 
 #[test]
-fn plans_are_refused(rt: HostRuntime) -> Result<(), Fail> {
+fn inputs_are_refused_in_the_name_of_their_part(rt: HostRuntime) -> Result<(), Fail> {
     let rows = [
-        (
-            "plan",
-            "",
-            1,
-            Premise::Form,
-            "refused plan line 1 premise form\n",
-        ),
-        (
-            "plan",
-            "plan 1\nbase 2304\nlevel 3 1 10\nend\n",
-            3,
-            Premise::Quorum,
-            "refused plan line 3 premise quorum\n",
-        ),
+        ("plan", "", "refused plan line 1 premise form\n", 1),
         (
             "plan",
             "plan 1\nbase 5\nend\nscript 1\n",
-            4,
-            Premise::Form,
             "refused plan line 4 premise form\n",
+            1,
         ),
         (
             "run",
-            "plan 1\nbase 1\nend\nscript 1\nfaulty\nstart zero\nrounds 6\nshow 0 6\nend\n",
-            2,
-            Premise::Modulus,
-            "refused plan line 2 premise modulus\n",
-        ),
-        (
-            "run",
-            "plan 1\nbase 2303\nlevel 4 1 10\nend\n",
-            3,
-            Premise::Multiple,
+            "plan 1\nbase 2303\nlevel 4 1 10\nend\nscript 1\n",
             "refused plan line 3 premise multiple\n",
+            1,
+        ),
+        (
+            "run",
+            "plan 1\nbase 5\nend\n",
+            "refused script line 4 rule form\n",
+            3,
+        ),
+        (
+            "run",
+            "plan 1\nbase 5\nend\n\nscript 1\nfaulty 0\n",
+            "refused script line 6 rule faults\n",
+            3,
         ),
     ];
-    for (words, input, line, premise, text) in rows {
+    for (words, input, text, code) in rows {
         let (status, sink) = answer(rt.alloc(), words, input.as_bytes())?;
-        assert_eq!(rt; status, Status::PlanRefused { line, premise }, "at {input}");
+        assert_eq!(rt; status.code(), code, "at {input}");
         assert_eq!(rt; sink.taken(), text.as_bytes(), "at {input}");
     }
     Ok(())
 }
 
+/// A plan of four nodes, and the front of a script for it.
+const FOUR_NODES: &str = "plan 1\nbase 2304\nlevel 4 1 10\nend\nscript 1\nfaulty 3\nstart zero\n";
+
 #[test]
-fn scripts_are_refused(rt: HostRuntime) -> Result<(), Fail> {
-    let rows = [
-        ("", 4, Rule::Form, "refused script line 4 rule form\n"),
-        (
-            "script 1\n\nfaulty 0\n",
-            6,
-            Rule::Faults,
-            "refused script line 6 rule faults\n",
-        ),
-        (
-            "script 1\nfaulty 0 0 5\n",
-            5,
-            Rule::Node,
-            "refused script line 5 rule node\n",
-        ),
-        (
-            "script 1\nfaulty 0 0\n",
-            5,
-            Rule::Order,
-            "refused script line 5 rule order\n",
-        ),
-        (
-            "script 1\nfaulty x\n",
-            5,
-            Rule::Form,
-            "refused script line 5 rule form\n",
-        ),
-        (
-            "script 1\nfaulty\nstart zero\nrounds 1000001\n",
-            7,
-            Rule::Limit,
-            "refused script line 7 rule limit\n",
-        ),
-        (
-            "script 1\nfaulty\nstart zero\nrounds 6\nshow 3 2\n",
-            8,
-            Rule::Range,
-            "refused script line 8 rule range\n",
-        ),
-        (
-            "script 1\nfaulty\nstart zero\nrounds 6\nshow 0 6\nend\n\nend\n",
-            11,
-            Rule::Form,
-            "refused script line 11 rule form\n",
-        ),
+fn lines_with_an_empty_word_are_refused_form(rt: HostRuntime) -> Result<(), Fail> {
+    let lines = [
+        "start node 3 ",
+        "start node 9 ",
+        "lie 0 4 3 to all hex ",
+        "group  0 1",
+        "lie 0 4 3 to  noise",
+        "lie 0 4 3 to  copy 1",
+        "lie 0 4 3 to  shift 1",
+        " lie 0 4 3 to all noise",
+        "rounds 4 ",
+        "rounds 4\r",
+        " ",
     ];
-    for (script, line, rule, text) in rows {
-        let alloc = rt.alloc();
-        let mut input = String::from_str(alloc, "plan 1\nbase 5\nend\n")?;
-        input.push_str(script)?;
-        let (status, sink) = answer(alloc, "run", input.as_bytes())?;
-        let part = Part::Script;
-        assert_eq!(rt;
-            status,
-            Status::PartRefused { part, line, rule },
-            "at {script}"
-        );
-        assert_eq!(rt; sink.taken(), text.as_bytes(), "at {script}");
+    let text = "refused script line 8 rule form\n";
+    for line in lines {
+        let mut input = String::from_str(rt.alloc(), FOUR_NODES)?;
+        input.push_str(line)?;
+        let (status, sink) = answer(rt.alloc(), "run", input.as_bytes())?;
+        assert_eq!(rt; status.code(), 3, "at {line}");
+        assert_eq!(rt; sink.taken(), text.as_bytes(), "at {line}");
     }
     Ok(())
 }

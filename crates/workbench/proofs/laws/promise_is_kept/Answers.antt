@@ -2,4 +2,5 @@ use Rattle.workbench.proofs.Promise.{promise_kept}
 use Rattle.workbench.proofs.laws.promise_is_kept.Goals as goal
 
 pub returns : goal.returns
-returns c = promise_kept c.played_is_run.ensures c.locks_by_bound.ensures c.shown_count.ensures
+returns c = promise_kept c.each_is_of_one_era.ensures c.eras_are_runs.ensures c.eras_lock.ensures
+    c.eras_count.ensures c.eras_stay_locked.ensures

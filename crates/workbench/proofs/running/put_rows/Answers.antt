@@ -1,6 +1,6 @@
 use Rattle.std.proofs.Common.{refl, ap, ◌∙◌, arith}
 use Rattle.adversary_script.specs.Scripts.{Script}
-use Rattle.workbench.proofs.Rows.{rows_begin, has_round, rows_cut, rows_go_on, rows_end, is_at_end, on_ok}
+use Rattle.workbench.proofs.Rows.{rows_begin, has_round, rows_cut, rows_go_on, rows_end, has_played, on_ok}
 use Rattle.workbench.proofs.running.put_rows.Goals as goal
 
 pub loop-init : goal.loop-init
@@ -38,4 +38,4 @@ returns-clause-played g c =
     let first = c.shown-first.ensures.first ∙ ap (λ (s : Script). s.first) c.script-2.ensures in
     let last = c.shown-first.ensures.last ∙ ap (λ (s : Script). s.last) c.script-2.ensures in
     let rounds = c.rounds-rounds.ensures.value ∙ ap (λ (s : Script). s.rounds) c.script.ensures in
-    on_ok _ (is_at_end _ _ _ _ first last _ _ _ _ c.loop.invariant _ refl refl (omega (arith, rounds, c.loop.auto.counter-end, c.loop-test.false)))
+    on_ok _ (has_played _ _ _ _ first last _ _ _ _ c.loop.invariant _ refl refl (omega (arith, rounds, c.loop.auto.counter-end, c.loop-test.false)))

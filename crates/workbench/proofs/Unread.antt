@@ -1,0 +1,37 @@
+-- What a command did that reads nothing.
+use Rattle.std.proofs.Common.{◌≡◌, ℕ, List, [], Option, Some, None, refl}
+use Rattle.texts.specs.Growth.{Told, Wrote, Cut}
+use Rattle.sync_types.specs.declared.status.Status.{Status}
+use Rattle.workbench.specs.Outcomes.{Outcome}
+use Rattle.workbench.specs.Commands.{nothing}
+use Rattle.workbench.specs.Conduct.{Holds, Answered, AnswerCut}
+
+-- what is left, where it is told
+left_of : Option (List ℕ) → List ℕ
+left_of None = []
+left_of (Some left) = left
+
+holds_left : (left : Option (List ℕ)) → Holds left (left_of left)
+unfolding left_of
+holds_left None = tt
+holds_left (Some left) = refl
+
+module _ (outcome : List ℕ → Outcome) (o : Outcome) (same : (input : List ℕ) → outcome input ≡ o) (left : Option (List ℕ)) (count : ℕ) (old new : Told) where
+  -- its text was written
+  pub unread_answered : (s : Status) → s ≡ o.status → Wrote o.text old new → Answered nothing outcome s left left count count old new
+  unread_answered s is wrote = record {
+    input = left_of left;
+    read = (refl, holds_left left);
+    still = refl;
+    status = rw (same (left_of left)) is;
+    wrote = rw (same (left_of left)) wrote;
+  }
+
+  -- or a front of it
+  pub unread_cut : Cut o.text old new → AnswerCut nothing outcome left left count count old new
+  unread_cut cut = record {
+    input = left_of left;
+    read = (refl, holds_left left);
+    still = refl;
+    cut = rw (same (left_of left)) cut;
+  }
