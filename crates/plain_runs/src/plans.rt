@@ -1,0 +1,184 @@
+//! Plans, and which nodes take part on which level.
+
+use std::alloc::{AllocError, Global};
+
+/// A level of a plan: its blocks, the faults that it stands, its modulus, and its spare nodes.
+#[derive(Clone, Copy)]
+pub struct Level {
+    pub blocks: u64,
+    pub faults: u64,
+    pub modulus: u64,
+    pub spares: u64,
+}
+
+/// A version, 1 or 2, a base modulus, and levels from the bottom up. Version 1 has no spare nodes.
+#[derive(Drop)]
+pub struct Plan {
+    pub version: u64,
+    pub base: u64,
+    pub levels: Vec<Level>,
+}
+
+/// `a` divided by `b`, or 0 where `b` is 0.
+pub fn quotient(a: u64, b: u64) -> u64 {
+    a.checked_div(b).unwrap_or(0)
+}
+
+/// `a` modulo `b`, or 0 where `b` is 0.
+pub fn remainder(a: u64, b: u64) -> u64 {
+    a.checked_rem(b).unwrap_or(0)
+}
+
+/// The least number of bits that tell `count` values apart.
+pub fn width(count: u64) -> u64 {
+    for bits in 0..64 {
+        if 1 << bits >= count {
+            return bits;
+        }
+    }
+    64
+}
+
+impl Level {
+    /// How many blocks may lead.
+    pub fn leaders(&self) -> u64 {
+        quotient(self.blocks.wrapping_add(1), 2)
+    }
+
+    /// How many rounds a beat has.
+    pub fn beat(&self) -> u64 {
+        self.faults.wrapping_add(2).wrapping_mul(3)
+    }
+
+    /// For how many rounds the pointer of a block stays.
+    pub fn interval(&self, block: u64) -> u64 {
+        let mut rounds = self.beat();
+        for _ in 0..block {
+            rounds = rounds.wrapping_mul(self.leaders()).wrapping_mul(2);
+        }
+        rounds
+    }
+
+    /// For how many rounds the pointers of all blocks together take each course.
+    pub fn span(&self) -> u64 {
+        self.interval(self.blocks)
+    }
+
+    /// How many bits the value of a register has.
+    pub fn width(&self) -> u64 {
+        width(self.modulus.wrapping_add(1))
+    }
+}
+
+impl Plan {
+    /// A plan of a version with these levels, each of blocks, faults, a modulus and spare nodes.
+    pub fn of(
+        alloc: Global,
+        version: u64,
+        base: u64,
+        lines: &[(u64, u64, u64, u64)],
+    ) -> Result<Plan, AllocError> {
+        let mut levels = Vec::new(alloc);
+        for (blocks, faults, modulus, spares) in lines {
+            levels.push(Level {
+                blocks: *blocks,
+                faults: *faults,
+                modulus: *modulus,
+                spares: *spares,
+            })?;
+        }
+        Ok(Plan {
+            version,
+            base,
+            levels,
+        })
+    }
+
+    /// How many nodes a group of the lowest `depth` levels has.
+    pub fn group(&self, depth: usize) -> u64 {
+        let mut nodes = 1;
+        for level in self.levels.iter().take(depth) {
+            nodes = level.blocks.wrapping_mul(nodes).wrapping_add(level.spares);
+        }
+        nodes
+    }
+
+    /// How many nodes there are.
+    pub fn nodes(&self) -> u64 {
+        self.group(self.levels.len())
+    }
+
+    /// How many faulty nodes the plan stands.
+    pub fn faults(&self) -> u64 {
+        self.levels.last().map_or(0, |level| level.faults)
+    }
+
+    /// The configuration from which all correct nodes count.
+    pub fn bound(&self) -> u64 {
+        let mut bound = 0u64;
+        for level in &self.levels {
+            bound = bound.wrapping_add(level.span());
+        }
+        bound
+    }
+
+    /// The level of which a node is a spare, or 0 where it is none. The node takes part from that
+    /// level on.
+    pub fn low(&self, node: u64) -> usize {
+        let mut place = node;
+        for depth in (1..=self.levels.len()).rev() {
+            let below = self.group(depth.wrapping_sub(1));
+            let blocks = self
+                .levels
+                .get(depth.wrapping_sub(1))
+                .map_or(0, |level| level.blocks);
+            if place >= blocks.wrapping_mul(below) {
+                return depth;
+            }
+            place = remainder(place, below);
+        }
+        0
+    }
+
+    /// The first node of the group of the lowest `depth` levels in which a node is that takes part
+    /// there.
+    pub fn first_of_group(&self, node: u64, depth: usize) -> u64 {
+        let mut first = 0u64;
+        for level in (depth..self.levels.len()).rev() {
+            let below = self.group(level);
+            let block = quotient(node.wrapping_sub(first), below);
+            first = first.wrapping_add(block.wrapping_mul(below));
+        }
+        first
+    }
+
+    /// Whether a node has a number.
+    pub fn has_number(&self, node: u64) -> bool {
+        self.low(node) == 0
+    }
+
+    /// Whether a node has a register on the level above the lowest `depth` ones.
+    pub fn has_register(&self, node: u64, depth: usize) -> bool {
+        self.low(node) <= depth.wrapping_add(1)
+    }
+
+    /// How many bits a state of a node has.
+    pub fn bits(&self, node: u64) -> u64 {
+        let mut bits = if self.has_number(node) {
+            width(self.base)
+        } else {
+            0
+        };
+        for (depth, level) in self.levels.iter().enumerate() {
+            if self.has_register(node, depth) {
+                bits = bits.wrapping_add(level.width()).wrapping_add(1);
+            }
+        }
+        bits
+    }
+
+    /// How many bytes a state of a node has.
+    pub fn bytes(&self, node: u64) -> u64 {
+        quotient(self.bits(node).wrapping_add(7), 8)
+    }
+}

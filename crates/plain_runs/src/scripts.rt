@@ -1,0 +1,208 @@
+//! Scripts: who is faulty when, in which states nodes start, and what a node hears of another.
+
+use crate::plans::{Plan, quotient};
+use crate::states::{State, part_of, read, shifted, state_of, zero};
+use rand_chacha::ChaCha8Rng;
+use rand_core::{Rng, SeedableRng};
+use std::alloc::{AllocError, Global};
+
+/// Whom a lie is told: all, the nodes from one to another, or the group of a number.
+#[derive(Clone, Copy)]
+pub enum Receivers {
+    All,
+    Between(u64, u64),
+    Group(usize),
+}
+
+/// What a lie is: noise, the state of a node, bytes that are read, or the liar's own state shifted.
+#[derive(Drop)]
+pub enum Lie {
+    Noise,
+    Copy(u64),
+    Bytes(Vec<u8>),
+    Shift(u64),
+}
+
+/// A line of lies: in the rounds from `first` to `last` the sender tells the receivers that lie,
+/// where it is faulty.
+#[derive(Drop)]
+pub struct Rule {
+    pub first: u64,
+    pub last: u64,
+    pub sender: u64,
+    pub receivers: Receivers,
+    pub lie: Lie,
+}
+
+/// The bytes in which a node starts.
+#[derive(Drop)]
+pub struct Start {
+    pub node: u64,
+    pub bytes: Vec<u8>,
+}
+
+/// From configuration `first` on these nodes are faulty; some nodes are put into states there.
+#[derive(Drop)]
+pub struct Era {
+    pub first: u64,
+    pub faulty: Vec<u64>,
+    pub starts: Vec<Start>,
+}
+
+/// A script of version 1 or 2: what its lines say, in their order. Version 1 has no eras.
+#[derive(Drop)]
+pub struct Script {
+    pub version: u64,
+    pub faulty: Vec<u64>,
+    pub key: Option<[u8; 32]>,
+    pub noisy: bool,
+    pub starts: Vec<Start>,
+    pub eras: Vec<Era>,
+    pub groups: Vec<Vec<u64>>,
+    pub rules: Vec<Rule>,
+    pub rounds: u64,
+    pub first: u64,
+    pub last: u64,
+}
+
+/// The word of a key at a place of a stream.
+fn word(key: [u8; 32], stream: u64, place: u64) -> u32 {
+    let mut generator = ChaCha8Rng::from_seed(key);
+    generator.set_stream(stream);
+    generator.set_word_pos(u128::from(place));
+    generator.next_u32()
+}
+
+impl Rule {
+    /// Whether it says what the sender tells the receiver in round `at`.
+    fn matches(&self, script: &Script, at: u64, sender: u64, receiver: u64) -> bool {
+        let listens = match self.receivers {
+            Receivers::All => true,
+            Receivers::Between(first, last) => first <= receiver && receiver <= last,
+            Receivers::Group(group) => script
+                .groups
+                .get(group)
+                .is_some_and(|group| group.contains(&receiver)),
+        };
+        self.first <= at && at <= self.last && self.sender == sender && listens
+    }
+}
+
+impl Script {
+    /// The nodes that are faulty in configuration `at`.
+    pub fn faulty_at(&self, at: u64) -> &[u64] {
+        let mut faulty = &self.faulty;
+        for era in &self.eras {
+            if era.first <= at {
+                faulty = &era.faulty;
+            }
+        }
+        faulty
+    }
+
+    /// The state of a node that the noise of a stream is read as, from word `turn * words` on,
+    /// where the state has so many words.
+    fn noise(
+        &self,
+        alloc: Global,
+        plan: &Plan,
+        node: u64,
+        stream: u64,
+        turn: u64,
+    ) -> Result<State, AllocError> {
+        let words = quotient(plan.bytes(node).wrapping_add(3), 4);
+        let first = turn.wrapping_mul(words);
+        let key = self.key.unwrap_or([0; 32]);
+        let mut bytes = Vec::new(alloc);
+        for i in 0..words {
+            for byte in word(key, stream, first.wrapping_add(i)).to_le_bytes() {
+                bytes.push(byte)?;
+            }
+        }
+        bytes.truncate(plan.bytes(node) as usize);
+        read(alloc, plan, node, &bytes)
+    }
+
+    /// What a faulty sender tells a receiver in round `at`: by the first rule that matches, else
+    /// its own state.
+    fn lie(
+        &self,
+        alloc: Global,
+        plan: &Plan,
+        config: &[State],
+        at: u64,
+        sender: u64,
+        receiver: u64,
+    ) -> Result<State, AllocError> {
+        let own = state_of(alloc, plan, config, sender)?;
+        for rule in &self.rules {
+            if rule.matches(self, at, sender, receiver) {
+                let stream = sender.wrapping_mul(256).wrapping_add(receiver);
+                return match &rule.lie {
+                    Lie::Noise => self.noise(alloc, plan, sender, stream, at),
+                    Lie::Copy(node) => {
+                        let state = state_of(alloc, plan, config, *node)?;
+                        Ok(part_of(plan, sender, state))
+                    }
+                    Lie::Bytes(bytes) => read(alloc, plan, sender, bytes),
+                    Lie::Shift(by) => Ok(shifted(plan, sender, own, *by)),
+                };
+            }
+        }
+        Ok(own)
+    }
+
+    /// What a node hears in round `at`: its own state, those of the correct nodes, and the lies of
+    /// the other faulty ones.
+    pub fn heard(
+        &self,
+        alloc: Global,
+        plan: &Plan,
+        config: &[State],
+        at: u64,
+        receiver: u64,
+    ) -> Result<Vec<State>, AllocError> {
+        let mut heard = Vec::new(alloc);
+        for sender in 0..plan.nodes() {
+            let state = if sender != receiver && self.faulty_at(at).contains(&sender) {
+                self.lie(alloc, plan, config, at, sender, receiver)?
+            } else {
+                state_of(alloc, plan, config, sender)?
+            };
+            heard.push(state)?;
+        }
+        Ok(heard)
+    }
+
+    /// The state in which a node starts: by its own line, else zero or noise.
+    pub fn start(&self, alloc: Global, plan: &Plan, node: u64) -> Result<State, AllocError> {
+        if let Some(bytes) = bytes_for(&self.starts, node) {
+            return read(alloc, plan, node, bytes);
+        }
+        if self.noisy {
+            self.noise(alloc, plan, node, node.wrapping_add(65536), 0)
+        } else {
+            zero(alloc, plan)
+        }
+    }
+
+    /// The bytes of the state that a node is put into in configuration `at`, where it is.
+    pub fn hit(&self, at: u64, node: u64) -> Option<&[u8]> {
+        for era in &self.eras {
+            if era.first == at {
+                return bytes_for(&era.starts, node);
+            }
+        }
+        None
+    }
+}
+
+/// The bytes of a node among those in which nodes start.
+fn bytes_for(starts: &[Start], node: u64) -> Option<&[u8]> {
+    for start in starts {
+        if start.node == node {
+            return Some(&start.bytes);
+        }
+    }
+    None
+}
