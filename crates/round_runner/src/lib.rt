@@ -6,12 +6,8 @@
 
 pub mod laws;
 mod locks;
-#[cfg(test)]
-mod overlay_tests;
 mod rounds;
 mod runners;
 mod stepping;
-#[cfg(test)]
-mod tests;
 
 pub use runners::Runner;
