@@ -1,11 +1,11 @@
 -- How many places of a list hold a value: `count_of` by places, and what it says of the list.
-use Rattle.std.proofs.Common.{◌≡◌, ◌≢◌, ℕ, ◌+◌, ◌<◌, ◌≤◌, Bool, true, false, if◌then◌else◌, List, [], ◌∷◌, map, length, get_or, count_by, nat_eq, Option, Some, None, refl, sym, ap, ◌∙◌, subst, inl, inr, ⊎_elim, arith}
+use Rattle.std.proofs.Common.{◌≡◌, ◌≢◌, ℕ, ◌+◌, ◌<◌, ◌≤◌, Bool, true, false, if◌then◌else◌, List, [], ◌∷◌, ◌++◌, map, length, get_or, count_by, nat_eq, Option, Some, None, refl, sym, ap, ◌∙◌, subst, inl, inr, ⊎_elim, arith}
 use Rattle.std.proofs.lemmas.Bool.{cases_Bool, false≢true, eqb-true, eq-eqb}
-use Rattle.std.proofs.lemmas.List.Sums.{sum_by-cons}
+use Rattle.std.proofs.lemmas.List.Sums.{sum_by-cons, sum_by-append}
 use Rattle.std.specs.Option.{option_eq}
 use Rattle.counting.specs.Places.{places}
 use Rattle.counting.specs.Values.{count_of}
-use Rattle.counting.proofs.Places.{apart, cover_all, count_by_places, one_passes}
+use Rattle.counting.proofs.Places.{apart, cover_all, count_by_places, one_passes, at_most}
 
 -- values that are found equal are one value
 pub same_value : (y z : Option ℕ) → option_eq nat_eq y z ≡ true → y ≡ z
@@ -42,6 +42,14 @@ count_of-places_at values z n long = count_of-places values z ∙ ap (places (ho
 -- the first place apart
 pub count_of-cons : (y : Option ℕ) (values : List (Option ℕ)) (z : Option ℕ) → count_of (y ∷ values) z ≡ (if option_eq nat_eq z y then 1 else 0) + count_of values z
 count_of-cons y values z = sum_by-cons (λ x. if option_eq nat_eq z x then 1 else 0) y values
+
+-- a value counts in two lists, one behind the other, as often as in both
+pub count_of-append : (xs ys : List (Option ℕ)) (z : Option ℕ) → count_of (xs ++ ys) z ≡ count_of xs z + count_of ys z
+count_of-append xs ys z = sum_by-append (λ x. if option_eq nat_eq z x then 1 else 0) xs ys
+
+-- a value is held by no more places than there are
+pub count_of-le : (values : List (Option ℕ)) (z : Option ℕ) → count_of values z ≤ length values
+count_of-le values z = omega (arith, count_of-places values z, at_most (holds_at values z) (length values))
 
 -- a value that counts is held by some place
 pub held_from_count : (values : List (Option ℕ)) (z : Option ℕ) → 0 < count_of values z → (i : ℕ) × (i < length values) × (get_or values i None ≡ z)

@@ -79,6 +79,20 @@ no_least_by f values h None e = refl
 pub no_least : (f : ℕ) (values : List (Option ℕ)) → ((z : ℕ) → count_of values (Some z) ≤ f) → least_above f values ≡ None
 no_least f values h = no_least_by f values h (least_above f values) refl
 
+-- no number below the least is held by more than f places
+pub few_below : (f : ℕ) (values : List (Option ℕ)) (j z : ℕ) → least_above f values ≡ Some j → z < j → count_of values (Some z) ≤ f
+few_below f values j z e lt = ⊎_elim
+    (λ more. let s = least_is f values z more in let g : Some j ≡ Some s.0 = sym e ∙ s.1 in let k : j ≡ s.0 = cc in absurd (omega (arith, s.2)))
+    (λ le. le)
+    (cases_lt f (count_of values (Some z)))
+
+-- where there is no least, no number is held by more than f places
+pub least_above_none : (f : ℕ) (values : List (Option ℕ)) (z : ℕ) → least_above f values ≡ None → count_of values (Some z) ≤ f
+least_above_none f values z e = ⊎_elim
+    (λ more. let s = least_is f values z more in let g : None ≡ Some s.0 = sym e ∙ s.1 in absurd (cc))
+    (λ le. le)
+    (cases_lt f (count_of values (Some z)))
+
 lesser_in : (c a : ℕ) (o : Option ℕ) → a < c → IfSome o (λ x. x < c) → IfSome (lesser a o) (λ x. x < c)
 lesser_in c a None h g = h
 lesser_in c a (Some b) h g = omega arith

@@ -2,3 +2,7 @@ pub mod Places
 pub mod Counts
 pub mod Majority
 pub mod Least
+pub mod Unfinished
+pub mod Parted
+pub mod Closed
+pub mod Heard

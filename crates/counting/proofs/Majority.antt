@@ -1,6 +1,6 @@
 -- The value that more than half of a list's places hold.
 use Rattle.std.proofs.Common.{◌≡◌, ◌≢◌, ◌⊎◌, ℕ, zero, suc, ◌*◌, ◌<◌, ◌≤◌, Bool, true, false, if◌then◌else◌, List, [], ◌∷◌, map, length, get_or, nat_eq, nat_lt, Option, Some, None, unwrap_or, refl, sym, ap, ◌∙◌, subst, inl, inr, ⊎_elim, arith}
-use Rattle.std.proofs.lemmas.Bool.{cases_Bool, true≢false, cases_eq, ltb-true, lt-ltb, eqb-true, eq-eqb}
+use Rattle.std.proofs.lemmas.Bool.{cases_Bool, true≢false, cases_eq, cases_lt, ltb-true, lt-ltb, eqb-true, eq-eqb}
 use Rattle.std.proofs.lemmas.List.{length-map}
 use Rattle.counting.specs.Places.{places}
 use Rattle.counting.specs.Values.{count_of, first_passing, majority_of, majority_or_zero}
@@ -52,6 +52,13 @@ majority_by values z h None e =
 -- a number that more than half of the places hold is the majority
 pub majority_is : (values : List (Option ℕ)) (z : ℕ) → length values < 2 * count_of values (Some z) → majority_of values ≡ Some z
 majority_is values z h = majority_by values z h (majority_of values) refl
+
+-- where there is no majority, no number is held by more than half of the places
+pub majority_none : (values : List (Option ℕ)) (z : ℕ) → majority_of values ≡ None → 2 * count_of values (Some z) ≤ length values
+majority_none values z e = ⊎_elim
+    (λ more. let f : Some z ≡ None = sym (majority_is values z more) ∙ e in absurd (cc))
+    (λ le. le)
+    (cases_lt (length values) (2 * count_of values (Some z)))
 
 no_majority_by : (values : List (Option ℕ)) → ((z : ℕ) → 2 * count_of values (Some z) ≤ length values) → (o : Option ℕ) → majority_of values ≡ o → o ≡ None
 no_majority_by values h (Some z) e = absurd (omega (arith, h z, majority_has values z e))

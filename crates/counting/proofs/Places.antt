@@ -1,5 +1,5 @@
 -- Counts of places: what pigeonhole arguments need.
-use Rattle.std.proofs.Common.{◌≡◌, ◌⊎◌, ℕ, zero, suc, ◌+◌, ◌-◌, ◌<◌, ◌≤◌, Bool, true, false, if◌then◌else◌, List, [], ◌∷◌, length, get_or, count_by, refl, subst, inl, inr, ⊎_elim, arith, add-suc, add-zero}
+use Rattle.std.proofs.Common.{◌≡◌, ◌⊎◌, ℕ, zero, suc, ◌+◌, ◌-◌, ◌<◌, ◌≤◌, Bool, true, false, if◌then◌else◌, List, [], ◌∷◌, length, get_or, count_by, refl, ap, ◌∙◌, subst, inl, inr, ⊎_elim, arith, add-suc, add-zero}
 use Rattle.std.proofs.lemmas.Bool.{cases_Bool, false≢true, cases_lt}
 use Rattle.std.proofs.lemmas.List.Sums.{sum_by-cons}
 use Rattle.counting.specs.Places.{places}
@@ -57,6 +57,11 @@ less_step false b h = omega arith
 pub fewer : (p q : ℕ → Bool) (n : ℕ) → ((i : ℕ) → i < n → p i ≡ true → q i ≡ true) → places p n ≤ places q n
 fewer p q zero h = omega arith
 fewer p q (suc n) h = omega (arith, less_step (p n) (q n) (h n (omega arith)), fewer p q n (λ i lt. h i (omega arith)))
+
+-- tests that agree at each place have equally many
+pub same_places : (p q : ℕ → Bool) (n : ℕ) → ((i : ℕ) → i < n → p i ≡ q i) → places p n ≡ places q n
+same_places p q zero h = refl
+same_places p q (suc n) h = ap (λ b. places p n + (if b then 1 else 0)) (h n (omega arith)) ∙ ap (λ k. k + (if q n then 1 else 0)) (same_places p q n (λ i lt. h i (omega arith)))
 
 -- no more than n of n places pass
 pub at_most : (p : ℕ → Bool) (n : ℕ) → places p n ≤ n

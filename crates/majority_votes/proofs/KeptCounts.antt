@@ -1,9 +1,11 @@
 -- What the kept counts say of the list: its majority, its least value above a number, and what one more value does.
-use Rattle.std.proofs.Common.{◌≡◌, ℕ, ◌/◌, ◌<◌, ◌≤◌, ◌*◌, List, length, Option, Some, None, sym, ap, subst, ◌∙◌, ⊎_elim, arith}
+use Rattle.std.proofs.Common.{◌≡◌, ℕ, ◌+◌, ◌-◌, ◌/◌, ◌<◌, ◌≤◌, ◌*◌, List, length, Option, Some, None, sym, ap, subst, ◌∙◌, ⊎_elim, arith}
 use Rattle.std.proofs.lemmas.Bool.{cases_lt}
 use Rattle.counting.specs.Values.{count_of, majority_of, least_above}
 use Rattle.counting.proofs.Majority.{majority_is, no_majority}
 use Rattle.counting.proofs.Least.{least_from, no_least}
+use Rattle.counting.specs.Unfinished.{IsBelow, MajorityStays, LeastStays}
+use Rattle.counting.proofs.Unfinished.{majority_stays, no_majority_stays, least_stays}
 use Rattle.majority_votes.specs.declared.counts.Count.{Count}
 use Rattle.majority_votes.specs.Counts.{count_at, value_at, IsKept}
 use Rattle.majority_votes.proofs.Lookups.{counted_or_none, places_of_value}
@@ -15,7 +17,7 @@ module _ (capacity : ℕ) (values : List (Option ℕ)) (counts : List Count) (in
   places_at i lt = sym (kept.places (value_at counts i)) ∙ places_of_value counts i kept.rising lt
 
   -- what holds of no places and of each count's places holds of each number's
-  each_number : (P : ℕ → Type 0) → P 0 → ((i : ℕ) → i < length counts → P (count_at counts i).places) → (z : ℕ) → P (count_of values (Some z))
+  pub each_number : (P : ℕ → Type 0) → P 0 → ((i : ℕ) → i < length counts → P (count_at counts i).places) → (z : ℕ) → P (count_of values (Some z))
   each_number P none each z = ⊎_elim
       (λ s. let at = s.1 in
       let e : (count_at counts s.0).places ≡ count_of values (Some z) = sym (places_at s.0 at.in_range) ∙ ap (λ y. count_of values (Some y)) at.has_value in
@@ -55,3 +57,21 @@ module _ (capacity : ℕ) (values : List (Option ℕ)) (counts : List Count) (in
   -- while the list is short of its capacity, there is room for one more count
   pub counts_short : length values < capacity → length counts < counts_capacity
   counts_short short = omega (arith, counts_within_total counts kept.positive, kept.total, kept.counts_room)
+
+  -- a number with more than half of all places, those to come counted, is the majority
+  pub majority_known : (more i : ℕ) → i < length counts → (length values + more) / 2 < (count_at counts i).places → MajorityStays more values (Some (value_at counts i))
+  majority_known more i lt h = majority_stays more values (value_at counts i) (omega (arith, places_at i lt))
+
+  -- where none can come to them, there is none
+  pub no_majority_known : (more most : ℕ) → ((i : ℕ) → i < length counts → (count_at counts i).places ≤ most) → most + more ≤ (length values + more) / 2 → MajorityStays more values None
+  no_majority_known more most few h = no_majority_stays more values (each_number (λ n. 2 * (n + more) ≤ length values + more) (omega arith) (λ i lt. omega (arith, few i lt)))
+
+  -- where no count before that of the least can come above f, the least stays
+  pub least_known : (f more i : ℕ) → more ≤ f → i < length counts → f < (count_at counts i).places → ((k : ℕ) → k < i → (count_at counts k).places ≤ f - more) → LeastStays f more values (least_above f values)
+  least_known f more i fit lt h before =
+      let is : least_above f values ≡ Some (value_at counts i) = least_found f i lt h (λ k kl. omega (arith, before k kl)) in
+      least_stays f more values (subst (λ (o : Option ℕ). (z : ℕ) → IsBelow z o → count_of values (Some z) + more ≤ f) (sym is) (λ z less. omega (arith, below_count (f - more) i lt before z less)))
+
+  -- the same where there is no least
+  pub no_least_known : (f more : ℕ) → more ≤ f → ((i : ℕ) → i < length counts → (count_at counts i).places ≤ f - more) → LeastStays f more values (least_above f values)
+  no_least_known f more fit few = least_stays f more values (λ z below. omega (arith, each_number (λ n. n ≤ f - more) (omega arith) few z))

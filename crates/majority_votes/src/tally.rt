@@ -1,9 +1,13 @@
-ghost use Rattle.std.specs.Prelude.{◌≡◌, ◌+◌, ◌<◌, ◌≤◌, [], ◌∷◌, ◌++◌, IfOk, IsTrue, ◌↔◌, length};
+ghost use Rattle.std.specs.Prelude.{◌≡◌, ◌+◌, ◌-◌, true, take, ◌<◌, ◌≤◌, [], ◌∷◌, ◌++◌, IfOk, IsTrue, ◌↔◌, length};
 ghost use Rattle.counting.specs.Values.{count_of, majority_of, least_above};
+ghost use Rattle.counting.specs.Unfinished.{LeastStays};
+ghost use Rattle.majority_votes.specs.Outlooks.{IsOutlook};
 
-use crate::counts::{Count, count_more, places_of};
+use crate::counts::{Count, count_less, count_more, places_of};
+use crate::steps::Steps;
 use std::alloc::{AllocError, Global};
 use std::marker::Model;
+use std::sync::ledger::Ledger;
 use thiserror::Error;
 
 /// Want of memory: what was asked for was not taken.
@@ -15,6 +19,15 @@ impl From<AllocError> for NoMemory {
     fn from(_: AllocError) -> Self {
         NoMemory
     }
+}
+
+/// What is known of a majority while some values are still to come.
+#[derive(Clone, Copy, Debug, PartialEq, Eq)]
+pub enum Outlook {
+    /// It is this one, whatever comes.
+    Is(Option<u64>),
+    /// What comes may decide.
+    Open,
 }
 
 /// A list of values that is counted as it grows. Contracts see the values in order of adding, and the capacity beside them.
@@ -95,6 +108,38 @@ impl Tally {
         self.values.push(value).unwrap();
     }
 
+    /// Adds a value at the end, and counts one step.
+    pub fn place<G: Ledger>(&mut self, value: Option<u64>, steps: &mut Steps<G>)
+        requires { length self.old.values < self.old.capacity }
+        ensures tally { self.new ≡ record self.old { values = self.old.values ++ value ∷ [] } }
+        ensures step { steps.new ≡ steps.old + 1 }
+    {
+        steps.tick();
+        self.add(value);
+    }
+
+    /// Takes the last value off.
+    fn take_last(&mut self)
+        requires { 0 < length self.old.values }
+        ensures { self.new ≡ record self.old { values = take (length self.old.values - 1) self.old.values } }
+    {
+        match self.values.pop() {
+            Some(Some(number)) => count_less(&mut self.counts, number),
+            Some(None) => self.infinities -= 1,
+            None => {}
+        }
+    }
+
+    /// Keeps the first `len` values, and forgets the others, in a turn for each of these.
+    pub fn cut(&mut self, len: usize)
+        requires { len ≤ length self.old.values }
+        ensures { self.new ≡ record self.old { values = take len self.old.values } }
+    {
+        for _ in len..self.values.len() {
+            self.take_last();
+        }
+    }
+
     /// The number that more than half of all places hold, those of infinity counted, or `None` where there is none.
     pub fn majority(&self) -> Option<u64>
         ensures { result ≡ majority_of self.now.values }
@@ -105,6 +150,48 @@ impl Tally {
             }
         }
         None
+    }
+
+    /// The majority once `more` values have come, where it is the same whatever they are. There
+    /// is room for them.
+    pub fn majority_with(&self, more: usize) -> Outlook
+        requires { length self.now.values + more ≤ self.now.capacity }
+        ensures { IsOutlook more self.now.values result }
+    {
+        let half = (self.values.len() + more) / 2;
+        let mut most = 0;
+        for count in &self.counts {
+            if half < count.places {
+                return Outlook::Is(Some(count.value));
+            }
+            if most < count.places {
+                most = count.places;
+            }
+        }
+        if most + more <= half {
+            Outlook::Is(None)
+        } else {
+            Outlook::Open
+        }
+    }
+
+    /// Whether the least number that more than `f` places hold is sure to stay the same, or to be
+    /// absent, once `more` values have come. Where the answer is false, nothing is known.
+    pub fn is_least_fixed(&self, f: usize, more: usize) -> bool
+        ensures { result ≡ true → LeastStays f more self.now.values (least_above f self.now.values) }
+    {
+        if f < more {
+            return false;
+        }
+        for count in &self.counts {
+            if count.places > f {
+                return true;
+            }
+            if f - more < count.places {
+                return false;
+            }
+        }
+        true
     }
 
     /// How many places hold the value; `None` is infinity.

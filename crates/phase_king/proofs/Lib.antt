@@ -1,3 +1,6 @@
 pub mod Heard
 pub mod Rounds
 pub mod Slots
+pub mod LockedGroups
+pub mod Closed
+pub mod Registers

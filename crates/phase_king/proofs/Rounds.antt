@@ -65,7 +65,7 @@ module _ (n f : ℕ) (next : ℕ → ℕ) (faulty : ℕ → Bool) (quorum : 3 * 
       ∙ ap (λ y. incremented next (record { a = y; d = true })) (least_one old z o.heard o.hears all)))
 
   -- where it is locked, each kind keeps it so
-  locked_on : (old : ℕ → Reg) (z : ℕ) → AllLocked n faulty old z → (kind king : ℕ) (heard : List (Option ℕ)) → Hears n faulty old heard → instructed n f next kind (locked_at z) heard king ≡ locked_at (next z)
+  pub locked_on : (old : ℕ → Reg) (z : ℕ) → AllLocked n faulty old z → (kind king : ℕ) (heard : List (Option ℕ)) → Hears n faulty old heard → instructed n f next kind (locked_at z) heard king ≡ locked_at (next z)
   locked_on old z all zero king heard h =
       ap (λ b. incremented next (record { a = cond b (Some z) None; d = true })) (enough old z heard h (λ u lt ok. ap (λ r. r.a) (all u lt ok)))
   locked_on old z all (suc zero) king heard h =

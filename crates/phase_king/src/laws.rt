@@ -1,5 +1,6 @@
 //! The laws of the phase king. Each function is empty: its clause is the law.
 
+ghost use Rattle.phase_king.specs.Groups.{LockedGoesOn};
 ghost use Rattle.phase_king.specs.Laws.{Persistence, Unanimity, Convergence, Slot};
 
 /// Locked registers stay locked, and their common value goes to the next one.
@@ -20,4 +21,10 @@ pub fn convergence()
 /// f + 1 phases without increment end locked at one value, the common one where there was one.
 pub fn slot()
     ensures { Slot }
+{}
+
+/// In a group that bears its liars, and whose correct registers are locked at one value, a register
+/// that is locked there too goes on, a liar's too: nothing that is told matters.
+pub fn locked_goes_on()
+    ensures { LockedGoesOn }
 {}

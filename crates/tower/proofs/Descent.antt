@@ -35,16 +35,16 @@ base_limits base (level ∷ below) (accepted, none) = base_limits base below acc
 -- the top level's numbers apart from those of the levels below
 module _ (base : ℕ) (xs items : List LevelNums) (top : LevelNums) (e : xs ≡ items ++ top ∷ [])
     (are : AreLevels base xs) where
-  abbrev lower : List Level
+  abbrev pub lower : List Level
   lower = levels_in items
 
-  abbrev size : ℕ
+  abbrev pub size : ℕ
   size = block_nodes top
 
-  abbrev depth : ℕ
+  abbrev pub depth : ℕ
   depth = length items
 
-  levels_are : levels_in xs ≡ level_of top ∷ lower
+  pub levels_are : levels_in xs ≡ level_of top ∷ lower
   levels_are = ap levels_in e ∙ levels_in_push items top
 
   pub below_levels : AreLevels base items
@@ -56,7 +56,7 @@ module _ (base : ℕ) (xs items : List LevelNums) (top : LevelNums) (e : xs ≡ 
   pub top_sized : IsSizedLevel top
   top_sized = (top_is xs items top e (base, are)).sized
 
-  size_is : size ≡ nodes_of lower
+  pub size_is : size ≡ nodes_of lower
   size_is = (top_is xs items top e (base, are)).block
 
   -- the nodes of the group

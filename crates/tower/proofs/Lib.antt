@@ -1,2 +1,10 @@
 pub mod Descent
 pub mod Building
+pub mod Sums
+pub mod Stepped
+pub mod Writing
+pub mod Adding
+pub mod Indices
+pub mod Taken
+pub mod Made
+pub mod Further

@@ -20,10 +20,10 @@ use sync_types::{NoMemory, NodeState};
 /// The counter of an accepted plan.
 #[derive(Debug, Drop)]
 pub struct Tower {
-    version: u32,
-    base: u64,
-    levels: Vec<LevelNums>,
-    whole: Below,
+    pub(crate) version: u32,
+    pub(crate) base: u64,
+    pub(crate) levels: Vec<LevelNums>,
+    pub(crate) whole: Below,
 }
 
 impl Model for Tower {

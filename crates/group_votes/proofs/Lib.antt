@@ -1,0 +1,14 @@
+pub mod Stretches
+pub mod Single
+pub mod LockedGroups
+pub mod Heard
+pub mod Leads
+pub mod Votes
+pub mod Intervals
+pub mod Known
+pub mod Groups
+pub mod Beats
+pub mod Obeys
+pub mod Locked
+pub mod Registers
+pub mod Shut

@@ -1,0 +1,21 @@
+//! What one level asks of tallies that all receivers share: the correct senders of a group are
+//! counted once a round, and each receiver lays what the group's liars tell it over these counts
+//! and takes it off again. What the liars cannot decide is known of a group for all receivers.
+//!
+//! [`Senders`] are the nodes of a plan as a level sees them, and [`Group`] is what is counted and
+//! known of one of the level's groups. No call but [`Group::new`] takes memory.
+#![tactic(auto)]
+
+mod asking;
+mod gathering;
+mod group;
+mod laying;
+mod locks;
+mod obeying;
+mod rooms;
+mod senders;
+
+pub use gathering::{gather_parts, gather_pointers, gather_values};
+pub use group::Group;
+pub use laying::{count_heard, least_heard, part_heard, vote_heard};
+pub use senders::Senders;

@@ -1,0 +1,40 @@
+ghost use Rattle.std.specs.Prelude.{◌≡◌, ◌+◌, ◌<◌, ℕ};
+
+use std::marker::Model;
+use std::sync::ledger::{Blank, Book, Ledger, Share};
+
+/// How many steps were taken, in a ledger of one's choice. It takes no bytes, and its calls do
+/// nothing when they run. Only a value that is placed in a tally takes a step.
+#[derive(Drop)]
+pub struct Steps<G: Ledger> {
+    book: Book<G>,
+    share: Share<G>,
+}
+
+impl<G: Ledger> Model for Steps<G> {
+    ghost Value = { ℕ };
+
+    ghost view = { λ s. s.book.total };
+
+    ghost invariant = { λ s. 0 < s.share.parts };
+}
+
+impl<G: Ledger> Steps<G> {
+    /// No steps so far, in the ledger that the blank stands for.
+    pub fn new(blank: Blank) -> Steps<G>
+        requires name { blank.name ≡ G.name }
+        requires parts { blank.parts ≡ G.parts }
+        requires some { 0 < blank.parts }
+        ensures { result ≡ 0 }
+    {
+        let (book, share) = blank.open::<G>();
+        Steps { book, share }
+    }
+
+    /// One step more.
+    pub(crate) fn tick(&mut self)
+        ensures { self.new ≡ self.old + 1 }
+    {
+        self.book.add(&mut self.share, 1);
+    }
+}

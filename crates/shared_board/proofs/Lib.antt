@@ -1,0 +1,6 @@
+pub mod ByPlace
+pub mod Filling
+pub mod Filled
+pub mod Marking
+pub mod Zeros
+pub mod Hearing

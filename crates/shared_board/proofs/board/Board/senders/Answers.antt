@@ -1,0 +1,48 @@
+use Rattle.std.proofs.Common.{◌≡◌, ℕ, ◌+◌, ◌<◌, ◌≤◌, List, [], length, map, get_or, Vec, Global, All, Bool, refl, sym, ap, ◌∙◌, subst, arith}
+use Rattle.std.specs.List.{range_with_len}
+use Rattle.std.proofs.lemmas.List.{length-map, get_or-map}
+use Rattle.std.proofs.lemmas.List.FromFn.{length-map-range_with_len, get_or-map-range_with_len}
+use Rattle.sync_types.specs.declared.states.Reg.{Reg}
+use Rattle.sync_types.specs.FaultSets.{is_in}
+use Rattle.sync_types.specs.States.{State}
+use Rattle.construction.specs.Steps.{state_of}
+use Rattle.counter_core.specs.Meanings.{cut}
+use Rattle.shared_laws.specs.Sharing.{place_among}
+use Rattle.shared_board.specs.Boards.{Board, IsBoard, AreLiars, board_of, state_by}
+use Rattle.shared_board.proofs.ByPlace.{board_size, board_depth, are_sent, sent_is}
+use Rattle.shared_board.proofs.board.Board.senders.Goals as goal
+
+pub new-requires : goal.new-requires
+new-requires c =
+    let inside = c.self.inside in
+    let shows : List (List ℕ) = map (λ (v : Vec ℕ Global). v.items) inside.outputs.items in
+    let columns : List (List Reg) = map (λ (v : Vec Reg Global). v.items) inside.registers.items in
+    let ids : List ℕ = inside.liars.items in
+    let size = board_size inside.nodes shows columns ids c.args.self.now c.self.view_is in
+    let h : ℕ = c.args.height in
+    let deep : h < length columns = omega (arith, c.requires, board_depth inside.nodes shows columns ids c.args.self.now c.self.view_is) in
+    let oi : Vec ℕ Global → List ℕ = λ v. v.items in
+    let ri : Vec Reg Global → List Reg = λ v. v.items in
+    are_sent inside.nodes shows columns ids c.args.self.now c.self.view_is inside.marks.items inside.before.items _ c.self.invariant h deep
+    _ _ _ _
+    (c.deref.ensures.value ∙ (ap oi c.index.ensures ∙ sym (get_or-map oi inside.outputs.items h c.index.result.now [] (omega (arith, deep, c.self.invariant.many, length-map inside.outputs.items oi)))))
+    (c.deref-2.ensures.value ∙ (ap ri c.index-2.ensures ∙ sym (get_or-map ri inside.registers.items h c.index-2.result.now [] (omega (arith, deep, length-map inside.registers.items ri)))))
+    c.deref-3.ensures.value c.deref-4.ensures.value
+
+pub returns : goal.returns
+returns c =
+    let inside = c.self.inside in
+    let shows : List (List ℕ) = map (λ (v : Vec ℕ Global). v.items) inside.outputs.items in
+    let columns : List (List Reg) = map (λ (v : Vec Reg Global). v.items) inside.registers.items in
+    let ids : List ℕ = inside.liars.items in
+    let size = board_size inside.nodes shows columns ids c.args.self.now c.self.view_is in
+    let h : ℕ = c.args.height in
+    let deep : h < length columns = omega (arith, c.requires, board_depth inside.nodes shows columns ids c.args.self.now c.self.view_is) in
+    let oi : Vec ℕ Global → List ℕ = λ v. v.items in
+    let ri : Vec Reg Global → List Reg = λ v. v.items in
+    c.new.ensures
+    ∙ sent_is inside.nodes shows columns ids c.args.self.now c.self.view_is inside.marks.items inside.before.items _ c.self.invariant h deep
+    _ _ _
+    (c.deref.ensures.value ∙ (ap oi c.index.ensures ∙ sym (get_or-map oi inside.outputs.items h c.index.result.now [] (omega (arith, deep, c.self.invariant.many, length-map inside.outputs.items oi)))))
+    (c.deref-2.ensures.value ∙ (ap ri c.index-2.ensures ∙ sym (get_or-map ri inside.registers.items h c.index-2.result.now [] (omega (arith, deep, length-map inside.registers.items ri)))))
+    c.deref-3.ensures.value

@@ -1,0 +1,31 @@
+use Rattle.std.proofs.Common.{◌≡◌, ℕ, ◌+◌, ◌<◌, ◌≤◌, List, [], length, map, get_or, Vec, Global, All, Bool, refl, sym, ap, ◌∙◌, subst, arith}
+use Rattle.std.specs.List.{range_with_len}
+use Rattle.std.proofs.lemmas.List.{length-map, get_or-map}
+use Rattle.std.proofs.lemmas.List.FromFn.{length-map-range_with_len, get_or-map-range_with_len}
+use Rattle.sync_types.specs.declared.states.Reg.{Reg}
+use Rattle.sync_types.specs.FaultSets.{is_in}
+use Rattle.sync_types.specs.States.{State}
+use Rattle.construction.specs.Steps.{state_of}
+use Rattle.counter_core.specs.Meanings.{cut}
+use Rattle.shared_laws.specs.Sharing.{place_among}
+use Rattle.shared_board.specs.Boards.{Board, IsBoard, AreLiars, board_of, state_by}
+use Rattle.shared_board.proofs.ByPlace.{board_size, board_liars}
+use Rattle.shared_board.proofs.board.Board.tell.Goals as goal
+
+pub returns-clause-liars : goal.returns-clause-liars
+returns-clause-liars c =
+    let inside = c.self.inside in
+    let shows : List (List ℕ) = map (λ (v : Vec ℕ Global). v.items) inside.outputs.items in
+    let columns : List (List Reg) = map (λ (v : Vec Reg Global). v.items) inside.registers.items in
+    let ids : List ℕ = inside.liars.items in
+    let size = board_size inside.nodes shows columns ids c.args.self.now c.self.view_is in
+    board_liars inside.nodes shows columns ids c.args.self.now c.self.view_is c.self.invariant.liars
+
+pub returns-clause-most : goal.returns-clause-most
+returns-clause-most c =
+    let inside = c.self.inside in
+    let shows : List (List ℕ) = map (λ (v : Vec ℕ Global). v.items) inside.outputs.items in
+    let columns : List (List Reg) = map (λ (v : Vec Reg Global). v.items) inside.registers.items in
+    let ids : List ℕ = inside.liars.items in
+    let size = board_size inside.nodes shows columns ids c.args.self.now c.self.view_is in
+    omega (arith, size, c.self.invariant.most)

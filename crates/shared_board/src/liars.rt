@@ -1,0 +1,55 @@
+ghost use Rattle.std.specs.Prelude.{◌≡◌, ◌<◌, ◌≤◌, ◌+◌, ℕ, length, map, vec_capacity, false, replicate, IfOk};
+ghost use Rattle.std.specs.List.{range_with_len};
+ghost use Rattle.sync_types.specs.FaultSets.{is_in};
+ghost use Rattle.shared_laws.specs.Sharing.{place_among};
+
+use std::alloc::Global;
+use sync_types::{FaultSet, NoMemory};
+
+/// Marks of so many nodes, none of which lies.
+pub(crate) fn zero_marks(alloc: Global, nodes: usize) -> Result<Vec<bool>, NoMemory>
+    ensures { IfOk result (λ marks. marks.items ≡ replicate nodes false) }
+{
+    let marks = vec![in alloc; false; nodes]?;
+    Ok(marks)
+}
+
+/// So many counts of none.
+pub(crate) fn zero_counts(alloc: Global, counts: usize) -> Result<Vec<u32>, NoMemory>
+    ensures { IfOk result (λ before. before.items ≡ replicate counts 0) }
+{
+    let before = vec![in alloc; 0; counts]?;
+    Ok(before)
+}
+
+/// Takes the ids of a faulty set.
+pub(crate) fn copy_ids(faulty: &FaultSet, ids: &mut Vec<u32>)
+    requires { length faulty.now.ids ≤ vec_capacity ids.old }
+    ensures ids { ids.new.items ≡ faulty.now.ids }
+    ensures room { vec_capacity ids.old ≤ vec_capacity ids.new }
+{
+    ids.clear();
+    for i in 0..faulty.len() {
+        ids.push(faulty.at(i)).unwrap();
+    }
+}
+
+/// Marks the liars among the nodes, and counts for each node those below it, and behind these all.
+pub(crate) fn mark(faulty: &FaultSet, marks: &mut Vec<bool>, before: &mut Vec<u32>)
+    requires size { length before.old.items ≡ length marks.old.items + 1 }
+    requires most { length marks.old.items ≤ 256 }
+    ensures marks { marks.new.items ≡ map (is_in faulty.now.ids) (range_with_len 0 (length marks.old.items)) }
+    ensures before { before.new.items ≡ map (place_among faulty.now.ids) (range_with_len 0 (length marks.old.items + 1)) }
+{
+    let nodes = marks.len();
+    let mut count = 0;
+    for v in 0..nodes {
+        before[v] = count;
+        let is_liar = faulty.contains(v as u32);
+        marks[v] = is_liar;
+        if is_liar {
+            count += 1;
+        }
+    }
+    before[nodes] = count;
+}

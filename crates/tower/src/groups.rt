@@ -1,0 +1,209 @@
+ghost use Rattle.std.specs.Prelude.{◌≡◌, ◌<◌, ◌≤◌, ◌+◌, ◌*◌, [], ◌∷◌, ◌++◌, ℕ, map, length, drop, true, All, IfOk, OnOk, List, slice_index_or, sum_by};
+ghost use Rattle.std.specs.List.{range_with_len};
+ghost use Rattle.sync_types.specs.States.{State};
+ghost use Rattle.construction.specs.Plans.{nodes_of};
+ghost use Rattle.plan_numbers.specs.Numbers.{level_of, levels_in};
+ghost use Rattle.plan_numbers.specs.Sizes.{block_nodes};
+ghost use Rattle.plan_numbers.specs.Stacked.{AreSomeLevels};
+ghost use Rattle.group_votes.specs.Senders.{IsTold};
+ghost use Rattle.group_votes.specs.Groups.{AreNumbers, Stands};
+ghost use Rattle.shared_board.specs.Boards.{Board, sent_of};
+ghost use Rattle.shared_laws.specs.Groups.{groups_of};
+ghost use Rattle.tower.specs.Placings.{key_of, cost_of, IsReady, CanStep, Leads, register_by, row_register};
+ghost use Rattle.tower.specs.Sharing.{AllStand};
+
+use crate::rows::Row;
+use group_votes::Group;
+use majority_votes::{Steps, Tally};
+use plan_numbers::LevelNums;
+use shared_board::Board;
+use std::alloc::Global;
+use std::marker::Model;
+use std::sync::ledger::Ledger;
+use sync_types::{NoMemory, NodeState, Reg};
+
+/// A group, and how many levels stand below it.
+#[derive(Drop)]
+pub(crate) struct Placed {
+    height: usize,
+    group: Group,
+}
+
+impl Model for Placed {
+    ghost use Rattle.group_votes.specs.Groups.{contents};
+    ghost use Rattle.tower.specs.Placings.{Placing};
+
+    ghost Value = { Placing };
+
+    ghost view = { λ p. record { height = p.height; group = contents p.group } };
+}
+
+impl Placed {
+    /// Room for the group of a level, above so many levels, from a first node on.
+    fn new(alloc: Global, nums: &LevelNums, height: usize, first: usize) -> Result<Placed, NoMemory>
+        requires { AreNumbers nums.now }
+        ensures ready { IfOk result IsReady }
+        ensures key { IfOk result (λ p. key_of p
+            ≡ record { level = level_of nums.now; below = height; block = block_nodes nums.now; first = first }) }
+    {
+        let group = Group::new(alloc, nums, first)?;
+        Ok(Placed { height, group })
+    }
+
+    /// Counts what it has of a board.
+    fn gather<G: Ledger>(&mut self, board: &Board, scratch: &mut Tally, steps: &mut Steps<G>)
+        requires ready { IsReady self.old }
+        requires height { self.old.height < board.now.depth }
+        requires within { self.old.group.first + self.old.group.nums.nodes ≤ length board.now.states }
+        requires blocks { self.old.group.nums.blocks ≤ scratch.old.capacity }
+        ensures stands { Stands (sent_of board.now self.new.height) self.new.group }
+        ensures same_height { self.new.height ≡ self.old.height }
+        ensures same_nums { self.new.group.nums ≡ self.old.group.nums }
+        ensures same_first { self.new.group.first ≡ self.old.group.first }
+        ensures capacity { scratch.new.capacity ≡ scratch.old.capacity }
+        ensures steps { steps.new ≤ steps.old + 3 * cost_of board.now self.old }
+    {
+        let senders = board.senders(self.height);
+        self.group.gather(&senders, scratch, steps);
+    }
+
+    /// The new register of a node of the group.
+    fn register<G: Ledger>(
+        &mut self,
+        board: &Board,
+        node: usize,
+        lies: &[NodeState],
+        scratch: &mut Tally,
+        steps: &mut Steps<G>,
+    ) -> Reg
+        requires step { CanStep board.now node lies.now self.old }
+        requires room { 16 ≤ scratch.old.capacity }
+        ensures register { result ≡ register_by board.now node lies.now self.old }
+        ensures same { self.new ≡ self.old }
+        ensures capacity { scratch.new.capacity ≡ scratch.old.capacity }
+        ensures steps { steps.new ≤ steps.old + 3 * length board.now.faulty }
+    {
+        board.tell();
+        let senders = board.senders(self.height);
+        self.group.register(&senders, node, lies, scratch, steps)
+    }
+}
+
+/// A register that a node lacks.
+const NONE: Reg = Reg {
+    a: Some(0),
+    d: false,
+};
+
+/// Adds a group at the end.
+fn push(groups: &mut Vec<Placed>, placed: Placed) -> Result<(), NoMemory>
+    ensures { OnOk result (groups.new.items ≡ groups.old.items ++ placed ∷ []) }
+{
+    groups.push(placed).map_err(|_| NoMemory)
+}
+
+/// Adds the groups of levels, the lowest of which stands first, from a first node on: that of the
+/// top level, and behind it those of its first block, those of its second one, and so on.
+pub(crate) fn add_groups(
+    alloc: Global,
+    levels: &[LevelNums],
+    first: usize,
+    groups: &mut Vec<Placed>,
+) -> Result<(), NoMemory>
+    requires levels { AreSomeLevels levels.now }
+    requires small { first + nodes_of (levels_in levels.now) ≤ 256 }
+    requires ready { All IsReady groups.old.items }
+    ensures added { OnOk result (map key_of groups.new.items
+        ≡ map key_of groups.old.items ++ groups_of (levels_in levels.now) first) }
+    ensures ready { OnOk result (All IsReady groups.new.items) }
+{
+    let Some((nums, below)) = levels.split_last() else {
+        return Ok(());
+    };
+    let top = Placed::new(alloc, nums, below.len(), first)?;
+    push(groups, top)?;
+    let n = nums.block_nodes() as usize;
+    for b in 0..nums.blocks as usize {
+        add_groups(alloc, below, first + b * n, groups)?;
+    }
+    Ok(())
+}
+
+/// Counts what the groups have of a board: of each at most three steps for each correct node.
+pub(crate) fn gather_groups<G: Ledger>(
+    board: &Board,
+    groups: &mut [Placed],
+    scratch: &mut Tally,
+    steps: &mut Steps<G>,
+)
+    requires ready { All IsReady groups.old }
+    requires heights { All (λ p. p.height < board.now.depth) groups.old }
+    requires within { All (λ p. p.group.first + p.group.nums.nodes ≤ length board.now.states) groups.old }
+    requires room { 16 ≤ scratch.old.capacity }
+    ensures keys { map key_of groups.new ≡ map key_of groups.old }
+    ensures ready { All IsReady groups.new }
+    ensures stand { AllStand board.now groups.new }
+    ensures capacity { scratch.new.capacity ≡ scratch.old.capacity }
+    ensures steps { steps.new ≤ steps.old + 3 * sum_by (cost_of board.now) groups.old }
+{
+    for g in 0..groups.len() {
+        groups[g].gather(board, scratch, steps);
+    }
+}
+
+/// The new register of a node at a level: in its group, or none where the node has none there.
+fn register_at<G: Ledger>(
+    board: &Board,
+    row: &Row,
+    height: usize,
+    node: usize,
+    lies: &[NodeState],
+    groups: &mut [Placed],
+    scratch: &mut Tally,
+    steps: &mut Steps<G>,
+) -> Reg
+    requires height { height < length row.now.places.items }
+    requires step { row.now.low ≤ height + 1 → Leads board.now row.now node lies.now groups.old height }
+    requires room { 16 ≤ scratch.old.capacity }
+    ensures register { result ≡ row_register board.now row.now node lies.now groups.old height }
+    ensures same { groups.new ≡ groups.old }
+    ensures capacity { scratch.new.capacity ≡ scratch.old.capacity }
+    ensures steps { steps.new ≤ steps.old + 3 * length board.now.faulty }
+{
+    if row.low <= height + 1 {
+        groups[row.places[height]].register(board, node, lies, scratch, steps)
+    } else {
+        NONE
+    }
+}
+
+/// Writes the new registers of a node: at most three steps a level for each liar. The groups are as
+/// before afterwards.
+pub(crate) fn write_registers<G: Ledger>(
+    board: &Board,
+    row: &Row,
+    node: usize,
+    lies: &[NodeState],
+    groups: &mut [Placed],
+    scratch: &mut Tally,
+    out: &mut NodeState,
+    steps: &mut Steps<G>,
+)
+    requires leads { (l : ℕ) → l < length row.now.places.items → row.now.low ≤ l + 1
+        → Leads board.now row.now node lies.now groups.old l }
+    requires room { 16 ≤ scratch.old.capacity }
+    requires out { length row.now.places.items ≤ length out.old.registers }
+    ensures out { out.new ≡ record {
+      x = out.old.x;
+      registers = map (row_register board.now row.now node lies.now groups.old) (range_with_len 0 (length row.now.places.items))
+          ++ drop (length row.now.places.items) out.old.registers;
+    } }
+    ensures same { groups.new ≡ groups.old }
+    ensures capacity { scratch.new.capacity ≡ scratch.old.capacity }
+    ensures steps { steps.new ≤ steps.old + 3 * length row.now.places.items * length board.now.faulty }
+{
+    for height in 0..row.places.len() {
+        let register = register_at(board, row, height, node, lies, groups, scratch, steps);
+        out.set_reg(height, register);
+    }
+}

@@ -1,0 +1,117 @@
+ghost use Rattle.std.specs.Prelude.{◌≡◌, ◌<◌, ◌≤◌, ◌+◌, ◌-◌, ◌*◌, ℕ, List, length, All};
+ghost use Rattle.sync_types.specs.States.{State};
+ghost use Rattle.construction.specs.Plans.{plan_nodes, plan_depth};
+ghost use Rattle.construction.specs.Steps.{state_of, step_of};
+ghost use Rattle.counter_core.specs.Meanings.{written};
+ghost use Rattle.plan_laws.specs.PlanMeaning.{IsInRange};
+ghost use Rattle.shared_laws.specs.Sharing.{heard_with, stands_for, Tells};
+
+use crate::groups::{Placed, gather_groups, write_registers};
+use crate::rows::Row;
+use majority_votes::{Steps, Tally};
+use plan_numbers::LevelNums;
+use shared_board::Board;
+use state_codec::Packed;
+use std::marker::Model;
+use std::sync::ledger::Ledger;
+use sync_types::{FaultSet, NodeState};
+
+/// What all receivers of a round share: what is counted of the correct nodes of each group, for one
+/// configuration and faulty set. It is seen as what it stands for.
+#[derive(Drop)]
+pub struct Shared {
+    pub(crate) version: u32,
+    pub(crate) base: u64,
+    pub(crate) levels: Vec<LevelNums>,
+    // From which level on each node takes part, and in which groups.
+    pub(crate) rows: Vec<Row>,
+    // Whether it stands for a configuration.
+    pub(crate) is_made: bool,
+    pub(crate) board: Board,
+    pub(crate) groups: Vec<Placed>,
+    // Room for a vote of each block of a level.
+    pub(crate) scratch: Tally,
+}
+
+impl Model for Shared {
+    ghost use Rattle.shared_laws.specs.Sharing.{Shares};
+    ghost use Rattle.tower.specs.Sharing.{shares_of, IsShared};
+
+    ghost Value = { Shares };
+
+    ghost view = { λ s. shares_of s.version s.base s.levels.items s.is_made s.board };
+
+    ghost invariant = { λ s. IsShared s.version s.base s.levels.items s.rows.items s.is_made s.board s.groups.items s.scratch };
+}
+
+impl Shared {
+    /// Stands for the current states of a configuration and a faulty set.
+    pub(crate) fn take<G: Ledger>(
+        &mut self,
+        config: &Packed,
+        faulty: &FaultSet,
+        steps: &mut Steps<G>,
+    )
+        requires size { length config.now.current ≡ plan_nodes self.old.plan }
+        requires deep { plan_depth self.old.plan ≤ length config.now.shape.moduli }
+        requires range { All (IsInRange self.old.plan) config.now.current }
+        requires ids { All (λ id. id < plan_nodes self.old.plan) faulty.now.ids }
+        ensures stands { self.new ≡ stands_for self.old.plan config.now.current faulty.now.ids }
+        ensures cost { steps.new ≤ steps.old
+            + 3 * plan_depth self.old.plan * (plan_nodes self.old.plan - length faulty.now.ids) }
+    {
+        faulty.tell();
+        self.board.take(config, faulty);
+        gather_groups(&self.board, &mut self.groups, &mut self.scratch, steps);
+        self.is_made = true;
+    }
+
+    /// Writes the step of a node that has the number `x`, by what it is told.
+    pub(crate) fn step<G: Ledger>(
+        &mut self,
+        node: u32,
+        x: u64,
+        lies: &[NodeState],
+        out: &mut NodeState,
+        steps: &mut Steps<G>,
+    )
+        requires size { length self.old.states ≡ plan_nodes self.old.plan }
+        requires node { node < plan_nodes self.old.plan }
+        requires number { x ≡ (state_of self.old.states node).x }
+        requires tells { Tells self.old node lies.now }
+        requires range { All (IsInRange self.old.plan) lies.now }
+        requires deep { All (λ s. plan_depth self.old.plan ≤ length s.registers) lies.now }
+        requires out { plan_depth self.old.plan ≤ length out.old.registers }
+        ensures out { out.new ≡ written (plan_depth self.old.plan) (step_of self.old.plan node
+            (heard_with self.old.faulty lies.now self.old.states)) out.old }
+        ensures same { self.new ≡ self.old }
+        ensures cost { steps.new ≤ steps.old + 3 * plan_depth self.old.plan * length self.old.faulty }
+    {
+        let row = &self.rows[node as usize];
+        let next = if row.low == 0 { (x + 1) % self.base } else { 0 };
+        out.set_x(next);
+        write_registers(
+            &self.board,
+            row,
+            node as usize,
+            lies,
+            &mut self.groups,
+            &mut self.scratch,
+            out,
+            steps,
+        );
+    }
+
+    /// The stretch of liars on which the step of a node hangs.
+    pub(crate) fn heeded(&self, node: u32) -> (usize, usize)
+        requires size { length self.now.states ≡ plan_nodes self.now.plan }
+        requires node { node < plan_nodes self.now.plan }
+        ensures range { (result.0 ≤ result.1) × (result.1 ≤ length self.now.faulty) }
+        ensures enough { (lies told : List State) → Tells self.now node lies → Tells self.now node told →
+            ((j : ℕ) → result.0 ≤ j → j < result.1 → state_of lies j ≡ state_of told j) →
+            step_of self.now.plan node (heard_with self.now.faulty lies self.now.states)
+            ≡ step_of self.now.plan node (heard_with self.now.faulty told self.now.states) }
+    {
+        (0, self.board.liars())
+    }
+}
