@@ -21,6 +21,8 @@ use Rattle.level_laws.specs.Level.{faults_in, BlockCounts, StaysLocked}
 use Rattle.level_laws.specs.Boosted.{outputs_heard, values_heard, level_register, inner_state, boosted, BoostedRange, StandsOn}
 use Rattle.level_laws.proofs.BoostLaws.{register_cut, register_with, deep_inner}
 use Rattle.level_laws.proofs.BlockRuns.{block_run}
+use Rattle.level_laws.specs.Explained.{Explains, IsExplained}
+use Rattle.level_laws.proofs.Explained.{explained_locks, span_is_explained}
 use Rattle.level_laws.proofs.Settles.{settles}
 use Rattle.level_laws.proofs.Locked.{stays_locked}
 
@@ -75,6 +77,14 @@ module _ (a : Meaning) (in_range : State → Type 0) (level : Level) (sizes : Si
         (λ t v. register_at a.depth (run t v))
     top_stays_locked on few t value locked = stays_locked level a.nodes (up level.modulus) faulty on.stands.quorum few t last outputs registers (registers_step t) value locked
 
+    -- what is explained is locked
+    pub top_explained_locks : StandsOn a level → places faulty (group_size level a.nodes) ≤ level.faults
+        → (t b s k : ℕ)
+        → Explains level a.nodes a.faults faulty last (λ t u. a.shows (u % a.nodes) (run t u)) t b s k
+        → (value : ℕ) × AllLocked (group_size level a.nodes) faulty
+        (λ v. register_at a.depth (run (s + 3) v)) value
+    top_explained_locks on few t b s k why = explained_locks level a.nodes a.faults a.modulus (up level.modulus) faulty on.stands sizes.few few 0 last outputs registers (registers_step 0) t b s k (omega arith) why
+
     module _ (on : StandsOn a level) (below : SettlesByPlace a in_range) where
       -- a block with few faulty nodes counts for a span
       block_counts : a.bound + span_of level ≤ last → (i : ℕ) → i < level.blocks → faults_in a.nodes faulty i ≤ a.faults → BlockCounts level a.nodes a.modulus a.bound faulty outputs i
@@ -86,6 +96,13 @@ module _ (a : Meaning) (in_range : State → Type 0) (level : Level) (sizes : Si
             counts = record { grows = λ r lo hi. counts.grows r lo (omega arith) };
             common = λ r j lo hi jlt ok. ap (λ u. a.shows u (run r (i * a.nodes + j))) (mod-mul-add i a.nodes j jlt) ∙ counts.shows r j lo (omega arith) jlt ok;
           }
+
+      -- the span that ends at the bound is explained
+      pub top_is_explained : places faulty (group_size level a.nodes) ≤ level.faults
+          → a.bound + span_of level ≤ last
+          → IsExplained level a.nodes a.faults faulty last
+          (λ t u. a.shows (u % a.nodes) (run t u)) a.bound (a.bound + span_of level)
+      top_is_explained few long = let some = sizes.some in span_is_explained level a.nodes a.faults a.modulus faulty on.stands few (omega arith) a.bound last outputs long (block_counts long)
 
       settles_by : places faulty (group_size level a.nodes) ≤ level.faults
           → (last < a.bound + span_of level) ⊎ (a.bound + span_of level ≤ last)

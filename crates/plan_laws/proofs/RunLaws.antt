@@ -31,7 +31,7 @@ none_or_some zero = inl refl
 none_or_some (suc n) = inr (omega arith)
 
 -- faulty places of the nested counter are as few as the ids
-few_places : (m : Meaning) (base : ℕ) (levels : List Level) → Explains m base levels
+pub few_places : (m : Meaning) (base : ℕ) (levels : List Level) → Explains m base levels
     → (faulty : List ℕ) → length faulty ≤ faults_of levels
     → places (is_in faulty) m.nodes ≤ m.faults
 few_places m base levels e faulty few = omega (arith, places_of_ids faulty m.nodes, e.faults)

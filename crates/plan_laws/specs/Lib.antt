@@ -4,3 +4,4 @@ pub mod BlocksOfRuns
 pub mod Laws
 pub mod VersionLaws
 pub mod Stretches
+pub mod ExplainedRuns

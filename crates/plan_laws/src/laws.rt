@@ -1,5 +1,6 @@
 //! The laws. Each function is empty: its clause is the law.
 
+ghost use Rattle.plan_laws.specs.ExplainedRuns.{ExplainedRunsLock, BoundIsExplained};
 ghost use Rattle.plan_laws.specs.Stretches.{StepsByStretches};
 ghost use Rattle.plan_laws.specs.VersionLaws.{VersionsAgree, NoSpares};
 ghost use Rattle.plan_laws.specs.Laws.{EveryPlanSettles, BlocksRun, LocksAtBound, LockedRunsCount, EachHasOneNext};
@@ -35,6 +36,19 @@ pub fn locks_at_bound()
 /// nodes show one number, which grows by one modulo C each round, whatever lies follow.
 pub fn locked_runs_count()
     ensures { LockedRunsCount }
+{}
+
+/// What is explained is locked: three rounds after a correct king's phase begins, in a window in
+/// which all sound blocks of the top level point to one sound block and its correct nodes go
+/// through the beat, the configuration is locked, whatever lies are told.
+pub fn explained_runs_lock()
+    ensures { ExplainedRunsLock }
+{}
+
+/// Each run that reaches the bound has an explanation, whose window lies between the bound of the
+/// levels below the top one and the bound.
+pub fn bound_is_explained()
+    ensures { BoundIsExplained }
 {}
 
 /// Each configuration and table of lies has exactly one next configuration, up to the states of

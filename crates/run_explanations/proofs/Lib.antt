@@ -1,0 +1,11 @@
+pub mod TopNumbers
+pub mod Sharing
+pub mod SeenShown
+pub mod Windows
+pub mod Firsts
+pub mod Found
+pub mod Taking
+pub mod Bridge
+pub mod FoundIsFirst
+pub mod EraLaws
+pub mod Checked

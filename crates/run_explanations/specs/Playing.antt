@@ -1,0 +1,43 @@
+-- A runner that plays a script without a layer, and what was found before its configuration.
+use Rattle.std.specs.Prelude.{◌≡◌, ℕ, ◌+◌, []}
+use Rattle.counter_core.specs.declared.overlays.NoOverlay.{NoOverlay}
+use Rattle.counter_core.specs.NoLayers.{no_layer}
+use Rattle.construction.specs.Plans.{Plan}
+use Rattle.adversary_script.specs.Scripts.{Script}
+use Rattle.round_runner.specs.Runners.{Running, IsPlaying}
+use Rattle.run_explanations.specs.declared.explaining.Search.{Search}
+use Rattle.run_explanations.specs.declared.tops.Top.{Top}
+use Rattle.run_explanations.specs.Explanations.{is_faulty, seen_at}
+use Rattle.run_explanations.specs.Reading.{Reads}
+use Rattle.run_explanations.specs.Searching.{stretch_before, found_before}
+use Rattle.run_explanations.specs.Tops.{top_of}
+
+-- it plays its script
+abbrev pub Plays : Running NoOverlay → Type 0
+Plays r = IsPlaying (λ o. no_layer) (λ o. []) [] r
+
+-- it is at configuration 0, of a run of this plan
+pub record IsToPlay (plan : Plan) (r : Running NoOverlay) : Type 0 where
+  pub plan_is : r.plan ≡ plan
+  pub at : r.at ≡ 0
+  pub plays : Plays r
+
+-- it is the same runner, at configuration c
+pub record HasPlayed (begun : Running NoOverlay) (c : ℕ) (r : Running NoOverlay) : Type 0 where
+  pub plan : r.plan ≡ begun.plan
+  pub script : r.script ≡ begun.script
+  pub at : r.at ≡ c
+  pub plays : Plays r
+
+-- this is what was found before configuration c, from configuration `from` on
+pub record IsFound (top : Top) (from : ℕ) (plan : Plan) (script : Script) (c : ℕ)
+    (search : Search) : Type 0 where
+  pub stretch : search.stretch ≡ stretch_before top.beat from (seen_at plan script) c
+  pub found : search.found ≡ found_before top.beat (is_faulty script) script.rounds from
+      (seen_at plan script) c
+
+-- that a runner that plays its script is read by the numbers of its plan's top level
+pub record IsRead (top : Top) (r : Running NoOverlay) : Type 0 where
+  pub reads : Reads top r
+  pub top_is : top ≡ top_of r.plan
+  pub plays : Plays r

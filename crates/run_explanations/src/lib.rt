@@ -1,0 +1,18 @@
+//! Why a script's last era locks: for a whole beat all sound blocks point to one leader, and in
+//! that window a phase has a correct king.
+//!
+//! [`explain`] finds the first such window and phase, and [`check_explanation`] tests one. [`laws`]
+//! says that what is explained is locked, and that an era that goes on to the bound is explained.
+#![tactic(auto)]
+
+mod explaining;
+mod explanations;
+pub mod laws;
+mod searching;
+mod seeing;
+#[cfg(test)]
+mod tests;
+mod tops;
+
+pub use explaining::{check_explanation, explain};
+pub use explanations::Explanation;

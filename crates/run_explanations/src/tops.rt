@@ -1,0 +1,49 @@
+ghost use Rattle.std.specs.Prelude.{◌≡◌, ◌≤◌};
+ghost use Rattle.construction.specs.Plans.{plan_depth};
+ghost use Rattle.run_explanations.specs.Tops.{IsTop, top_of};
+
+use plan_numbers::Plan;
+
+/// The top level of a plan, and what stands in its blocks.
+#[derive(Clone, Copy, Debug)]
+pub(crate) struct Top {
+    /// How many blocks there are, 3 to 16.
+    pub blocks: u32,
+    /// How many of them may lead.
+    pub leaders: u32,
+    /// How many rounds the kings take in turn.
+    pub beat: u64,
+    /// How many nodes a block has.
+    pub nodes: u32,
+    /// How many of them a block bears as faulty.
+    pub faults: u32,
+}
+
+/// How many faulty nodes a block of the top level bears.
+fn block_faults(plan: &Plan) -> u32
+    requires { 1 ≤ plan_depth plan.now }
+    ensures { result ≡ (top_of plan.now).faults }
+{
+    let depth = plan.depth();
+    if depth < 2 {
+        return 0;
+    }
+    plan.level(depth - 2).faults
+}
+
+/// The top level of a plan that has one.
+pub(crate) fn top_of(plan: &Plan) -> Top
+    requires { 1 ≤ plan_depth plan.now }
+    ensures value { result ≡ top_of plan.now }
+    ensures top { IsTop result }
+{
+    plan.tell();
+    let nums = plan.level(plan.depth() - 1);
+    Top {
+        blocks: nums.blocks,
+        leaders: nums.leaders,
+        beat: nums.beat,
+        nodes: nums.block_nodes(),
+        faults: block_faults(plan),
+    }
+}
