@@ -4,7 +4,7 @@ use Rattle.std.proofs.KnownBytes.{Consumes-trans, Consumes-kept}
 use Rattle.std.proofs.lemmas.Bool.{lt-leb, ne_eqb, lt-ltb}
 use Rattle.std.proofs.lemmas.List.Folds.{list_all-append}
 use Rattle.texts.specs.Lines.{lines_of, is_one_line}
-use Rattle.texts.specs.Parts.{Next, part_from}
+use Rattle.texts.specs.Parts.{Next, refuses, with_skips, part_from}
 use Rattle.texts.specs.Limits.{by, beyond, shows, room_of}
 use Rattle.texts.proofs.LineByLine.{lines_part, longer_line}
 use Rattle.edge_io.specs.declared.feed.Line.TheVariants as how
@@ -13,13 +13,22 @@ use Rattle.edge_io.specs.Feeds.{LineIs}
 use Rattle.edge_io.specs.FedParts.{limited_part, fed_part, Decided, Undecided, refused_at}
 use Rattle.edge_io.proofs.FedLines.{shown_by, Standing, parted, size_more}
 
+-- a step refuses each line that is too long
+abbrev pub RefusesLong : {S V R : Type 0} → (S → List ℕ → Next S V R) → R → Type 0
+RefusesLong {S} step form = (s : S) (line : List ℕ) → 4096 < length line → step s line ≡ refuses form
+
+pub skips_refuse_long : {S V R : Type 0} (step : S → List ℕ → Next S V R) (form : R)
+    → RefusesLong (with_skips step form) form
+skips_refuse_long step form s line much = rw (lt-ltb 4096 (length line) much) refl
+
 module _ {S V R : Type 0} (step : S → List ℕ → Next S V R) (form : R) where
   -- a line that is too long is refused
-  refused_long : (s : S) (taken number : ℕ) (room : Option ℕ) (text : List ℕ) (ls : List (List ℕ))
+  pub refused_long : RefusesLong step form
+      → (s : S) (taken number : ℕ) (room : Option ℕ) (text : List ℕ) (ls : List (List ℕ))
       → shows room text ≡ true → 4096 < length text
       → limited_part step form s taken number room (text ∷ ls) ≡ Err (record { line = number; rule = by form })
-  refused_long s taken number room text ls shown much =
-      rw (part_from, shown, lt-ltb 4096 (length text) much) refl
+  refused_long long s taken number room text ls shown much =
+      rw (part_from, shown, long s text much) refl
 
   module _ (start : S) (first limit before : ℕ) (old now new : Option (List ℕ)) (s : S)
       (number lines counted after : ℕ) (line : List ℕ)
@@ -34,10 +43,10 @@ module _ {S V R : Type 0} (step : S → List ℕ → Next S V R) (form : R) wher
         (parted step form start first limit before old now new s number lines counted after line one short stands line b rest)
         ∙ stands.so_far lines_of lines_part longer (line ++ b ∷ rest)
 
-    long_line : (longer : Bool) (b : ℕ) (rest : List ℕ) → b ≢ 10 → length line ≡ 4096 → counted + 4097 ≤ limit
+    pub long_line : RefusesLong step form → (longer : Bool) (b : ℕ) (rest : List ℕ) → b ≢ 10 → length line ≡ 4096 → counted + 4097 ≤ limit
         → limited_part step form s lines number (room_of longer (limit - counted)) (lines_of (line ++ b ∷ rest))
         ≡ Err (record { line = number; rule = by form })
-    long_line longer b rest other size within =
+    long_line long longer b rest other size within =
         let more = line ++ b ∷ [] in
         let apart : eqb b 10 ≡ false = ne_eqb b 10 other in
         let all : is_one_line more ≡ true =
@@ -49,9 +58,9 @@ module _ {S V R : Type 0} (step : S → List ℕ → Next S V R) (form : R) wher
         let first_is : lines_of (line ++ b ∷ rest) ≡ text ∷ h.lines = ap lines_of same ∙ h.first in
         let much : 4096 < length text = omega (arith, size, length-append more h.more, length_is) in
         let shown = shown_by longer limit counted text (omega (arith, within)) in
-        rw first_is (refused_long s lines number (room_of longer (limit - counted)) text h.lines shown much)
+        rw first_is (refused_long long s lines number (room_of longer (limit - counted)) text h.lines shown much)
 
-    past_line : (b : ℕ) (rest : List ℕ) → limit ≤ counted + length line
+    pub past_line : (b : ℕ) (rest : List ℕ) → limit ≤ counted + length line
         → limited_part step form s lines number (room_of true (limit - counted)) (lines_of (line ++ b ∷ rest))
         ≡ Err (record { line = number; rule = beyond })
     past_line b rest past =
@@ -65,9 +74,9 @@ module _ {S V R : Type 0} (step : S → List ℕ → Next S V R) (form : R) wher
     more_size b =
         size_more step form start first limit before old now new s number lines counted after line one short stands b
 
-    pub long_here : LineIs limit counted after now new line (Ok how.Long)
+    pub long_here : RefusesLong step form → LineIs limit counted after now new line (Ok how.Long)
         → Decided step form start first limit before after old new (refused_at step form number form)
-    long_here (b, other, read, size, count, within) = record {
+    long_here long (b, other, read, size, count, within) = record {
       bytes = stands.bytes ++ (line ++ b ∷ []);
       ended = false;
       read = Consumes-trans old now new stands.bytes (line ++ b ∷ []) stands.read read;
@@ -75,7 +84,7 @@ module _ {S V R : Type 0} (step : S → List ℕ → Next S V R) (form : R) wher
       count = omega (arith, more_size b, count, stands.count);
       within = within;
       decides = λ longer rest follows.
-          split_more b longer rest ∙ long_line longer b rest other size (omega (arith, count, within, size));
+          split_more b longer rest ∙ long_line long longer b rest other size (omega (arith, count, within, size));
     }
 
     pub end_here : LineIs limit counted after now new line (Ok how.End)

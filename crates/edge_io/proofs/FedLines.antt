@@ -4,7 +4,7 @@ use Rattle.std.specs.Io.KnownBytes.{Consumes}
 use Rattle.std.proofs.KnownBytes.{Consumes-nil, Consumes-trans}
 use Rattle.std.proofs.lemmas.Bool.{le-leb}
 use Rattle.texts.specs.Lines.{lines_of, is_one_line, whole_lines}
-use Rattle.texts.specs.Parts.{Next, goes, ends, refuses, with_skips, part_from}
+use Rattle.texts.specs.Parts.{Next, goes, ends, refuses, part_from}
 use Rattle.texts.specs.Limits.{by, shows, less, room_of, behind_lines}
 use Rattle.texts.proofs.LineByLine.{PartsLines, lines_part, whole_part, whole_open, behind_line}
 use Rattle.edge_io.specs.declared.feed.Line.TheVariants as how
@@ -60,7 +60,7 @@ module _ {S V R : Type 0} (step : S → List ℕ → Next S V R) (form : R) wher
   module _ (split : List ℕ → List (List ℕ)) (parts : PartsLines split) (s : S) (taken number : ℕ)
       (line rest : List ℕ) (one : is_one_line line ≡ true) where
     line_in : (next : Next S V R) (room left : Option ℕ)
-        → shows room line ≡ true → less room line ≡ left → with_skips step form s line ≡ next
+        → shows room line ≡ true → less room line ≡ left → step s line ≡ next
         → limited_part step form s taken number room (split (line ++ 10 ∷ rest))
         ≡ made split next taken number left rest
     line_in (goes t) room left shown lessened is =
@@ -73,7 +73,7 @@ module _ {S V R : Type 0} (step : S → List ℕ → Next S V R) (form : R) wher
     -- a whole line
     whole_line : (next : Next S V R) (limit counted after : ℕ) (longer : Bool)
         → length line ≤ 4096 → after ≡ counted + length line + 1 → after ≤ limit
-        → with_skips step form s line ≡ next
+        → step s line ≡ next
         → limited_part step form s taken number (room_of longer (limit - counted)) (split (line ++ 10 ∷ rest))
         ≡ made split next taken number (room_of longer (limit - after)) rest
     whole_line next limit counted after longer short e within is =
@@ -128,7 +128,7 @@ module _ {S V R : Type 0} (step : S → List ℕ → Next S V R) (form : R) wher
           ap (λ (l : List ℕ). fed_part step form start first limit before longer (split l)) (parted line 10 rest)
           ∙ stands.so_far split parts longer (line ++ 10 ∷ rest)
 
-      behind_more : (m : ℕ) (rest : List ℕ)
+      pub behind_more : (m : ℕ) (rest : List ℕ)
           → behind_lines (lines + 1 + m) ((stands.bytes ++ (line ++ 10 ∷ [])) ++ rest) ≡ behind_lines m rest
       behind_more m rest =
           let count : lines + 1 + m ≡ lines + suc m = omega arith in
@@ -137,9 +137,9 @@ module _ {S V R : Type 0} (step : S → List ℕ → Next S V R) (form : R) wher
           ∙ stands.behind (suc m) (line ++ 10 ∷ rest) ∙ behind_line m line rest one
 
       module _ (next : Next S V R) (read : LineIs limit counted after now new line (Ok how.Whole))
-          (is : with_skips step form s line ≡ next) where
+          (is : step s line ≡ next) where
         -- what the line makes of the part
-        then_made : (split : List ℕ → List (List ℕ)) → PartsLines split → (longer : Bool) (rest : List ℕ)
+        pub then_made : (split : List ℕ → List (List ℕ)) → PartsLines split → (longer : Bool) (rest : List ℕ)
             → fed_part step form start first limit before longer (split ((stands.bytes ++ (line ++ 10 ∷ [])) ++ rest))
             ≡ made split next lines number (room_of longer (limit - after)) rest
         then_made split parts longer rest =
@@ -158,7 +158,7 @@ module _ {S V R : Type 0} (step : S → List ℕ → Next S V R) (form : R) wher
         }
 
       pub stands_more : (t : S) → LineIs limit counted after now new line (Ok how.Whole)
-          → with_skips step form s line ≡ goes t → Standing new t (number + 1) (lines + 1) after
+          → step s line ≡ goes t → Standing new t (number + 1) (lines + 1) after
       stands_more t read is = record {
         bytes = stands.bytes ++ (line ++ 10 ∷ []);
         read = Consumes-trans old now new stands.bytes (line ++ 10 ∷ []) stands.read read.0;
@@ -172,7 +172,7 @@ module _ {S V R : Type 0} (step : S → List ℕ → Next S V R) (form : R) wher
 
       -- the part ends with the line
       pub ends_here : (v : V) → LineIs limit counted after now new line (Ok how.Whole)
-          → with_skips step form s line ≡ ends v
+          → step s line ≡ ends v
           → PartFed step form start first limit before after old new (Ok (record { value = v; lines = lines + 1; ended = false }))
       unfolding decided_line
       ends_here v read is =
@@ -187,7 +187,7 @@ module _ {S V R : Type 0} (step : S → List ℕ → Next S V R) (form : R) wher
 
       -- the line is refused
       pub refuses_here : (e : R) → LineIs limit counted after now new line (Ok how.Whole)
-          → with_skips step form s line ≡ refuses e
+          → step s line ≡ refuses e
           → Decided step form start first limit before after old new (refused_at step form number e)
       refuses_here e read is = decided_line (refuses e) read is
 

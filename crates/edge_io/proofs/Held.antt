@@ -26,6 +26,14 @@ held_placed at end buffer bytes rest le within =
     ap (λ (k : ℕ). take (k + length bytes) (front ++ (bytes ++ rest))) (sym len) ∙ take-append-add front (bytes ++ rest) (length bytes) ∙ ap (λ (l : List ℕ). front ++ l) (take-append_seam bytes rest) in
     ap (drop at) all ∙ drop-append-le at front bytes (omega (arith, len))
 
+-- some bytes are held back
+pub held_all : (name at end : ℕ) (buffer after bytes rest : List ℕ) (s : Told) → at ≤ end → end ≤ length buffer → after ≡ take end buffer ++ (bytes ++ rest)
+    → Wrote bytes (gathering name (drop at (take end buffer)) s) (gathering name (drop at (take (end + length bytes) after)) s)
+held_all name at end buffer after bytes rest s le within is =
+    let held : drop at (take (end + length bytes) after) ≡ drop at (take end buffer) ++ bytes =
+    ap (λ (l : List ℕ). drop at (take (end + length bytes) l)) is ∙ held_placed at end buffer bytes rest le within in
+    rw held (held_more name (drop at (take end buffer)) bytes s)
+
 -- a front of some bytes is held back
 pub held_grown : (name at end n : ℕ) (buffer after bytes rest : List ℕ) (s : Told) → at ≤ end → end ≤ length buffer → n ≤ length bytes → after ≡ take end buffer ++ (take n bytes ++ rest)
     → Wrote (take n bytes) (gathering name (drop at (take end buffer)) s) (gathering name (drop at (take (end + n) after)) s)

@@ -2,7 +2,7 @@
 use Rattle.std.proofs.Common.{◌≡◌, ℕ, ◌+◌, ◌≤◌, true, false, List, [], ◌∷◌, ◌++◌, length, Option, None, Result, Ok, Err, refl, sym, ap, ◌∙◌, append-nil, length-append, arith}
 use Rattle.std.proofs.KnownBytes.{Consumes-trans}
 use Rattle.texts.specs.Lines.{lines_of, is_one_line}
-use Rattle.texts.specs.Parts.{Next, goes, ends, refuses, Found, At, with_skips, part_from}
+use Rattle.texts.specs.Parts.{Next, goes, ends, refuses, Found, At, part_from}
 use Rattle.texts.specs.Limits.{by, behind_lines}
 use Rattle.texts.proofs.LineByLine.{lines_part, line_last, behind_last}
 use Rattle.edge_io.specs.declared.feed.Line.TheVariants as how
@@ -30,8 +30,8 @@ err_is_no_ok : {V R : Type 0} (a : At R) (b : Found V) → (let e : Answer V R =
 err_is_no_ok a b e = cc
 
 module _ {S V R : Type 0} (step : S → List ℕ → Next S V R) (form : R) (s : S) (lines number : ℕ) (line : List ℕ) where
-  last_end : (next : Next S V R) (value : V) (taken : ℕ) → with_skips step form s line ≡ next
-      → part_from (with_skips step form) form s lines number (line ∷ []) ≡ Ok (record { value = value; taken = taken; behind = [] })
+  last_end : (next : Next S V R) (value : V) (taken : ℕ) → step s line ≡ next
+      → part_from step form s lines number (line ∷ []) ≡ Ok (record { value = value; taken = taken; behind = [] })
       → limited_part step form s lines number None (line ∷ [])
       ≡ Ok (record { value = (None, value); taken = taken; behind = [] })
   last_end (goes t) value taken is h = absurd (err_is_no_ok _ _ (rw (is, part_from) at h))
@@ -40,8 +40,8 @@ module _ {S V R : Type 0} (step : S → List ℕ → Next S V R) (form : R) (s :
       rw (part_from, is) (ap (λ (f : Found V). Ok (record { value = (None, f.value); taken = f.taken; behind = f.behind })) e)
   last_end (refuses r) value taken is h = absurd (err_is_no_ok _ _ (rw (is, part_from) at h))
 
-  last_taken : (next : Next S V R) (value : V) (taken : ℕ) → with_skips step form s line ≡ next
-      → part_from (with_skips step form) form s lines number (line ∷ []) ≡ Ok (record { value = value; taken = taken; behind = [] })
+  last_taken : (next : Next S V R) (value : V) (taken : ℕ) → step s line ≡ next
+      → part_from step form s lines number (line ∷ []) ≡ Ok (record { value = value; taken = taken; behind = [] })
       → taken ≡ lines + 1
   last_taken (goes t) value taken is h = absurd (err_is_no_ok _ _ (rw (is, part_from) at h))
   last_taken (ends v) value taken is h =
@@ -49,8 +49,8 @@ module _ {S V R : Type 0} (step : S → List ℕ → Next S V R) (form : R) (s :
       sym (ap (λ (f : Found V). f.taken) e)
   last_taken (refuses r) value taken is h = absurd (err_is_no_ok _ _ (rw (is, part_from) at h))
 
-  last_refused : (next : Next S V R) (at : ℕ) (e : R) → with_skips step form s line ≡ next
-      → part_from (with_skips step form) form s lines number (line ∷ []) ≡ Err (record { line = at; rule = e })
+  last_refused : (next : Next S V R) (at : ℕ) (e : R) → step s line ≡ next
+      → part_from step form s lines number (line ∷ []) ≡ Err (record { line = at; rule = e })
       → limited_part step form s lines number None (line ∷ []) ≡ Err (record { line = at; rule = by e })
   last_refused (goes t) at e is h =
       let k = same_err (record { line = number + 1; rule = form }) _ (rw (is, part_from) at h) in
@@ -98,7 +98,7 @@ module _ {S V R : Type 0} (step : S → List ℕ → Next S V R) (form : R)
       → PartFed step form start first limit before after old new result
   unfolding open_decided
   open_here (Ok x) read (last, over) =
-      let next = with_skips step form s line in
+      let next = step s line in
       let taken = last_taken step form s lines number line next x.value x.lines refl last in
       let value = last_end step form s lines number line next x.value x.lines refl last in
       record {
@@ -108,7 +108,7 @@ module _ {S V R : Type 0} (step : S → List ℕ → Next S V R) (form : R)
         whole = λ goes_on. absurd cc;
       }
   open_here (Err (fed.Refused r)) read last =
-      let next = with_skips step form s line in
+      let next = step s line in
       open_decided (refused_at step form r.line r.rule) read
       (last_refused step form s lines number line next r.line r.rule refl last)
   open_here (Err fed.NoMemory) read last =

@@ -3,7 +3,7 @@ use Rattle.std.specs.Prelude.{◌≡◌, ℕ, ◌+◌, ◌-◌, ◌<◌, ◌≤�
 use Rattle.std.specs.Io.KnownBytes.{Consumes, IsAtEnd}
 use Rattle.texts.specs.Causes.{Counted}
 use Rattle.texts.specs.Lines.{lines_of, whole_lines}
-use Rattle.texts.specs.Parts.{Next, Found, At, with_skips, part_from}
+use Rattle.texts.specs.Parts.{Next, Found, At, part_from}
 use Rattle.texts.specs.Limits.{Limited, by, beyond, with_limit, room_of, behind_lines}
 use Rattle.edge_io.specs.declared.fed_parts.FedPart.{FedPart}
 use Rattle.edge_io.specs.declared.fed_parts.FedError.{FedError}
@@ -19,11 +19,13 @@ abbrev pub MayFollow : (ended longer : Bool) → List ℕ → Type 0
 MayFollow true longer rest = (rest ≡ []) × (longer ≡ false)
 MayFollow false longer rest = Unit {0}
 
+-- Of a part whose step takes every line, skipped and long ones too, and which is refused by `form`
+-- where it lacks its end.
 module _ {S V R : Type 0} (step : S → List ℕ → Next S V R) (form : R) where
-  -- a part of a text within a limit
+  -- the part of a text within a limit
   abbrev pub limited_part : S → (taken number : ℕ) → Option ℕ → List (List ℕ) → LimitedPart V R
   limited_part s taken number room lines =
-      part_from (with_limit (with_skips step form)) (by form) (room, s) taken number lines
+      part_from (with_limit step) (by form) (room, s) taken number lines
 
   -- the part from its start on, where lines of so many bytes were read before, and the text has a
   -- byte behind the limit or not
@@ -92,11 +94,11 @@ module _ {S V R : Type 0} (step : S → List ℕ → Next S V R) (form : R) wher
   -- what the last line of an input made of a part
   abbrev pub IsLastLine : S → (number lines : ℕ) → List ℕ → Result (FedPart V) (FedError R) → Type 0
   IsLastLine s number lines line (Ok x) =
-      (part_from (with_skips step form) form s lines number (line ∷ [])
+      (part_from step form s lines number (line ∷ [])
       ≡ Ok (record { value = x.value; taken = x.lines; behind = [] }))
       × (true ≡ x.ended)
   IsLastLine s number lines line (Err (fed.Refused r)) =
-      part_from (with_skips step form) form s lines number (line ∷ [])
+      part_from step form s lines number (line ∷ [])
       ≡ Err (record { line = r.line; rule = r.rule })
   IsLastLine s number lines line (Err fed.NoMemory) = Unit {0}
   IsLastLine s number lines line (Err fed.ReadFault) = ⊥

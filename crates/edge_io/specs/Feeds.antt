@@ -1,5 +1,5 @@
 -- What a feed has left, and what reading a byte and a line of it does.
-use Rattle.std.specs.Prelude.{◌≡◌, ◌≢◌, ℕ, ◌-◌, ◌+◌, ◌^◌, ◌<◌, ◌≤◌, min, length, List, [], ◌∷◌, ◌++◌, take, drop, Option, Some, None, Result, Ok, Err}
+use Rattle.std.specs.Prelude.{◌≡◌, ◌≢◌, ℕ, ◌-◌, ◌+◌, ◌^◌, ◌<◌, ◌≤◌, min, length, List, [], ◌∷◌, ◌++◌, take, drop, Bool, true, false, Option, Some, None, Result, Ok, Err}
 use Rattle.std.specs.Io.KnownBytes.{prepend_known, Consumes, Keeps, IsAtEnd}
 use Rattle.texts.specs.Causes.{Counted}
 use Rattle.edge_io.specs.declared.feed.Feed.{Feed}
@@ -60,3 +60,21 @@ LineIs limit before after old new bytes (Err fault.TooLong) =
     × (after ≡ min (before + length bytes + 1) (2 ^ 64 - 1))
 LineIs limit before after old new bytes (Err fault.ReadFault) =
     Consumes old new bytes × (after ≡ before + length bytes)
+
+-- so many bytes were read (true), or the input ended before (false), or a read failed before
+abbrev pub ReadsSoMany : {E : Type 0} → ℕ → (old new : Option (List ℕ)) → List ℕ → Result Bool E
+    → Type 0
+ReadsSoMany n old new bytes (Ok true) = Consumes old new bytes × (length bytes ≡ n)
+ReadsSoMany n old new bytes (Ok false) = Consumes old new bytes × (length bytes < n) × IsAtEnd new
+ReadsSoMany n old new bytes (Err e) = Consumes old new bytes × (length bytes < n)
+
+-- a buffer was filled with the bytes that were read (true), or fewer bytes were there
+abbrev pub Fills : {E : Type 0} → (old new : Option (List ℕ)) → (before after : List ℕ)
+    → Result Bool E → Type 0
+Fills old new before after (Ok true) = Consumes old new after × (length after ≡ length before)
+Fills old new before after (Ok false) =
+    ((bytes : List ℕ) × Consumes old new bytes × (length bytes < length before))
+    × IsAtEnd new × (length after ≡ length before)
+Fills old new before after (Err e) =
+    ((bytes : List ℕ) × Consumes old new bytes × (length bytes < length before))
+    × (length after ≡ length before)

@@ -1,3 +1,4 @@
+pub mod EndedReads
 pub mod FedParts
 pub mod Feeds
 pub mod Gathering

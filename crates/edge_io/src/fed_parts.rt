@@ -1,4 +1,5 @@
 ghost use Rattle.std.specs.Prelude.{◌≡◌, ◌≤◌, ◌<◌, ◌+◌, ◌-◌, ◌^◌, IfOk};
+ghost use Rattle.texts.specs.Parts.{with_skips};
 ghost use Rattle.edge_io.specs.Feeds.{feed_left};
 ghost use Rattle.edge_io.specs.FedParts.{PartFed, HasPartCause, IsLastLine};
 ghost use Rattle.edge_io.specs.declared.fed_parts.FedError.TheVariants as fed;
@@ -48,7 +49,7 @@ pub fn feed_part<S: Source, P: LineReader>(
     requires room { feed.old.line_bytes ≤ limit }
     requires numbers { first + limit < 2 ^ 64 - 1 }
     ensures same_reference { feed.new.source.ghost_name ≡ feed.old.source.ghost_name }
-    ensures fed { PartFed P.step form reader first limit feed.old.line_bytes feed.new.line_bytes (feed_left S.left feed.old) (feed_left S.left feed.new) result }
+    ensures fed { PartFed (with_skips P.step form) form reader first limit feed.old.line_bytes feed.new.line_bytes (feed_left S.left feed.old) (feed_left S.left feed.new) result }
     ensures few { IfOk result (λ x. x.lines ≤ limit) }
     ensures cause { HasPartCause (S.faults feed.old.source.now) (S.faults feed.new.source.now) (feed.new.at ≡ feed.new.end) result }
 {
@@ -84,7 +85,7 @@ pub fn feed_part<S: Source, P: LineReader>(
 }
 
 /// The refusal of a line.
-fn refused<R>(line: u64, rule: R) -> FedError<R>
+pub(crate) fn refused<R>(line: u64, rule: R) -> FedError<R>
     ensures { result ≡ fed.Refused (record { line = line; rule = rule }) }
 {
     FedError::Refused(Refused { line, rule })
@@ -100,7 +101,7 @@ fn last_line<P: LineReader>(
 ) -> Result<FedPart<P::Value>, FedError<P::Rule>>
     requires numbers { number < 2 ^ 64 - 1 }
     requires lines { lines < 2 ^ 64 - 1 }
-    ensures last { IsLastLine P.step form reader number lines line.now result }
+    ensures last { IsLastLine (with_skips P.step form) form reader number lines line.now result }
     ensures few { IfOk result (λ x. x.lines ≡ lines + 1) }
 {
     match take_unless_skipped(&mut reader, form, line) {

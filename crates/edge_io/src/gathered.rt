@@ -1,9 +1,13 @@
 ghost use Rattle.std.specs.Prelude.{◌≡◌, ◌≤◌, ◌+◌, ◌++◌, length, take, drop};
 
-use crate::{Failed, Sink, WriteFault};
+use crate::{Failed, Sink, TextSink, WriteFault, put_all};
+use itoa::Buffer;
 
 /// How many bytes are held back at most.
 const ROOM: usize = 8192;
+
+/// The digits of the longest number.
+const MOST_DIGITS: usize = 20;
 
 /// A sink that gathers bytes in a buffer of 8192 bytes of its own, and passes them on to the sink that it was lent only when that is full and at `flush` or `finish`. It takes no memory.
 ///
@@ -20,7 +24,7 @@ pub struct Gathered<'a, K> {
 }
 
 impl<'a, K: Sink> Gathered<'a, K> {
-    ghost use Rattle.std.specs.Prelude.{◌≡◌, [], ◌<◌, ◌≤◌, List, ℕ, length, take, OnOk};
+    ghost use Rattle.std.specs.Prelude.{◌≡◌, ◌+◌, [], ◌∷◌, ◌<◌, ◌≤◌, List, ℕ, length, take, OnOk};
     ghost use Rattle.texts.specs.Growth.{Told, Wrote, Puts, gathering};
     ghost use Rattle.edge_io.specs.Gathering.{gathered_told, held};
 
@@ -71,16 +75,37 @@ impl<'a, K: Sink> Gathered<'a, K> {
         }
     }
 
-    /// Makes room for a byte at least.
-    fn make_room(&mut self) -> Result<(), WriteFault>
+    /// Makes room for so many bytes.
+    fn make_room(&mut self, count: usize) -> Result<(), WriteFault>
+        requires few { count ≤ 8192 }
         ensures same_reference { self.new.sink.ghost_name ≡ self.old.sink.ghost_name }
         ensures puts { Puts result [] (gathered_told K.told self.old) (gathered_told K.told self.new) }
-        ensures room { OnOk result (self.new.end < length self.new.buffer) }
+        ensures room { OnOk result (self.new.end + count ≤ length self.new.buffer) }
     {
-        if self.end < ROOM {
+        if count <= ROOM - self.end {
             return Ok(());
         }
         self.flush()
+    }
+
+    /// Holds a byte.
+    fn hold_byte(&mut self, byte: u8)
+        requires room { self.old.end < length self.old.buffer }
+        ensures same_reference { self.new.sink.ghost_name ≡ self.old.sink.ghost_name }
+        ensures wrote { Wrote (byte ∷ []) (gathered_told K.told self.old) (gathered_told K.told self.new) }
+    {
+        place(&mut self.buffer, self.end, &[byte]);
+        self.end += 1;
+    }
+
+    /// Holds all of the bytes.
+    fn hold_all(&mut self, bytes: &[u8])
+        requires room { self.old.end + length bytes.now ≤ length self.old.buffer }
+        ensures same_reference { self.new.sink.ghost_name ≡ self.old.sink.ghost_name }
+        ensures wrote { Wrote bytes.now (gathered_told K.told self.old) (gathered_told K.told self.new) }
+    {
+        place(&mut self.buffer, self.end, bytes);
+        self.end += bytes.len();
     }
 
     /// Holds as many of the bytes as there is room for.
@@ -118,9 +143,37 @@ impl<'a, K: Sink> Sink for Gathered<'a, K> {
     ghost told = { λ g. gathered_told K.told g };
 
     fn write(&mut self, bytes: &[u8]) -> Result<usize, Failed> {
-        match self.make_room() {
+        match self.make_room(1) {
             Ok(()) => Ok(self.hold(bytes)),
             Err(WriteFault) => Err(Failed),
         }
+    }
+}
+
+impl<'a, K: Sink> TextSink for Gathered<'a, K> {
+    fn text(&mut self, bytes: &[u8]) -> Result<(), WriteFault> {
+        if bytes.len() > ROOM {
+            return put_all(self, bytes);
+        }
+        match self.make_room(bytes.len()) {
+            Ok(()) => {}
+            Err(WriteFault) => return Err(WriteFault),
+        }
+        self.hold_all(bytes);
+        Ok(())
+    }
+
+    fn number(&mut self, value: u64) -> Result<(), WriteFault> {
+        match self.make_room(MOST_DIGITS) {
+            Ok(()) => {}
+            Err(WriteFault) => return Err(WriteFault),
+        }
+        if value < 10 {
+            self.hold_byte(b'0' + value as u8);
+        } else {
+            let mut digits = Buffer::new();
+            self.hold_all(digits.format(value).as_bytes());
+        }
+        Ok(())
     }
 }

@@ -6,8 +6,12 @@
 #![tactic(auto)]
 
 mod cuts;
+mod ended_texts;
 mod fed_parts;
 mod feed;
+mod feed_bytes;
+#[cfg(test)]
+mod feed_tests;
 mod gathered;
 mod laws;
 mod line_buf;
@@ -29,8 +33,10 @@ mod tests;
 mod traits;
 mod whole;
 
+pub use ended_texts::read_ended;
 pub use fed_parts::{FedError, FedPart, feed_part};
 pub use feed::{Feed, Line, LineFault};
+pub use feed_bytes::{skip_bytes, take_bytes};
 pub use gathered::Gathered;
 pub use laws::{ill_parted_lines_are_refused, numbers_have_one_word};
 pub use line_buf::LineBuf;
@@ -47,5 +53,5 @@ pub use shapes::numbers_after;
 pub use std_sink::StdSink;
 pub use std_source::StdSource;
 pub use taking::{PartError, Refused, TakeError};
-pub use traits::{Failed, Sink, Source};
+pub use traits::{Failed, Sink, Source, TextSink};
 pub use whole::no_fault_is_counted;

@@ -1,8 +1,7 @@
 use crate::{
-    Failed, FedError, Feed, Gathered, InputFault, Line, LineBuf, LineFault, LineReader, Lines,
-    MemSink, MemSource, NullSink, PartError, Piece, PlainSource, ReadFault, Refused, Sink, Source,
-    StdSink, StdSource, TakeError, Words, WriteFault, feed_part, number, numbers_after, put_all,
-    put_pieces, read_all, read_part,
+    Failed, Gathered, InputFault, LineReader, Lines, MemSink, MemSource, NullSink, PartError,
+    Piece, PlainSource, Refused, Sink, Source, StdSink, StdSource, TakeError, Words, WriteFault,
+    number, numbers_after, put_all, put_pieces, read_all, read_part,
 };
 use std::io::{self, ErrorKind, Read, Write};
 use std::process::Abort;
@@ -206,7 +205,7 @@ fn a_sink_that_keeps_nothing_counts(rt: HostRuntime) {
 
 /// A part that is one line `end`.
 #[derive(Drop)]
-struct OnlyEnd {}
+pub(crate) struct OnlyEnd {}
 
 impl LineReader for OnlyEnd {
     ghost use Rattle.std.specs.Str.{bytes_eq};
@@ -250,110 +249,4 @@ fn a_part_skips_lines_and_is_refused_by_its_line(rt: HostRuntime) {
         let want = PartError::Refused(Refused { line, rule });
         assert!(rt; matches!(read_part(OnlyEnd {}, 0, text.as_bytes(), 1), Err(e) if e == want));
     }
-}
-
-#[test]
-fn a_feed_gives_bytes_one_by_one(rt: HostRuntime) -> Result<(), Fail> {
-    let alloc = rt.alloc();
-    let bytes = Vec::from_slice(alloc, b"abc".as_slice())?;
-    let mut source = MemSource::new(bytes, vec![in alloc; 2]?, vec![in alloc; 2]?);
-    let mut feed = Feed::new(&mut source);
-    for want in [
-        Ok(Some(b'a')),
-        Ok(Some(b'b')),
-        Err(ReadFault),
-        Ok(Some(b'c')),
-        Ok(None),
-        Ok(None),
-    ] {
-        assert_eq!(rt; feed.byte(), want);
-    }
-    Ok(())
-}
-
-#[test]
-fn a_line_ends_in_four_ways(rt: HostRuntime) -> Result<(), Fail> {
-    let alloc = rt.alloc();
-    let mut text = Vec::from_slice(alloc, b"ab\n\n".as_slice())?;
-    for _ in 0..4096 {
-        text.push(b'x')?;
-    }
-    text.push(b'\n')?;
-    for _ in 0..4097 {
-        text.push(b'y')?;
-    }
-    text.extend_from_slice(b"z\nend")?;
-    let mut source = PlainSource::new(&text);
-    let mut feed = Feed::new(&mut source);
-    let mut line = LineBuf::new(alloc)?;
-    for (want, length) in [
-        (Line::Whole, 2),
-        (Line::Whole, 0),
-        (Line::Whole, 4096),
-        (Line::Long, 4096),
-        (Line::Whole, 1),
-        (Line::Open, 3),
-        (Line::End, 0),
-    ] {
-        assert_eq!(rt; feed.line(&mut line, 9000), Ok(want));
-        assert_eq!(rt; line.bytes().len(), length);
-    }
-    Ok(())
-}
-
-#[test]
-fn lines_are_read_up_to_their_limit(rt: HostRuntime) -> Result<(), Fail> {
-    let mut line = LineBuf::new(rt.alloc())?;
-    for (limit, first, second) in [
-        (0, Err(LineFault::TooLong), Err(LineFault::TooLong)),
-        (2, Err(LineFault::TooLong), Err(LineFault::TooLong)),
-        (3, Ok(Line::Whole), Err(LineFault::TooLong)),
-        (4, Ok(Line::Whole), Err(LineFault::TooLong)),
-        (5, Ok(Line::Whole), Ok(Line::Open)),
-    ] {
-        let mut source = PlainSource::new(b"ab\ncd");
-        let mut feed = Feed::new(&mut source);
-        assert_eq!(rt; feed.line(&mut line, limit), first, "at {limit}");
-        assert_eq!(rt; feed.line(&mut line, limit), second, "at {limit}");
-    }
-    Ok(())
-}
-
-#[test]
-fn a_part_is_read_from_a_feed(rt: HostRuntime) -> Result<(), Fail> {
-    let mut line = LineBuf::new(rt.alloc())?;
-    for (text, limit, want, behind) in [
-        ("# x\n\nend\nmore", 9, Ok((3, false)), Some(b'm')),
-        ("\nend", 4, Ok((2, true)), None),
-        ("\nend", 3, Err(FedError::TooLong), None),
-        (
-            "\nfin\nend",
-            8,
-            Err(FedError::Refused(Refused { line: 2, rule: 1 })),
-            Some(b'e'),
-        ),
-        (
-            "\nend \n",
-            9,
-            Err(FedError::Refused(Refused { line: 2, rule: 0 })),
-            None,
-        ),
-        (
-            "\n#\n",
-            9,
-            Err(FedError::Refused(Refused { line: 3, rule: 0 })),
-            None,
-        ),
-    ] {
-        let mut source = PlainSource::new(text.as_bytes());
-        let mut feed = Feed::new(&mut source);
-        let read = feed_part(&mut feed, &mut line, OnlyEnd {}, 0, 1, limit);
-        assert_eq!(rt;
-            read.map(|part| (part.lines, part.ended)),
-            want,
-            "at {text}"
-        );
-        assert_eq!(rt; feed.byte(), Ok(behind), "at {text}");
-    }
-    Ok(())
 }

@@ -1,10 +1,11 @@
-ghost use Rattle.std.specs.Prelude.{◌<◌, ◌≤◌, List, ℕ, length, IfOk};
+ghost use Rattle.std.specs.Prelude.{◌<◌, ◌≤◌, List, ℕ, length, decimal, IfOk};
 ghost use Rattle.std.specs.declared.option.Option.{Option};
 ghost use Rattle.std.specs.Io.{ReadsAtMost};
 ghost use Rattle.std.specs.Io.KnownBytes.{ReadConsumes, WriteAppends};
 ghost use Rattle.texts.specs.Causes.{HasCause};
-ghost use Rattle.texts.specs.Growth.{Told, Follows, UsesUp};
+ghost use Rattle.texts.specs.Growth.{Told, Follows, UsesUp, Puts};
 
+use crate::WriteFault;
 use thiserror::Error;
 
 /// A read or a write that failed. The source or the sink has counted it.
@@ -46,4 +47,19 @@ pub trait Sink {
         ensures cause { HasCause (told self.old).faults (told self.new).faults result }
         ensures follows { Follows (told self.old) (told self.new) }
         ensures uses { UsesUp (told self.old) (told self.new) result bytes.now };
+}
+
+/// A sink that takes whole texts and numbers, piece by piece.
+pub trait TextSink: Sink {
+    /// Takes all of the bytes.
+    ///
+    /// `WriteFault` comes only where a fault was counted; a front of them was then taken.
+    fn text(&mut self, bytes: &[u8]) -> Result<(), WriteFault>
+        ensures { Puts result bytes.now (Self.Sink.told self.old) (Self.Sink.told self.new) };
+
+    /// Takes the decimal digits of a number.
+    ///
+    /// `WriteFault` comes only where a fault was counted; a front of them was then taken.
+    fn number(&mut self, value: u64) -> Result<(), WriteFault>
+        ensures { Puts result (decimal value) (Self.Sink.told self.old) (Self.Sink.told self.new) };
 }

@@ -1,5 +1,5 @@
 -- One line after another, and what follows.
-use Rattle.std.proofs.Common.{◌≡◌, ℕ, suc, ◌+◌, ◌<◌, Bool, true, false, cond, eqb, not, List, [], ◌∷◌, ◌++◌, length, refl, ap, sym, ◌∙◌, append_assoc, arith}
+use Rattle.std.proofs.Common.{◌⊎◌, inl, inr, ◌≡◌, ℕ, suc, ◌+◌, ◌<◌, Bool, true, false, cond, eqb, not, List, [], ◌∷◌, ◌++◌, length, refl, ap, sym, ◌∙◌, append_assoc, arith}
 use Rattle.std.specs.List.{list_all, onto_first}
 use Rattle.std.proofs.lemmas.Bool.{and_parts, not-true}
 use Rattle.std.proofs.lemmas.List.{append-nil}
@@ -103,3 +103,49 @@ whole_part line rest plain = whole_more [] line rest plain
 
 pub whole_open : (line : List ℕ) → is_one_line line ≡ true → whole_lines line ≡ []
 whole_open line plain = whole_none [] line plain
+
+-- The first of the whole lines of a text that begins with bytes without newline has at least these
+-- bytes, where there is one.
+pub record WholeLonger (line text : List ℕ) : Type 0 where
+  pub more : List ℕ
+  pub lines : List (List ℕ)
+  pub first : whole_lines text ≡ (line ++ more) ∷ lines
+
+-- what whole lines are there, where so much of the first was read before
+abbrev pub SomeWhole : (acc rest : List ℕ) → Type 0
+SomeWhole acc rest =
+    (whole_from acc rest ≡ [])
+    ⊎ ((more : List ℕ) × (lines : List (List ℕ)) × (whole_from acc rest ≡ (acc ++ more) ∷ lines))
+
+some_further : (acc : List ℕ) (b : ℕ) (bs : List ℕ) → eqb b 10 ≡ false
+    → SomeWhole (acc ++ b ∷ []) bs → SomeWhole acc (b ∷ bs)
+some_further acc b bs is (inl none) = inl (rw is none)
+some_further acc b bs is (inr (more, lines, h)) =
+    inr (b ∷ more, lines, rw is (h ∙ ap (λ (l : List ℕ). l ∷ lines) (append_assoc acc (b ∷ []) more)))
+
+some_whole_by : (acc : List ℕ) (b : ℕ) (bs : List ℕ) (test : Bool) → eqb b 10 ≡ test
+    → SomeWhole (acc ++ b ∷ []) bs → SomeWhole acc (b ∷ bs)
+some_whole_by acc b bs true is further =
+    inr ([], whole_lines bs, rw is (ap (λ (l : List ℕ). l ∷ whole_lines bs) (sym (append-nil acc))))
+some_whole_by acc b bs false is further = some_further acc b bs is further
+
+some_whole : (acc rest : List ℕ) → SomeWhole acc rest
+some_whole acc [] = inl refl
+some_whole acc (b ∷ bs) = some_whole_by acc b bs (eqb b 10) refl (some_whole (acc ++ b ∷ []) bs)
+
+whole_after : (acc line rest : List ℕ) → is_one_line line ≡ true
+    → whole_from acc (line ++ rest) ≡ whole_from (acc ++ line) rest
+whole_after acc [] rest plain = ap (λ (l : List ℕ). whole_from l rest) (sym (append-nil acc))
+whole_after acc (b ∷ bs) rest plain =
+    let p = and_parts (not (eqb b 10)) (list_all (λ c. not (eqb c 10)) bs) plain in
+    rw (not-true (eqb b 10) p.0) (whole_after (acc ++ b ∷ []) bs rest p.1 ∙ ap (λ (l : List ℕ). whole_from l rest) (append_assoc acc (b ∷ []) bs))
+
+whole_found : (line rest : List ℕ) → is_one_line line ≡ true → SomeWhole line rest
+    → (whole_lines (line ++ rest) ≡ []) ⊎ WholeLonger line (line ++ rest)
+whole_found line rest plain (inl none) = inl (whole_after [] line rest plain ∙ none)
+whole_found line rest plain (inr (more, lines, h)) =
+    inr (record { more = more; lines = lines; first = whole_after [] line rest plain ∙ h })
+
+pub longer_whole : (line rest : List ℕ) → is_one_line line ≡ true
+    → (whole_lines (line ++ rest) ≡ []) ⊎ WholeLonger line (line ++ rest)
+longer_whole line rest plain = whole_found line rest plain (some_whole line rest)

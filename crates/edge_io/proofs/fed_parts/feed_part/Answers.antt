@@ -1,7 +1,7 @@
 use Rattle.std.proofs.Common.{refl, ◌∙◌}
 use Rattle.std.proofs.KnownBytes.{Consumes-trans}
 use Rattle.edge_io.proofs.FedLines.{takes_goes, takes_ends, takes_refuses, stands_first, stands_more, ends_here, refuses_here, lost_here}
-use Rattle.edge_io.proofs.FedEnds.{long_here, end_here, too_long}
+use Rattle.edge_io.proofs.FedEnds.{skips_refuse_long, long_here, end_here, too_long}
 use Rattle.edge_io.proofs.LastLines.{open_here}
 use Rattle.edge_io.proofs.fed_parts.feed_part.Goals as goal
 
@@ -31,7 +31,7 @@ pub returns-in-Long-clause-fed : goal.returns-in-Long-clause-fed
 returns-in-Long-clause-fed g c =
     let read = c.in-Ok.ensures in
     rw c.refused.ensures (long_here _ _ _ _ _ _ _ _ _ _ _ _ _ _ _ read.one read.short
-    c.loop-line.invariant.stands (rw c.in-Long.is at read.line))
+    c.loop-line.invariant.stands (skips_refuse_long _ _) (rw c.in-Long.is at read.line))
 
 pub returns-in-End-clause-fed : goal.returns-in-End-clause-fed
 returns-in-End-clause-fed g c =

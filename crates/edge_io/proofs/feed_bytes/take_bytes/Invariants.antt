@@ -1,0 +1,12 @@
+use Rattle.std.proofs.Common.{◌≡◌, take, length}
+use Rattle.std.specs.Io.KnownBytes.{Consumes}
+use Rattle.edge_io.specs.Feeds.{feed_left}
+use Rattle.edge_io.proofs.feed_bytes.take_bytes.Given as goal
+
+abbrev pub invariant-loop-i : goal.invariant-loop-i
+invariant-loop-i g l = record {
+  same : l.feed.source.ghost_name ≡ l.fn.feed.source.ghost_name;
+  still : g.S.Source.faults l.feed.source.now ≡ g.S.Source.faults l.fn.feed.source.now;
+  size : length l.buf ≡ length l.fn.buf;
+  read : Consumes (feed_left g.S.Source.left l.fn.feed) (feed_left g.S.Source.left l.feed) (take l.i l.buf);
+}

@@ -1,0 +1,4 @@
+pub mod FedHeaders
+pub mod Fits
+pub mod Headers
+pub mod NodePart

@@ -1,0 +1,5 @@
+pub mod Answering
+pub mod CellByCell
+pub mod Configurations
+pub mod PacketByPacket
+pub mod ReadBack

@@ -1,0 +1,18 @@
+//! One node of a plan's counter, which hears packets and answers each with a cell.
+//!
+//! A cell is a state as bytes with its length before it, and a packet is a cell of each node. A
+//! [`NodeEngine`] hears cells and steps; [`NodeEngine::serve`] reads packets from a feed and writes
+//! its cell before the first and behind each. All memory is taken when the engine is made.
+#![tactic(auto)]
+
+mod cells;
+mod engine;
+mod faults;
+mod hearing;
+pub mod laws;
+mod serving;
+#[cfg(test)]
+mod tests;
+
+pub use engine::NodeEngine;
+pub use faults::NodeFault;

@@ -1,0 +1,75 @@
+use crate::cells::write_cell;
+use crate::faults::Amount;
+use crate::{NodeEngine, NodeFault};
+use edge_io::{Feed, ReadFault, Sink, Source, WriteFault, put_all};
+
+/// How many bytes a cell of a state has at most.
+const MOST_BYTES: usize = 130;
+
+/// How many packets are answered at most.
+const MOST_PACKETS: u64 = 1_000_000;
+
+impl NodeEngine {
+    ghost use Rattle.std.specs.Prelude.{◌≡◌, ◌<◌, ◌≤◌, [], ◌∷◌, OnErr};
+    ghost use Rattle.texts.specs.Growth.{Puts};
+    ghost use Rattle.edge_io.specs.Feeds.{feed_left};
+    ghost use Rattle.node_stepper.specs.Nodes.{own, state_cell};
+    ghost use Rattle.node_stepper.specs.Serving.{Serves, HasServeCause};
+
+    /// Writes the cell of its own state.
+    fn put_cell<K: Sink>(&self, sink: &mut K) -> Result<(), WriteFault>
+        ensures { Puts result (state_cell self.now.plan self.now.id (own self.now)) (K.told sink.old) (K.told sink.new) }
+    {
+        let mut room = [0; MOST_BYTES];
+        let size = write_cell(&self.shape, self.id, self.state(), &mut room);
+        put_all(sink, &room[..size])
+    }
+
+    /// Writes the cell of its state, and then hears packets, and writes the cell of its new state
+    /// behind each: the answer is how many these were. What was heard before is forgotten. Each cell
+    /// is written before any byte behind its packet is read of the feed.
+    ///
+    /// `Cut` comes where the input ends inside a packet, and `TooLong` where there is a byte of packet
+    /// 1,000,001. `ReadFault` and `WriteFault` come only where the source, or the sink, counted a
+    /// fault. After an error the node stands behind the last whole packet, and has heard nobody
+    /// since. It takes no memory.
+    pub fn serve<S: Source, K: Sink>(
+        &mut self,
+        feed: &mut Feed<'_, S>,
+        sink: &mut K,
+    ) -> Result<u64, NodeFault>
+        ensures same_reference { feed.new.source.ghost_name ≡ feed.old.source.ghost_name }
+        ensures served { Serves self.old self.new (feed_left S.left feed.old) (feed_left S.left feed.new) (K.told sink.old) (K.told sink.new) result }
+        ensures cause { HasServeCause (S.faults feed.old.source.now) (S.faults feed.new.source.now) (feed.new.at ≡ feed.new.end) result }
+    {
+        self.forget();
+        match self.put_cell(sink) {
+            Ok(()) => {}
+            Err(WriteFault) => return Err(NodeFault::WriteFault),
+        }
+        for packet in 0..MOST_PACKETS {
+            match self.hear_packet(feed) {
+                Ok(Amount::Whole) => {}
+                Ok(Amount::Nothing) => return Ok(packet),
+                Ok(Amount::Cut(sender)) => {
+                    self.forget();
+                    return Err(NodeFault::Cut { packet, sender });
+                }
+                Err(ReadFault) => {
+                    self.forget();
+                    return Err(NodeFault::ReadFault);
+                }
+            }
+            self.packet();
+            match self.put_cell(sink) {
+                Ok(()) => {}
+                Err(WriteFault) => return Err(NodeFault::WriteFault),
+            }
+        }
+        match feed.byte() {
+            Ok(None) => Ok(MOST_PACKETS),
+            Ok(Some(_)) => Err(NodeFault::TooLong),
+            Err(ReadFault) => Err(NodeFault::ReadFault),
+        }
+    }
+}
