@@ -9,7 +9,7 @@ ghost use Rattle.boost_step.specs.Numbers.{AreNumbers, block_nodes, in_blocks};
 ghost use Rattle.boost_step.specs.Kept.{KeepsOutputs};
 
 use crate::votes::{block_beat, block_vote};
-use counter_core::{Heard, Work};
+use counter_core::{Heard, Work, tally_values};
 use majority_votes::Tally;
 use phase_king::king_step;
 use plan_numbers::LevelNums;
@@ -55,19 +55,6 @@ fn beat(nums: &LevelNums, work: &mut Work) -> u64
     let n = nums.block_nodes() as usize;
     let start = lead(nums, work) as usize * n;
     block_beat(&work.outputs[start..start + n], nums.beat, &mut work.values)
-}
-
-/// Takes the values heard of a register, by place.
-fn tally_values(heard: &Heard<'_>, register: usize, values: &mut Tally)
-    requires few { length heard.now ≤ 256 }
-    requires deep { All (λ s. register < length s.registers) heard.now }
-    requires room { length heard.now ≤ values.old.capacity }
-    ensures { values.new ≡ record values.old { values = map (λ s. (register_at register s).a) heard.now } }
-{
-    values.clear();
-    for place in 0..heard.len() {
-        values.add(heard.state(place as u32).reg(register).a);
-    }
 }
 
 /// The register after the instruction of a beat, by the values heard.

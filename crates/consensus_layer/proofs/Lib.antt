@@ -1,0 +1,4 @@
+pub mod Loaded
+pub mod Decisions
+mod Examples
+pub mod FitInputs

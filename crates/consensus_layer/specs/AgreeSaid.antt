@@ -1,0 +1,7 @@
+-- What an agree part says.
+use Rattle.std.specs.Prelude.{ℕ, List}
+
+-- how many values there are, and the input of each node
+pub record AgreeSaid : Type 0 where
+  pub values : ℕ
+  pub inputs : List ℕ

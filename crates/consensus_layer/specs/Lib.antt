@@ -1,0 +1,9 @@
+pub mod Agreeing
+pub mod Agreements
+pub mod AgreementsSeen
+pub mod AgreeLaws
+pub mod AgreeSaid
+pub mod AgreePart
+pub mod AgreeRefusals
+pub mod AgreeAnswers
+pub mod InputAnswers

@@ -1,0 +1,128 @@
+ghost use Rattle.std.specs.Prelude.{◌≡◌, ◌*◌, ◌<◌, ◌≤◌, length, slice_index, All};
+ghost use Rattle.layer_laws.specs.Slots.{slot_length};
+
+use crate::agree_parts::AgreePart;
+use crate::agreeing::{agree, slot_length};
+use counter_core::{Heard, Overlay, Work};
+use plan_numbers::Plan;
+use std::alloc::{AllocError, Global};
+use sync_types::NodeState;
+
+/// Consensus on the counter of a plan: each node has an input, and keeps the decision of the last
+/// slot that ended.
+#[derive(Debug, Drop)]
+pub struct Agreement {
+    nodes: u32,
+    faults: u32,
+    modulus: u64,
+    depth: usize,
+    values: u64,
+    inputs: Vec<u64>,
+    decisions: Vec<u64>,
+    ghost few: { nodes ≤ 256 },
+    ghost quorum: { 3 * faults < nodes },
+    ghost inputs_of_nodes: { length inputs.items ≡ nodes },
+    ghost decisions_of_nodes: { length decisions.items ≡ nodes },
+    ghost range: { All (λ a. a < values) inputs.items },
+}
+
+impl Agreement {
+    ghost use Rattle.std.specs.Prelude.{replicate, IfOk};
+    ghost use Rattle.construction.specs.Plans.{plan_nodes};
+    ghost use Rattle.consensus_layer.specs.Agreements.{agree_layer};
+    ghost use Rattle.consensus_layer.specs.AgreementsSeen.{layer_seen, decisions_seen};
+    ghost use Rattle.consensus_layer.specs.AgreePart.{IsFor};
+
+    /// Consensus on the counter of a plan, as an agree part says that was read for it. Each node's
+    /// decision is 0.
+    pub fn new(alloc: Global, plan: &Plan, part: AgreePart) -> Result<Agreement, AllocError>
+        requires { IsFor plan.now part }
+        ensures layer { IfOk result
+            (λ a. layer_seen a ≡ agree_layer plan.now part.values part.inputs) }
+        ensures kept { IfOk result (λ a. decisions_seen a ≡ replicate (plan_nodes plan.now) 0) }
+    {
+        plan.tell();
+        let nodes = plan.nodes();
+        Ok(Agreement {
+            nodes,
+            faults: plan.faults(),
+            modulus: plan.modulus(),
+            depth: plan.depth(),
+            values: part.values,
+            inputs: part.inputs,
+            decisions: Vec::from_elem(alloc, 0, nodes as usize)?,
+        })
+    }
+
+    /// The input of a node.
+    fn input(&self, v: u32) -> u64
+        requires { v < self.now.nodes }
+        ensures { result ≡ slice_index self.now.inputs.items v }
+    {
+        self.inputs[v as usize]
+    }
+
+    /// The decision of node `v`, which is below the number of nodes.
+    pub fn decision(&self, v: u32) -> u64
+        requires { v < (layer_seen self.now).nodes }
+        ensures { result ≡ slice_index (decisions_seen self.now) v }
+    {
+        self.decisions[v as usize]
+    }
+
+    /// How many rounds a slot has.
+    pub fn slot_length(&self) -> u64
+        ensures { result ≡ slot_length self.now.faults }
+    {
+        slot_length(self.faults)
+    }
+
+    /// How many values there are: each input and each decision is below.
+    pub fn values(&self) -> u64
+        ensures { result ≡ (layer_seen self.now).values }
+    {
+        self.values
+    }
+}
+
+impl Overlay for Agreement {
+    ghost use Rattle.consensus_layer.specs.AgreementsSeen.{layer_seen, decisions_seen};
+    ghost use Rattle.consensus_layer.specs.AgreeLaws.{agree_keeps};
+
+    type Kept = u64;
+
+    ghost layer = { layer_seen };
+
+    ghost kept = { decisions_seen };
+
+    fn extra(&self) -> usize {
+        1
+    }
+
+    fn begin(&mut self, _at: u64) {}
+
+    fn advance(
+        &mut self,
+        node: u32,
+        output: u64,
+        heard: &Heard<'_>,
+        work: &mut Work,
+        out: &mut NodeState,
+    ) {
+        let v = node as usize;
+        let agreed = agree(
+            heard,
+            node,
+            self.depth,
+            self.input(node),
+            output,
+            self.nodes,
+            self.faults,
+            work,
+        );
+        out.set_reg(self.depth, agreed.register);
+        self.decisions[v] = agreed.decided.unwrap_or(self.decisions[v]);
+    }
+
+    ghost keeps_range = { λ a. agree_keeps a.nodes a.faults a.modulus a.depth a.values a.inputs.items a.quorum a.inputs_of_nodes a.range };
+}

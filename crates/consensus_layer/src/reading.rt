@@ -1,0 +1,38 @@
+ghost use Rattle.std.specs.Prelude.{◌≤◌, ◌<◌, ◌+◌, ◌^◌, length, IfOk};
+ghost use Rattle.consensus_layer.specs.AgreeAnswers.{IsAnswer};
+
+use crate::agree_lines::AgreeLines;
+use crate::agreement::Agreement;
+use crate::refusals::AgreeError;
+use edge_io::read_part;
+use plan_numbers::Plan;
+use std::alloc::Global;
+use sync_types::Rule;
+
+/// Reads the agree part at the front of an input: consensus on the counter of the plan as it says,
+/// where each node's decision is 0, how many bytes stand through the part's `end` line, that line's
+/// newline among them, and how many lines these are, skipped ones counted. The first line of
+/// `bytes` has the number `first_line`, which is at least 1 and whose sum with the length of
+/// `bytes` is below 2^64.
+///
+/// `Refused` is the first line that fails, with the first rule that it fails: `Form`, also for
+/// inputs that are not as many as the nodes, `Limit` above 65536 values, `Range` below two values or
+/// for an input that is not below them, `Slot` on the first line where the plan's modulus is no
+/// multiple of a slot's length. A part that lacks its `end` is refused `Form` at the line after the
+/// last. `NoMemory` comes where memory was refused.
+pub fn read_agree(
+    alloc: Global,
+    plan: &Plan,
+    bytes: &[u8],
+    first_line: u64,
+) -> Result<(Agreement, usize, u64), AgreeError>
+    requires first { 1 ≤ first_line }
+    requires count { first_line + length bytes.now < 2 ^ 64 }
+    ensures exact { IsAnswer plan.now first_line bytes.now result }
+    ensures within { IfOk result (λ read. read.1 ≤ length bytes.now) }
+    ensures lines { IfOk result (λ read. read.2 ≤ read.1) }
+{
+    let read = read_part(AgreeLines::new(alloc, plan), Rule::Form, bytes, first_line)?;
+    let agreement = Agreement::new(alloc, plan, read.value)?;
+    Ok((agreement, read.bytes, read.lines))
+}

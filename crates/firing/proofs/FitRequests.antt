@@ -1,0 +1,112 @@
+-- Requests that are read are those of nodes of the plan, and the plan's modulus is a multiple of a
+-- slot.
+use Rattle.std.proofs.Common.{◌≡◌, ℕ, ◌+◌, ◌<◌, ◌≤◌, ◌%◌, Bool, true, false, List, [], ◌∷◌, ◌++◌, length, All, Option, Some, None, Result, Ok, Err, refl, subst, arith}
+use Rattle.std.specs.Prelude.{⊤, IfOk, nat_le, nat_lt, ◌==◌, if◌then◌else◌, codes}
+use Rattle.std.specs.Str.{bytes_eq}
+use Rattle.std.proofs.lemmas.Bool.{eqb-true, leb-false}
+use Rattle.std.proofs.lemmas.List.{length_push}
+use Rattle.std.proofs.lemmas.List.Elements.{All-push, All-nil}
+use Rattle.texts.specs.Lines.{words_of}
+use Rattle.texts.specs.Shapes.{numbers_after}
+use Rattle.texts.specs.Parts.{Next, goes, ends, refuses}
+use Rattle.texts.proofs.Parts.{After, skips_keep, part_keeps}
+use Rattle.sync_types.specs.declared.answers.Rule.{Rule}
+use Rattle.sync_types.specs.declared.answers.Rule.TheVariants.{Form, Limit, Node, Range, Slot}
+use Rattle.construction.specs.Plans.{Plan, plan_nodes, plan_faults, plan_modulus}
+use Rattle.layer_laws.specs.Slots.{slot_length}
+use Rattle.firing.specs.declared.requests.Request.{Request}
+use Rattle.firing.specs.FirePart.{FireSoFar, nothing_read, head_step, request_tested, request_in, goes_with, fire_step, part_of, AreFor}
+
+-- what holds of the requests so far
+record FitSoFar (plan : Plan) (s : FireSoFar) : Type 0 where
+  nodes : s.nodes ≡ plan_nodes plan
+  whole : s.whole ≡ true → plan_modulus plan % slot_length (plan_faults plan) ≡ 0
+  begun : s.begun ≡ true → plan_modulus plan % slot_length (plan_faults plan) ≡ 0
+  many : length s.requests ≤ 256
+  each : All (λ request. request.node < plan_nodes plan) s.requests
+
+-- a request that may be put behind the others
+abbrev IsOneMore : FireSoFar → Request → Type 0
+IsOneMore s request = (length s.requests < 256) × (request.node < s.nodes)
+
+by_tests : (s : FireSoFar) (v a b : ℕ) (full high crossed : Bool)
+    → nat_le 256 (length s.requests) ≡ full → nat_le s.nodes v ≡ high
+    → IfOk (if full then Err Limit else if high then Err Node else if crossed then Err Range
+    else Ok (record { node = v; first = a; last = b })) (IsOneMore s)
+by_tests s v a b true high crossed e e' = tt
+by_tests s v a b false true crossed e e' = tt
+by_tests s v a b false false true e e' = tt
+by_tests s v a b false false false e e' =
+    (leb-false 256 (length s.requests) e, leb-false s.nodes v e')
+
+tested : (s : FireSoFar) (numbers : Option (List ℕ))
+    → IfOk (request_tested s numbers) (IsOneMore s)
+tested s None = tt
+tested s (Some []) = tt
+tested s (Some (v ∷ [])) = tt
+tested s (Some (v ∷ a ∷ [])) = tt
+tested s (Some (v ∷ a ∷ b ∷ [])) =
+    by_tests s v a b (nat_le 256 (length s.requests)) (nat_le s.nodes v) (nat_lt b a) refl refl
+tested s (Some (v ∷ a ∷ b ∷ c ∷ more)) = tt
+
+module _ (plan : Plan) where
+  abbrev Goes : Next FireSoFar (List Request) Rule → Type 0
+  Goes next = After (FitSoFar plan) (AreFor plan) next
+
+  with_request : (s : FireSoFar) (request : Result Request Rule) → s.begun ≡ true
+      → FitSoFar plan s → IfOk request (IsOneMore s) → Goes (goes_with s request)
+  with_request s (Err rule) begun fit one = tt
+  with_request s (Ok request) begun fit one = record {
+    nodes = fit.nodes;
+    whole = fit.whole;
+    begun = fit.begun;
+    many = let room = one.0 in omega (arith, length_push s.requests request, room);
+    each = All-push (λ (r : Request). r.node < plan_nodes plan) s.requests request fit.each
+        (subst (λ n. request.node < n) fit.nodes one.1);
+  }
+
+  headed : (s : FireSoFar) (is whole : Bool) → s.whole ≡ whole → FitSoFar plan s
+      → Goes (if is then (if whole then goes (record s { begun = true }) else refuses Slot)
+      else refuses Form)
+  headed s false whole e fit = tt
+  headed s true false e fit = tt
+  headed s true true e fit = record {
+    nodes = fit.nodes;
+    whole = fit.whole;
+    begun = λ _. fit.whole e;
+    many = fit.many;
+    each = fit.each;
+  }
+
+  ended : (s : FireSoFar) (is : Bool) (line : List ℕ) → s.begun ≡ true → FitSoFar plan s
+      → Goes (if is then ends s.requests else goes_with s (request_in s line))
+  ended s true line begun fit =
+      record { whole = fit.begun begun; many = fit.many; nodes = fit.each }
+  ended s false line begun fit =
+      with_request s (request_in s line) begun fit
+      (tested s (numbers_after (codes "request") 3 (words_of line)))
+
+  stepped : (s : FireSoFar) (line : List ℕ) (begun : Bool) → s.begun ≡ begun → FitSoFar plan s
+      → Goes (if begun
+      then (if bytes_eq line (codes "end") then ends s.requests else goes_with s (request_in s line))
+      else head_step s line)
+  stepped s line true e fit = ended s (bytes_eq line (codes "end")) line e fit
+  stepped s line false e fit = headed s (bytes_eq line (codes "fire 1")) s.whole refl fit
+
+  begins : FitSoFar plan (nothing_read plan)
+  begins = record {
+    nodes = refl;
+    whole = λ e. eqb-true (plan_modulus plan % slot_length (plan_faults plan)) 0 e;
+    begun = λ e. absurd (cc);
+    many = omega arith;
+    each = All-nil (λ (r : Request). r.node < plan_nodes plan);
+  }
+
+-- what is read is for the plan
+pub requests_fit : (plan : Plan) (number : ℕ) (lines : List (List ℕ))
+    → IfOk (part_of plan number lines) (λ found. AreFor plan found.value)
+requests_fit plan number lines =
+    part_keeps _ Form (FitSoFar plan) (AreFor plan)
+    (λ s line fit. skips_keep fire_step Form (FitSoFar plan) (AreFor plan) s line fit
+    (stepped plan s line s.begun refl fit))
+    lines (nothing_read plan) 0 number (begins plan)

@@ -1,0 +1,4 @@
+pub mod FitRequests
+pub mod FiredTogether
+pub mod Replicated
+mod Examples

@@ -1,0 +1,73 @@
+-- The fire part of an input: `fire 1`, at most 256 lines `request V A B`, `end`.
+use Rattle.std.specs.Prelude.{◌≡◌, ℕ, ◌<◌, ◌≤◌, ◌%◌, ◌==◌, nat_le, nat_lt, Bool, true, false, List, [], ◌∷◌, ◌++◌, length, All, Option, Some, Result, Ok, Err, if◌then◌else◌, codes, drop}
+use Rattle.std.specs.Str.{bytes_eq}
+use Rattle.texts.specs.Lines.{lines_of, words_of}
+use Rattle.texts.specs.Shapes.{numbers_after}
+use Rattle.texts.specs.Parts.{Next, goes, ends, refuses, with_skips, Found, At, part_from}
+use Rattle.sync_types.specs.declared.answers.Rule.{Rule}
+use Rattle.sync_types.specs.declared.answers.Rule.TheVariants.{Form, Limit, Node, Range, Slot}
+use Rattle.construction.specs.Plans.{Plan, plan_nodes, plan_faults, plan_modulus}
+use Rattle.layer_laws.specs.Slots.{slot_length}
+use Rattle.firing.specs.declared.requests.Request.{Request}
+
+-- how many nodes there are, whether the modulus is a multiple of a slot, whether the first line was
+-- read, and the requests behind it
+pub record FireSoFar : Type 0 where
+  pub nodes : ℕ
+  pub whole : Bool
+  pub begun : Bool
+  pub requests : List Request
+
+-- a part of which nothing was read
+abbrev pub nothing_read : Plan → FireSoFar
+nothing_read plan = record {
+  nodes = plan_nodes plan;
+  whole = plan_modulus plan % slot_length (plan_faults plan) == 0;
+  begun = false;
+  requests = [];
+}
+
+-- `fire 1`, where the modulus is a multiple of a slot
+abbrev pub head_step : FireSoFar → List ℕ → Next FireSoFar (List Request) Rule
+head_step s line =
+    if bytes_eq line (codes "fire 1")
+    then (if s.whole then goes (record s { begun = true }) else refuses Slot)
+    else refuses Form
+
+-- the request of a line with these numbers, or the first rule that it fails
+abbrev pub request_tested : FireSoFar → Option (List ℕ) → Result Request Rule
+request_tested s (Some (v ∷ a ∷ b ∷ [])) =
+    if nat_le 256 (length s.requests) then Err Limit
+    else if nat_le s.nodes v then Err Node
+    else if nat_lt b a then Err Range
+    else Ok (record { node = v; first = a; last = b })
+request_tested s other = Err Form
+
+-- `request V A B`
+abbrev pub request_in : FireSoFar → List ℕ → Result Request Rule
+request_in s line = request_tested s (numbers_after (codes "request") 3 (words_of line))
+
+-- the part goes on with one more request, or the line is refused
+abbrev pub goes_with : FireSoFar → Result Request Rule → Next FireSoFar (List Request) Rule
+goes_with s (Ok request) = goes (record s { requests = s.requests ++ request ∷ [] })
+goes_with s (Err rule) = refuses rule
+
+-- a line behind those that were read
+abbrev pub fire_step : FireSoFar → List ℕ → Next FireSoFar (List Request) Rule
+fire_step s line =
+    if s.begun
+    then (if bytes_eq line (codes "end") then ends s.requests else goes_with s (request_in s line))
+    else head_step s line
+
+-- The fire part at the front of these lines, of which the first has that number: its requests, how
+-- many lines it took through `end`, and the lines behind; or the first line that fails, with the
+-- first rule that it fails.
+abbrev pub part_of : Plan → (number : ℕ) → List (List ℕ) → Result (Found (List Request)) (At Rule)
+part_of plan number lines =
+    part_from (with_skips fire_step Form) Form (nothing_read plan) 0 number lines
+
+-- what requests are that were read for a plan
+pub record AreFor (plan : Plan) (requests : List Request) : Type 0 where
+  pub whole : plan_modulus plan % slot_length (plan_faults plan) ≡ 0
+  pub many : length requests ≤ 256
+  pub nodes : All (λ request. request.node < plan_nodes plan) requests

@@ -1,0 +1,19 @@
+//! Simultaneous firing over the counter of a plan.
+#![tactic(auto)]
+
+mod fire_lines;
+mod fires;
+mod firing;
+pub mod laws;
+mod reading;
+mod refusals;
+mod requests;
+#[cfg(test)]
+mod tests;
+
+pub use fire_lines::FireLines;
+pub use fires::Fire;
+pub use firing::Firing;
+pub use reading::read_fire;
+pub use refusals::{FireError, FireRefusal};
+pub use requests::{Request, Requests};

@@ -1,0 +1,5 @@
+pub mod Scenes
+pub mod LayerRuns
+pub mod Played
+pub mod Slots
+pub mod Laws

@@ -1,0 +1,3 @@
+pub mod HoldTexts
+pub mod DecisionTexts
+pub mod Laws

@@ -1,0 +1,3 @@
+pub mod FireTexts
+pub mod EntryTexts
+pub mod LengthSeen

@@ -1,0 +1,8 @@
+//! The lines of firing and of the replicated log, which are written while they are played.
+#![tactic(auto)]
+
+mod fires;
+mod logged;
+
+pub use fires::Fires;
+pub use logged::Logged;

@@ -1,0 +1,6 @@
+pub mod FitLogs
+pub mod Newest
+pub mod SlotEntries
+pub mod SameLogs
+pub mod Replicated
+mod Examples

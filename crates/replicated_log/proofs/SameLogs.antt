@@ -1,0 +1,170 @@
+-- From a slot at the bound or later on, the correct nodes put the same entries.
+use Rattle.std.proofs.Common.{◌≡◌, ℕ, zero, suc, ◌+◌, ◌-◌, ◌*◌, ◌/◌, ◌%◌, ◌<◌, ◌≤◌, inl, inr, false, List, [], ◌∷◌, ◌++◌, length, take, map, refl, sym, ap, ◌∙◌, subst, arith}
+use Rattle.std.proofs.Math.Nat.{add-zero, mod-mod_of_dvd, mod-add-mod, mod-lt, mod-eq_of_lt, mul-mod_left, mul-mod_right, mod-le, div-add-mod, div-eq_of_lt-le, zero-div}
+use Rattle.std.proofs.lemmas.Nat.Gcd.{dvd_of_mod-eq-zero, mod-eq-zero_of_dvd, dvd_trans}
+use Rattle.std.proofs.lemmas.Bool.{cases_eq}
+use Rattle.std.proofs.lemmas.List.{length-map, take-take}
+use Rattle.sync_types.specs.States.{State}
+use Rattle.construction.specs.Plans.{Plan, plan_nodes, plan_faults, plan_modulus, plan_bound, plan_depth}
+use Rattle.construction.specs.Shown.{shown}
+use Rattle.construction.specs.Steps.{state_of}
+use Rattle.construction.specs.Runs.{is_in, IsBorne, Counts}
+use Rattle.plan_numbers.specs.Premises.{IsAccepted}
+use Rattle.counter_core.specs.Meanings.{cut}
+use Rattle.counter_core.specs.Overlays.{Layer}
+use Rattle.layer_laws.specs.Scenes.{Scene}
+use Rattle.layer_laws.specs.LayerRuns.{LayerRun, scene, without_layer}
+use Rattle.layer_laws.specs.Slots.{slot_length, AllAre}
+use Rattle.layer_laws.proofs.NodesSteps.{node_steps, common_rest, shown_at}
+use Rattle.layer_laws.proofs.PlanSlots.{quorum_of, few_of, counts_of}
+use Rattle.replicated_log.specs.declared.entries.Entry.{Entry}
+use Rattle.replicated_log.specs.EntryLength.{entry_length}
+use Rattle.replicated_log.specs.LogSaid.{LogSaid}
+use Rattle.replicated_log.specs.Logs.{agreement_after, log_layer, log_of}
+use Rattle.replicated_log.specs.PutEntries.{PutsEntry, HasEntries, AreEntries, SameSince, LogsAreOne}
+use Rattle.replicated_log.proofs.SlotEntries.{keeps_log, every_slot_puts_one}
+
+-- the front of a list with one more before it
+one_more : (keep : ℕ) (entry : Entry) (a b : List Entry) → take keep a ≡ take keep b
+    → take keep (entry ∷ a) ≡ take keep (entry ∷ b)
+one_more zero entry a b same = refl
+one_more (suc keep) entry a b same =
+    ap (λ l. entry ∷ l) (sym (shorter a) ∙ (ap (take keep) same ∙ shorter b)) where
+      shorter : (l : List Entry) → take keep (take (suc keep) l) ≡ take keep l
+      shorter l = take-take keep (suc keep) l (omega arith)
+
+-- ---- how many slots have ended
+
+none_ended : (e : ℕ) → 0 < e → 0 / e ≡ 0
+none_ended e some = zero-div e
+
+one_ends : (x e : ℕ) → x % e + 1 ≡ e → suc x / e ≡ suc (x / e)
+one_ends x e end =
+    let parts = div-add-mod x e in
+    div-eq_of_lt-le e (omega (arith, parts, end)) (omega (arith, parts, end))
+
+none_ends : (x e : ℕ) → x % e < e → (x % e + 1 ≡ e → ⊥) → suc x / e ≡ x / e
+none_ends x e short other =
+    let parts = div-add-mod x e in
+    div-eq_of_lt-le e (omega (arith, parts, short, other)) (omega (arith, parts, short, other))
+
+module _ (plan : Plan) (accepted : IsAccepted plan) (multiple : HasEntries plan) (said : LogSaid)
+    (faulty : List ℕ) (borne : IsBorne plan faulty) (first : ℕ) (run : List (Scene (List Entry)))
+    (is : LayerRun plan (log_layer plan said) faulty first run) (t : ℕ) (lo : plan_bound plan ≤ t)
+    (inside : t < length run)
+    (begins : AllAre plan faulty (scene run t).states (entry_length (plan_faults plan)) 0) where
+  abbrev e : ℕ
+  e = entry_length (plan_faults plan)
+
+  abbrev keep : ℕ
+  keep = said.keep
+
+  abbrev layer : Layer (List Entry)
+  layer = log_layer plan said
+
+  abbrev counts : Counts plan faulty (without_layer plan run)
+  counts = counts_of plan layer accepted faulty borne first run is
+
+  whole : plan_modulus plan % e ≡ 0
+  whole = mod-eq-zero_of_dvd e
+      (dvd_trans e (dvd_of_mod-eq-zero e (mul-mod_left (plan_nodes plan) e))
+      (dvd_of_mod-eq-zero (plan_nodes plan * e) multiple))
+
+  -- the remainder of each later output
+  rest : (x : ℕ) → t + x < length run → counts.output (t + x) % e ≡ x % e
+  rest zero lt =
+      let few = few_of plan faulty borne in
+      let quorum = quorum_of plan accepted in
+      ap (λ y. counts.output y % e) (add-zero t)
+      ∙ (common_rest plan layer faulty first run is counts e t 0 (omega arith) lo inside begins
+      ∙ sym (mod-eq_of_lt (omega arith)))
+  rest (suc x) lt =
+      let s : t + suc x ≡ t + x + 1 = omega arith in
+      let next : x + 1 ≡ suc x = omega arith in
+      let long : length (without_layer plan run) ≡ length run =
+      length-map run (λ (s : Scene (List Entry)). map (cut (plan_depth plan)) s.states) in
+      ap (λ y. counts.output y % e) s
+      ∙ (ap (λ y. y % e) (counts.grows (t + x) (omega arith) (omega (arith, lt, long)))
+      ∙ (mod-mod_of_dvd e (counts.output (t + x) + 1) (dvd_of_mod-eq-zero e whole)
+      ∙ (sym (mod-add-mod (counts.output (t + x)) e 1)
+      ∙ (ap (λ y. (y + 1) % e) (rest x (omega arith))
+      ∙ (mod-add-mod x e 1 ∙ ap (λ y. y % e) next)))))
+
+  node_rest : (x v : ℕ) → t + x < length run → v < plan_nodes plan → is_in faulty v ≡ false
+      → shown (plan_depth plan) (state_of (scene run (t + x)).states v) % e ≡ x % e
+  node_rest x v lt vlt ok =
+      ap (λ y. y % e)
+      (shown_at plan layer faulty first run is counts (t + x) v (omega arith) lt vlt ok)
+      ∙ rest x lt
+
+  -- where a slot ends in round t + x, it puts one entry more
+  more : (x : ℕ) → t + suc x < length run → x % e + 1 ≡ e → SameSince plan said faulty run t x
+      → SameSince plan said faulty run t (suc x)
+  more x lt end before =
+      let q : ℕ = slot_length (plan_faults plan) in
+      let start : ℕ = t + x / e * e in
+      let parts = div-add-mod x e in
+      let here : start + q ≡ t + x = omega (arith, parts, end) in
+      let there : start + e ≡ t + suc x = omega (arith, parts, end) in
+      let number : t + length before.put * e ≡ start = ap (λ m. t + m * e) before.many in
+      let begun : (x / e * e) % e ≡ 0 = mul-mod_left (x / e) e in
+      let one = every_slot_puts_one plan accepted multiple said faulty borne first run is start
+      (omega (arith, lo)) (omega (arith, there, lt))
+      (λ v vlt ok. node_rest (x / e * e) v (omega (arith, here, lt)) vlt ok ∙ begun) in
+      record {
+        put = one.entry ∷ before.put;
+        many = ap suc before.many ∙ sym (one_ends x e end);
+        entries = (
+          subst (λ s. PutsEntry plan said faulty run s one.entry) (sym number) one.is,
+          before.entries,
+        );
+        each = λ v vlt ok.
+            ap (λ y. take keep (log_of (scene run y) v)) (sym there)
+            ∙ (ap (take keep) (one.is.puts v vlt ok
+            ∙ ap (λ l. take keep (one.entry ∷ l)) (sym (one.is.quiet q v (omega arith) vlt ok)
+            ∙ ap (λ y. log_of (scene run y) v) here))
+            ∙ (take-take keep keep (one.entry ∷ log_of (scene run (t + x)) v) (omega arith)
+            ∙ one_more keep one.entry (log_of (scene run (t + x)) v)
+            (before.put ++ log_of (scene run t) v) (before.each v vlt ok)));
+      }
+
+  -- else none is put
+  quiet : (x : ℕ) → t + suc x < length run → (x % e + 1 ≡ e → ⊥)
+      → SameSince plan said faulty run t x → SameSince plan said faulty run t (suc x)
+  quiet x lt other before =
+      let s : t + suc x ≡ t + x + 1 = omega arith in
+      let below : x % e < e = mod-lt x (omega arith) in
+      record {
+        put = before.put;
+        many = before.many ∙ sym (none_ends x e below other);
+        entries = before.entries;
+        each = λ v vlt ok.
+            let steps =
+            node_steps plan layer faulty first run is (t + x) v (omega arith) vlt ok in
+            let o : ℕ = shown (plan_depth plan) (state_of steps.heard v) in
+            let here : o % e ≡ x % e =
+            ap (λ st. shown (plan_depth plan) st % e) (steps.honest v vlt ok)
+            ∙ node_rest x v (omega arith) vlt ok in
+            ap (λ y. take keep (log_of (scene run y) v)) s
+            ∙ (ap (take keep) (steps.steps.kept
+            ∙ keeps_log (plan_faults plan) keep o (x % e)
+            (agreement_after (plan_nodes plan) (plan_faults plan) (plan_depth plan) v o
+            steps.heard) (log_of (scene run (t + x)) v) here (omega (arith, below, other)))
+            ∙ before.each v vlt ok);
+      }
+
+  same_since : (x : ℕ) → t + x < length run → SameSince plan said faulty run t x
+  same_since zero lt = record {
+    put = [];
+    many = sym (none_ended e (omega arith));
+    entries = tt;
+    each = λ v vlt ok. ap (λ y. take keep (log_of (scene run y) v)) (add-zero t);
+  }
+  same_since (suc x) lt = elim (cases_eq (x % e + 1) e) [
+    | inl end ↦ more x lt end (same_since x (omega arith))
+    | inr other ↦ quiet x lt other (same_since x (omega arith))
+  ]
+
+pub logs_are_one : LogsAreOne
+logs_are_one plan accepted multiple said faulty borne first run is t lo inside begins x lt =
+    same_since plan accepted multiple said faulty borne first run is t lo inside begins x lt

@@ -1,0 +1,11 @@
+pub mod EntryLength
+pub mod LogAnswers
+pub mod LogLaws
+pub mod LogPart
+pub mod LogReadings
+pub mod LogRefusals
+pub mod LogSaid
+pub mod Logs
+pub mod LogsSeen
+pub mod PutEntries
+pub mod Rings

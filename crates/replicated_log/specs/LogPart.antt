@@ -1,0 +1,121 @@
+-- The log part of an input: `log 1`, `values V`, `keep K`, a line `commands v c0 c1 ..` for each
+-- node v in order, `end`.
+use Rattle.std.specs.Prelude.{◌≡◌, ℕ, ◌+◌, ◌*◌, ◌<◌, ◌≤◌, ◌%◌, ◌==◌, nat_le, nat_lt, not, Bool, true, false, List, [], ◌∷◌, ◌++◌, length, All, Option, Some, None, Result, Ok, Err, if◌then◌else◌, codes}
+use Rattle.std.specs.List.{list_all}
+use Rattle.std.specs.Str.{bytes_eq}
+use Rattle.texts.specs.Lines.{words_of}
+use Rattle.texts.specs.Shapes.{numbers_of, numbers_after}
+use Rattle.texts.specs.Parts.{Next, goes, ends, refuses, with_skips, Found, At, part_from}
+use Rattle.sync_types.specs.declared.answers.Rule.{Rule}
+use Rattle.sync_types.specs.declared.answers.Rule.TheVariants.{Form, Limit, Node, Range, Slot}
+use Rattle.construction.specs.Plans.{Plan, plan_nodes, plan_faults, plan_modulus}
+use Rattle.replicated_log.specs.EntryLength.{entry_length}
+use Rattle.replicated_log.specs.LogSaid.{LogSaid}
+use Rattle.replicated_log.specs.declared.log_lines.LogStage.{LogStage}
+use Rattle.replicated_log.specs.declared.log_lines.LogStage.TheVariants.{Unread, Begun, Valued, Keeping}
+
+-- how many nodes there are, whether the modulus is a multiple of an entry of each node, how far the
+-- part was read, and the commands of as many nodes as have their line
+pub record LogSoFar : Type 0 where
+  pub nodes : ℕ
+  pub whole : Bool
+  pub stage : LogStage
+  pub commands : List (List ℕ)
+
+-- a part of which nothing was read
+abbrev pub nothing_read : Plan → LogSoFar
+nothing_read plan = record {
+  nodes = plan_nodes plan;
+  whole = plan_modulus plan % (plan_nodes plan * entry_length (plan_faults plan)) == 0;
+  stage = Unread;
+  commands = [];
+}
+
+-- the stage behind `log 1`, where the modulus is a multiple of an entry of each node
+abbrev pub behind_head : (whole : Bool) → List ℕ → Result LogStage Rule
+behind_head whole line =
+    if bytes_eq line (codes "log 1") then (if whole then Ok Begun else Err Slot) else Err Form
+
+abbrev pub values_tested : Option (List ℕ) → Result LogStage Rule
+values_tested (Some (v ∷ [])) =
+    if nat_lt 65536 v then Err Limit else if nat_lt v 2 then Err Range else Ok (Valued v)
+values_tested other = Err Form
+
+abbrev pub keep_tested : (values : ℕ) → Option (List ℕ) → Result LogStage Rule
+keep_tested values (Some (k ∷ [])) =
+    if nat_lt 1024 k then Err Limit else if nat_lt k 1 then Err Range else Ok (Keeping values k)
+keep_tested values other = Err Form
+
+-- the numbers behind a key, as many as there are words
+abbrev pub numbers_behind : List ℕ → List (List ℕ) → Option (List ℕ)
+numbers_behind key [] = None
+numbers_behind key (word ∷ words) =
+    if bytes_eq word key then numbers_of (length words) words else None
+
+-- the commands of the next node, of which there are so many nodes before it, or the first rule that
+-- the line's numbers fail
+abbrev pub commands_tested : (values before : ℕ) → Option (List ℕ) → Result (List ℕ) Rule
+commands_tested values before (Some (v ∷ c ∷ cs)) =
+    if nat_lt 16 (length (c ∷ cs)) then Err Limit
+    else if not (v == before) then Err Node
+    else if not (list_all (λ a. nat_lt a values) (c ∷ cs)) then Err Range
+    else Ok (c ∷ cs)
+commands_tested values before other = Err Form
+
+-- `commands v c0 c1 ..`, where a node is left that has no line yet
+abbrev pub commands_in : (values nodes before : ℕ) → List ℕ → Result (List ℕ) Rule
+commands_in values nodes before line =
+    if nat_lt before nodes
+    then commands_tested values before (numbers_behind (codes "commands") (words_of line))
+    else Err Form
+
+-- the part goes on at a stage, or the line is refused
+abbrev pub goes_at : LogSoFar → Result LogStage Rule → Next LogSoFar LogSaid Rule
+goes_at s (Ok stage) = goes (record s { stage = stage })
+goes_at s (Err rule) = refuses rule
+
+-- the part goes on with the commands of one more node, or the line is refused
+abbrev pub goes_with : LogSoFar → Result (List ℕ) Rule → Next LogSoFar LogSaid Rule
+goes_with s (Ok own) = goes (record s { commands = s.commands ++ own ∷ [] })
+goes_with s (Err rule) = refuses rule
+
+-- `end`, where each node has its line
+abbrev pub end_step : (values keep : ℕ) → LogSoFar → Next LogSoFar LogSaid Rule
+end_step values keep s =
+    if nat_lt (length s.commands) s.nodes then refuses Form
+    else ends (record { values = values; keep = keep; commands = s.commands })
+
+-- a line behind those that were read
+abbrev pub step_at : LogStage → LogSoFar → List ℕ → Next LogSoFar LogSaid Rule
+step_at Unread s line = goes_at s (behind_head s.whole line)
+step_at Begun s line = goes_at s (values_tested (numbers_after (codes "values") 1 (words_of line)))
+step_at (Valued values) s line =
+    goes_at s (keep_tested values (numbers_after (codes "keep") 1 (words_of line)))
+step_at (Keeping values keep) s line =
+    if bytes_eq line (codes "end") then end_step values keep s
+    else goes_with s (commands_in values s.nodes (length s.commands) line)
+
+abbrev pub log_step : LogSoFar → List ℕ → Next LogSoFar LogSaid Rule
+log_step s line = step_at s.stage s line
+
+-- The log part at the front of these lines, of which the first has that number: what it says, how
+-- many lines it took through `end`, and the lines behind; or the first line that fails, with the
+-- first rule that it fails.
+abbrev pub part_of : Plan → (number : ℕ) → List (List ℕ) → Result (Found LogSaid) (At Rule)
+part_of plan number lines =
+    part_from (with_skips log_step Form) Form (nothing_read plan) 0 number lines
+
+-- each node has a command, and each command is below the values
+abbrev pub AreInRange : (values : ℕ) → List (List ℕ) → Type 0
+AreInRange values commands =
+    All (λ own. (0 < length own) × All (λ a. a < values) own) commands
+
+-- what a log part says that was read for a plan
+pub record IsFor (plan : Plan) (said : LogSaid) : Type 0 where
+  pub whole : plan_modulus plan % (plan_nodes plan * entry_length (plan_faults plan)) ≡ 0
+  pub two : 2 ≤ said.values
+  pub few : said.values ≤ 65536
+  pub some : 1 ≤ said.keep
+  pub short : said.keep ≤ 1024
+  pub nodes : length said.commands ≡ plan_nodes plan
+  pub range : AreInRange said.values said.commands

@@ -1,0 +1,72 @@
+-- A replicated log on a counter: in each slot the nodes agree on what its owner commands, and put
+-- it into their logs.
+use Rattle.std.specs.Prelude.{◌≡◌, ℕ, ◌+◌, ◌-◌, ◌%◌, List, [], ◌∷◌, take, ◌==◌, unwrap_or, slice_index_or, if◌then◌else◌}
+use Rattle.sync_types.specs.declared.states.Reg.{Reg}
+use Rattle.sync_types.specs.States.{State, register_at}
+use Rattle.construction.specs.Plans.{Plan, plan_nodes, plan_faults, plan_modulus, plan_depth}
+use Rattle.construction.specs.Steps.{state_of}
+use Rattle.counter_core.specs.Overlays.{Layer}
+use Rattle.layer_laws.specs.Scenes.{Scene}
+use Rattle.layer_laws.specs.LayerRuns.{LayerRun}
+use Rattle.layer_laws.specs.Slots.{slot_length, agreed_in_turn}
+use Rattle.consensus_layer.specs.Agreeing.{loaded}
+use Rattle.replicated_log.specs.declared.entries.Entry.{Entry}
+use Rattle.replicated_log.specs.EntryLength.{entry_length, owner_at, command_at}
+use Rattle.replicated_log.specs.LogSaid.{LogSaid}
+
+-- The register of agreement after a round in which node v hears that: where the output is that of a
+-- slot's begin, what the owner commands, as it is heard; else it takes a turn of the slot.
+abbrev pub agreement_after : (n f depth v output : ℕ) (heard : List State) → Reg
+agreement_after n f depth v output heard =
+    let p = output % entry_length f in
+    if p == 0
+    then loaded (unwrap_or (register_at (depth + 1) (state_of heard (owner_at n f output))).a 0)
+    else agreed_in_turn n f depth v (p - 1) heard
+
+-- The log after a round: at a slot's end there is one entry more at its newest end, of the output
+-- with which the slot began and the value that was agreed on. The newest ones are kept, so many.
+abbrev pub log_after : (f keep output : ℕ) (agreement : Reg) (log : List Entry) → List Entry
+log_after f keep output agreement log =
+    if output % entry_length f + 1 == entry_length f
+    then take keep
+    (record { slot = output - slot_length f; value = unwrap_or agreement.a 0 } ∷ log)
+    else log
+
+-- The layer of the log: a register of agreement, and behind it one of commands, which has what the
+-- node commands at its next output. A node keeps its log, the newest entry first.
+abbrev pub log_layer_of : (nodes faults modulus depth values keep : ℕ) (commands : List (List ℕ))
+    → Layer (List Entry)
+log_layer_of nodes faults modulus depth values keep commands = record {
+  nodes = nodes;
+  modulus = modulus;
+  depth = depth;
+  extra = 2;
+  values = values;
+  first = [];
+  begun = λ at log. log;
+  next = λ v log output heard.
+      let agreement = agreement_after nodes faults depth v output heard in
+      let command = loaded (command_at nodes faults commands v ((output + 1) % modulus)) in
+      record {
+        registers = agreement ∷ command ∷ [];
+        kept = log_after faults keep output agreement log;
+      };
+}
+
+-- that over the counter of a plan, as a log part says
+abbrev pub log_layer : Plan → LogSaid → Layer (List Entry)
+log_layer plan said =
+    log_layer_of (plan_nodes plan) (plan_faults plan) (plan_modulus plan) (plan_depth plan)
+    said.values said.keep said.commands
+
+-- a run with a log, from any states and logs
+abbrev pub LogRun : Plan → LogSaid → (faulty : List ℕ) (first : ℕ)
+    (run : List (Scene (List Entry))) → Type 0
+LogRun plan said faulty first run = LayerRun plan (log_layer plan said) faulty first run
+
+-- the log of node v, by what the nodes keep
+abbrev pub log_in : List (List Entry) → (v : ℕ) → List Entry
+log_in kept v = slice_index_or kept v []
+
+abbrev pub log_of : Scene (List Entry) → (v : ℕ) → List Entry
+log_of s v = log_in s.kept v

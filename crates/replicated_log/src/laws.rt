@@ -1,0 +1,27 @@
+//! The laws of the log, and of what is read of it. Each function is empty: its clause is the law.
+
+ghost use Rattle.std.specs.Prelude.{ℕ, List, IfOk};
+ghost use Rattle.construction.specs.Plans.{Plan};
+ghost use Rattle.replicated_log.specs.PutEntries.{EverySlotPutsOne, LogsAreOne};
+ghost use Rattle.replicated_log.specs.LogPart.{part_of, IsFor};
+
+/// In every run of an accepted plan with a log above, whose modulus is a multiple of an entry of
+/// each node, each slot that begins at the plan's bound or later and ends within the run puts one
+/// and the same entry into the logs of all correct nodes, in its last round. Where it begins after
+/// the bound and its owner is correct, the entry has what the owner commands.
+pub fn every_slot_puts_one()
+    ensures { EverySlotPutsOne }
+{}
+
+/// In every such run, from any slot on that begins at the bound or later, all correct nodes put the
+/// same entries, one for each slot that ends.
+pub fn logs_are_one()
+    ensures { LogsAreOne }
+{}
+
+/// What is read of a log has 2 to 65536 values, keeps 1 to 1024 entries, and has commands of each
+/// node, below the values; and the plan's modulus is a multiple of an entry of each node.
+pub fn log_fits()
+    ensures { (plan : Plan) (number : ℕ) (lines : List (List ℕ))
+        → IfOk (part_of plan number lines) (λ found. IsFor plan found.value) }
+{}

@@ -1,0 +1,22 @@
+//! A replicated log over the counter of a plan.
+#![tactic(auto)]
+
+mod command_lines;
+mod commands;
+mod entries;
+pub mod laws;
+mod log_lines;
+mod log_parts;
+mod reading;
+mod refusals;
+mod replica;
+#[cfg(test)]
+mod tests;
+
+pub use commands::Commands;
+pub use entries::{Entries, Entry};
+pub use log_lines::{LogLines, entry_length};
+pub use log_parts::LogPart;
+pub use reading::read_log;
+pub use refusals::{LogError, LogRefusal};
+pub use replica::{Replica, owner_at};

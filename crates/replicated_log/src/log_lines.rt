@@ -1,0 +1,181 @@
+ghost use Rattle.std.specs.Prelude.{◌≡◌, codes};
+ghost use Rattle.texts.specs.Shapes.{numbers_after};
+ghost use Rattle.texts.specs.Lines.{words_of};
+ghost use Rattle.replicated_log.specs.EntryLength.{entry_length};
+ghost use Rattle.replicated_log.specs.LogPart.{nothing_read, behind_head, values_tested, keep_tested, end_step};
+
+use crate::command_lines::read_commands;
+use crate::commands::Commands;
+use crate::log_parts::LogPart;
+use consensus_layer::slot_length;
+use edge_io::{LineReader, TakeError, numbers_after};
+use plan_numbers::Plan;
+use std::alloc::Global;
+use std::marker::Model;
+use std::mem;
+use sync_types::Rule;
+
+/// The most values that there may be.
+const MOST_VALUES: u64 = 65536;
+
+/// The most entries that a log may keep.
+const MOST_KEPT: u64 = 1024;
+
+/// How far a log part was read.
+#[derive(Clone, Copy, Debug, PartialEq, Eq)]
+pub enum LogStage {
+    /// No line of it.
+    Unread,
+    /// Its first line.
+    Begun,
+    /// Its line of values: how many there are.
+    Valued(u64),
+    /// Its line of what is kept, behind that of values: how many values there are, and how many
+    /// entries a log keeps.
+    Keeping(u64, usize),
+}
+
+/// How many rounds an entry has: one to hear its owner, and a slot.
+pub fn entry_length(faults: u32) -> u64
+    ensures { result ≡ entry_length faults }
+{
+    slot_length(faults) + 1
+}
+
+/// Reads the lines of a log part that count.
+#[derive(Drop)]
+pub struct LogLines {
+    alloc: Global,
+    nodes: u32,
+    whole: bool,
+    stage: LogStage,
+    commands: Vec<Commands>,
+}
+
+impl Model for LogLines {
+    ghost use Rattle.replicated_log.specs.LogPart.{LogSoFar};
+
+    ghost Value = { LogSoFar };
+
+    ghost view = { λ l. record {
+      nodes = l.nodes;
+      whole = l.whole;
+      stage = l.stage;
+      commands = l.commands.items;
+    } };
+}
+
+/// The stage behind the first line, where the modulus is a multiple of an entry of each node.
+fn behind_head(whole: bool, line: &[u8]) -> Result<LogStage, Rule>
+    ensures { result ≡ behind_head whole line.now }
+{
+    if line != b"log 1".as_slice() {
+        return Err(Rule::Form);
+    }
+    if !whole {
+        return Err(Rule::Slot);
+    }
+    Ok(LogStage::Begun)
+}
+
+/// The stage behind a line of values.
+fn behind_values(line: &[u8]) -> Result<LogStage, Rule>
+    ensures { result ≡ values_tested (numbers_after (codes "values") 1 (words_of line.now)) }
+{
+    let Some(numbers) = numbers_after::<1>(line, b"values") else {
+        return Err(Rule::Form);
+    };
+    let values = numbers[0];
+    if values > MOST_VALUES {
+        return Err(Rule::Limit);
+    }
+    if values < 2 {
+        return Err(Rule::Range);
+    }
+    Ok(LogStage::Valued(values))
+}
+
+/// The stage behind a line of what is kept.
+fn behind_keep(values: u64, line: &[u8]) -> Result<LogStage, Rule>
+    ensures { result ≡ keep_tested values (numbers_after (codes "keep") 1 (words_of line.now)) }
+{
+    let Some(numbers) = numbers_after::<1>(line, b"keep") else {
+        return Err(Rule::Form);
+    };
+    let keep = numbers[0];
+    if keep > MOST_KEPT {
+        return Err(Rule::Limit);
+    }
+    if keep < 1 {
+        return Err(Rule::Range);
+    }
+    Ok(LogStage::Keeping(values, keep as usize))
+}
+
+impl LogLines {
+    ghost use Rattle.edge_io.specs.Taking.{Takes};
+
+    /// A reader of a part of which nothing was read, for the nodes of a plan.
+    pub fn new(alloc: Global, plan: &Plan) -> LogLines
+        ensures { result ≡ nothing_read plan.now }
+    {
+        plan.tell();
+        let nodes = plan.nodes();
+        let round = u64::from(nodes) * entry_length(plan.faults());
+        LogLines {
+            alloc,
+            nodes,
+            whole: plan.modulus() % round == 0,
+            stage: LogStage::Unread,
+            commands: Vec::new(alloc),
+        }
+    }
+
+    /// Gives what the part says, where each node has its line.
+    fn finish(&mut self, values: u64, keep: usize) -> Result<Option<LogPart>, TakeError<Rule>>
+        ensures { Takes (end_step values keep self.old) self.new result }
+    {
+        if self.commands.len() < self.nodes as usize {
+            return Err(TakeError::Refused(Rule::Form));
+        }
+        let commands = mem::replace(&mut self.commands, Vec::new(self.alloc));
+        Ok(Some(LogPart {
+            values,
+            keep,
+            commands,
+        }))
+    }
+}
+
+impl LineReader for LogLines {
+    type Value = LogPart;
+
+    type Rule = Rule;
+
+    ghost use Rattle.replicated_log.specs.LogPart.{log_step};
+
+    ghost step = { log_step };
+
+    fn take(&mut self, line: &[u8]) -> Result<Option<LogPart>, TakeError<Rule>> {
+        match self.stage {
+            LogStage::Unread => {
+                self.stage = behind_head(self.whole, line).map_err(TakeError::Refused)?;
+            }
+            LogStage::Begun => {
+                self.stage = behind_values(line).map_err(TakeError::Refused)?;
+            }
+            LogStage::Valued(values) => {
+                self.stage = behind_keep(values, line).map_err(TakeError::Refused)?;
+            }
+            LogStage::Keeping(values, keep) => {
+                if line == b"end".as_slice() {
+                    return self.finish(values, keep);
+                }
+                let before = self.commands.len();
+                let own = read_commands(self.alloc, line, values, self.nodes, before)?;
+                self.commands.push(own)?;
+            }
+        }
+        Ok(None)
+    }
+}

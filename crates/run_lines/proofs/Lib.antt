@@ -1,0 +1,9 @@
+pub mod WordsSoFar
+pub mod FirstListed
+pub mod Shown
+pub mod LockLines
+pub mod Played
+pub mod SlotShift
+pub mod LowestCorrect
+pub mod SlotEnds
+pub mod LaterOutputs

@@ -1,0 +1,5 @@
+use Rattle.run_lines.proofs.Played.{LinesSoFar}
+use Rattle.run_lines.proofs.playing.put_lines.Given as goal
+
+abbrev pub invariant-loop : goal.invariant-loop
+invariant-loop g l = LinesSoFar g.O.Overlay.layer g.O.Overlay.kept (g.L.Lines.wording l.lines) l.fn.runner l.counter l.runner (g.K.Sink.told l.fn.sink) (g.K.Sink.told l.sink)

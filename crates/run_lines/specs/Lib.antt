@@ -1,0 +1,4 @@
+pub mod RunTexts
+pub mod PlayedTexts
+pub mod Playing
+pub mod SlotTexts

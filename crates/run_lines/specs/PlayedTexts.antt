@@ -1,0 +1,51 @@
+-- What a word writes of what is played with a layer: the bound, a line of some configurations, and
+-- the first locked configurations.
+use Rattle.std.specs.Prelude.{ℕ, ◌+◌, List, [], ◌∷◌, Bool, if◌then◌else◌, codes}
+use Rattle.std.specs.List.{concat, flat_map, range_with_len}
+use Rattle.sync_types.specs.States.{State}
+use Rattle.construction.specs.Plans.{Plan, plan_bound}
+use Rattle.plan_laws.specs.PlanMeaning.{plan_meaning}
+use Rattle.counter_core.specs.Overlays.{Layer}
+use Rattle.adversary_script.specs.Scripts.{Script}
+use Rattle.adversary_script.specs.Eras.{faulty_at}
+use Rattle.layer_laws.specs.Scenes.{Scene}
+use Rattle.round_runner.specs.Scenes.{scene_at}
+use Rattle.run_lines.specs.RunTexts.{bound_line, words_of_nodes, lock_lines}
+
+-- The lines of a word: of which configurations one is written, each by the plan, the script, its
+-- number and its scene; the front of a line; and in it the word of a node that is correct there.
+pub record Wording (Kept : Type 0) : Type 0 where
+  pub shows : Plan → Script → (c : ℕ) → Scene Kept → Bool
+  pub front : Plan → Script → (c : ℕ) → Scene Kept → List ℕ
+  pub word : Plan → Scene Kept → (v : ℕ) → List ℕ
+
+-- the line of a configuration
+abbrev pub line_of : {Kept : Type 0} → Wording Kept → Plan → Script → (c : ℕ) → Scene Kept → List ℕ
+line_of wording plan script c scene =
+    concat (wording.front plan script c scene
+    ∷ words_of_nodes plan (wording.word plan scene) (faulty_at script c) ∷ codes "\n" ∷ [])
+
+-- that line, where there is one
+abbrev pub line_if_shown : {Kept : Type 0} → Wording Kept → Plan → Script → (c : ℕ) → Scene Kept
+    → List ℕ
+line_if_shown wording plan script c scene =
+    if wording.shows plan script c scene then line_of wording plan script c scene else []
+
+module _ {Kept : Type 0} (plan : Plan) (script : Script) (layer : Layer Kept) (began : List Kept) where
+  -- scene c of what is played, where the nodes began with these things kept
+  abbrev pub scene_in : (c : ℕ) → Scene Kept
+  scene_in c = scene_at (plan_meaning plan) script layer began c
+
+  abbrev pub configuration_in : (c : ℕ) → List State
+  configuration_in c = (scene_in c).states
+
+  -- the lines of configurations 0 to the last
+  abbrev pub lines_text : Wording Kept → List ℕ
+  lines_text wording =
+      flat_map (λ c. line_if_shown wording plan script c (scene_in c))
+      (range_with_len 0 (script.rounds + 1))
+
+  -- all that is written
+  abbrev pub played_text : Wording Kept → List ℕ
+  played_text wording = concat (bound_line (plan_bound plan) ∷ lines_text wording
+      ∷ lock_lines plan script configuration_in ∷ [])

@@ -1,0 +1,15 @@
+//! Lines of a run with a layer, written while it is played.
+//!
+//! [`put_played`] plays a script and writes the plan's bound, the line that some [`Lines`] have of
+//! each configuration, and the first locked configuration of each era.
+#![tactic(auto)]
+
+mod lines;
+mod locks;
+mod playing;
+mod slots;
+mod words;
+
+pub use lines::Lines;
+pub use playing::put_played;
+pub use slots::{lead_output, slot_ends};

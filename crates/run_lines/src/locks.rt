@@ -1,0 +1,72 @@
+ghost use Rattle.std.specs.Prelude.{◌≡◌, ◌≤◌, List, length};
+ghost use Rattle.texts.specs.Growth.{Puts};
+ghost use Rattle.round_runner.specs.Runners.{IsPlaying, configuration_of};
+ghost use Rattle.run_lines.specs.RunTexts.{locked_line, era_line, lock_lines};
+
+use counter_core::Overlay;
+use edge_io::{Piece, Sink, WriteFault, put_all, put_pieces};
+use round_runner::Runner;
+
+/// Writes which configuration is the first locked one.
+fn put_locked<K: Sink>(sink: &mut K, locked: Option<u64>) -> Result<(), WriteFault>
+    ensures { Puts result (locked_line locked) (K.told sink.old) (K.told sink.new) }
+{
+    match locked {
+        Some(t) => put_pieces(
+            sink,
+            &[
+                Piece::Text(b"locked "),
+                Piece::Number(t),
+                Piece::Text(b"\n"),
+            ],
+        ),
+        None => put_all(sink, b"locked none\n"),
+    }
+}
+
+/// Writes the line of an era, of a runner at the end.
+fn put_era<K: Sink, O: Overlay>(
+    sink: &mut K,
+    runner: &Runner<O>,
+    era: usize,
+) -> Result<(), WriteFault>
+    requires end { runner.now.at ≡ runner.now.script.rounds }
+    requires among { era ≤ length runner.now.script.eras }
+    ensures { (began : List O.Kept) → IsPlaying O.layer O.kept began runner.now
+        → Puts result (era_line runner.now.plan runner.now.script
+        (configuration_of O.layer began runner.now) era)
+        (K.told sink.old) (K.told sink.new) }
+{
+    put_pieces(
+        sink,
+        &[
+            Piece::Text(b"era "),
+            Piece::Number(runner.script().era_start(era)),
+            Piece::Text(b" "),
+        ],
+    )?;
+    put_locked(sink, runner.locked_in(era))
+}
+
+/// Writes the first locked configuration of each era, of a runner at the end.
+pub(crate) fn put_locks<K: Sink, O: Overlay>(
+    sink: &mut K,
+    runner: &Runner<O>,
+) -> Result<(), WriteFault>
+    requires { runner.now.at ≡ runner.now.script.rounds }
+    ensures { (began : List O.Kept) → IsPlaying O.layer O.kept began runner.now
+        → Puts result (lock_lines runner.now.plan runner.now.script
+        (configuration_of O.layer began runner.now))
+        (K.told sink.old) (K.told sink.new) }
+{
+    if runner.script().version() == 1 {
+        return put_locked(sink, runner.locked_in(0));
+    }
+    for era in 0..runner.script().eras() {
+        match put_era(sink, runner, era) {
+            Ok(()) => {}
+            Err(WriteFault) => return Err(WriteFault),
+        }
+    }
+    Ok(())
+}

@@ -1,0 +1,71 @@
+ghost use Rattle.std.specs.Prelude.{◌≡◌, ◌<◌, ◌≤◌};
+ghost use Rattle.run_lines.specs.Playing.{IsOver};
+ghost use Rattle.run_lines.specs.SlotTexts.{lowest_correct, lead_output, counts_at, may_end_at, ends_at};
+
+use adversary_script::Script;
+use counter_core::Overlay;
+use round_runner::Runner;
+use sync_types::FaultSet;
+
+/// The lowest id below `nodes` of a correct node, 0 where there is none.
+fn lowest_correct(nodes: u32, faulty: &FaultSet) -> u32
+    ensures value { result ≡ lowest_correct nodes faulty.now.ids }
+    ensures below { 0 < nodes → result < nodes }
+{
+    for v in 0..nodes {
+        if !faulty.contains(v) {
+            return v;
+        }
+    }
+    0
+}
+
+/// What the correct node of the lowest id shows in the runner's configuration.
+pub fn lead_output<O: Overlay>(bound: u64, runner: &Runner<O>) -> u64
+    requires { IsOver O.layer bound runner.now }
+    ensures { result ≡
+        lead_output runner.now.plan runner.now.script runner.now.at runner.now.states }
+{
+    let faulty = runner.script().faulty_at(runner.at());
+    runner.output(lowest_correct(runner.nodes(), faulty))
+}
+
+/// Whether a slot of so many rounds that begins in configuration `t` counts: later than the bound
+/// after the begin of its era, and to its end in that era and within the rounds.
+fn counts(script: &Script, bound: u64, length: u64, t: u64) -> bool
+    requires short { length ≤ 1000 }
+    requires few { t ≤ 1000000 }
+    ensures { result ≡ counts_at bound script.now length t }
+{
+    let era = script.era_of(t);
+    t.saturating_sub(script.era_start(era)) > bound
+        && script.era_of(t + length) == era
+        && t + length <= script.rounds()
+}
+
+/// Whether a slot that counts and began in a configuration that is shown may end in configuration
+/// `at`.
+fn may_end(script: &Script, bound: u64, length: u64, at: u64) -> bool
+    requires short { length ≤ 1000 }
+    ensures { result ≡ may_end_at bound script.now length at }
+{
+    let _rounds = script.rounds();
+    let (first, last) = script.shown();
+    if at < first + length || last + length < at {
+        return false;
+    }
+    counts(script, bound, length, at - length)
+}
+
+/// Whether a slot of `length` rounds ends in the runner's configuration of which a line is written:
+/// it began in a configuration that is shown, later than the bound after the begin of its era, and
+/// ends in that era. `length` is at least 1 and at most 1000, and divides the plan's modulus.
+pub fn slot_ends<O: Overlay>(bound: u64, runner: &Runner<O>, length: u64) -> bool
+    requires over { IsOver O.layer bound runner.now }
+    requires some { 1 ≤ length }
+    requires short { length ≤ 1000 }
+    ensures { result ≡
+        ends_at runner.now.plan runner.now.script length runner.now.at runner.now.states }
+{
+    may_end(runner.script(), bound, length, runner.at()) && lead_output(bound, runner) % length == 0
+}

@@ -1,0 +1,5 @@
+pub mod Tables
+pub mod HoldLaws
+pub mod SlotPart
+pub mod SlotRefusals
+pub mod SlotAnswers

@@ -1,0 +1,75 @@
+-- The slots part of an input: `slots 1`, at most 256 lines `slot V A B`, `end`.
+use Rattle.std.specs.Prelude.{ℕ, ◌<◌, ◌≤◌, ◌||◌, nat_le, nat_lt, Bool, true, false, List, [], ◌∷◌, ◌++◌, length, All, Option, Some, Result, Ok, Err, if◌then◌else◌, codes}
+use Rattle.std.specs.List.{list_any}
+use Rattle.std.specs.Str.{bytes_eq}
+use Rattle.texts.specs.Lines.{words_of}
+use Rattle.texts.specs.Shapes.{numbers_after}
+use Rattle.texts.specs.Parts.{Next, goes, ends, refuses, with_skips, Found, At, part_from}
+use Rattle.sync_types.specs.declared.answers.Rule.{Rule}
+use Rattle.sync_types.specs.declared.answers.Rule.TheVariants.{Form, Limit, Node, Range, Overlap}
+use Rattle.construction.specs.Plans.{Plan, plan_nodes, plan_modulus}
+use Rattle.slot_table.specs.declared.lines.SlotLine.{SlotLine}
+use Rattle.slot_table.specs.Tables.{meets, AreApart}
+
+-- how many nodes there are, the modulus of their outputs, whether the first line was read, and the
+-- table's lines behind it
+pub record SlotsSoFar : Type 0 where
+  pub nodes : ℕ
+  pub modulus : ℕ
+  pub begun : Bool
+  pub lines : List SlotLine
+
+-- a part of which nothing was read
+abbrev pub nothing_read : Plan → SlotsSoFar
+nothing_read plan = record {
+  nodes = plan_nodes plan;
+  modulus = plan_modulus plan;
+  begun = false;
+  lines = [];
+}
+
+-- the line with these numbers, or the first rule that it fails
+abbrev pub line_tested : SlotsSoFar → Option (List ℕ) → Result SlotLine Rule
+line_tested s (Some (v ∷ a ∷ b ∷ [])) =
+    if nat_le 256 (length s.lines) then Err Limit
+    else if nat_le s.nodes v then Err Node
+    else if nat_lt b a || nat_le s.modulus b then Err Range
+    else if list_any (meets a b) s.lines then Err Overlap
+    else Ok (record { node = v; first = a; last = b })
+line_tested s other = Err Form
+
+-- `slot V A B`
+abbrev pub line_in : SlotsSoFar → List ℕ → Result SlotLine Rule
+line_in s line = line_tested s (numbers_after (codes "slot") 3 (words_of line))
+
+-- the part goes on with one more line, or the line is refused
+abbrev pub goes_with : SlotsSoFar → Result SlotLine Rule → Next SlotsSoFar (List SlotLine) Rule
+goes_with s (Ok line) = goes (record s { lines = s.lines ++ line ∷ [] })
+goes_with s (Err rule) = refuses rule
+
+-- a line behind those that were read
+abbrev pub slots_step : SlotsSoFar → List ℕ → Next SlotsSoFar (List SlotLine) Rule
+slots_step s line =
+    if s.begun
+    then (if bytes_eq line (codes "end") then ends s.lines else goes_with s (line_in s line))
+    else (if bytes_eq line (codes "slots 1") then goes (record s { begun = true })
+    else refuses Form)
+
+-- The slots part at the front of these lines, of which the first has that number: its table, how
+-- many lines it took through `end`, and the lines behind; or the first line that fails, with the
+-- first rule that it fails.
+abbrev pub part_of : Plan → (number : ℕ) → List (List ℕ) → Result (Found (List SlotLine)) (At Rule)
+part_of plan number lines =
+    part_from (with_skips slots_step Form) Form (nothing_read plan) 0 number lines
+
+-- a line is of a node of the plan and of outputs that it shows
+pub record IsFor (nodes modulus : ℕ) (line : SlotLine) : Type 0 where
+  pub node : line.node < nodes
+  pub order : line.first ≤ line.last
+  pub output : line.last < modulus
+
+-- what the lines of a table are that was read for a plan
+pub record AreFor (plan : Plan) (lines : List SlotLine) : Type 0 where
+  pub many : length lines ≤ 256
+  pub each : All (IsFor (plan_nodes plan) (plan_modulus plan)) lines
+  pub apart : AreApart lines

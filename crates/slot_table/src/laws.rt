@@ -1,0 +1,27 @@
+//! The laws of slot tables. Each function is empty: its clause is the law.
+
+ghost use Rattle.std.specs.Prelude.{ℕ, List, IfOk};
+ghost use Rattle.construction.specs.Plans.{Plan};
+ghost use Rattle.slot_table.specs.Tables.{HolderHolds, HolderIsOne};
+ghost use Rattle.slot_table.specs.HoldLaws.{AtMostOneHolds};
+ghost use Rattle.slot_table.specs.SlotPart.{part_of, AreFor};
+
+/// Where no output stands in two lines, a node that holds at an output is its holder, and the
+/// holder holds.
+pub fn one_holder()
+    ensures holds { HolderHolds }
+    ensures is_one { HolderIsOne }
+{}
+
+/// In each configuration of a run of an accepted plan, from the plan's bound on, at most one correct
+/// node holds at the output that it shows, whatever the table and the lies.
+pub fn at_most_one_holds()
+    ensures { AtMostOneHolds }
+{}
+
+/// The lines of a table that is read are at most 256, of nodes and outputs of the plan, and no
+/// output stands in two of them.
+pub fn lines_fit()
+    ensures { (plan : Plan) (number : ℕ) (lines : List (List ℕ))
+        → IfOk (part_of plan number lines) (λ found. AreFor plan found.value) }
+{}

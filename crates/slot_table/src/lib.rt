@@ -1,0 +1,19 @@
+//! Slot tables: they name for each output of a plan's counter the node that holds it.
+//!
+//! No output stands in two lines of a table. So wherever correct nodes show one output, at most one
+//! of them holds.
+#![tactic(auto)]
+
+pub mod laws;
+mod lines;
+mod reading;
+mod refusals;
+mod slot_lines;
+mod tables;
+#[cfg(test)]
+mod tests;
+
+pub use lines::SlotLine;
+pub use reading::read_slots;
+pub use refusals::{SlotError, SlotRefusal};
+pub use tables::SlotTable;
