@@ -1,4 +1,11 @@
 mod LevelLines
 mod LevelTexts
+mod NamedNumbers
 pub mod ReadBack
 mod StatedLines
+pub mod ReadTables
+pub mod WrittenTables
+mod StatedTables
+mod TableEnds
+mod TableWords
+mod TopLevels

@@ -1,8 +1,9 @@
-use crate::{write_plan, write_table};
+use crate::{TableError, TableRefusal, read_table, write_plan, write_table};
 use edge_io::MemSink;
 use plan_reader::read_whole_plan;
 use std::alloc::Global;
 use std::test::Fail;
+use sync_types::{Cause, Premise};
 
 const ALONE: &str = "plan 1\nbase 5\nend\n";
 
@@ -63,6 +64,76 @@ fn a_plan_is_written_in_either_version(rt: HostRuntime) -> Result<(), Fail> {
             &mut sink,
         )?;
         assert_eq!(rt; sink.taken(), text.as_bytes(), "at {plan}");
+    }
+    Ok(())
+}
+
+const SPARE_TABLE: &str =
+    "table 2\nbase 576\nlevel 1 blocks 3 leaders 2 nodes 4 faults 1 beat 9 span 576 modulus 10 bound 576 bits 15 spare 1\nplan nodes 4 faults 1 modulus 10 bound 576 bits 15 bytes 2\nend\n";
+
+#[test]
+fn tables_are_read(rt: HostRuntime) -> Result<(), Fail> {
+    let alloc = rt.alloc();
+    for (table, version, nodes) in [
+        (
+            "table 1\nbase 5\nplan nodes 1 faults 0 modulus 5 bound 0 bits 3 bytes 1\nend\n",
+            1,
+            1,
+        ),
+        (SPARE_TABLE, 2, 4),
+    ] {
+        let plan = read_table(alloc, table.as_bytes())?;
+        assert_eq!(rt; plan.version(), version, "at {table}");
+        assert_eq!(rt; plan.nodes(), nodes, "at {table}");
+    }
+    Ok(())
+}
+
+#[test]
+fn tables_are_refused(rt: HostRuntime) -> Result<(), Fail> {
+    let form = Cause::Premise(Premise::Form);
+    let rows = [
+        ("", 1, form),
+        ("table 1", 1, form),
+        ("table 3\n", 1, form),
+        ("table 1\n\nbase 5\n", 2, form),
+        ("table 1\nbase 1\n", 2, Cause::Premise(Premise::Modulus)),
+        ("table 1\nbase 5\nend\n", 3, form),
+        (
+            "table 1\nbase 5\nplan nodes 1 faults 0 modulus 5 bound 0 bits 4 bytes 1\nend\n",
+            3,
+            Cause::Value,
+        ),
+        (
+            "table 1\nbase 5\nplan nodes 1 faults 0 modulus 5 bound 0 bits 3 bytes 1\nend",
+            4,
+            form,
+        ),
+        (
+            "table 1\nbase 5\nplan nodes 1 faults 0 modulus 5 bound 0 bits 3 bytes 1\nend\n\n",
+            5,
+            form,
+        ),
+        (
+            "table 2\nbase 576\nlevel 2 blocks 3 leaders 2 nodes 4 faults 1 beat 9 span 576 modulus 10 bound 576 bits 15 spare 1\n",
+            3,
+            Cause::Value,
+        ),
+        (
+            "table 2\nbase 576\nlevel 1 blocks 3 leaders 2 nodes 4 faults 1 beat 9 span 576 modulus 10 bound 576 bits 15\n",
+            3,
+            form,
+        ),
+        (
+            "table 1\nbase 575\nlevel 1 blocks 4 leaders 2 nodes 4 faults 1 beat 9 span 2304 modulus 10 bound 2304 bits 9\n",
+            3,
+            Cause::Premise(Premise::Multiple),
+        ),
+    ];
+    for (text, line, cause) in rows {
+        let refused = read_table(rt.alloc(), text.as_bytes()).err();
+        let want = TableError::Refused(TableRefusal { line, cause });
+        assert_eq!(rt; refused, Some(want), "at {text}");
     }
     Ok(())
 }

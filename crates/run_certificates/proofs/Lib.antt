@@ -1,0 +1,21 @@
+pub mod Lexical
+pub mod Starts
+pub mod Complete
+pub mod Sound
+pub mod Tests
+pub mod Head
+pub mod Live
+pub mod Whole
+pub mod Good
+pub mod Verdicts
+pub mod Answers
+pub mod StatedRuns
+pub mod EraBegins
+pub mod PlayedStates
+pub mod RecordedTrue
+pub mod RecordedIs
+pub mod RecordedLock
+pub mod RecordedLines
+pub mod RecordedWhole
+mod Examples
+pub mod TrueRows
