@@ -1,8 +1,8 @@
 -- The parts of a draft that says nothing, and those after one more era or one more start.
-use Rattle.std.proofs.Common.{◌≡◌, ℕ, ◌-◌, ◌<◌, ◌≤◌, List, [], ◌∷◌, ◌++◌, length, map, get_or, set, Bool, true, false, if◌then◌else◌, Option, Some, None, Result, Ok, Err, refl, sym, ap, subst, ◌∙◌, arith}
+use Rattle.std.proofs.Common.{◌≡◌, ℕ, ◌-◌, ◌<◌, List, [], ◌∷◌, ◌++◌, length, map, get_or, set, Bool, true, false, if◌then◌else◌, Option, Some, None, Result, Ok, Err, refl, sym, ap, subst, ◌∙◌, arith}
 use Rattle.std.specs.Prelude.{All, IfOk, IfSome, is_ok}
 use Rattle.std.proofs.lemmas.List.{map-append, map-set, length-map, get_or-map}
-use Rattle.std.proofs.lemmas.List.Elements.{All-push, All-set}
+use Rattle.std.proofs.lemmas.List.Elements.{All-push}
 use Rattle.std.proofs.lemmas.Option.{slice_get-get_or}
 use Rattle.std.proofs.Math.Seq.{map-set_same}
 use Rattle.sync_types.specs.FaultSets.{FaultIds}
@@ -13,7 +13,7 @@ use Rattle.adversary_script.specs.declared.parts.Era as kept
 use Rattle.adversary_script.specs.declared.parts.Parts.{Parts}
 use Rattle.adversary_script.specs.Scripts.{Era, Script, IsFormed, empty_script}
 use Rattle.adversary_script.specs.Seen.{era_seen, script_seen, faulty_or_none, IsOver}
-use Rattle.adversary_script.specs.FaultySteps.{last_era, last_first, with_era}
+use Rattle.adversary_script.specs.FaultySteps.{last_era, last_first}
 use Rattle.adversary_script.specs.StartSteps.{started}
 use Rattle.adversary_script.proofs.FormedEras.{era_formed, start_formed}
 use Rattle.adversary_script.proofs.ReadScripts.{empty_is}

@@ -1,12 +1,12 @@
 -- Those fields that a node has of another node's state in range are in range.
-use Rattle.std.proofs.Common.{◌≡◌, ℕ, zero, suc, ◌+◌, ◌<◌, ◌≤◌, ◌==◌, ◌⊎◌, inl, inr, Bool, true, false, not, cond, List, length, get_or, slice_index, slice_index_or, Option, Some, None, nat_lt, refl, sym, subst, arith}
+use Rattle.std.proofs.Common.{◌≡◌, ℕ, ◌+◌, ◌<◌, ◌≤◌, ◌==◌, ◌⊎◌, inl, inr, Bool, true, false, not, cond, List, length, get_or, slice_index, slice_index_or, nat_lt, refl, arith}
 use Rattle.std.specs.Prelude.{IfSome, if◌then◌else◌}
 use Rattle.std.proofs.lemmas.Bool.{eqb-false, ne_eqb}
 use Rattle.std.proofs.lemmas.List.FromFn.{length-map-range_with_len, get_or-map-range_with_len}
 use Rattle.sync_types.specs.declared.states.Reg.{Reg}
 use Rattle.sync_types.specs.States.{State, register_at, zero_register}
 use Rattle.construction.specs.Runs.{IsRegister}
-use Rattle.state_codec.specs.Shapes.{Fields, Shape, IsShape, moduli_from, fields_from, fields_at}
+use Rattle.state_codec.specs.Shapes.{Shape, IsShape, moduli_from, fields_from, fields_at}
 use Rattle.state_codec.specs.Ranges.{IsField, InRange}
 use Rattle.state_codec.proofs.Lows.{length-moduli_from, modulus_at}
 use Rattle.adversary_script.specs.Lies.{fitted_register, fitted}

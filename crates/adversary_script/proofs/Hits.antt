@@ -1,12 +1,11 @@
 -- Where an era begins, nodes are put into the states of that era's start lines.
-use Rattle.std.proofs.Common.{◌≡◌, ℕ, zero, suc, ◌+◌, ◌<◌, ◌≤◌, List, [], ◌∷◌, length, map, get_or, Bool, true, false, cond, eqb, Option, Some, None, refl, inl, inr, arith}
+use Rattle.std.proofs.Common.{◌≡◌, ℕ, zero, suc, ◌<◌, ◌≤◌, List, [], ◌∷◌, length, map, get_or, true, false, eqb, refl, inl, inr, arith}
 use Rattle.std.specs.List.{find}
 use Rattle.std.specs.Option.{option_and_then}
 use Rattle.std.specs.List.Sorted.{IsStrictlyIncreasing}
 use Rattle.std.proofs.lemmas.Bool.{ne_eqb}
 use Rattle.std.proofs.lemmas.List.{length-map}
 use Rattle.std.proofs.lemmas.Bool.Decides.{eqb_tells}
-use Rattle.sync_types.specs.States.{State}
 use Rattle.adversary_script.specs.Scripts.{Era, Script, firsts}
 use Rattle.adversary_script.specs.Eras.{first_of_era, starts_of_era}
 use Rattle.adversary_script.specs.Lookup.{start_in, hit_at}

@@ -11,6 +11,7 @@ pub mod FormedEras
 pub mod DraftEras
 pub mod LineByLine
 pub mod SoundLines
+pub mod StateShapes
 pub mod ReadScripts
 pub mod LiesInRange
 pub mod Hits

@@ -1,5 +1,5 @@
 -- What the empty script has and each line keeps, every script that is read has.
-use Rattle.std.proofs.Common.{◌≡◌, ℕ, ◌+◌, List, [], ◌∷◌, Bool, true, false, if◌then◌else◌, Option, Some, None, Result, Ok, Err, refl}
+use Rattle.std.proofs.Common.{◌≡◌, ℕ, ◌+◌, List, Bool, true, false, if◌then◌else◌, Option, Some, None, Result, Ok, Err, refl}
 use Rattle.std.specs.Prelude.{IfOk}
 use Rattle.texts.specs.Lines.{words_of}
 use Rattle.texts.specs.Parts.{Next, refuses, with_skips, Found, At}

@@ -1,5 +1,5 @@
 -- Every script that is read is well formed and for its plan.
-use Rattle.std.proofs.Common.{◌≡◌, ℕ, map, get_or, ◌<◌, ◌≤◌, List, [], ◌∷◌, length, Bool, true, false, ◌||◌, nat_lt, Option, Some, None, Result, Ok, Err, refl, sym, arith}
+use Rattle.std.proofs.Common.{◌≡◌, ℕ, map, get_or, ◌<◌, ◌≤◌, List, [], ◌∷◌, length, true, ◌||◌, nat_lt, Option, Some, Result, Ok, Err, refl, sym, arith}
 use Rattle.std.specs.Prelude.{⊤, All, IfOk}
 use Rattle.std.proofs.lemmas.Bool.{ltb-false, true≢false}
 use Rattle.std.proofs.lemmas.List.{length-map}

@@ -1,5 +1,5 @@
 -- Each line keeps a script well formed and for its plan.
-use Rattle.std.proofs.Common.{◌≡◌, ℕ, add-one, zero, suc, ◌-◌, ◌<◌, ◌≤◌, List, [], ◌∷◌, ◌++◌, length, map, Bool, true, false, ◌&&◌, ◌||◌, not, nat_lt, nat_le, ◌==◌, if◌then◌else◌, Option, Some, None, Result, Ok, Err, refl, sym, subst, arith}
+use Rattle.std.proofs.Common.{◌≡◌, ℕ, add-one, suc, ◌<◌, ◌≤◌, List, [], ◌∷◌, length, Bool, true, false, ◌&&◌, ◌||◌, not, nat_lt, nat_le, ◌==◌, if◌then◌else◌, Option, Some, None, Result, Ok, Err, refl, sym, arith}
 use Rattle.std.specs.Prelude.{All, IfOk, IfSome, is_some, codes, slice_index_or}
 use Rattle.std.specs.Option.{option_map}
 use Rattle.std.specs.Str.{bytes_eq}
@@ -12,7 +12,7 @@ use Rattle.sync_types.specs.declared.answers.Rule.{Rule}
 use Rattle.sync_types.specs.declared.answers.Rule.TheVariants as rule
 use Rattle.sync_types.specs.FaultSets.{is_in}
 use Rattle.sync_types.specs.States.{State}
-use Rattle.construction.specs.Plans.{Plan, plan_nodes, plan_faults}
+use Rattle.construction.specs.Plans.{Plan, plan_faults}
 use Rattle.construction.specs.Runs.{IsBorne}
 use Rattle.state_codec.specs.Shapes.{Fields, Shape, IsFields, IsShape, fields_at}
 use Rattle.state_codec.specs.Ranges.{InRange}
@@ -29,8 +29,8 @@ use Rattle.adversary_script.specs.declared.lies.What.{What}
 use Rattle.adversary_script.specs.declared.lies.What.TheVariants as what
 use Rattle.adversary_script.specs.LieWords.{WhatSaid, noise, copy, digits, shift, LieSaid, lie_words}
 use Rattle.adversary_script.specs.WordTests.{numbers_in, only, both, is_name, are_below, is_rising, who_below, what_below, are_ids, is_crossed}
-use Rattle.adversary_script.specs.Scripts.{Group, Era, Script, firsts, faulty_sets, IsLying, AreInRange, IsFormed}
-use Rattle.adversary_script.specs.FaultySteps.{faulty_tested, era_words, last_era, last_first, with_era, era_tested, era_step}
+use Rattle.adversary_script.specs.Scripts.{Group, Era, Script, faulty_sets, IsLying, IsFormed}
+use Rattle.adversary_script.specs.FaultySteps.{faulty_tested, era_words, last_era, last_first, with_era, era_tested}
 use Rattle.adversary_script.specs.StartSteps.{is_above, last_starts, started, with_start, start_tested, start_step}
 use Rattle.adversary_script.specs.LieSteps.{group_at, state_of_digits, who_of, what_of, with_lie, lie_tested}
 use Rattle.adversary_script.specs.Steps.{done, head_tested, key_of_digits, with_key, seed_tested, group_tested, group_step, rounds_tested, show_tested, line_step}

@@ -13,5 +13,6 @@ pub mod ScriptRefusals
 pub mod Scripts
 pub mod Seen
 pub mod StartSteps
+pub mod StateShapes
 pub mod Steps
 pub mod WordTests

@@ -1,11 +1,11 @@
 -- What the parts that the code keeps of a script stand for.
-use Rattle.std.specs.Prelude.{◌≡◌, ℕ, List, [], map, Vec, Option, Some, None, All, IfSome}
+use Rattle.std.specs.Prelude.{◌≡◌, ℕ, [], map, Vec, Option, Some, None, All, IfSome}
 use Rattle.std.specs.Global.{Global}
 use Rattle.sync_types.specs.FaultSets.{FaultIds}
 use Rattle.state_codec.specs.Shapes.{Shape}
 use Rattle.adversary_script.specs.declared.parts.Era as kept
 use Rattle.adversary_script.specs.declared.parts.Parts.{Parts}
-use Rattle.adversary_script.specs.Scripts.{Group, Era, Script, IsFormed}
+use Rattle.adversary_script.specs.Scripts.{Group, Era, Script}
 
 -- an entry of the map of groups
 abbrev pub group_seen : Vec ℕ Global × FaultIds → Group

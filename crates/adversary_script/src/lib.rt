@@ -35,8 +35,6 @@ mod single_lines;
 mod start_lines;
 #[cfg(test)]
 mod tests;
-#[cfg(test)]
-mod value_tests;
 mod word_tests;
 
 pub use noise::Noise;

@@ -5,12 +5,13 @@ ghost use Rattle.state_codec.specs.Ranges.{InRange};
 ghost use Rattle.adversary_script.specs.Scripts.{IsLying};
 ghost use Rattle.adversary_script.specs.Eras.{faulty_at};
 ghost use Rattle.adversary_script.specs.Noise.{noise_state};
-ghost use Rattle.adversary_script.specs.Lies.{AreStates, start_of, common_start, lie_state, lie_of};
+ghost use Rattle.adversary_script.specs.Lies.{start_of, common_start, lie_state, lie_of};
 
 use crate::lies::{CommonStart, What};
 use crate::noise::Noise;
 use crate::scripts::Script;
 use crate::shifting::{fit_into, shift_into, zero_into};
+use state_codec::Packed;
 use sync_types::NodeState;
 
 /// A state has no more bytes.
@@ -84,34 +85,34 @@ impl Script {
         t: u64,
         u: u32,
         v: u32,
-        config: &[NodeState],
+        config: &Packed,
         out: &mut NodeState,
     )
         requires noise { noise.old ≡ self.now.key }
         requires what { IsLying self.now.nodes (fields_at self.now.shape u) what.now }
         requires round { t ≤ 1000000 }
         requires sender { u < self.now.nodes }
-        requires size { length config.now ≡ self.now.nodes }
-        requires range { AreStates self.now.nodes self.now.shape config.now }
+        requires shape { config.now.shape ≡ self.now.shape }
+        requires size { length config.now.current ≡ self.now.nodes }
         requires depth { length out.old.registers ≡ length self.now.shape.moduli }
-        ensures value { out.new ≡ lie_state self.now t u v config.now what.now }
+        ensures value { out.new ≡ lie_state self.now t u v config.now.current what.now }
         ensures range { InRange (fields_at self.now.shape u) out.new }
         ensures noise { noise.new ≡ noise.old }
     {
+        config.tell();
+        let _few = config.nodes();
         match what {
             What::Noise => self.noise_into(noise, u, 256 * u64::from(u) + u64::from(v), t, out),
-            What::Copy(w) => fit_into(&self.shape, u, &config[*w as usize], out),
+            What::Copy(w) => fit_into(config, u, *w as u32, out),
             What::State(state) => out.copy_from(state),
-            What::Shift(by) => {
-                shift_into(&self.shape, u, *by, &config[u as usize], out);
-            }
+            What::Shift(by) => shift_into(config, u, *by, u, out),
         }
     }
 
-    /// Writes what node `u`, faulty in round `t`, tells node `v` in it into `out`. `config` is the
-    /// configuration with which the round begins: a state for each node, of the shape for which the
-    /// script was read, and `out` has their depth. `noise` is that of this script. It takes no
-    /// memory.
+    /// Writes what node `u`, faulty in round `t`, tells node `v` in it into `out`. The current
+    /// states of `config` are the configuration with which the round begins: a state for each node,
+    /// of the shape for which the script was read, and `out` has their depth. `noise` is that of
+    /// this script. It takes no memory.
     #[tactic(auto, unfolding(crate::specs::Lies::lie_of))]
     pub fn lie_into(
         &self,
@@ -119,7 +120,7 @@ impl Script {
         t: u64,
         u: u32,
         v: u32,
-        config: &[NodeState],
+        config: &Packed,
         out: &mut NodeState,
     )
         requires noise { noise.old ≡ self.now.key }
@@ -127,16 +128,17 @@ impl Script {
         requires sender { is_in (faulty_at self.now t) u ≡ true }
         requires other { v ≢ u }
         requires receiver { v < self.now.nodes }
-        requires size { length config.now ≡ self.now.nodes }
-        requires range { AreStates self.now.nodes self.now.shape config.now }
+        requires shape { config.now.shape ≡ self.now.shape }
+        requires size { length config.now.current ≡ self.now.nodes }
         requires depth { length out.old.registers ≡ length self.now.shape.moduli }
-        ensures value { out.new ≡ lie_of self.now t u v config.now }
+        ensures value { out.new ≡ lie_of self.now t u v config.now.current }
         ensures range { InRange (fields_at self.now.shape u) out.new }
         ensures noise { noise.new ≡ noise.old }
     {
+        config.tell();
         match self.lie_for(t, u, v) {
             Some(lie) => self.write_lie(noise, &lie.what, t, u, v, config, out),
-            None => out.copy_from(&config[u as usize]),
+            None => config.old(u, out),
         }
     }
 }

@@ -1,7 +1,7 @@
 ghost use Rattle.std.specs.Prelude.{◌≡◌, ◌≤◌, ◌<◌, ◌+◌, ◌^◌, length, IfOk};
 ghost use Rattle.texts.specs.Lines.{lines_of};
-ghost use Rattle.state_codec.specs.Shapes.{shape_of};
 ghost use Rattle.adversary_script.specs.ScriptPart.{IsAnswer, IsFor};
+ghost use Rattle.adversary_script.specs.StateShapes.{IsShapeFor};
 
 use crate::refusals::{ScriptError, ScriptRefusal};
 use crate::script_lines::ScriptLines;
@@ -14,8 +14,9 @@ use std::alloc::Global;
 use sync_types::Rule;
 
 /// Reads a script for a plan, to the end of the input. `shape` is the shape of the plan's states,
-/// and the first line of `bytes` has the number `first_line`, which is at least 1 and whose sum
-/// with the length of `bytes` is below 2^64.
+/// or that with one or two further registers behind, for a layer above the counter. The first line
+/// of `bytes` has the number `first_line`, which is at least 1 and whose sum with the length of
+/// `bytes` is below 2^64.
 ///
 /// `Refused` is the first line that fails, with the first rule that it fails. A script that lacks
 /// its `end` is refused `Form` at the line after the last, and so is the first line behind `end`
@@ -27,7 +28,7 @@ pub fn read_script(
     bytes: &[u8],
     first_line: u64,
 ) -> Result<Script, ScriptError>
-    requires shape { shape.now ≡ shape_of plan.now }
+    requires shape { IsShapeFor plan.now shape.now }
     requires first { 1 ≤ first_line }
     requires count { first_line + length bytes.now < 2 ^ 64 }
     ensures exact { IsAnswer plan.now shape.now first_line (lines_of bytes.now) result }
@@ -46,7 +47,7 @@ fn read_exactly(
     bytes: &[u8],
     first_line: u64,
 ) -> Result<Script, ScriptError>
-    requires shape { shape.now ≡ shape_of plan.now }
+    requires shape { IsShapeFor plan.now shape.now }
     requires first { 1 ≤ first_line }
     requires count { first_line + length bytes.now < 2 ^ 64 }
     ensures { IsAnswer plan.now shape.now first_line (lines_of bytes.now) result }

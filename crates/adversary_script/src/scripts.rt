@@ -4,6 +4,7 @@ ghost use Rattle.adversary_script.specs.Scripts.{IsScript};
 use crate::links::Links;
 use crate::parts::Parts;
 use state_codec::StateShape;
+use std::alloc::Global;
 use std::marker::Model;
 use sync_types::FaultSet;
 
@@ -15,6 +16,7 @@ pub struct Script {
     pub(crate) faulty: FaultSet,
     pub(crate) parts: Parts,
     pub(crate) links: Links,
+    pub(crate) alloc: Global,
 }
 
 impl Model for Script {
@@ -45,6 +47,11 @@ impl Script {
         ensures { result ≡ self.now.key }
     {
         self.parts.key
+    }
+
+    /// Where what grows may take its memory from.
+    pub(crate) fn alloc(&self) -> Global {
+        self.alloc
     }
 
     /// The nodes that are faulty in era 0.

@@ -1,10 +1,11 @@
-ghost use Rattle.std.specs.Prelude.{◌≡◌, ℕ, ◌<◌, ◌≤◌, ◌+◌, ◌%◌, ◌^◌, length};
+ghost use Rattle.std.specs.Prelude.{◌≡◌, ◌<◌, ◌≤◌, ◌+◌, ◌%◌, ◌^◌, length};
 ghost use Rattle.sync_types.specs.States.{zero_state};
+ghost use Rattle.construction.specs.Steps.{state_of};
 ghost use Rattle.state_codec.specs.Shapes.{fields_at};
 ghost use Rattle.state_codec.specs.Ranges.{InRange};
 ghost use Rattle.adversary_script.specs.Lies.{shifted_register, shifted, fitted_register, fitted};
 
-use state_codec::StateShape;
+use state_codec::Packed;
 use sync_types::{NodeState, Reg};
 
 /// The register that stands where a node lacks one.
@@ -37,45 +38,53 @@ fn shifted_register(modulus: u64, register: Reg, by: u64) -> Reg
     Reg { a, d: register.d }
 }
 
-/// Writes the state of node `v` whose number and finite values are `by` larger than those of
-/// `from`, each modulo its own modulus.
-pub fn shift_into(shape: &StateShape, v: u32, by: u64, from: &NodeState, out: &mut NodeState)
-    requires node { v < length shape.now.lows }
-    requires from { length from.now.registers ≡ length shape.now.moduli }
-    requires depth { length out.old.registers ≡ length shape.now.moduli }
-    ensures value { out.new ≡ shifted by (fields_at shape.now v) from.now }
-    ensures range { InRange (fields_at shape.now v) out.new }
+/// Writes the state of node `v` whose number and finite values are `by` larger than those of node
+/// `w`, each modulo its own modulus.
+pub fn shift_into(config: &Packed, v: u32, by: u64, w: u32, out: &mut NodeState)
+    requires node { v < length config.now.shape.lows }
+    requires from { w < length config.now.current }
+    requires depth { length out.old.registers ≡ length config.now.shape.moduli }
+    ensures value { out.new
+        ≡ shifted by (fields_at config.now.shape v) (state_of config.now.current w) }
+    ensures range { InRange (fields_at config.now.shape v) out.new }
 {
-    shape.tell();
-    out.set_x(sum_modulo(shape.base_of(v), from.x(), by));
-    shift_registers(shape, v, by, from, out);
+    config.tell();
+    out.set_x(sum_modulo(config.shape().base_of(v), config.x(w), by));
+    shift_registers(config, v, by, w, out);
 }
 
 /// Writes registers whose finite values are `by` larger, each modulo its own modulus.
-fn shift_registers(shape: &StateShape, v: u32, by: u64, from: &NodeState, out: &mut NodeState)
-    requires node { v < length shape.now.lows }
-    requires from { length from.now.registers ≡ length shape.now.moduli }
-    requires depth { length out.old.registers ≡ length shape.now.moduli }
-    ensures { out.new
-        ≡ record out.old { registers = (shifted by (fields_at shape.now v) from.now).registers } }
+fn shift_registers(config: &Packed, v: u32, by: u64, w: u32, out: &mut NodeState)
+    requires node { v < length config.now.shape.lows }
+    requires from { w < length config.now.current }
+    requires depth { length out.old.registers ≡ length config.now.shape.moduli }
+    ensures { out.new ≡ record out.old {
+      registers =
+          (shifted by (fields_at config.now.shape v) (state_of config.now.current w)).registers;
+    } }
 {
-    for i in 0..shape.depth() {
-        out.set_reg(i, shifted_register(shape.modulus_of(v, i), from.reg(i), by));
+    for i in 0..config.shape().depth() {
+        let modulus = config.shape().modulus_of(v, i);
+        out.set_reg(i, shifted_register(modulus, config.reg(w, i), by));
     }
 }
 
-/// Writes those fields of a state that node `v` has, and zero in the place of what it lacks.
-pub fn fit_into(shape: &StateShape, v: u32, from: &NodeState, out: &mut NodeState)
-    requires node { v < length shape.now.lows }
-    requires from { length from.now.registers ≡ length shape.now.moduli }
-    requires depth { length out.old.registers ≡ length shape.now.moduli }
-    ensures value { out.new ≡ fitted (fields_at shape.now v) from.now }
-    ensures range { (w : ℕ) → InRange (fields_at shape.now w) from.now
-        → InRange (fields_at shape.now v) out.new }
+/// Writes those fields of the state of node `w` that node `v` has, and zero in the place of what it
+/// lacks.
+pub fn fit_into(config: &Packed, v: u32, w: u32, out: &mut NodeState)
+    requires node { v < length config.now.shape.lows }
+    requires from { w < length config.now.current }
+    requires depth { length out.old.registers ≡ length config.now.shape.moduli }
+    ensures value { out.new ≡ fitted (fields_at config.now.shape v) (state_of config.now.current w) }
+    ensures range { InRange (fields_at config.now.shape v) out.new }
 {
-    shape.tell();
-    out.set_x(if shape.base_of(v) == 1 { 0 } else { from.x() });
-    fit_registers(shape, v, from, out);
+    config.tell();
+    out.set_x(if config.shape().base_of(v) == 1 {
+        0
+    } else {
+        config.x(w)
+    });
+    fit_registers(config, v, w, out);
 }
 
 /// A register, or the zero register where the modulus is 0.
@@ -86,15 +95,18 @@ fn fitted_register(modulus: u64, register: Reg) -> Reg
 }
 
 /// Writes those registers that node `v` has, and zero in the place of the others.
-fn fit_registers(shape: &StateShape, v: u32, from: &NodeState, out: &mut NodeState)
-    requires node { v < length shape.now.lows }
-    requires from { length from.now.registers ≡ length shape.now.moduli }
-    requires depth { length out.old.registers ≡ length shape.now.moduli }
-    ensures { out.new
-        ≡ record out.old { registers = (fitted (fields_at shape.now v) from.now).registers } }
+fn fit_registers(config: &Packed, v: u32, w: u32, out: &mut NodeState)
+    requires node { v < length config.now.shape.lows }
+    requires from { w < length config.now.current }
+    requires depth { length out.old.registers ≡ length config.now.shape.moduli }
+    ensures { out.new ≡ record out.old {
+      registers =
+          (fitted (fields_at config.now.shape v) (state_of config.now.current w)).registers;
+    } }
 {
-    for i in 0..shape.depth() {
-        out.set_reg(i, fitted_register(shape.modulus_of(v, i), from.reg(i)));
+    for i in 0..config.shape().depth() {
+        let modulus = config.shape().modulus_of(v, i);
+        out.set_reg(i, fitted_register(modulus, config.reg(w, i)));
     }
 }
 

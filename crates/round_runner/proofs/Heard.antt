@@ -1,16 +1,15 @@
 -- What a node hears, where the states of faulty nodes are replaced by what they tell.
-use Rattle.std.proofs.Common.{◌≡◌, ℕ, suc, ◌<◌, ◌≤◌, inl, inr, Bool, true, false, cond, not, ◌||◌, List, [], ◌∷◌, length, map, get_or, refl, sym, ap, ◌∙◌, arith}
+use Rattle.std.proofs.Common.{◌≡◌, ℕ, zero, suc, ◌<◌, inl, inr, Bool, true, false, cond, not, ◌||◌, List, [], ◌∷◌, length, map, refl, sym, ap, ◌∙◌, subst, arith}
 use Rattle.std.specs.Prelude.{◌==◌, slice_index, slice_index_or}
 use Rattle.std.specs.List.{range_with_len}
-use Rattle.std.proofs.lemmas.Bool.{eqb-true, true≢false, or_cases}
-use Rattle.std.proofs.lemmas.List.{ext_get_or}
-use Rattle.std.proofs.lemmas.List.FromFn.{length-map-range_with_len, get_or-map-range_with_len}
+use Rattle.std.proofs.lemmas.Bool.{eq-eqb, eqb-true, true≢false, or_cases}
+use Rattle.std.proofs.Math.Bool.{or-true}
+use Rattle.std.proofs.lemmas.List.FromFn.{fill_by_all, get_or-map-range_with_len}
 use Rattle.sync_types.specs.FaultSets.{is_in}
 use Rattle.sync_types.specs.States.{State, zero_state}
 use Rattle.construction.specs.Steps.{state_of}
 use Rattle.construction.specs.Runs.{heard_of, heard_by}
-use Rattle.counter_core.specs.Heard.{with_lies}
-use Rattle.counter_core.proofs.LiesHeard.{length-with_lies, get_or-with_lies}
+use Rattle.round_runner.proofs.Places.{placed}
 
 -- an id that is among others has a place among them
 pub place_of : (ids : List ℕ) (u : ℕ) → is_in ids u ≡ true → (j : ℕ) × (j < length ids)
@@ -20,6 +19,18 @@ place_of (id ∷ ids) u is = elim (or_cases (u == id) (is_in ids u) is) [
   | inl here ↦ (0, omega arith, sym (eqb-true u id here))
   | inr there ↦ let rest = place_of ids u there in (suc rest.0, omega (arith, rest.1), rest.2)
 ]
+
+-- and the id at a place is among them
+pub is_among : (ids : List ℕ) (j : ℕ) → j < length ids → is_in ids (slice_index ids j) ≡ true
+is_among [] j lt = absurd (omega arith)
+is_among (id ∷ ids) zero lt = ap (λ b. b || is_in ids id) (eq-eqb id id refl)
+is_among (id ∷ ids) (suc j) lt =
+    ap (λ b. (slice_index ids j == id) || b) (is_among ids j (omega arith))
+    ∙ or-true (slice_index ids j == id)
+
+either_has : (P : State → Type 0) (b : Bool) (s t : State) → P s → P t → P (cond b s t)
+either_has P true s t p q = p
+either_has P false s t p q = q
 
 module _ (n : ℕ) (faulty : List ℕ) (config : List State) (lie : ℕ → ℕ → State) (v : ℕ) where
   -- the table of what each tells each
@@ -43,20 +54,36 @@ module _ (n : ℕ) (faulty : List ℕ) (config : List State) (lie : ℕ → ℕ 
   one false true u told ult vlt is = is refl ∙ sym (table_at u ult vlt)
   one false false u told ult vlt is = refl
 
-  pub heard_is : (liars : List Bool) (lies : List State) → v < n → length config ≡ n
-      → length liars ≤ length lies
-      → ((u : ℕ) → get_or liars u false ≡ is_in faulty u)
-      → ((u : ℕ) → is_in faulty u ≡ true → state_of lies u
-      ≡ cond (u == v) (state_of config u) (lie u v))
-      → with_lies liars lies config ≡ heard_by n faulty config table v
-  heard_is liars lies vlt size fits marked told =
-      let size_of = length-with_lies liars lies config in
-      let long = length-map-range_with_len (heard_of faulty config table v) 0 n in
-      ext_get_or (zero_state 0) (with_lies liars lies config) (heard_by n faulty config table v)
-      (omega (arith, size_of, long, size)) (λ u lt.
-      let ult : u < n = omega (arith, lt, size_of, size) in
-      get_or-with_lies liars lies config u (zero_state 0) fits (omega (arith, ult, size))
-      ∙ (ap (λ (b : Bool). cond b (state_of lies u) (state_of config u)) (marked u)
-      ∙ (one (u == v) (is_in faulty u) u (state_of lies u) ult vlt (told u)
-      ∙ sym (get_or-map-range_with_len (heard_of faulty config table v) 0 n u u (zero_state 0) ult
-      (omega arith)))))
+  one_at : (bad : Bool) (u : ℕ) (told : State) → is_in faulty u ≡ bad → u < n → v < n
+      → (is_in faulty u ≡ true → told ≡ cond (u == v) (state_of config u) (lie u v))
+      → (is_in faulty u ≡ false → told ≡ state_of config u)
+      → told ≡ heard_of faulty config table v u
+  one_at true u told is ult vlt lies honest =
+      one (u == v) true u told ult vlt (λ b. lies is)
+      ∙ ap (λ (b : Bool). cond (u == v || not b) (state_of config u)
+      (state_of (slice_index_or table u []) v)) (sym is)
+  one_at false u told is ult vlt lies honest =
+      honest is ∙ (one (u == v) false u told ult vlt (λ b. absurd (true≢false (sym b)))
+      ∙ ap (λ (b : Bool). cond (u == v || not b) (state_of config u)
+      (state_of (slice_index_or table u []) v)) (sym is))
+
+  -- a list with the states of the correct nodes, and in the places of the faulty ones what they
+  -- tell, is what v hears
+  pub heard_is : (heard : List State) → v < n → length heard ≡ n
+      → ((u : ℕ) → u < n → is_in faulty u ≡ false → state_of heard u ≡ state_of config u)
+      → ((u : ℕ) → u < n → is_in faulty u ≡ true
+      → state_of heard u ≡ cond (u == v) (state_of config u) (lie u v))
+      → heard ≡ heard_by n faulty config table v
+  heard_is heard vlt size honest told =
+      fill_by_all (heard_of faulty config table v) heard n (zero_state 0) size
+      (λ u ult. one_at (is_in faulty u) u (state_of heard u) refl ult vlt (told u ult)
+      (honest u ult))
+
+  -- what holds of the states of the nodes and of what they tell holds of what is heard
+  pub heard_has : (P : ℕ → State → Type 0) → v < n
+      → ((u : ℕ) → u < n → P u (state_of config u)) → ((u : ℕ) → u < n → P u (lie u v))
+      → (u : ℕ) → u < n → P u (state_of (heard_by n faulty config table v) u)
+  heard_has P vlt states lies = placed P (heard_of faulty config table v) n (λ u ult.
+      either_has (P u) (u == v || not (is_in faulty u)) (state_of config u)
+      (state_of (slice_index_or table u []) v) (states u ult)
+      (subst (P u) (sym (table_at u ult vlt)) (lies u ult)))

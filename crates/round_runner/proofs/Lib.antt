@@ -1,5 +1,6 @@
 pub mod Begun
 pub mod Correct
+pub mod Digits
 pub mod EraRuns
 pub mod FirstLocked
 pub mod Firsts
@@ -8,6 +9,8 @@ pub mod Heard
 pub mod HeardAt
 pub mod HeardFrom
 pub mod Hits
+pub mod Laid
+pub mod Layered
 pub mod Locked
 pub mod Places
 pub mod Playing

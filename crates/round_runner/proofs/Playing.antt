@@ -12,6 +12,7 @@ use Rattle.sync_types.specs.States.{State}
 use Rattle.construction.specs.Plans.{Plan}
 use Rattle.construction.specs.Steps.{step_of}
 use Rattle.plan_laws.specs.PlanMeaning.{plan_meaning}
+use Rattle.counter_core.specs.Meanings.{Meaning}
 use Rattle.counter_core.specs.Overlays.{Layer}
 use Rattle.counter_core.specs.NoLayers.{no_layer}
 use Rattle.adversary_script.specs.Scripts.{Script, IsScript}
@@ -20,7 +21,8 @@ use Rattle.adversary_script.specs.Lookup.{hit_at}
 use Rattle.round_runner.specs.Locks.{is_locked, first_of, first_locked, era_locked}
 use Rattle.round_runner.specs.Laws.{BareRunnersArePlayed}
 use Rattle.round_runner.specs.Played.{heard_at, played_at}
-use Rattle.round_runner.specs.Scenes.{Scene, next_scene, scene_at, new_state}
+use Rattle.layer_laws.specs.Scenes.{Scene}
+use Rattle.round_runner.specs.Scenes.{begun_kept, stepped_scene, next_scene, scene_at, new_state}
 use Rattle.round_runner.specs.Runners.{Running, Advances, IsPlaying, begun, begun_locks, next_locks, scene_of, played_scene, configuration_of}
 use Rattle.round_runner.proofs.Firsts.{begun_era, era_within}
 
@@ -148,7 +150,7 @@ scene_played plan script began (suc t) =
     let before = scene_at (plan_meaning plan) script no_layer began t in
     let behind : ℕ → State → State = λ v s. unwrap_or (hit_at script (t + 1) v) s in
     ap (λ (f : ℕ → State). map f (range_with_len 0 script.nodes))
-    (fun_ext (λ v. ap (behind v) (bare v before.states before.kept)))
+    (fun_ext (λ v. ap (behind v) (bare v before.states (begun_kept no_layer t before.kept))))
     ∙ ap (λ (config : List State). map (λ v. behind v (step_of plan v (heard_at script t config v)))
     (range_with_len 0 script.nodes)) (scene_played plan script began t)
 
@@ -163,6 +165,15 @@ pub advances_of : {O Kept : Type 0} (layer : O → Layer Kept) (kept : O → Lis
     → Advances layer kept old new
 advances_of layer kept old view new is step =
     subst (λ (r : Running _). Advances layer kept r new) (sym is) step
+
+-- the steps of a round that has begun are those of the round
+pub stepped_is : {Kept : Type 0} (m : Meaning) (script : Script) (layer begun : Layer Kept) (t : ℕ)
+    (states : List State) (kept kept_begun : List Kept) → begun ≡ layer
+    → kept_begun ≡ map (layer.begun t) kept
+    → stepped_scene m script begun t states kept_begun
+    ≡ next_scene m script layer t (record { states = states; kept = kept })
+stepped_is m script layer begun t states kept kept_begun same is =
+    ap₂ (λ (l : Layer _) (k : List _). stepped_scene m script l t states k) same is
 
 -- a scene, part by part
 pub scene_is : {Kept : Type 0} {states : List State} {kept : List Kept} {scene : Scene Kept}

@@ -25,7 +25,7 @@ use Rattle.adversary_script.specs.Lies.{fitted, start_of, lie_of}
 use Rattle.adversary_script.proofs.LiesInRange.{starts_in_range, lies_have}
 use Rattle.round_runner.specs.Played.{heard_at}
 use Rattle.round_runner.specs.Runners.{IsFor}
-use Rattle.round_runner.specs.Scenes.{layer_step, new_state, state_behind, scene_at}
+use Rattle.round_runner.specs.Scenes.{begun_kept, layer_step, new_state, state_behind, scene_at}
 use Rattle.round_runner.proofs.Fitting.{front_is, fitted_is}
 use Rattle.round_runner.proofs.Firsts.{in_era, none_inside, none_hit}
 use Rattle.round_runner.proofs.Hits.{put_has, hit_has}
@@ -86,7 +86,8 @@ module _ {Kept : Type 0} (plan : Plan) (script : Script) (layer : Layer Kept)
   size_at (suc t) =
       let before = scene_at (plan_meaning plan) script layer began t in
       length-map-range_with_len (state_behind
-      (plan_meaning plan) script layer t before.states before.kept) 0 script.nodes
+      (plan_meaning plan) script layer t before.states (begun_kept layer t before.kept)) 0
+      script.nodes
 
   -- configuration t, cut
   abbrev pub cut_at : ℕ → List State
@@ -141,10 +142,11 @@ module _ {Kept : Type 0} (plan : Plan) (script : Script) (layer : Layer Kept)
         (λ v lt. front_of v lt (start_of script v) (starts_in_range script whole sound v))
     fronts_at (suc t) =
         let before = scene_at (plan_meaning plan) script layer began t in
-        placed HasFront (state_behind (plan_meaning plan) script layer t before.states before.kept)
+        let kept : List Kept = begun_kept layer t before.kept in
+        placed HasFront (state_behind (plan_meaning plan) script layer t before.states kept)
         script.nodes (λ v lt. put_has (HasFront v) (hit_at script (t + 1) v) _
         (hit_has script whole (HasFront v) (t + 1) v (front_of v lt))
-        (new_has before.kept v (heard_at script t before.states v)))
+        (new_has kept v (heard_at script t before.states v)))
 
     cut_is : (t : ℕ) → IsConfiguration plan (cut_at t)
     cut_is t = record {
@@ -194,15 +196,16 @@ module _ {Kept : Type 0} (plan : Plan) (script : Script) (layer : Layer Kept)
     stepped t v n faulty nodes same lt none =
         let before = scene_at (plan_meaning plan) script layer began t in
         let config : List State = before.states in
+        let kept : List Kept = begun_kept layer t before.kept in
         let vlt : v < script.nodes = omega (arith, nodes) in
         let heard : List State = heard_at script t config v in
         state_of-cut depth (states_at (suc t)) v
         ∙ ap (cut depth) (get_or-map-range_with_len
-        (state_behind (plan_meaning plan) script layer t config before.kept) 0 script.nodes v v
+        (state_behind (plan_meaning plan) script layer t config kept) 0 script.nodes v v
         (zero_state 0) vlt (omega arith))
         ∙ ap (λ hit. cut depth (unwrap_or hit
-        (new_state (plan_meaning plan) layer before.kept v heard))) none
-        ∙ new_front before.kept v heard
+        (new_state (plan_meaning plan) layer kept v heard))) none
+        ∙ new_front kept v heard
         ∙ sym (step_of-cut plan v heard)
         ∙ ap (step_of plan v) (sym (heard_cut depth script.nodes (faulty_at script t) config
         (λ u w. lie_of script t u w config) v vlt))

@@ -7,21 +7,15 @@ use Rattle.std.proofs.lemmas.List.{get_or-set_same, get_or-set_other, length-set
 use Rattle.std.proofs.lemmas.List.FromFn.{fill_by_all}
 use Rattle.sync_types.specs.States.{State, zero_state}
 use Rattle.construction.specs.Steps.{state_of}
-use Rattle.state_codec.specs.Shapes.{fields_at}
-use Rattle.state_codec.specs.Ranges.{InRange}
 use Rattle.counter_core.specs.Meanings.{Meaning}
 use Rattle.counter_core.specs.Overlays.{Layer}
 use Rattle.counter_core.specs.declared.work.Work.{Work}
 use Rattle.counter_core.specs.Working.{IsFor, IsAsRoomy}
 use Rattle.adversary_script.specs.Scripts.{Script}
 use Rattle.adversary_script.specs.Lookup.{hit_at}
-use Rattle.adversary_script.specs.Lies.{AreStates}
-use Rattle.round_runner.specs.declared.rounds.Room.{Room}
-use Rattle.round_runner.proofs.Begun.{AreDeep, set_deep}
 use Rattle.round_runner.proofs.Places.{set_has}
 use Rattle.round_runner.specs.Played.{heard_at}
-use Rattle.round_runner.specs.Rooms.{IsReady}
-use Rattle.round_runner.specs.Scenes.{layer_step, new_state, state_behind, kept_at}
+use Rattle.round_runner.specs.Scenes.{layer_step, state_behind, kept_at}
 
 -- a workspace that is as roomy is for as many nodes
 pub as_roomy : (n : ℕ) (old new : Work) → IsAsRoomy old new → IsFor n old → IsFor n new
@@ -34,35 +28,29 @@ as_roomy n old new same is = record {
 -- The nodes below v have stepped; what they and the others keep is told by the list that is kept
 -- now.
 pub record SteppedBelow {Kept : Type 0} (counter : Meaning) (script : Script) (layer : Layer Kept)
-    (t : ℕ) (old : List State) (kept : List Kept) (v : ℕ) (new : List State) (room : Room)
+    (t : ℕ) (old : List State) (kept : List Kept) (v : ℕ) (new : List State)
     (layer_now : Layer Kept) (kept_now : List Kept) : Type 0 where
   pub states : (u : ℕ) → u < v → state_of new u ≡ state_behind counter script layer t old kept u
-  pub range : (u : ℕ) → u < v → InRange (fields_at script.shape u) (state_of new u)
   pub size : length new ≡ script.nodes
-  pub deep : AreDeep script new
   pub same : layer_now ≡ layer
   pub count : length kept_now ≡ length kept
   pub done : (u : ℕ) → u < v → u < length kept
       → get_or kept_now u layer.first ≡ (layer_step counter layer kept u
       (heard_at script t old u)).kept
   pub rest : (u : ℕ) → v ≤ u → get_or kept_now u layer.first ≡ get_or kept u layer.first
-  pub ready : IsReady script room
 
 module _ {Kept : Type 0} (counter : Meaning) (script : Script) (layer : Layer Kept) (t : ℕ)
     (old : List State) (kept : List Kept) where
   -- one node more
-  pub one_stepped : (v : ℕ) (new : List State) (room room' : Room)
-      (layer_now layer_next : Layer Kept) (kept_now : List Kept) (out : State)
-      → v < script.nodes → SteppedBelow counter script layer t old kept v new room layer_now
-      kept_now
-      → out ≡ unwrap_or (hit_at script (t + 1) v)
-      (new_state counter layer_now kept_now v (heard_at script t old v))
-      → InRange (fields_at script.shape v) out
-      → layer_next ≡ layer_now → IsReady script room'
-      → SteppedBelow counter script layer t old kept (v + 1) (set new v out) room' layer_next
+  pub one_stepped : (v : ℕ) (new : List State) (layer_now layer_next : Layer Kept)
+      (kept_now : List Kept)
+      → v < script.nodes → SteppedBelow counter script layer t old kept v new layer_now kept_now
+      → layer_next ≡ layer_now
+      → SteppedBelow counter script layer t old kept (v + 1)
+      (set new v (state_behind counter script layer_now t old kept_now v)) layer_next
       (set kept_now v (layer_step counter layer_now kept_now v (heard_at script t old v)).kept)
-  one_stepped v new room room' layer_now layer_next kept_now out lt h is in_range next ready =
-      let within : v < length new = omega (arith, h.size) in
+  one_stepped v new layer_now layer_next kept_now lt h next =
+      let within : v < length new = omega (arith, lt, h.size) in
       let own : get_or kept_now v layer_now.first ≡ get_or kept v layer.first =
       ap (λ (l : Layer Kept). get_or kept_now v l.first) h.same ∙ h.rest v (omega arith) in
       let step : layer_step counter layer_now kept_now v (heard_at script t old v)
@@ -70,8 +58,9 @@ module _ {Kept : Type 0} (counter : Meaning) (script : Script) (layer : Layer Ke
       ap₂ (λ (l : Layer Kept) (k : Kept). l.next v k
       (counter.shows v (state_of (heard_at script t old v) v)) (heard_at script t old v)) h.same
       own in
-      let state : out ≡ state_behind counter script layer t old kept v = is
-      ∙ ap (λ s. let r : State = record {
+      let out : State = state_behind counter script layer_now t old kept_now v in
+      let state : out ≡ state_behind counter script layer t old kept v =
+      ap (λ s. let r : State = record {
         x = (counter.next v (heard_at script t old v)).x;
         registers = (counter.next v (heard_at script t old v)).registers ++ s.registers;
       } in
@@ -80,11 +69,7 @@ module _ {Kept : Type 0} (counter : Meaning) (script : Script) (layer : Layer Ke
         states = λ u ult. set_has (λ u s. s ≡ state_behind counter script layer t old kept u) new v
             out
             within state u (λ other. h.states u (omega (arith, other)));
-        range = λ u ult. set_has (λ u s. InRange (fields_at script.shape u) s) new v out within
-            in_range u
-            (λ other. h.range u (omega (arith, other)));
         size = length-set new v out ∙ h.size;
-        deep = set_deep script new v out in_range h.deep;
         same = next ∙ h.same;
         count = length-set kept_now v (layer_step counter layer_now kept_now v
             (heard_at script t old v)).kept ∙ h.count;
@@ -103,22 +88,15 @@ module _ {Kept : Type 0} (counter : Meaning) (script : Script) (layer : Layer Ke
         rest = λ u le. let other : u ≡ v → ⊥ = λ same. omega (arith, same, le) in
             get_or-set_other kept_now v u (layer_step counter layer_now kept_now v
             (heard_at script t old v)).kept layer.first other ∙ h.rest u (omega arith);
-        ready = ready;
       }
 
-  pub all_states : (v : ℕ) (new : List State) (room : Room) (layer_now : Layer Kept)
+  pub all_states : (v : ℕ) (new : List State) (layer_now : Layer Kept)
       (kept_now : List Kept) → script.nodes ≤ v
-      → SteppedBelow counter script layer t old kept v new room layer_now kept_now
+      → SteppedBelow counter script layer t old kept v new layer_now kept_now
       → new ≡ map (state_behind counter script layer t old kept) (range_with_len 0 script.nodes)
-  all_states v new room layer_now kept_now le h =
+  all_states v new layer_now kept_now le h =
       fill_by_all (state_behind counter script layer t old kept) new script.nodes
       (zero_state 0) h.size (λ u lt. h.states u (omega arith))
-
-  pub all_range : (v : ℕ) (new : List State) (room : Room) (layer_now : Layer Kept)
-      (kept_now : List Kept) → script.nodes ≤ v
-      → SteppedBelow counter script layer t old kept v new room layer_now kept_now
-      → AreStates script.nodes script.shape new
-  all_range v new room layer_now kept_now le h = λ u lt. h.range u (omega arith)
 
   one_kept : (lt : Bool) (u : ℕ) → nat_lt u script.nodes ≡ lt → (now : Kept)
       → (lt ≡ true → now ≡ (layer_step counter layer kept u (heard_at script t old u)).kept)
@@ -127,11 +105,11 @@ module _ {Kept : Type 0} (counter : Meaning) (script : Script) (layer : Layer Ke
   one_kept true u is now done rest = rw is (done refl)
   one_kept false u is now done rest = rw is (rest refl)
 
-  pub all_kept : (v : ℕ) (new : List State) (room : Room) (layer_now : Layer Kept)
+  pub all_kept : (v : ℕ) (new : List State) (layer_now : Layer Kept)
       (kept_now : List Kept) → v ≡ script.nodes
-      → SteppedBelow counter script layer t old kept v new room layer_now kept_now
+      → SteppedBelow counter script layer t old kept v new layer_now kept_now
       → kept_now ≡ map (kept_at counter script layer t old kept) (range_with_len 0 (length kept))
-  all_kept v new room layer_now kept_now end h =
+  all_kept v new layer_now kept_now end h =
       fill_by_all (kept_at counter script layer t old kept) kept_now
       (length kept) layer.first h.count
       (λ u lt. one_kept (nat_lt u script.nodes) u refl (get_or kept_now u layer.first)

@@ -8,4 +8,3 @@ pub mod Played
 pub mod Rooms
 pub mod Runners
 pub mod Scenes
-pub mod Seen

@@ -11,7 +11,8 @@ use Rattle.adversary_script.specs.Scripts.{Script, faulty_sets}
 use Rattle.adversary_script.specs.Eras.{era_of, faulty_at}
 use Rattle.round_runner.specs.Locks.{is_locked, first_of, first_locked, era_locked}
 use Rattle.round_runner.specs.Played.{starts}
-use Rattle.round_runner.specs.Scenes.{Scene, next_scene, scene_at}
+use Rattle.layer_laws.specs.Scenes.{Scene}
+use Rattle.round_runner.specs.Scenes.{next_scene, scene_at}
 
 -- A runner: its plan, script and layer, and configuration `at`; of each era the first configuration
 -- so far that is locked.

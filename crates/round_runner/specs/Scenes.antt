@@ -7,9 +7,14 @@ use Rattle.counter_core.specs.Meanings.{Meaning}
 use Rattle.counter_core.specs.Overlays.{Layer, LayerStep, after}
 use Rattle.adversary_script.specs.Scripts.{Script}
 use Rattle.adversary_script.specs.Lookup.{hit_at}
+use Rattle.layer_laws.specs.Scenes.{Scene}
 use Rattle.round_runner.specs.Played.{starts, heard_at}
 
--- the layer's step of node v, from the output that it shows itself
+-- what the nodes keep when round t has begun
+abbrev pub begun_kept : {Kept : Type 0} → Layer Kept → (t : ℕ) → (kept : List Kept) → List Kept
+begun_kept layer t kept = map (layer.begun t) kept
+
+-- the layer's step of node v in a round that has begun, from the output that it shows itself
 abbrev pub layer_step : {Kept : Type 0} → Meaning → Layer Kept → (kept : List Kept) → (v : ℕ)
     → (heard : List State) → LayerStep Kept
 layer_step counter layer kept v heard = after layer kept v
@@ -40,20 +45,18 @@ kept_at counter script layer t states kept v =
     if nat_lt v script.nodes then (layer_step counter layer kept v
     (heard_at script t states v)).kept else slice_index_or kept v layer.first
 
--- a configuration, and what the nodes keep beside their states
-pub record Scene (Kept : Type 0) : Type 0 where
-  pub states : List State
-  pub kept : List Kept
-
 module _ {Kept : Type 0} (counter : Meaning) (script : Script) (layer : Layer Kept) where
+  -- the scene after round t has begun with these things kept, and all nodes have stepped
+  abbrev pub stepped_scene : (t : ℕ) → List State → (kept : List Kept) → Scene Kept
+  stepped_scene t states kept = record {
+    states = map (state_behind counter script layer t states kept)
+        (range_with_len 0 script.nodes);
+    kept = map (kept_at counter script layer t states kept) (range_with_len 0 (length kept));
+  }
+
   -- the scene after round t
   abbrev pub next_scene : (t : ℕ) → Scene Kept → Scene Kept
-  next_scene t scene = record {
-    states = map (state_behind counter script layer t scene.states scene.kept)
-        (range_with_len 0 script.nodes);
-    kept = map (kept_at counter script layer t scene.states scene.kept)
-        (range_with_len 0 (length scene.kept));
-  }
+  next_scene t scene = stepped_scene t scene.states (begun_kept layer t scene.kept)
 
   -- scene t, where the nodes begin with these things kept
   abbrev pub scene_at : (kept : List Kept) → ℕ → Scene Kept

@@ -1,21 +1,21 @@
-ghost use Rattle.std.specs.Prelude.{◌≡◌, ◌<◌, ◌≤◌, length, All, suc};
-ghost use Rattle.sync_types.specs.States.{State};
+ghost use Rattle.std.specs.Prelude.{◌≡◌, ◌<◌, length};
 ghost use Rattle.round_runner.specs.Locks.{are_locked, correct_registers, first_value, is_locked_at};
 ghost use Rattle.std.specs.List.{list_all};
 
-use sync_types::{FaultSet, NodeState, Reg};
+use state_codec::Packed;
+use sync_types::{FaultSet, Reg};
 
 /// The value of the first correct node's register at a level, or 0 where that is infinite or no
 /// node is correct.
-fn first_value(level: usize, faulty: &FaultSet, config: &[NodeState]) -> u64
-    requires nodes { length config.now ≡ faulty.now.nodes }
-    requires deep { All (λ s. level < length s.registers) config.now }
+fn first_value(level: usize, faulty: &FaultSet, config: &Packed) -> u64
+    requires nodes { length config.now.current ≡ faulty.now.nodes }
+    requires level { level < length config.now.shape.moduli }
     ensures { result ≡ first_value (correct_registers level faulty.now.nodes faulty.now.ids
-        config.now) }
+        config.now.current) }
 {
     for v in 0..faulty.nodes() {
         if !faulty.contains(v) {
-            return config[v as usize].reg(level).a.unwrap_or(0);
+            return config.reg(v, level).a.unwrap_or(0);
         }
     }
     0
@@ -29,14 +29,14 @@ fn is_locked_at(value: u64, register: Reg) -> bool
 }
 
 /// Whether the registers of all correct nodes at a level are marked and have this value.
-fn all_locked_at(level: usize, value: u64, faulty: &FaultSet, config: &[NodeState]) -> bool
-    requires nodes { length config.now ≡ faulty.now.nodes }
-    requires deep { All (λ s. level < length s.registers) config.now }
+fn all_locked_at(level: usize, value: u64, faulty: &FaultSet, config: &Packed) -> bool
+    requires nodes { length config.now.current ≡ faulty.now.nodes }
+    requires level { level < length config.now.shape.moduli }
     ensures { result ≡ list_all (is_locked_at value)
-        (correct_registers level faulty.now.nodes faulty.now.ids config.now) }
+        (correct_registers level faulty.now.nodes faulty.now.ids config.now.current) }
 {
     for v in 0..faulty.nodes() {
-        if !faulty.contains(v) && !is_locked_at(value, config[v as usize].reg(level)) {
+        if !faulty.contains(v) && !is_locked_at(value, config.reg(v, level)) {
             return false;
         }
     }
@@ -44,11 +44,11 @@ fn all_locked_at(level: usize, value: u64, faulty: &FaultSet, config: &[NodeStat
 }
 
 /// Whether the registers of all correct nodes at a level are one, finite and marked.
-pub fn are_locked(level: usize, faulty: &FaultSet, config: &[NodeState]) -> bool
-    requires nodes { length config.now ≡ faulty.now.nodes }
-    requires deep { All (λ s. level < length s.registers) config.now }
+pub fn are_locked(level: usize, faulty: &FaultSet, config: &Packed) -> bool
+    requires nodes { length config.now.current ≡ faulty.now.nodes }
+    requires level { level < length config.now.shape.moduli }
     ensures { result ≡ are_locked (correct_registers level faulty.now.nodes faulty.now.ids
-        config.now) }
+        config.now.current) }
 {
     let value = first_value(level, faulty, config);
     all_locked_at(level, value, faulty, config)

@@ -1,7 +1,8 @@
-ghost use Rattle.std.specs.Prelude.{◌≡◌, ◌+◌, ◌<◌, ◌≤◌, ℕ, length, All, replicate, IfOk};
+ghost use Rattle.std.specs.Prelude.{◌≡◌, ◌<◌, ◌≤◌, length, replicate, IfOk};
 ghost use Rattle.sync_types.specs.States.{zero_state};
 ghost use Rattle.construction.specs.Plans.{plan_depth, plan_nodes};
-ghost use Rattle.adversary_script.specs.Lies.{AreStates};
+ghost use Rattle.construction.specs.Shown.{shown};
+ghost use Rattle.construction.specs.Steps.{state_of};
 ghost use Rattle.round_runner.specs.Locks.{is_locked, first_of};
 ghost use Rattle.round_runner.specs.Played.{starts};
 ghost use Rattle.round_runner.specs.Rooms.{IsReady};
@@ -11,10 +12,9 @@ use crate::locks::are_locked;
 use crate::rounds::{Room, step_all};
 use adversary_script::{Noise, Script};
 use counter_core::{Counter, Overlay};
-use state_codec::StateShape;
+use state_codec::{Packed, StateShape};
 use std::alloc::Global;
 use std::marker::Model;
-use std::mem;
 use sync_types::{FaultSet, NoMemory, NodeState};
 use tower::Tower;
 
@@ -25,8 +25,7 @@ pub struct Runner<O: Overlay> {
     script: Script,
     overlay: O,
     room: Room,
-    config: Vec<NodeState>,
-    next: Vec<NodeState>,
+    states: Packed,
     at: u64,
     // Of each era the first configuration so far that is locked.
     locks: Vec<Option<u64>>,
@@ -43,21 +42,21 @@ impl<O: Overlay> Model for Runner<O> {
       script = r.script;
       overlay = r.overlay;
       at = r.at;
-      states = r.config.items;
+      states = r.states.current;
       locks = r.locks.items;
     } };
 
     ghost invariant = { λ r. IsKept r.tower r.script
-        (O.layer r.overlay) r.room r.config.items r.next.items r.locks.items r.at };
+        (O.layer r.overlay) r.room r.states r.locks.items r.at };
 }
 
 /// Whether a configuration of a plan is locked: the top registers of all correct nodes are one,
 /// finite and marked.
-fn is_locked(tower: &Tower, faulty: &FaultSet, config: &[NodeState]) -> bool
+fn is_locked(tower: &Tower, faulty: &FaultSet, config: &Packed) -> bool
     requires nodes { faulty.now.nodes ≡ plan_nodes tower.now }
-    requires size { length config.now ≡ faulty.now.nodes }
-    requires deep { All (λ s. plan_depth tower.now ≤ length s.registers) config.now }
-    ensures { result ≡ is_locked tower.now faulty.now.ids config.now }
+    requires size { length config.now.current ≡ faulty.now.nodes }
+    requires deep { plan_depth tower.now ≤ length config.now.shape.moduli }
+    ensures { result ≡ is_locked tower.now faulty.now.ids config.now.current }
 {
     match tower.depth() {
         0 => true,
@@ -71,13 +70,13 @@ fn locked_so_far(
     known: Option<u64>,
     tower: &Tower,
     faulty: &FaultSet,
-    config: &[NodeState],
+    config: &Packed,
     at: u64,
 ) -> Option<u64>
     requires nodes { faulty.now.nodes ≡ plan_nodes tower.now }
-    requires size { length config.now ≡ faulty.now.nodes }
-    requires deep { All (λ s. plan_depth tower.now ≤ length s.registers) config.now }
-    ensures { result ≡ first_of known (is_locked tower.now faulty.now.ids config.now) at }
+    requires size { length config.now.current ≡ faulty.now.nodes }
+    requires deep { plan_depth tower.now ≤ length config.now.shape.moduli }
+    ensures { result ≡ first_of known (is_locked tower.now faulty.now.ids config.now.current) at }
 {
     if known.is_some() {
         return known;
@@ -94,12 +93,12 @@ fn first_locks(
     alloc: Global,
     tower: &Tower,
     script: &Script,
-    config: &[NodeState],
+    config: &Packed,
 ) -> Result<Vec<Option<u64>>, NoMemory>
     requires nodes { script.now.nodes ≡ plan_nodes tower.now }
-    requires size { length config.now ≡ script.now.nodes }
-    requires deep { All (λ s. plan_depth tower.now ≤ length s.registers) config.now }
-    ensures { IfOk result (λ locks. locks.items ≡ begun_locks tower.now script.now config.now) }
+    requires size { length config.now.current ≡ script.now.nodes }
+    requires deep { plan_depth tower.now ≤ length config.now.shape.moduli }
+    ensures { IfOk result (λ locks. locks.items ≡ begun_locks tower.now script.now config.now.current) }
 {
     let mut locks = vec![in alloc; None; script.eras()]?;
     locks[0] = locked_so_far(None, tower, script.faulty(), config, 0);
@@ -121,20 +120,31 @@ fn zero_states(alloc: Global, nodes: u32, depth: usize) -> Result<Vec<NodeState>
     Ok(states)
 }
 
-/// Puts the start of each node into its state.
-fn start(script: &Script, noise: &mut Noise, states: &mut [NodeState])
+/// The configuration in which the nodes of a script start. `out` has room for a state.
+fn started(
+    alloc: Global,
+    shape: StateShape,
+    script: &Script,
+    noise: &mut Noise,
+    out: &mut NodeState,
+) -> Result<Packed, NoMemory>
+    requires shape { shape ≡ script.now.shape }
+    requires nodes { script.now.nodes ≤ length shape.lows }
     requires noise { noise.old ≡ script.now.key }
-    requires size { length states.old ≡ script.now.nodes }
-    requires deep { All (λ s. length s.registers ≡ length script.now.shape.moduli) states.old }
-    ensures states { states.new ≡ starts script.now }
-    ensures range { AreStates script.now.nodes script.now.shape states.new }
-    ensures deep { All (λ s. length s.registers ≡ length script.now.shape.moduli) states.new }
+    requires depth { length out.old.registers ≡ length shape.moduli }
+    ensures shape { IfOk result (λ states. states.shape ≡ script.now.shape) }
+    ensures states { IfOk result (λ states. states.current ≡ starts script.now) }
     ensures noise { noise.new ≡ noise.old }
+    ensures depth { length out.new.registers ≡ length out.old.registers }
 {
-    for v in 0..script.faulty().nodes() {
-        let state = &mut states[v as usize];
-        script.start_into(noise, v, state);
+    let nodes = script.faulty().nodes();
+    let mut states = Packed::new(alloc, shape, nodes)?;
+    for v in 0..nodes {
+        script.start_into(noise, v, out);
+        states.put(v, out);
     }
+    states.flip();
+    Ok(states)
 }
 
 /// What rounds of a script need beside two configurations.
@@ -144,18 +154,36 @@ fn room_for(alloc: Global, tower: &Tower, script: &Script, depth: usize) -> Resu
     ensures { IfOk result (IsReady script.now) }
 {
     Ok(Room {
-        noise: Noise::new(script),
-        lies: zero_states(alloc, script.faulty().nodes(), depth)?,
+        noise: Noise::with_room(alloc, script)?,
+        heard: zero_states(alloc, script.faulty().nodes(), depth)?,
         work: tower.work(alloc)?,
+        out: NodeState::zero(alloc, depth)?,
     })
 }
 
+/// The output of depth `depth` of node `v`, whose state has as many registers: the value of its
+/// register of that level, or 0 where that is infinite; without levels its number.
+fn shown_at(states: &Packed, v: u32, depth: usize) -> u64
+    requires node { v < length states.now.current }
+    requires depth { depth ≤ length states.now.shape.moduli }
+    ensures { result ≡ shown depth (state_of states.now.current v) }
+{
+    match depth {
+        0 => states.x(v),
+        depth => states.reg(v, depth - 1).a.unwrap_or(0),
+    }
+}
+
 impl<O: Overlay> Runner<O> {
-    ghost use Rattle.std.specs.Prelude.{◌≡◌, ◌+◌, ◌-◌, ◌<◌, ◌≤◌, List, None, length, IfOk, slice_index_or};
+    ghost use Rattle.std.specs.Prelude.{◌≡◌, ◌≢◌, ◌+◌, ◌-◌, ◌*◌, ◌<◌, ◌≤◌, List, None, true, length, IfOk, slice_index_or};
     ghost use Rattle.construction.specs.Plans.{plan_nodes, plan_bound, plan_depth};
     ghost use Rattle.construction.specs.Shown.{shown};
     ghost use Rattle.construction.specs.Steps.{state_of};
-    ghost use Rattle.adversary_script.specs.Eras.{era_of, first_of_era, end_of_era};
+    ghost use Rattle.sync_types.specs.FaultSets.{is_in};
+    ghost use Rattle.state_codec.specs.Shapes.{fields_at, bytes_in};
+    ghost use Rattle.state_codec.specs.Texts.{written_text};
+    ghost use Rattle.adversary_script.specs.Lies.{lie_of};
+    ghost use Rattle.adversary_script.specs.Eras.{era_of, first_of_era, end_of_era, faulty_at};
     ghost use Rattle.round_runner.specs.Laws.{IsUpTo};
     ghost use Rattle.round_runner.specs.Locks.{IsFirstLocked};
     ghost use Rattle.round_runner.specs.Runners.{IsFor, IsPlaying, Advances, begun, configuration_of};
@@ -179,20 +207,15 @@ impl<O: Overlay> Runner<O> {
         shape.tell();
         tower.tell();
         let _rounds = script.rounds();
-        let depth = shape.depth();
-        let nodes = script.faulty().nodes();
-        let mut room = room_for(alloc, &tower, &script, depth)?;
-        let mut config = zero_states(alloc, nodes, depth)?;
-        let next = zero_states(alloc, nodes, depth)?;
-        start(&script, &mut room.noise, &mut config);
-        let locks = first_locks(alloc, &tower, &script, &config)?;
+        let mut room = room_for(alloc, &tower, &script, shape.depth())?;
+        let states = started(alloc, shape, &script, &mut room.noise, &mut room.out)?;
+        let locks = first_locks(alloc, &tower, &script, &states)?;
         Ok(Runner {
             tower,
             script,
             overlay,
             room,
-            config,
-            next,
+            states,
             at: 0,
             locks,
         })
@@ -207,23 +230,23 @@ impl<O: Overlay> Runner<O> {
         ensures played { (began : List O.Kept) → IsPlaying O.layer O.kept began self.old
             → IsPlaying O.layer O.kept began self.new }
     {
+        self.overlay.begin(self.at);
         step_all(
             &self.tower,
             &mut self.overlay,
             &self.script,
             self.at,
             &mut self.room,
-            &self.config,
-            &mut self.next,
+            &mut self.states,
         );
-        mem::swap(&mut self.config, &mut self.next);
+        self.states.flip();
         self.at += 1;
         let era = self.script.era_of(self.at);
         self.locks[era] = locked_so_far(
             self.locks[era],
             &self.tower,
             self.script.era_faulty(era),
-            &self.config,
+            &self.states,
             self.at,
         );
     }
@@ -254,7 +277,17 @@ impl<O: Overlay> Runner<O> {
         requires { v < plan_nodes self.now.plan }
         ensures { result ≡ shown (plan_depth self.now.plan) (state_of self.now.states v) }
     {
-        self.tower.output(v, &self.config[v as usize])
+        shown_at(&self.states, v, self.tower.depth())
+    }
+
+    /// What node `v` shows one level down: what it shows in its block, or 0 where it is a spare of
+    /// the top level. The plan has a level.
+    pub fn inner_output(&self, v: u32) -> u64
+        requires node { v < plan_nodes self.now.plan }
+        requires level { 1 ≤ plan_depth self.now.plan }
+        ensures { result ≡ shown (plan_depth self.now.plan - 1) (state_of self.now.states v) }
+    {
+        shown_at(&self.states, v, self.tower.depth() - 1)
     }
 
     /// Puts the state of node `v` into `out`, which has the depth of the runner's states.
@@ -263,7 +296,41 @@ impl<O: Overlay> Runner<O> {
         requires depth { length out.old.registers ≡ length self.now.script.shape.moduli }
         ensures { out.new ≡ state_of self.now.states v }
     {
-        out.copy_from(&self.config[v as usize]);
+        self.states.old(v, out);
+    }
+
+    /// Writes the state of node `v` as digits of `0-9a-f` into `out`, which has just their length,
+    /// two for each byte of the node's states.
+    pub fn state_hex(&mut self, v: u32, out: &mut [u8])
+        requires node { v < plan_nodes self.old.plan }
+        requires length { length out.old
+            ≡ 2 * bytes_in (fields_at self.old.script.shape v) }
+        ensures digits { out.new
+            ≡ written_text (fields_at self.old.script.shape v) (state_of self.old.states v) }
+        ensures same { self.new ≡ self.old }
+    {
+        let _fits = hex::encode_to_slice(self.states.bytes(v), out);
+    }
+
+    /// Writes what node `v` hears in round `at` of node `u`, which is faulty in it, as digits of
+    /// `0-9a-f` into `out`, which has just their length, two for each byte of the states of `u`.
+    /// There is a round left to play.
+    pub fn lie_hex(&mut self, u: u32, v: u32, out: &mut [u8])
+        requires round { self.old.at < self.old.script.rounds }
+        requires sender { is_in (faulty_at self.old.script self.old.at) u ≡ true }
+        requires other { v ≢ u }
+        requires receiver { v < plan_nodes self.old.plan }
+        requires length { length out.old
+            ≡ 2 * bytes_in (fields_at self.old.script.shape u) }
+        ensures digits { out.new ≡ written_text (fields_at self.old.script.shape u)
+            (lie_of self.old.script self.old.at u v self.old.states) }
+        ensures same { self.new ≡ self.old }
+    {
+        let lie = &mut self.room.out;
+        let noise = &mut self.room.noise;
+        self.script
+            .lie_into(noise, self.at, u, v, &self.states, lie);
+        self.states.shape().write_hex(u, lie, out);
     }
 
     /// The layer above the counter.

@@ -1,4 +1,5 @@
 use Rattle.std.proofs.Common.{rules, ◌≡◌, slice_index_or}
+use Rattle.construction.specs.Steps.{state_of}
 use Rattle.state_codec.specs.Shapes.{fields_at}
 use Rattle.state_codec.specs.Ranges.{InRange}
 use Rattle.state_codec.proofs.Lows.{fields_limited}
@@ -8,11 +9,11 @@ use Rattle.adversary_script.proofs.shifting.shift_into.Goals as goal
 
 pub returns-clause-range : goal.returns-clause-range
 returns-clause-range c =
-    let limited = fields_limited c.args.shape.now (slice_index_or c.args.shape.now.lows c.args.v 0)
-    c.tell.ensures in
-    let range : InRange (fields_at c.args.shape.now c.args.v)
-    (shifted c.args.by (fields_at c.args.shape.now c.args.v) c.args.from.now) =
-    shifted_in_range c.args.by _ c.args.from.now limited in
-    let is : c.shift_registers.new.out ≡ shifted c.args.by (fields_at c.args.shape.now c.args.v)
-    c.args.from.now = search rules in
+    let limited = fields_limited c.args.config.now.shape (slice_index_or c.args.config.now.shape.lows c.args.v 0)
+    c.tell.ensures.sound in
+    let range : InRange (fields_at c.args.config.now.shape c.args.v)
+    (shifted c.args.by (fields_at c.args.config.now.shape c.args.v) (state_of c.args.config.now.current c.args.w)) =
+    shifted_in_range c.args.by _ (state_of c.args.config.now.current c.args.w) limited in
+    let is : c.shift_registers.new.out ≡ shifted c.args.by (fields_at c.args.config.now.shape c.args.v)
+    (state_of c.args.config.now.current c.args.w) = search rules in
     rw is range

@@ -1,13 +1,12 @@
-use Rattle.std.proofs.Common.{◌≡◌, ◌<◌, ◌-◌, ◌∷◌, [], ◌++◌, length, map, set, refl, sym, ap, ◌∙◌, subst, arith}
+use Rattle.std.proofs.Common.{◌≡◌, ◌-◌, length, refl, ap, ◌∙◌, arith}
 use Rattle.std.specs.Prelude.{is_ok}
 use Rattle.std.proofs.lemmas.List.Elements.{All-set}
 use Rattle.construction.specs.Plans.{plan_nodes}
 use Rattle.adversary_script.specs.declared.parts.Era as kept
 use Rattle.adversary_script.specs.Scripts.{Script}
-use Rattle.adversary_script.specs.Seen.{era_seen}
 use Rattle.adversary_script.specs.FaultySteps.{last_era}
 use Rattle.adversary_script.specs.StartSteps.{started}
-use Rattle.adversary_script.proofs.DraftEras.{with_eras, with_start_seen, started_formed, if_ok}
+use Rattle.adversary_script.proofs.DraftEras.{with_start_seen, started_formed, if_ok}
 use Rattle.adversary_script.proofs.drafts.Draft.add_start.Goals as goal
 
 pub invariant_of-self-2 : goal.invariant_of-self-2

@@ -1,10 +1,11 @@
-use Rattle.std.proofs.Common.{◌≡◌, Some, refl, sym, ap, ◌∙◌, subst}
+use Rattle.std.proofs.Common.{◌≡◌, length, Some, refl, sym, ap, ◌∙◌, subst}
 use Rattle.construction.specs.Plans.{plan_nodes}
 use Rattle.state_codec.specs.Shapes.{Shape}
 use Rattle.adversary_script.specs.Scripts.{IsScript, AreWithin}
 use Rattle.adversary_script.specs.Seen.{script_seen, faulty_or_none, IsOver}
 use Rattle.adversary_script.specs.Links.{IsLinked}
 use Rattle.adversary_script.proofs.DraftEras.{nothing_kept, over_nodes}
+use Rattle.adversary_script.proofs.StateShapes.{nodes_of}
 use Rattle.adversary_script.proofs.drafts.Draft.finish.Goals as goal
 
 pub invariant_of-self : goal.invariant_of-self
@@ -24,7 +25,7 @@ invariant_of-self-2 c =
 pub invariant_of-result : goal.invariant_of-result
 invariant_of-result c =
     let shape : c.in_ok-shape.shape ≡ c.self.inside.shape.now =
-    c.in_ok-shape.ensures.shape ∙ sym c.self.invariant.2 in
+    c.in_ok-shape.ensures in
     let faulty : c.in_ok-faulty.faulty ≡ faulty_or_none (plan_nodes c.self.inside.plan.now)
     c.self.inside.faulty = c.in_ok-faulty.ensures
     ∙ rw (c.nodes-nodes.ensures, c.take.ensures.value) refl in
@@ -42,5 +43,10 @@ invariant_of-result c =
     let linked : IsLinked c.in_ok-faulty.faulty.nodes c.replace-parts.result.lies.items
     c.in_ok-links.links.firsts.items c.in_ok-links.links.nexts.items =
     rw (parts, nodes, ← c.nodes-nodes.ensures)
-    (rw c.deref.ensures.value at c.in_ok-links.ensures) in
-    (rw (shape, faulty, parts) said, over, c.in_ok-shape.ensures.nodes ∙ sym nodes, linked)
+    (rw c.deref.ensures.value at c.in_ok-links.ensures) in (
+      rw (shape, faulty, parts) said,
+      over,
+      ap (λ (s : Shape). length s.lows) shape
+          ∙ nodes_of c.self.inside.plan.now c.self.inside.shape.now c.self.invariant.2 ∙ sym nodes,
+      linked,
+    )

@@ -1,5 +1,4 @@
-use Rattle.std.proofs.Common.{rules, Some, Ok, Err}
-use Rattle.adversary_script.specs.Answers.{Adds}
+use Rattle.std.proofs.Common.{Some}
 use Rattle.adversary_script.specs.Steps.{line_step}
 use Rattle.adversary_script.specs.ScriptPart.{IsClosed}
 use Rattle.adversary_script.proofs.Taken.{left}

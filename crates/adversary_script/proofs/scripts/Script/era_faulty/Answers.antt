@@ -1,4 +1,4 @@
-use Rattle.std.proofs.Common.{◌≡◌, ◌∙◌, ◌-◌, [], ap, arith}
+use Rattle.std.proofs.Common.{◌∙◌, ◌-◌, [], ap, arith}
 use Rattle.std.proofs.lemmas.List.{length-map}
 use Rattle.sync_types.specs.FaultSets.{FaultIds}
 use Rattle.adversary_script.specs.Scripts.{Script, Era}

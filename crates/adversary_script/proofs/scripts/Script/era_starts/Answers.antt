@@ -1,8 +1,6 @@
-use Rattle.std.proofs.Common.{◌≡◌, ◌≤◌, ◌<◌, ◌-◌, arith, length, [], ◌∙◌, sym}
+use Rattle.std.proofs.Common.{◌-◌, arith, [], ◌∙◌}
 use Rattle.std.proofs.lemmas.List.{length-map}
-use Rattle.state_codec.specs.Ranges.{InRange}
-use Rattle.adversary_script.specs.Scripts.{Script, Era}
-use Rattle.adversary_script.specs.Eras.{starts_of_era}
+use Rattle.adversary_script.specs.Scripts.{Era}
 use Rattle.adversary_script.specs.Seen.{era_seen}
 use Rattle.adversary_script.proofs.EraLists.{era_at, hits_at}
 use Rattle.adversary_script.proofs.scripts.Script.era_starts.Goals as goal

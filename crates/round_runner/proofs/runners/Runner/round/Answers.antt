@@ -1,27 +1,39 @@
-use Rattle.std.proofs.Common.{◌≡◌, ◌+◌, length, sym, ap, ◌∙◌, refl}
-use Rattle.std.proofs.lemmas.List.{with_items_is}
-use Rattle.round_runner.proofs.Playing.{plays_on, advances_of, scene_is, locks_are}
+use Rattle.std.proofs.Common.{◌≡◌, ℕ, ◌+◌, sym, ap, ◌∙◌, refl}
+use Rattle.state_codec.specs.Packs.{Pack}
+use Rattle.plan_laws.specs.PlanMeaning.{plan_meaning}
+use Rattle.layer_laws.specs.Scenes.{Scene}
+use Rattle.round_runner.specs.Scenes.{stepped_scene}
+use Rattle.round_runner.proofs.Playing.{stepped_is, plays_on, advances_of, scene_is, locks_are}
 use Rattle.round_runner.proofs.runners.Runner.round.Goals as goal
 
 pub returns-clause-advances : goal.returns-clause-advances
 returns-clause-advances g c =
-    let same : length c.step_all.new.new ≡ c.self.inside.next.len = c.step_all.auto.new
-    ∙ c.deref_mut.ensures.len in
-    let items : c.swap.new.x.items ≡ c.step_all.new.new = ap (λ x. x.items) c.swap.ensures.x_after
-    ∙ with_items_is c.self.inside.next c.step_all.new.new same in
+    let m = plan_meaning c.self.inside.tower in
+    let script = c.self.inside.script in
+    let t : ℕ = c.self.inside.at in
+    let config = c.self.inside.states.current in
+    let layer = g.O.Overlay.layer c.self.inside.overlay in
+    let begun = g.O.Overlay.layer c.begin.new.self in
+    let kept_begun = g.O.Overlay.kept c.begin.new.self in
+    let scene = stepped_is m script layer begun t config (g.O.Overlay.kept c.self.inside.overlay)
+    kept_begun c.begin.ensures.layer c.begin.ensures.kept in
+    let states : c.flip.new.self.current
+    ≡ (stepped_scene m script begun t config kept_begun).states =
+    ap (λ (p : Pack). p.current) c.flip.ensures
+    ∙ ap (λ (p : Pack). p.next) c.step_all.ensures.states in
     advances_of g.O.Overlay.layer g.O.Overlay.kept c.args.self.now _ _ (sym c.self.view_is)
     (record {
       plan = refl;
       script = refl;
-      layer = c.step_all.ensures.layer;
+      layer = c.step_all.ensures.layer ∙ c.begin.ensures.layer;
       at = refl;
-      scene = scene_is (items ∙ rw (sym c.deref.ensures.value) c.step_all.ensures.states)
-          (rw (sym c.deref.ensures.value) c.step_all.ensures.kept);
+      scene = scene_is (states ∙ ap (λ (s : Scene _). s.states) scene)
+          (c.step_all.ensures.kept ∙ ap (λ (s : Scene _). s.kept) scene);
       locks = locks_are c.self.inside.tower c.self.inside.script c.self.inside.locks.items
-          (c.self.inside.at + 1) c.swap.new.x.items c.era_of-era.result c.index.result.now
-          c.era_faulty.result.now c.deref-2.result.now c.locked_so_far.result
+          (c.self.inside.at + 1) c.flip.new.self.current c.era_of-era.result c.index.result.now
+          c.era_faulty.result.now c.flip.new.self.current c.locked_so_far.result
           c.self.invariant.eras c.era_of-era.ensures.value c.era_of-era.ensures.most c.index.ensures
-          c.era_faulty.ensures c.deref-2.ensures.value c.locked_so_far.ensures;
+          c.era_faulty.ensures refl c.locked_so_far.ensures;
     })
 
 pub returns-clause-played : goal.returns-clause-played
