@@ -8,4 +8,10 @@ pub mod ReadRun
 pub mod FirstListed
 pub mod Whole
 pub mod Unread
+pub mod NodeReturns
+pub mod NodeHeaders
+pub mod NodeEngines
+pub mod NodeService
 pub mod Complete
+pub mod ReadLayers
+pub mod ReadSlots

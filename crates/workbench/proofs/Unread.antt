@@ -7,11 +7,11 @@ use Rattle.workbench.specs.Commands.{nothing}
 use Rattle.workbench.specs.Conduct.{Holds, Answered, AnswerCut}
 
 -- what is left, where it is told
-left_of : Option (List ℕ) → List ℕ
+pub left_of : Option (List ℕ) → List ℕ
 left_of None = []
 left_of (Some left) = left
 
-holds_left : (left : Option (List ℕ)) → Holds left (left_of left)
+pub holds_left : (left : Option (List ℕ)) → Holds left (left_of left)
 unfolding left_of
 holds_left None = tt
 holds_left (Some left) = refl

@@ -1,13 +1,15 @@
 -- What each word answers to an input: the text that is written, or a refusal.
-use Rattle.std.specs.Prelude.{ℕ, ◌+◌, List, Result, Ok, Err}
+use Rattle.std.specs.Prelude.{ℕ, ◌+◌, List, Result, Ok, Err, codes}
 use Rattle.texts.specs.Parts.{At, Found}
 use Rattle.sync_types.specs.declared.answers.Premise.{Premise}
 use Rattle.sync_types.specs.declared.answers.Rule.{Rule}
 use Rattle.sync_types.specs.declared.answers.Part.TheVariants as part
+use Rattle.sync_types.specs.declared.answers.Cause.{Cause}
 use Rattle.construction.specs.Plans.{Plan}
 use Rattle.plan_reader.specs.PlanPart.{plan_of, whole_plan_of}
 use Rattle.plan_certificate.specs.Tables.{table_text}
 use Rattle.plan_certificate.specs.PlanTexts.{plan_text}
+use Rattle.plan_certificate.specs.TableLines.{table_of}
 use Rattle.plan_finder.specs.declared.wants.Want.{Want}
 use Rattle.plan_finder.specs.FindPart.{want_of}
 use Rattle.plan_finder.specs.Least.{found_text}
@@ -84,3 +86,16 @@ answer_to (Ok want) = Ok (found_text want.faults want.modulus want.most)
 
 abbrev pub find_answer : List ℕ → Result (List ℕ) Refusal
 find_answer input = answer_to (wants_of input)
+
+-- ---- the word `table`
+
+abbrev pub tabled : Result Plan (At Cause) → Result Plan Refusal
+tabled (Err at) = Err (refusal.Table at.line at.rule)
+tabled (Ok plan) = Ok plan
+
+-- an input is the table text of a plan
+abbrev pub tabled_of : List ℕ → Result Plan Refusal
+tabled_of input = tabled (table_of input)
+
+abbrev pub table_answer : List ℕ → Result (List ℕ) Refusal
+table_answer input = text_by (λ plan. codes "true\n") (tabled_of input)

@@ -5,7 +5,9 @@ use Rattle.workbench.specs.declared.commands.Command.{Command}
 use Rattle.workbench.specs.declared.commands.Command.TheVariants as command
 use Rattle.workbench.specs.declared.refusals.Refusal.TheVariants as refusal
 use Rattle.workbench.specs.Outcomes.{Outcome, outcome_of, of_whole}
-use Rattle.workbench.specs.Answers.{run_answer, plan_answer, upgrade_answer, find_answer}
+use Rattle.workbench.specs.Answers.{run_answer, plan_answer, upgrade_answer, find_answer, table_answer}
+use Rattle.workbench.specs.SlotsAnswers.{slots_answer}
+use Rattle.workbench.specs.NodeAnswers.{node_outcome, node_so_far}
 
 -- the command of a single word
 abbrev pub command_named : List ℕ → Option Command
@@ -13,7 +15,10 @@ command_named word =
     if bytes_eq word (codes "run") then Some command.Run
     else if bytes_eq word (codes "plan") then Some command.Plan
     else if bytes_eq word (codes "upgrade") then Some command.Upgrade
+    else if bytes_eq word (codes "slots") then Some command.Slots
     else if bytes_eq word (codes "find") then Some command.Find
+    else if bytes_eq word (codes "table") then Some command.Table
+    else if bytes_eq word (codes "node") then Some command.Node
     else None
 
 -- the table of words
@@ -28,7 +33,10 @@ defined None input = outcome_of (Err refusal.Usage)
 defined (Some command.Run) input = of_whole (2 ^ 20) run_answer input
 defined (Some command.Plan) input = of_whole (2 ^ 20) plan_answer input
 defined (Some command.Upgrade) input = of_whole (2 ^ 20) upgrade_answer input
+defined (Some command.Slots) input = of_whole (2 ^ 20) slots_answer input
 defined (Some command.Find) input = of_whole (2 ^ 20) find_answer input
+defined (Some command.Table) input = of_whole (2 ^ 20) table_answer input
+defined (Some command.Node) input = node_outcome input
 
 -- How a command reads: not at all, or all of its input before it writes, or what it needs for each
 -- piece that it writes.
@@ -42,8 +50,12 @@ manner None = nothing
 manner (Some command.Run) = all_first
 manner (Some command.Plan) = all_first
 manner (Some command.Upgrade) = all_first
+manner (Some command.Slots) = all_first
 manner (Some command.Find) = all_first
+manner (Some command.Table) = all_first
+manner (Some command.Node) = as_it_goes
 
 -- what is written where a read fails behind these bytes
 abbrev pub so_far : Option Command → List ℕ → List ℕ
-so_far command seen = []
+so_far (Some command.Node) seen = node_so_far seen
+so_far other seen = []

@@ -3,9 +3,15 @@ pub mod RunText
 pub mod Playing
 pub mod Answers
 pub mod Outcomes
+pub mod NodeAnswers
+pub mod NodeService
 pub mod Commands
 pub mod Conduct
 pub mod Ends
 pub mod Readings
 pub mod Completeness
 pub mod Laws
+pub mod Layered
+pub mod LayeredRuns
+pub mod SlotsAnswers
+pub mod SlotsRuns

@@ -5,8 +5,12 @@ use Rattle.plan_reader.specs.declared.refusals.PlanError.{PlanError}
 use Rattle.plan_reader.specs.declared.refusals.PlanError.TheVariants as plan
 use Rattle.adversary_script.specs.declared.refusals.ScriptError.{ScriptError}
 use Rattle.adversary_script.specs.declared.refusals.ScriptError.TheVariants as script
+use Rattle.slot_table.specs.declared.refusals.SlotError.{SlotError}
+use Rattle.slot_table.specs.declared.refusals.SlotError.TheVariants as slot
 use Rattle.plan_finder.specs.declared.refusals.FindError.{FindError}
 use Rattle.plan_finder.specs.declared.refusals.FindError.TheVariants as find
+use Rattle.plan_certificate.specs.declared.table_refusals.TableError.{TableError}
+use Rattle.plan_certificate.specs.declared.table_refusals.TableError.TheVariants as table
 use Rattle.workbench.specs.declared.refusals.Refusal.{Refusal}
 use Rattle.workbench.specs.declared.refusals.Refusal.TheVariants as refusal
 use Rattle.workbench.specs.declared.refusals.ReadError.{ReadError}
@@ -26,7 +30,17 @@ abbrev pub script_error : ScriptError → ReadError
 script_error script.NoMemory = read.NoMemory
 script_error (script.Refused refused) = read.Refused (refusal.Part part.Script refused.line refused.rule)
 
+-- the error of a slots part, of an input
+abbrev pub slots_error : SlotError → ReadError
+slots_error slot.NoMemory = read.NoMemory
+slots_error (slot.Refused refused) = read.Refused (refusal.Part part.Slots refused.line refused.rule)
+
 -- the error of wants, of an input
 abbrev pub wants_error : FindError → ReadError
 wants_error find.NoMemory = read.NoMemory
 wants_error (find.Refused refused) = read.Refused (refusal.Part part.Find refused.line refused.rule)
+
+-- the error of a table, of an input
+abbrev pub table_error : TableError → ReadError
+table_error table.NoMemory = read.NoMemory
+table_error (table.Refused refused) = read.Refused (refusal.Table refused.line refused.cause)

@@ -5,6 +5,8 @@ use Rattle.sync_types.specs.declared.answers.Premise.{Premise}
 use Rattle.sync_types.specs.declared.answers.Premise.TheVariants as premise
 use Rattle.sync_types.specs.declared.answers.Rule.{Rule}
 use Rattle.sync_types.specs.declared.answers.Rule.TheVariants as rule
+use Rattle.sync_types.specs.declared.answers.Cause.{Cause}
+use Rattle.sync_types.specs.declared.answers.Cause.TheVariants as cause
 use Rattle.sync_types.specs.declared.answers.Part.{Part}
 use Rattle.sync_types.specs.declared.answers.Part.TheVariants as part
 use Rattle.sync_types.specs.declared.status.Status.{Status}
@@ -20,6 +22,10 @@ premise_word premise.Modulus = codes "modulus"
 premise_word premise.Quorum = codes "quorum"
 premise_word premise.Share = codes "share"
 premise_word premise.Multiple = codes "multiple"
+
+abbrev pub cause_word : Cause → List ℕ
+cause_word (cause.Premise p) = premise_word p
+cause_word cause.Value = codes "value"
 
 abbrev pub rule_word : Rule → List ℕ
 rule_word rule.Form = codes "form"
@@ -46,8 +52,10 @@ abbrev pub refusal_line : Refusal → List ℕ
 refusal_line refusal.Usage = codes "usage: counterlab COMMAND\n"
 refusal_line (refusal.Plan line p) = concat (codes "refused plan line " ∷ decimal line ∷ codes " premise " ∷ premise_word p ∷ codes "\n" ∷ [])
 refusal_line (refusal.Part p line r) = concat (codes "refused " ∷ part_word p ∷ codes " line " ∷ decimal line ∷ codes " rule " ∷ rule_word r ∷ codes "\n" ∷ [])
+refusal_line (refusal.Table line c) = concat (codes "refused table line " ∷ decimal line ∷ codes " cause " ∷ cause_word c ∷ codes "\n" ∷ [])
 
 abbrev pub refusal_status : Refusal → Status
 refusal_status refusal.Usage = status.Usage
 refusal_status (refusal.Plan line p) = status.PlanRefused line p
 refusal_status (refusal.Part p line r) = status.PartRefused p line r
+refusal_status (refusal.Table line c) = status.TableRefused line c

@@ -6,11 +6,17 @@ mod commands;
 mod ends;
 mod find_word;
 pub mod laws;
+mod layered;
+#[cfg(test)]
+mod node_tests;
+mod node_word;
 mod plan_word;
 mod readings;
 mod refusals;
 mod run_word;
 mod running;
+mod slots_word;
+mod table_word;
 #[cfg(test)]
 mod tests;
 mod upgrade_word;

@@ -3,12 +3,13 @@ ghost use Rattle.state_codec.specs.Shapes.{shape_of};
 ghost use Rattle.adversary_script.specs.ScriptPart.{IsFor};
 ghost use Rattle.workbench.specs.Readings.{Refuses};
 ghost use Rattle.plan_finder.specs.FindPart.{IsFit};
-ghost use Rattle.workbench.specs.Answers.{plan_alone, run_answer, wants_of};
+ghost use Rattle.workbench.specs.Answers.{plan_alone, run_answer, tabled_of, wants_of};
 ghost use Rattle.workbench.specs.Playing.{IsAtStart, IsToPlay, text_of};
 
 use crate::refusals::ReadError;
 use adversary_script::{Script, read_script};
 use counter_core::NoOverlay;
+use plan_certificate::read_table;
 use plan_finder::{Want, read_find};
 use plan_numbers::Plan;
 use plan_reader::{read_plan, read_whole_plan};
@@ -58,6 +59,15 @@ pub fn read_plan_alone(alloc: Global, input: &[u8]) -> Result<Plan, ReadError>
         (λ error. Refuses error (plan_alone input.now)) }
 {
     Ok(read_whole_plan(alloc, input)?)
+}
+
+/// The plan of an input that is the plan's table text.
+pub fn read_tabled(alloc: Global, input: &[u8]) -> Result<Plan, ReadError>
+    ensures { MatchResult result
+        (λ plan. tabled_of input.now ≡ Ok plan)
+        (λ error. Refuses error (tabled_of input.now)) }
+{
+    Ok(read_table(alloc, input)?)
 }
 
 /// The wants of an input, behind which only skipped lines stand.

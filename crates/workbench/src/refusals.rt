@@ -1,12 +1,15 @@
 ghost use Rattle.std.specs.Prelude.{◌≡◌};
 ghost use Rattle.texts.specs.Growth.{Puts};
-ghost use Rattle.workbench.specs.Refusals.{part_word, premise_word, rule_word, refusal_line, refusal_status};
+ghost use Rattle.workbench.specs.Refusals.{cause_word, part_word, premise_word, rule_word, refusal_line, refusal_status};
 
 use adversary_script::ScriptError;
 use edge_io::{Piece, Sink, WriteFault, put_pieces};
+use node_header::HeaderRefusal;
+use plan_certificate::TableError;
 use plan_finder::FindError;
 use plan_reader::PlanError;
-use sync_types::{NoMemory, Part, Premise, Rule, Status};
+use slot_table::SlotError;
+use sync_types::{Cause, NoMemory, Part, Premise, Rule, Status};
 use thiserror::Error;
 
 /// Why words or an input are refused. Lines are counted from 1 through the whole input.
@@ -18,6 +21,8 @@ pub enum Refusal {
     Plan { line: u64, premise: Premise },
     /// This part fails this rule at this line.
     Part { part: Part, line: u64, rule: Rule },
+    /// The table fails at this line, for this cause.
+    Table { line: u64, cause: Cause },
 }
 
 /// Why an input was not read.
@@ -74,6 +79,23 @@ impl From<ScriptError> for ReadError {
     }
 }
 
+impl From<SlotError> for ReadError {
+    ghost use Rattle.workbench.specs.Readings.{slots_error};
+
+    ghost from_gives = { λ error e. e ≡ slots_error error };
+
+    fn from(error: SlotError) -> Self {
+        match error {
+            SlotError::Refused(refused) => ReadError::Refused(Refusal::Part {
+                part: Part::Slots,
+                line: refused.line,
+                rule: refused.rule,
+            }),
+            SlotError::NoMemory => ReadError::NoMemory,
+        }
+    }
+}
+
 impl From<FindError> for ReadError {
     ghost use Rattle.workbench.specs.Readings.{wants_error};
 
@@ -91,6 +113,39 @@ impl From<FindError> for ReadError {
     }
 }
 
+impl From<TableError> for ReadError {
+    ghost use Rattle.workbench.specs.Readings.{table_error};
+
+    ghost from_gives = { λ error e. e ≡ table_error error };
+
+    fn from(error: TableError) -> Self {
+        match error {
+            TableError::Refused(refused) => ReadError::Refused(Refusal::Table {
+                line: refused.line,
+                cause: refused.cause,
+            }),
+            TableError::NoMemory => ReadError::NoMemory,
+        }
+    }
+}
+
+impl From<HeaderRefusal> for Refusal {
+    ghost use Rattle.workbench.specs.NodeAnswers.{header_refusal};
+
+    ghost from_gives = { λ refused e. e ≡ header_refusal refused };
+
+    fn from(refused: HeaderRefusal) -> Self {
+        match refused {
+            HeaderRefusal::Plan { line, premise } => Refusal::Plan { line, premise },
+            HeaderRefusal::Node { line, rule } => Refusal::Part {
+                part: Part::Node,
+                line,
+                rule,
+            },
+        }
+    }
+}
+
 fn premise_word(premise: Premise) -> &'static str
     ensures { result.now ≡ premise_word premise }
 {
@@ -102,6 +157,15 @@ fn premise_word(premise: Premise) -> &'static str
         Premise::Quorum => "quorum",
         Premise::Share => "share",
         Premise::Multiple => "multiple",
+    }
+}
+
+fn cause_word(cause: Cause) -> &'static str
+    ensures { result.now ≡ cause_word cause }
+{
+    match cause {
+        Cause::Premise(premise) => premise_word(premise),
+        Cause::Value => "value",
     }
 }
 
@@ -145,6 +209,7 @@ impl Refusal {
             Refusal::Usage => Status::Usage,
             Refusal::Plan { line, premise } => Status::PlanRefused { line, premise },
             Refusal::Part { part, line, rule } => Status::PartRefused { part, line, rule },
+            Refusal::Table { line, cause } => Status::TableRefused { line, cause },
         }
     }
 }
@@ -174,6 +239,16 @@ pub fn put_refusal<K: Sink>(sink: &mut K, refusal: Refusal) -> Result<(), WriteF
                 Piece::Number(line),
                 Piece::Text(b" rule "),
                 Piece::Text(rule_word(rule).as_bytes()),
+                Piece::Text(b"\n"),
+            ],
+        ),
+        Refusal::Table { line, cause } => put_pieces(
+            sink,
+            &[
+                Piece::Text(b"refused table line "),
+                Piece::Number(line),
+                Piece::Text(b" cause "),
+                Piece::Text(cause_word(cause).as_bytes()),
                 Piece::Text(b"\n"),
             ],
         ),

@@ -19,6 +19,11 @@ const TABLE: &str =
 
 const UPGRADED: &str = "plan 2\nbase 2304\nlevel 4 1 960 spare 0\nlevel 3 3 10 spare 0\nend\n";
 
+const SLOTS: &str =
+    "plan 1\nbase 5\nend\nslots 1\nslot 0 1 2\nend\nscript 1\nfaulty\nstart zero\nrounds 4\nshow 0 4\nend\n";
+
+const HELD: &str = "bound 0\nhold 0 .\nhold 1 1\nhold 2 1\nhold 3 .\nhold 4 .\nlocked 0\n";
+
 const WANTS: &str = "find 1\nwant 1 10 4\nend\n";
 
 const FOUND: &str =
@@ -51,7 +56,9 @@ fn accepted_inputs_are_answered(rt: HostRuntime) -> Result<(), Fail> {
         ("run", COUNTS, COUNTED),
         ("plan", TWO_LEVELS, TABLE),
         ("upgrade", TWO_LEVELS, UPGRADED),
+        ("slots", SLOTS, HELD),
         ("find", WANTS, FOUND),
+        ("table", TABLE, "true\n"),
     ] {
         let (status, sink) = answer(rt.alloc(), words, input.as_bytes())?;
         assert_eq!(rt; status, Status::Ok, "at {input}");
@@ -101,6 +108,18 @@ fn inputs_are_refused_in_the_name_of_their_part(rt: HostRuntime) -> Result<(), F
             "plan 1\nbase 5\nend\n\nscript 1\nfaulty 0\n",
             "refused script line 6 rule faults\n",
             3,
+        ),
+        (
+            "table",
+            "table 1\nbase 5\nplan nodes 1 faults 0 modulus 5 bound 0 bits 4 bytes 1\nend\n",
+            "refused table line 3 cause value\n",
+            4,
+        ),
+        (
+            "table",
+            "table 1\nbase 1\n",
+            "refused table line 2 cause modulus\n",
+            4,
         ),
     ];
     for (words, input, text, code) in rows {
