@@ -1,0 +1,55 @@
+ghost use Rattle.std.specs.Prelude.{◌≡◌};
+
+/// What a node shows in a row. Rows and nodes are counted from 0.
+#[derive(Clone, Copy, Debug)]
+pub struct Cell {
+    pub row: u32,
+    pub node: u32,
+    /// The output, or None where a star stands for a faulty node.
+    pub shown: Option<u64>,
+}
+
+/// A line behind the rows: the first locked configuration of an era, if there is one.
+#[derive(Clone, Copy, Debug)]
+pub struct End {
+    /// How many such lines stand before it.
+    pub place: u32,
+    /// Where the era begins, or None for the one line that names none.
+    pub era: Option<u32>,
+    /// The first locked configuration.
+    pub locked: Option<u32>,
+    /// Where the next era begins, if there is one.
+    pub next: Option<u32>,
+}
+
+/// What `run` wrote: the bound, the rows, and the lines behind them.
+#[derive(Debug, Drop)]
+pub struct Chart {
+    pub bound: u64,
+    /// The configuration of the first row.
+    pub first: u32,
+    /// How many words each row has.
+    pub nodes: u32,
+    pub rows: u32,
+    /// How many digits the longest number of a row has, that of its configuration too.
+    pub digits: u16,
+    /// The words of all rows, one after the other.
+    pub cells: Vec<Cell>,
+    pub ends: Vec<End>,
+}
+
+impl Chart {
+    /// The words of all rows, one after the other.
+    pub fn words(&self) -> &[Cell]
+        ensures { result.now ≡ self.now.cells.items }
+    {
+        &self.cells
+    }
+
+    /// The lines behind the rows.
+    pub fn lines(&self) -> &[End]
+        ensures { result.now ≡ self.now.ends.items }
+    {
+        &self.ends
+    }
+}

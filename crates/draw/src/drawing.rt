@@ -1,0 +1,78 @@
+//! Draws what `run` writes.
+
+ghost use Rattle.std.specs.Prelude.{◌≡◌, ◌≤◌, ◌^◌, length, true, IfOk, OnOk};
+ghost use Rattle.draw.specs.Charts.{chart_text};
+ghost use Rattle.draw.specs.Drawn.{Draws};
+
+use crate::charts::Chart;
+use crate::pictures::put_picture;
+use crate::printing::put_chart;
+use crate::reading::{ChartError, MOST_BOUND, read_chart};
+use edge_io::{MemSink, NoMemory, Sink, WriteFault};
+use std::alloc::Global;
+use thiserror::Error;
+
+/// There are fewer lines behind the rows.
+const MOST_ENDS: usize = 1 << 20;
+
+/// Why nothing was drawn, or not all.
+#[derive(Clone, Copy, Debug, PartialEq, Eq, Error)]
+pub enum DrawError {
+    /// A line is not what should stand there.
+    #[error("{0}")]
+    Chart(ChartError),
+    /// The last newline is missing.
+    #[error("the last line should end in a newline")]
+    Open,
+    #[error("out of memory")]
+    NoMemory,
+    /// A write failed.
+    #[error("the picture could not be written")]
+    Write,
+}
+
+impl From<ChartError> for DrawError {
+    fn from(error: ChartError) -> Self {
+        DrawError::Chart(error)
+    }
+}
+
+impl From<NoMemory> for DrawError {
+    fn from(_: NoMemory) -> Self {
+        DrawError::NoMemory
+    }
+}
+
+/// Whether the text of a chart is this one.
+fn is_text_of(alloc: Global, chart: &Chart, text: &[u8]) -> Result<bool, NoMemory>
+    ensures { IfOk result (λ same. same ≡ true → chart_text chart.now ≡ text.now) }
+{
+    let mut sink = MemSink::new(alloc, text.len(), Vec::new(alloc), Vec::new(alloc))?;
+    match put_chart(&mut sink, chart) {
+        Ok(()) => Ok(sink.taken() == text),
+        Err(WriteFault) => Ok(false),
+    }
+}
+
+/// Draws a text that `run` wrote. Where it answers Ok, the text is that of a chart, letter for
+/// letter, and the picture of this chart was written.
+///
+/// `Chart` comes where a line is not what should stand there, `Open` where the last newline is
+/// missing, `NoMemory` where memory ran out; then nothing was written. `Write` comes where a write
+/// failed.
+pub fn draw<K: Sink>(alloc: Global, text: &[u8], sink: &mut K) -> Result<(), DrawError>
+    requires { length text.now ≤ 2 ^ 32 }
+    ensures { OnOk result (Draws text.now (K.told sink.old) (K.told sink.new)) }
+{
+    let chart = read_chart(alloc, text)?;
+    if chart.bound >= MOST_BOUND || chart.ends.len() >= MOST_ENDS {
+        return Err(DrawError::Open);
+    }
+    if !is_text_of(alloc, &chart, text)? {
+        return Err(DrawError::Open);
+    }
+    match put_picture(sink, &chart) {
+        Ok(()) => Ok(()),
+        Err(WriteFault) => Err(DrawError::Write),
+    }
+}

@@ -1,0 +1,52 @@
+//! Draws what `counterlab run` writes: a picture in SVG with a column for each row of the run and a
+//! line of cells for each node. It reads standard input and writes standard output. Where it reads
+//! anything else it writes one line to standard error, and ends with 1.
+//!
+//! That each picture is the defined one of a chart, whose own text is just what was read, is proved
+//! ([`drawing::draw`]); that all that `run` writes is read is not.
+#![tactic(auto)]
+
+mod charts;
+mod drawing;
+mod lines;
+mod marks;
+mod pictures;
+mod printing;
+mod reading;
+mod squares;
+
+use crate::drawing::{DrawError, draw};
+use crate::reading::ChartError;
+use edge_io::{StdSink, StdSource, first_line, read_all};
+use std::io;
+use std::process::ExitCode;
+
+/// How many bytes are read at most.
+const LONGEST_INPUT: usize = 1 << 32;
+
+/// The first line of what was read, where it is the line that `counterlab` writes in the place of a
+/// run.
+fn refusal(input: &[u8]) -> Option<&str> {
+    if !input.starts_with(b"refused ") && !input.starts_with(b"usage: ") {
+        return None;
+    }
+    let (line, _) = first_line(input);
+    str::from_utf8(line).ok()
+}
+
+fn main(rt: HostRuntime) -> anyhow::Result<ExitCode> {
+    let mut source = StdSource::new(rt.stdin());
+    let input = read_all(rt.alloc(), &mut source, LONGEST_INPUT)?;
+    if let Some(line) = refusal(&input) {
+        eprintln!(rt; "no run to draw: {line}")?;
+        return Ok(ExitCode::FAILURE);
+    }
+    let mut sink = StdSink::new(io::writer(&rt));
+    match draw(rt.alloc(), &input, &mut sink) {
+        Ok(()) => Ok(ExitCode::SUCCESS),
+        Err(error) => {
+            eprintln!(rt; "no run to draw: {error}")?;
+            Ok(ExitCode::FAILURE)
+        }
+    }
+}

@@ -1,0 +1,200 @@
+//! Draws the marks of eras, and the lines below the cells.
+
+ghost use Rattle.std.specs.Prelude.{◌≡◌, ◌<◌, ◌≤◌, ◌^◌};
+ghost use Rattle.std.specs.List.{flat_map};
+ghost use Rattle.texts.specs.Growth.{Puts};
+ghost use Rattle.draw.specs.Pictures.{bound_at, bound_mark, caption, caption_at, caption_front, end_picture};
+ghost use Rattle.draw.specs.Pictures.{era_begin, era_mark};
+ghost use Rattle.draw.specs.Pictures.{has_row, is_before, locked_mark, mark, mark_at};
+
+use crate::charts::{Chart, End};
+use crate::printing::put_end;
+use crate::squares::{column_left, line_top};
+use edge_io::{Piece, Sink, WriteFault, put_all, put_pieces};
+
+/// Draws a line from the top to the bottom, with a word.
+fn put_mark<'a, K: Sink>(
+    sink: &mut K,
+    x: u64,
+    bottom: u64,
+    colour: &'a [u8],
+    y: u64,
+    word: &'a [u8],
+) -> Result<(), WriteFault>
+    requires { x ≤ 2 ^ 60 }
+    ensures { Puts result (mark x bottom colour.now y word.now) (K.told sink.old) (K.told sink.new) }
+{
+    put_pieces(
+        sink,
+        &[
+            Piece::Text(b"<path d='M"),
+            Piece::Number(x),
+            Piece::Text(b" 4V"),
+            Piece::Number(bottom),
+            Piece::Text(b"' stroke='"),
+            Piece::Text(colour),
+            Piece::Text(b"'/>\n<text x='"),
+            Piece::Number(x + 3),
+            Piece::Text(b"' y='"),
+            Piece::Number(y),
+            Piece::Text(b"' fill='"),
+            Piece::Text(colour),
+            Piece::Text(b"'>"),
+            Piece::Text(word),
+            Piece::Text(b"</text>\n"),
+        ],
+    )
+}
+
+/// Whether a configuration has a row.
+fn has_row(first: u32, rows: u32, t: u64) -> bool
+    ensures { result ≡ has_row first rows t }
+{
+    u64::from(first) <= t && t < u64::from(first) + u64::from(rows)
+}
+
+/// Draws a mark at a configuration, if that has a row.
+fn put_mark_at<'a, K: Sink>(
+    sink: &mut K,
+    chart: &Chart,
+    t: u64,
+    colour: &'a [u8],
+    y: u64,
+    word: &'a [u8],
+) -> Result<(), WriteFault>
+    ensures { Puts result (mark_at chart.now t colour.now y word.now)
+        (K.told sink.old) (K.told sink.new) }
+{
+    if has_row(chart.first, chart.rows, t) {
+        let column = (t - u64::from(chart.first)) as u32;
+        let x = column_left(chart.digits, column);
+        put_mark(sink, x, line_top(chart.nodes), colour, y, word)
+    } else {
+        Ok(())
+    }
+}
+
+/// Where an era begins.
+fn era_begin(era: Option<u32>) -> u64
+    ensures value { result ≡ era_begin era }
+    ensures most { result < 2 ^ 32 }
+{
+    match era {
+        Some(begin) => u64::from(begin),
+        None => 0,
+    }
+}
+
+/// Draws where an era begins.
+fn put_era_mark<K: Sink>(sink: &mut K, chart: &Chart, era: Option<u32>) -> Result<(), WriteFault>
+    ensures { Puts result (era_mark chart.now era) (K.told sink.old) (K.told sink.new) }
+{
+    match era {
+        Some(begin) => put_mark_at(sink, chart, u64::from(begin), b"black", 14, b"era"),
+        None => Ok(()),
+    }
+}
+
+/// Whether a configuration is before the next era, if there is one.
+fn is_before(t: u64, next: Option<u32>) -> bool
+    ensures { result ≡ is_before t next }
+{
+    match next {
+        Some(next) => t < u64::from(next),
+        None => true,
+    }
+}
+
+/// Draws the bound at a configuration, if that is before the next era.
+fn put_bound_at<K: Sink>(
+    sink: &mut K,
+    chart: &Chart,
+    t: u64,
+    next: Option<u32>,
+) -> Result<(), WriteFault>
+    ensures { Puts result (bound_at chart.now t next) (K.told sink.old) (K.told sink.new) }
+{
+    if is_before(t, next) {
+        put_mark_at(sink, chart, t, b"firebrick", 28, b"bound")
+    } else {
+        Ok(())
+    }
+}
+
+/// Draws the bound, counted from where an era begins, if the era is so long.
+fn put_bound_mark<K: Sink>(sink: &mut K, chart: &Chart, end: End) -> Result<(), WriteFault>
+    requires { chart.now.bound < 2 ^ 60 }
+    ensures { Puts result (bound_mark chart.now end) (K.told sink.old) (K.told sink.new) }
+{
+    put_bound_at(sink, chart, era_begin(end.era) + chart.bound, end.next)
+}
+
+/// Draws the first locked configuration.
+fn put_locked_mark<K: Sink>(
+    sink: &mut K,
+    chart: &Chart,
+    locked: Option<u32>,
+) -> Result<(), WriteFault>
+    ensures { Puts result (locked_mark chart.now locked) (K.told sink.old) (K.told sink.new) }
+{
+    match locked {
+        Some(t) => put_mark_at(sink, chart, u64::from(t), b"darkgreen", 42, b"locked"),
+        None => Ok(()),
+    }
+}
+
+/// Writes the front of a caption.
+fn put_caption_front<K: Sink>(sink: &mut K, y: u64) -> Result<(), WriteFault>
+    ensures { Puts result (caption_front y) (K.told sink.old) (K.told sink.new) }
+{
+    put_pieces(
+        sink,
+        &[
+            Piece::Text(b"<text x='4' y='"),
+            Piece::Number(y),
+            Piece::Text(b"'>"),
+        ],
+    )
+}
+
+/// Writes an era's line at a height.
+fn put_caption_at<K: Sink>(sink: &mut K, y: u64, end: End) -> Result<(), WriteFault>
+    ensures { Puts result (caption_at y end) (K.told sink.old) (K.told sink.new) }
+{
+    put_caption_front(sink, y)?;
+    put_end(sink, end)?;
+    put_all(sink, b"</text>\n")
+}
+
+/// Writes an era's line below the cells.
+fn put_caption<K: Sink>(sink: &mut K, nodes: u32, end: End) -> Result<(), WriteFault>
+    ensures { Puts result (caption nodes end) (K.told sink.old) (K.told sink.new) }
+{
+    put_caption_at(sink, line_top(nodes) + 38 + 16 * u64::from(end.place), end)
+}
+
+/// Draws what a line behind the rows says.
+fn put_end_picture<K: Sink>(sink: &mut K, chart: &Chart, end: End) -> Result<(), WriteFault>
+    requires { chart.now.bound < 2 ^ 60 }
+    ensures { Puts result (end_picture chart.now end) (K.told sink.old) (K.told sink.new) }
+{
+    put_era_mark(sink, chart, end.era)?;
+    put_bound_mark(sink, chart, end)?;
+    put_locked_mark(sink, chart, end.locked)?;
+    put_caption(sink, chart.nodes, end)
+}
+
+/// Draws what the lines behind the rows say.
+pub fn put_ends<K: Sink>(sink: &mut K, chart: &Chart, ends: &[End]) -> Result<(), WriteFault>
+    requires { chart.now.bound < 2 ^ 60 }
+    ensures { Puts result (flat_map (end_picture chart.now) ends.now)
+        (K.told sink.old) (K.told sink.new) }
+{
+    for i in 0..ends.len() {
+        match put_end_picture(sink, chart, ends[i]) {
+            Ok(()) => {}
+            Err(WriteFault) => return Err(WriteFault),
+        }
+    }
+    Ok(())
+}

@@ -1,0 +1,262 @@
+//! Reads a chart from what `run` writes.
+
+ghost use Rattle.std.specs.Prelude.{◌≤◌, ◌^◌, length};
+
+use crate::charts::{Cell, Chart, End};
+use crate::lines::{era_line, locked_line, next_is, next_number, number_after, shown};
+use edge_io::{Lines, Words};
+use std::alloc::{AllocError, AllocFailed, Global};
+use thiserror::Error;
+
+/// How many nodes a row has at most.
+const MOST_NODES: u32 = 256;
+
+/// How many eras there are at most.
+const MOST_ERAS: usize = 17;
+
+/// A bound is below this.
+pub const MOST_BOUND: u64 = 1 << 50;
+
+/// Which line should stand at a place.
+#[derive(Clone, Copy, Debug, PartialEq, Eq, Error)]
+pub enum Wanted {
+    #[error("`bound` and a number")]
+    Bound,
+    #[error("a row: `row`, the number of a configuration, and a number or a star for each node")]
+    Row,
+    #[error("the next row, with as many words, or the first line on what is locked")]
+    Further,
+    #[error("the line of a later era, or nothing")]
+    Era,
+    #[error("nothing")]
+    Nothing,
+}
+
+/// Why there is no chart.
+#[derive(Clone, Copy, Debug, PartialEq, Eq, Error)]
+pub enum ChartError {
+    /// A line, counted from 1, is not what should stand there.
+    #[error("line {line} should be {wanted}")]
+    Line { line: u64, wanted: Wanted },
+    #[error("out of memory")]
+    NoMemory,
+}
+
+impl From<AllocError> for ChartError {
+    fn from(_: AllocError) -> Self {
+        ChartError::NoMemory
+    }
+}
+
+/// Why a line is not taken.
+#[derive(Clone, Copy, Debug, PartialEq, Eq)]
+enum LineError {
+    Unwanted,
+    NoMemory,
+}
+
+impl<T: Drop> From<AllocFailed<T>> for LineError {
+    fn from(_: AllocFailed<T>) -> Self {
+        LineError::NoMemory
+    }
+}
+
+/// A chart of which the front was read, and what should come next.
+#[derive(Debug, Drop)]
+struct Draft {
+    chart: Chart,
+    wanted: Wanted,
+}
+
+/// Takes the bound.
+fn take_bound(draft: &mut Draft, line: &[u8]) -> Result<(), LineError> {
+    match number_after(line, b"bound") {
+        Some(bound) => {
+            if bound >= MOST_BOUND {
+                return Err(LineError::Unwanted);
+            }
+            draft.chart.bound = bound;
+            draft.wanted = Wanted::Row;
+            Ok(())
+        }
+        None => Err(LineError::Unwanted),
+    }
+}
+
+/// Takes the words of a row, and answers how many these are.
+fn take_words(chart: &mut Chart, words: Words<'_>) -> Result<u32, LineError> {
+    let mut node = 0;
+    for word in words {
+        let Some(shown) = shown(word) else {
+            return Err(LineError::Unwanted);
+        };
+        if node >= MOST_NODES {
+            return Err(LineError::Unwanted);
+        }
+        let row = chart.rows;
+        chart.cells.push(Cell { row, node, shown })?;
+        chart.digits = chart.digits.max(u16::try_from(word.len()).unwrap_or(15));
+        node += 1;
+    }
+    Ok(node)
+}
+
+/// Whether a configuration is the one of the next row. That of the first row is kept.
+fn is_next(chart: &mut Chart, t: u32) -> bool {
+    if chart.rows == 0 {
+        chart.first = t;
+    }
+    u64::from(chart.first) + u64::from(chart.rows) == u64::from(t)
+}
+
+/// Takes a row.
+fn take_row(draft: &mut Draft, line: &[u8]) -> Result<(), LineError> {
+    let mut words = Words::new(line);
+    if !next_is(&mut words, b"row") {
+        return Err(LineError::Unwanted);
+    }
+    let Some(t) = next_number(&mut words) else {
+        return Err(LineError::Unwanted);
+    };
+    let chart = &mut draft.chart;
+    if !is_next(chart, t) || t > 1000000 {
+        return Err(LineError::Unwanted);
+    }
+    let nodes = take_words(chart, words)?;
+    if nodes == 0 || (chart.rows > 0 && nodes != chart.nodes) {
+        return Err(LineError::Unwanted);
+    }
+    chart.nodes = nodes;
+    chart.rows = chart.rows.saturating_add(1);
+    draft.wanted = Wanted::Further;
+    Ok(())
+}
+
+/// How many digits the configurations of up to 1000000 have.
+fn digits_of(t: u32) -> u16 {
+    match t {
+        0..=9 => 1,
+        10..=99 => 2,
+        100..=999 => 3,
+        1000..=9999 => 4,
+        10000..=99999 => 5,
+        100000..=999999 => 6,
+        _ => 7,
+    }
+}
+
+/// Adds a line behind the rows.
+fn add_end(chart: &mut Chart, era: Option<u32>, locked: Option<u32>) -> Result<(), LineError> {
+    let count = chart.ends.len();
+    if count >= MOST_ERAS {
+        return Err(LineError::Unwanted);
+    }
+    if let Some(last) = chart.ends.last_mut() {
+        last.next = era;
+    }
+    let end = End {
+        place: count as u32,
+        era,
+        locked,
+        next: None,
+    };
+    chart.ends.push(end)?;
+    Ok(())
+}
+
+/// Whether an era may begin at a configuration: the first one begins at 0, and each other one
+/// later than that before it.
+fn may_begin(chart: &Chart, begin: u32) -> bool {
+    match chart.ends.last() {
+        Some(
+            End {
+                era: Some(last),
+                ..
+            },
+        ) => begin > *last,
+        Some(_) => false,
+        None => begin == 0,
+    }
+}
+
+/// Takes the line of an era.
+fn take_era(draft: &mut Draft, line: &[u8]) -> Result<(), LineError> {
+    let Some((begin, locked)) = era_line(line) else {
+        return Err(LineError::Unwanted);
+    };
+    if !may_begin(&draft.chart, begin) {
+        return Err(LineError::Unwanted);
+    }
+    add_end(&mut draft.chart, Some(begin), locked)?;
+    draft.wanted = Wanted::Era;
+    Ok(())
+}
+
+/// Takes the line behind the last row.
+fn take_first_end(draft: &mut Draft, line: &[u8]) -> Result<(), LineError> {
+    match locked_line(line) {
+        Some(locked) => {
+            add_end(&mut draft.chart, None, locked)?;
+            draft.wanted = Wanted::Nothing;
+            Ok(())
+        }
+        None => take_era(draft, line),
+    }
+}
+
+/// Takes the next line.
+fn take(draft: &mut Draft, line: &[u8]) -> Result<(), LineError> {
+    match draft.wanted {
+        Wanted::Bound => take_bound(draft, line),
+        Wanted::Row => take_row(draft, line),
+        Wanted::Further => {
+            if line.starts_with(b"row ") {
+                take_row(draft, line)
+            } else {
+                take_first_end(draft, line)
+            }
+        }
+        Wanted::Era => take_era(draft, line),
+        Wanted::Nothing => Err(LineError::Unwanted),
+    }
+}
+
+/// A chart of nothing.
+fn empty(alloc: Global) -> Chart {
+    Chart {
+        bound: 0,
+        first: 0,
+        nodes: 0,
+        rows: 0,
+        digits: 1,
+        cells: Vec::new(alloc),
+        ends: Vec::new(alloc),
+    }
+}
+
+/// Reads a chart. The error is the first line that is not what should stand there, which is the
+/// line after the last where one is missing; or want of memory.
+pub fn read_chart(alloc: Global, text: &[u8]) -> Result<Chart, ChartError>
+    requires { length text.now ≤ 2 ^ 32 }
+{
+    let mut draft = Draft {
+        chart: empty(alloc),
+        wanted: Wanted::Bound,
+    };
+    let mut next = 1;
+    for (line, bytes) in Lines::new(text, 1) {
+        let wanted = draft.wanted;
+        match take(&mut draft, bytes) {
+            Ok(()) => next = line.saturating_add(1),
+            Err(LineError::Unwanted) => return Err(ChartError::Line { line, wanted }),
+            Err(LineError::NoMemory) => return Err(ChartError::NoMemory),
+        }
+    }
+    if draft.chart.ends.is_empty() {
+        let wanted = draft.wanted;
+        return Err(ChartError::Line { line: next, wanted });
+    }
+    let last = draft.chart.first.saturating_add(draft.chart.rows);
+    draft.chart.digits = draft.chart.digits.max(digits_of(last.saturating_sub(1)));
+    Ok(draft.chart)
+}

@@ -1,0 +1,73 @@
+//! Turns states of nodes from hex digits into words, and from words into hex digits. It reads a
+//! plan from standard input, and behind it lines `node V H` or `node V number X registers R, R`,
+//! and writes the other form of each to standard output. Where a line is refused it writes one line
+//! to standard error, and ends with 1.
+//!
+//! Digits are read and written by the crate `state_codec`, whose contracts say which state they
+//! are. That words are read and written as they are meant is tested, and not proved.
+#![tactic(auto)]
+
+ghost use Rattle.std.specs.Prelude.{◌≤◌, ◌^◌, length};
+
+mod faults;
+mod ranges;
+mod reading;
+mod turning;
+mod writing;
+
+use crate::faults::StateError;
+use crate::turning::turn;
+use edge_io::{Lines, StdSource, is_skipped, read_all};
+use plan_reader::read_plan;
+use state_codec::StateShape;
+use std::alloc::Global;
+use std::process::ExitCode;
+
+/// How many bytes are read at most.
+const LONGEST_INPUT: usize = 1 << 20;
+
+/// Turns the lines behind a plan, from the line of this number on.
+fn turn_lines(
+    alloc: Global,
+    shape: &StateShape,
+    text: &[u8],
+    first: u64,
+) -> Result<String, StateError>
+    requires first { first ≤ 2 ^ 32 }
+    requires length { length text.now ≤ 2 ^ 32 }
+{
+    let mut out = String::new(alloc);
+    for (number, line) in Lines::new(text, first) {
+        if !is_skipped(line) {
+            match turn(alloc, shape, line, &mut out) {
+                Ok(()) => {}
+                Err(fault) => return Err(StateError::of(number, fault)),
+            }
+        }
+    }
+    Ok(out)
+}
+
+/// The other forms of all states of an input.
+fn answer(alloc: Global, input: &[u8]) -> Result<String, StateError>
+    requires { length input.now ≤ 2 ^ 20 }
+{
+    let (plan, taken, lines) = read_plan(alloc, input)?;
+    let shape = StateShape::of(alloc, &plan)?;
+    turn_lines(alloc, &shape, &input[taken..], 1 + lines)
+}
+
+fn main(rt: HostRuntime) -> anyhow::Result<ExitCode> {
+    let mut source = StdSource::new(rt.stdin());
+    let input = read_all(rt.alloc(), &mut source, LONGEST_INPUT)?;
+    match answer(rt.alloc(), &input) {
+        Ok(text) => {
+            print!(rt; "{text}")?;
+            Ok(ExitCode::SUCCESS)
+        }
+        Err(error) => {
+            eprintln!(rt; "{error}")?;
+            Ok(ExitCode::FAILURE)
+        }
+    }
+}
