@@ -4,3 +4,4 @@ pub mod Filled
 pub mod Marking
 pub mod Zeros
 pub mod Hearing
+pub mod Heeding

@@ -1,9 +1,7 @@
 -- How much is counted in all groups together, where each group counts so much of each of its nodes.
-use Rattle.std.proofs.Common.{◌≡◌, ℕ, zero, suc, ◌+◌, ◌-◌, ◌*◌, ◌<◌, ◌≤◌, List, [], ◌∷◌, ◌++◌, Bool, true, false, not, cond, if◌then◌else◌, length, refl, sym, ap, ◌∙◌, arith}
-use Rattle.std.specs.List.{range_with_len, flat_map, sum_by, filter}
-use Rattle.std.proofs.lemmas.List.{length-append}
+use Rattle.std.proofs.Common.{◌≡◌, ℕ, zero, suc, ◌+◌, ◌-◌, ◌*◌, ◌≤◌, List, [], ◌∷◌, Bool, true, false, not, cond, if◌then◌else◌, length, refl, sym, ap, ◌∙◌, arith}
+use Rattle.std.specs.List.{range_with_len, flat_map, sum_by}
 use Rattle.std.proofs.lemmas.Nat.{mul-le}
-use Rattle.std.proofs.lemmas.List.Elements.{filter-append}
 use Rattle.std.proofs.lemmas.List.Sums.{sum_by-append, sum_by-cons}
 use Rattle.construction.specs.Plans.{Level, group_size, nodes_of}
 use Rattle.sync_types.specs.FaultSets.{is_in}

@@ -1,20 +1,20 @@
 -- The step of a node, register by register: each is that of the node's group at the level.
-use Rattle.std.proofs.Common.{◌≡◌, ◌≢◌, ◌⊎◌, ℕ, ◌+◌, ◌-◌, ◌*◌, ◌/◌, ◌%◌, ◌<◌, ◌≤◌, Bool, true, false, cond, List, [], ◌∷◌, ◌++◌, length, get_or, take, drop, map, refl, sym, ap, ◌∙◌, subst, ⊎_elim, arith}
-use Rattle.std.specs.Prelude.{nat_lt, ◌==◌}
+use Rattle.std.proofs.Common.{◌≡◌, ℕ, ◌+◌, ◌*◌, ◌/◌, ◌%◌, ◌<◌, ◌≤◌, Bool, true, false, cond, List, [], ◌∷◌, length, take, drop, map, refl, sym, ap, ◌∙◌, subst, ⊎_elim, arith}
+use Rattle.std.specs.Prelude.{nat_lt}
 use Rattle.std.proofs.Math.Nat.{mod-lt, div-add-mod'}
 use Rattle.std.proofs.lemmas.Nat.{div_below}
-use Rattle.std.proofs.lemmas.Bool.{cases_eq, eq-eqb, ne_eqb, ltb-true, le-ltb, cond_both}
+use Rattle.std.proofs.lemmas.Bool.{cases_eq, eq-eqb, ne_eqb, ltb-true, cond_both}
 use Rattle.std.proofs.lemmas.List.{get_or_at, get_or_append_left, get_or-take, get_or-drop, length_push, length-replicate}
 use Rattle.sync_types.specs.declared.states.Reg.{Reg}
 use Rattle.sync_types.specs.States.{State, zero_state, zero_register, register_at}
 use Rattle.construction.specs.Plans.{Level, group_size, nodes_of, low_of}
 use Rattle.construction.specs.PhaseKing.{up}
 use Rattle.construction.specs.Shown.{shown}
-use Rattle.construction.specs.Steps.{state_of, new_register, with_register, register_after}
+use Rattle.construction.specs.Steps.{state_of, new_register, register_after}
 use Rattle.construction.proofs.Blocks.{block_some}
 use Rattle.construction.proofs.Ranges.{zero_at, low_most}
 use Rattle.plan_laws.specs.Stretches.{stretch, step_at}
-use Rattle.shared_laws.specs.Groups.{Group, group_at, register_for, nodes_in}
+use Rattle.shared_laws.specs.Groups.{group_at, register_for}
 
 -- a level and those below it, and a node at a place of the group
 module _ (level : Level) (below : List Level) (place : ℕ) where

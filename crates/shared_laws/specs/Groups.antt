@@ -1,17 +1,13 @@
 -- The groups of a plan, each named by its level and its first node, and what is counted in them.
-use Rattle.std.specs.Prelude.{ℕ, ◌+◌, ◌-◌, ◌*◌, ◌/◌, ◌%◌, ◌==◌, List, [], ◌∷◌, ◌++◌, length, map, take, drop, if◌then◌else◌, Option, Some, unwrap_or}
+use Rattle.std.specs.Prelude.{ℕ, ◌+◌, ◌*◌, ◌/◌, ◌%◌, ◌==◌, List, [], ◌∷◌, length, map, take, if◌then◌else◌}
 use Rattle.std.specs.List.{range_with_len, flat_map}
 use Rattle.sync_types.specs.States.{State, register_at}
-use Rattle.construction.specs.Plans.{Level, group_size, nodes_of, leaders_of, beat_of}
-use Rattle.construction.specs.Pointers.{pointer_of, part_of}
+use Rattle.construction.specs.Plans.{Level, group_size, nodes_of}
 use Rattle.construction.specs.Shown.{shown}
 use Rattle.sync_types.specs.declared.states.Reg.{Reg}
-use Rattle.counting.specs.Values.{count_of, majority_of, majority_or_zero, least_above}
-use Rattle.construction.specs.PhaseKing.{without_increment, incremented, up}
 use Rattle.construction.specs.Steps.{state_of}
 use Rattle.construction.specs.Steps.{register_after}
 use Rattle.plan_laws.specs.Stretches.{stretch}
-use Rattle.shared_laws.specs.Sharing.{place_among, honest_in, heard_at}
 
 -- a group: its level, how many levels stand below, how many nodes a block has, and the first node
 pub record Group : Type 0 where

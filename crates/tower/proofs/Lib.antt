@@ -8,3 +8,5 @@ pub mod Indices
 pub mod Taken
 pub mod Made
 pub mod Further
+pub mod Heeding
+pub mod Heeded

@@ -1,5 +1,5 @@
 -- The step of a node by the rows and groups of a shared round.
-use Rattle.std.proofs.Common.{◌≡◌, ◌⊎◌, ℕ, ◌+◌, ◌*◌, ◌/◌, ◌%◌, ◌<◌, ◌≤◌, Bool, true, false, cond, if◌then◌else◌, List, [], ◌∷◌, ◌++◌, length, map, take, drop, get_or, All, IfSome, refl, sym, ap, ◌∙◌, subst, ⊎_elim, arith}
+use Rattle.std.proofs.Common.{◌≡◌, ℕ, ◌+◌, ◌*◌, ◌/◌, ◌%◌, ◌<◌, ◌≤◌, Bool, true, false, if◌then◌else◌, List, [], ◌∷◌, ◌++◌, length, map, drop, get_or, All, IfSome, refl, sym, ap, ◌∙◌, subst, ⊎_elim, arith}
 use Rattle.std.specs.Prelude.{nat_le, ◌==◌}
 use Rattle.std.specs.List.{range_with_len}
 use Rattle.std.proofs.lemmas.Bool.{cases_lt, cases_eq, le-leb, lt-leb, eq-eqb, ne_eqb}
@@ -8,24 +8,23 @@ use Rattle.std.proofs.lemmas.List.FromFn.{get_or-map-range_with_len, length-map-
 use Rattle.sync_types.specs.declared.states.Reg.{Reg}
 use Rattle.sync_types.specs.FaultSets.{is_in}
 use Rattle.sync_types.specs.States.{State, zero_state, zero_register, register_at}
-use Rattle.construction.specs.Plans.{Level, Plan, nodes_of, low_of, plan_nodes, plan_depth}
+use Rattle.construction.specs.Plans.{Level, Plan, nodes_of, low_of}
 use Rattle.construction.specs.PhaseKing.{up}
 use Rattle.construction.specs.Steps.{state_of, step_of}
 use Rattle.counter_core.specs.Meanings.{cut, written}
-use Rattle.plan_laws.specs.PlanMeaning.{InRange, IsWithin, IsInRange}
+use Rattle.plan_laws.specs.PlanMeaning.{InRange, IsWithin}
 use Rattle.plan_laws.specs.Stretches.{step_at}
 use Rattle.plan_laws.proofs.Stretches.{steps_by_stretches}
-use Rattle.group_votes.specs.Groups.{Stands}
 use Rattle.shared_laws.specs.Sharing.{place_among, heard_at, heard_with}
 use Rattle.shared_laws.specs.Groups.{Group, groups_of, group_at, index_at, nodes_in, register_for}
 use Rattle.shared_laws.proofs.Descent.{step_register, step_missing, step_number, step_numberless, length-step_at, group_top, group_under}
-use Rattle.shared_laws.proofs.Places.{HasNode, group_stands, group_has, index_less, length-groups_of, groups_within, groups_low as levels_low}
-use Rattle.shared_board.specs.Boards.{Board, sent_of, AreLiars}
+use Rattle.shared_laws.proofs.Places.{group_stands, group_has, index_less, length-groups_of, groups_within, groups_low as levels_low}
+use Rattle.shared_board.specs.Boards.{Board}
 use Rattle.shared_board.proofs.Hearing.{register_is}
 use Rattle.tower.specs.Placings.{Placing}
 use Rattle.tower.specs.declared.rows.Row.{Row}
 use Rattle.tower.specs.Rows.{IsRow}
-use Rattle.tower.specs.Placings.{key_of, IsReady, register_by, row_register, CanStep, Leads}
+use Rattle.tower.specs.Placings.{key_of, IsReady, register_by, row_register, CanStep}
 use Rattle.tower.specs.Sharing.{AllStand}
 
 -- a state in range has at each level a value below the modulus of the group's level

@@ -1,4 +1,4 @@
-ghost use Rattle.std.specs.Prelude.{◌≡◌, ◌<◌, ◌≤◌, ◌+◌, ◌*◌, [], ◌∷◌, ◌++◌, ℕ, map, length, drop, true, All, IfOk, OnOk, List, slice_index_or, sum_by};
+ghost use Rattle.std.specs.Prelude.{◌≡◌, ◌<◌, ◌≤◌, ◌+◌, ◌*◌, [], ◌∷◌, ◌++◌, ℕ, map, length, drop, true, false, All, IfOk, OnOk, List, slice_index_or, sum_by};
 ghost use Rattle.std.specs.List.{range_with_len};
 ghost use Rattle.sync_types.specs.States.{State};
 ghost use Rattle.construction.specs.Plans.{nodes_of};
@@ -9,6 +9,8 @@ ghost use Rattle.group_votes.specs.Senders.{IsTold};
 ghost use Rattle.group_votes.specs.Groups.{AreNumbers, Stands};
 ghost use Rattle.shared_board.specs.Boards.{Board, sent_of};
 ghost use Rattle.shared_laws.specs.Groups.{groups_of};
+ghost use Rattle.shared_laws.specs.Sharing.{place_among};
+ghost use Rattle.tower.specs.Heeding.{Holds, IsShut, LeadsIn, AreShut};
 ghost use Rattle.tower.specs.Placings.{key_of, cost_of, IsReady, CanStep, Leads, register_by, row_register};
 ghost use Rattle.tower.specs.Sharing.{AllStand};
 
@@ -50,8 +52,14 @@ impl Placed {
         Ok(Placed { height, group })
     }
 
-    /// Counts what it has of a board.
-    fn gather<G: Ledger>(&mut self, board: &Board, scratch: &mut Tally, steps: &mut Steps<G>)
+    /// Counts what it has of a board. The answer is whether all its registers are locked at one
+    /// value.
+    fn gather<G: Ledger>(
+        &mut self,
+        board: &Board,
+        scratch: &mut Tally,
+        steps: &mut Steps<G>,
+    ) -> bool
         requires ready { IsReady self.old }
         requires height { self.old.height < board.now.depth }
         requires within { self.old.group.first + self.old.group.nums.nodes ≤ length board.now.states }
@@ -62,9 +70,11 @@ impl Placed {
         ensures same_first { self.new.group.first ≡ self.old.group.first }
         ensures capacity { scratch.new.capacity ≡ scratch.old.capacity }
         ensures steps { steps.new ≤ steps.old + 3 * cost_of board.now self.old }
+        ensures settled { result ≡ self.new.group.is_settled }
     {
         let senders = board.senders(self.height);
         self.group.gather(&senders, scratch, steps);
+        self.group.is_settled()
     }
 
     /// The new register of a node of the group.
@@ -86,6 +96,28 @@ impl Placed {
         board.tell();
         let senders = board.senders(self.height);
         self.group.register(&senders, node, lies, scratch, steps)
+    }
+
+    /// Whether the new register of a node of the group may hang on what it is told.
+    fn is_open(&self, board: &Board, node: usize) -> bool
+        requires { Holds board.now node self.now }
+        ensures { result ≡ false → IsShut board.now node self.now }
+    {
+        let senders = board.senders(self.height);
+        self.group.is_open(&senders, node)
+    }
+
+    /// The liars among its nodes, as a stretch of all liars, from the first place to before the
+    /// second.
+    pub(crate) fn liars(&self, board: &Board) -> (usize, usize)
+        requires { self.now.group.first + self.now.group.nums.nodes ≤ length board.now.states }
+        ensures first { result.0 ≡ place_among board.now.faulty self.now.group.first }
+        ensures last { result.1 ≡ place_among board.now.faulty (self.now.group.first + self.now.group.nums.nodes) }
+    {
+        board.tell();
+        let first = self.group.first;
+        let end = first + self.group.nums.nodes as usize;
+        (board.liars_below(first), board.liars_below(end))
     }
 }
 
@@ -129,13 +161,21 @@ pub(crate) fn add_groups(
     Ok(())
 }
 
-/// Counts what the groups have of a board: of each at most three steps for each correct node.
+/// Whether both are true.
+fn both(one: bool, other: bool) -> bool
+    ensures { result ≡ true → (one ≡ true) × (other ≡ true) }
+{
+    one && other
+}
+
+/// Counts what the groups have of a board: of each at most three steps for each correct node. The
+/// answer is whether the registers of each group are locked at one value.
 pub(crate) fn gather_groups<G: Ledger>(
     board: &Board,
     groups: &mut [Placed],
     scratch: &mut Tally,
     steps: &mut Steps<G>,
-)
+) -> bool
     requires ready { All IsReady groups.old }
     requires heights { All (λ p. p.height < board.now.depth) groups.old }
     requires within { All (λ p. p.group.first + p.group.nums.nodes ≤ length board.now.states) groups.old }
@@ -145,10 +185,14 @@ pub(crate) fn gather_groups<G: Ledger>(
     ensures stand { AllStand board.now groups.new }
     ensures capacity { scratch.new.capacity ≡ scratch.old.capacity }
     ensures steps { steps.new ≤ steps.old + 3 * sum_by (cost_of board.now) groups.old }
+    ensures settled { result ≡ true → All (λ p. p.group.is_settled ≡ true) groups.new }
 {
+    let mut all_settled = true;
     for g in 0..groups.len() {
-        groups[g].gather(board, scratch, steps);
+        let settled = groups[g].gather(board, scratch, steps);
+        all_settled = both(all_settled, settled);
     }
+    all_settled
 }
 
 /// The new register of a node at a level: in its group, or none where the node has none there.
@@ -175,6 +219,35 @@ fn register_at<G: Ledger>(
     } else {
         NONE
     }
+}
+
+/// How many of the lowest `levels` levels stand up to the highest one at which the group of a node
+/// is open to what it is told; 0 where none is.
+pub(crate) fn open_levels(
+    board: &Board,
+    row: &Row,
+    levels: usize,
+    node: usize,
+    groups: &[Placed],
+) -> usize
+    requires within { levels ≤ length row.now.places.items }
+    requires leads { (l : ℕ) → l < length row.now.places.items → row.now.low ≤ l + 1
+        → LeadsIn board.now row.now node groups.now l }
+    requires shut { AreShut board.now row.now node groups.now levels }
+    ensures within { result ≤ levels }
+    ensures lowest { 0 < result → row.now.low ≤ result }
+    ensures shut { AreShut board.now row.now node groups.now result }
+{
+    if levels == 0 {
+        return 0;
+    }
+    if levels < row.low {
+        return 0;
+    }
+    if groups[row.places[levels - 1]].is_open(board, node) {
+        return levels;
+    }
+    open_levels(board, row, levels - 1, node, groups)
 }
 
 /// Writes the new registers of a node: at most three steps a level for each liar. The groups are as

@@ -6,7 +6,7 @@ ghost use Rattle.counter_core.specs.Meanings.{written};
 ghost use Rattle.plan_laws.specs.PlanMeaning.{IsInRange};
 ghost use Rattle.shared_laws.specs.Sharing.{heard_with, stands_for, Tells};
 
-use crate::groups::{Placed, gather_groups, write_registers};
+use crate::groups::{Placed, gather_groups, open_levels, write_registers};
 use crate::rows::Row;
 use majority_votes::{Steps, Tally};
 use plan_numbers::LevelNums;
@@ -29,6 +29,8 @@ pub struct Shared {
     pub(crate) is_made: bool,
     pub(crate) board: Board,
     pub(crate) groups: Vec<Placed>,
+    // Whether the registers of each group are locked at one value.
+    pub(crate) all_settled: bool,
     // Room for a vote of each block of a level.
     pub(crate) scratch: Tally,
 }
@@ -41,7 +43,7 @@ impl Model for Shared {
 
     ghost view = { λ s. shares_of s.version s.base s.levels.items s.is_made s.board };
 
-    ghost invariant = { λ s. IsShared s.version s.base s.levels.items s.rows.items s.is_made s.board s.groups.items s.scratch };
+    ghost invariant = { λ s. IsShared s.version s.base s.levels.items s.rows.items s.is_made s.board s.groups.items s.scratch s.all_settled };
 }
 
 impl Shared {
@@ -62,7 +64,8 @@ impl Shared {
     {
         faulty.tell();
         self.board.take(config, faulty);
-        gather_groups(&self.board, &mut self.groups, &mut self.scratch, steps);
+        let all_settled = gather_groups(&self.board, &mut self.groups, &mut self.scratch, steps);
+        self.all_settled = all_settled;
         self.is_made = true;
     }
 
@@ -112,6 +115,21 @@ impl Shared {
             step_of self.now.plan node (heard_with self.now.faulty lies self.now.states)
             ≡ step_of self.now.plan node (heard_with self.now.faulty told self.now.states) }
     {
-        (0, self.board.liars())
+        self.board.tell();
+        let row = &self.rows[node as usize];
+        if self.all_settled {
+            return (0, 0);
+        }
+        let open = open_levels(
+            &self.board,
+            row,
+            row.places.len(),
+            node as usize,
+            &self.groups,
+        );
+        if open == 0 {
+            return (0, 0);
+        }
+        self.groups[row.places[open - 1]].liars(&self.board)
     }
 }

@@ -51,6 +51,7 @@ impl Tower {
             is_made: false,
             board: Board::new(alloc, nodes as usize, self.levels.len())?,
             groups,
+            all_settled: false,
             scratch: Tally::new(alloc, BLOCKS).map_err(|_| NoMemory)?,
         })
     }

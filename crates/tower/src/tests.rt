@@ -1,14 +1,19 @@
 ghost use Rattle.std.specs.Prelude.{◌≡◌, ◌<◌, ◌≤◌, [], ◌∷◌, false, length, All, IfOk};
+ghost use Rattle.sync_types.specs.FaultSets.{is_in};
 ghost use Rattle.construction.specs.Plans.{plan_nodes, plan_depth};
 ghost use Rattle.plan_numbers.specs.Numbers.{line};
 ghost use Rattle.plan_laws.specs.PlanMeaning.{IsWithin, IsInRange};
 
 use crate::{Tower, build};
 use counter_core::{Counter, Heard};
+use majority_votes::Steps;
 use plan_numbers::{Plan, PremiseError};
+use state_codec::{Packed, StateShape};
 use std::alloc::Global;
+use std::marker::Brand;
+use std::sync::ledger::{Blank, Ledger};
 use std::test::Fail;
-use sync_types::{NoMemory, NodeState, Reg};
+use sync_types::{FaultSet, NoMemory, NodeState, Reg};
 
 /// Four nodes, one of which may be faulty, that count by ten.
 fn four(alloc: Global) -> Result<Tower, PremiseError>
@@ -36,6 +41,16 @@ fn thirteen(alloc: Global) -> Result<Tower, PremiseError>
     plan.push_with(3, 1, 960, 1).map_err(PremiseError::Refused)?;
     plan.push_with(3, 3, 10, 1).map_err(PremiseError::Refused)?;
     build(alloc, &plan).map_err(|_| PremiseError::NoMemory)
+}
+
+/// Three blocks of three nodes, in none of which a node may be faulty. In all one may be.
+fn nine(alloc: Global) -> Result<Plan, PremiseError>
+    ensures { IfOk result (λ plan. plan ≡ record { version = 1; base = 384; levels = line 3 1 10 0 ∷ (line 3 0 576 0 ∷ []) }) }
+{
+    let mut plan = Plan::base(alloc, 384)?;
+    plan.push(3, 0, 576).map_err(PremiseError::Refused)?;
+    plan.push(3, 1, 10).map_err(PremiseError::Refused)?;
+    Ok(plan)
 }
 
 /// The step of a node that hears these states. It is written over a state with the number 5.
@@ -184,6 +199,117 @@ fn each_level_has_its_own_spares(rt: HostRuntime) -> Result<(), Fail> {
             (x, plain(first), plain(second)),
             "node {place}"
         );
+    }
+    Ok(())
+}
+
+/// Zero states of all nodes of a plan.
+fn zero_states(alloc: Global, plan: &Plan) -> Result<Packed, NoMemory>
+    ensures size { IfOk result (λ config. length config.current ≡ plan_nodes plan.now) }
+    ensures deep { IfOk result (λ config. length config.shape.moduli ≡ plan_depth plan.now) }
+    ensures range { IfOk result (λ config. All (IsInRange plan.now) config.current) }
+{
+    plan.tell();
+    let shape = StateShape::of(alloc, plan)?;
+    let config = Packed::new(alloc, shape, plan.nodes())?;
+    Ok(config)
+}
+
+/// What a liar tells: a state that has this value at the lower level, and else zeros.
+fn lie(alloc: Global, value: u64) -> Result<NodeState, NoMemory>
+    ensures range { IfOk result (λ s. IsWithin 384 (line 3 1 10 0 ∷ (line 3 0 576 0 ∷ [])) s) }
+    ensures depth { IfOk result (λ s. length s.registers ≡ 2) }
+{
+    let mut state = NodeState::zero(alloc, 2)?;
+    state.set_reg(0, plain(Some(value % 576)));
+    Ok(state)
+}
+
+/// The step of a node that hears zero states, but of node 1 this value at the lower level.
+fn heard_step(alloc: Global, tower: &Tower, node: u32, value: u64) -> Result<NodeState, NoMemory>
+    requires tower { tower.now ≡ record { version = 1; base = 384; levels = line 3 1 10 0 ∷ (line 3 0 576 0 ∷ []) } }
+    requires node { node < 9 }
+    ensures { IfOk result (λ out. length out.registers ≡ 2) }
+{
+    let heard = [
+        NodeState::zero(alloc, 2)?,
+        lie(alloc, value)?,
+        NodeState::zero(alloc, 2)?,
+        NodeState::zero(alloc, 2)?,
+        NodeState::zero(alloc, 2)?,
+        NodeState::zero(alloc, 2)?,
+        NodeState::zero(alloc, 2)?,
+        NodeState::zero(alloc, 2)?,
+        NodeState::zero(alloc, 2)?,
+    ];
+    let out = stepped(alloc, tower, node, &heard)?;
+    Ok(out)
+}
+
+/// The step of a correct node by what all receivers share of a configuration, and the liars that it
+/// heeds.
+fn shared_step<G: Ledger>(
+    alloc: Global,
+    blank: Blank,
+    tower: &Tower,
+    node: u32,
+    config: &Packed,
+    liars: &FaultSet,
+    lies: &[NodeState],
+) -> Result<(NodeState, usize, usize), NoMemory>
+    requires name { blank.name ≡ G.name }
+    requires parts { blank.parts ≡ G.parts }
+    requires some { 0 < blank.parts }
+    requires node { node < plan_nodes tower.now }
+    requires correct { is_in liars.now.ids node ≡ false }
+    requires size { length config.now.current ≡ plan_nodes tower.now }
+    requires deep { plan_depth tower.now ≤ length config.now.shape.moduli }
+    requires range { All (IsInRange tower.now) config.now.current }
+    requires ids { All (λ id. id < plan_nodes tower.now) liars.now.ids }
+    requires told { length lies.now ≡ length liars.now.ids }
+    requires lies_range { All (IsInRange tower.now) lies.now }
+    requires lies_deep { All (λ s. plan_depth tower.now ≤ length s.registers) lies.now }
+    ensures { IfOk result (λ r. length r.0.registers ≡ plan_depth tower.now) }
+{
+    let mut steps = Steps::<G>::new(blank);
+    let mut shared = tower.shared(alloc)?;
+    tower.gather(config, liars, &mut shared, &mut steps);
+    let (from, to) = tower.heeded(node, &shared);
+    let mut out = NodeState::zero(alloc, tower.depth())?;
+    out.set_x(5);
+    tower.advance_shared(node, config, lies, &mut shared, &mut out, &mut steps);
+    Ok((out, from, to))
+}
+
+/// In each row: what node 1 tells at the lower level, another node with its new register there, and
+/// the liars that it heeds.
+#[test]
+fn both_steps_are_one(rt: HostRuntime) -> Result<(), Fail> {
+    let plan = nine(rt.alloc())?;
+    let tower = build(rt.alloc(), &plan)?;
+    let config = zero_states(rt.alloc(), &plan)?;
+    let mut liars = FaultSet::new(rt.alloc(), 9)?;
+    liars.push(1);
+    for (value, node, first, heeded) in [
+        (0, 0, Some(1), (0, 1)),
+        (5, 0, None, (0, 1)),
+        (5, 3, Some(1), (0, 0)),
+    ] {
+        let wanted = (1, plain(first), plain(Some(1)));
+        let out = heard_step(rt.alloc(), &tower, node, value)?;
+        assert_eq!(rt; (out.x(), out.reg(0), out.reg(1)), wanted);
+        let lies = [lie(rt.alloc(), value)?];
+        let (out, from, to) = shared_step::<Brand>(
+            rt.alloc(),
+            Blank::new(1),
+            &tower,
+            node,
+            &config,
+            &liars,
+            &lies,
+        )?;
+        assert_eq!(rt; (out.x(), out.reg(0), out.reg(1)), wanted);
+        assert_eq!(rt; (from, to), heeded);
     }
     Ok(())
 }

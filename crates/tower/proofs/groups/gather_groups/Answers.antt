@@ -1,4 +1,4 @@
-use Rattle.std.proofs.Common.{◌≡◌, ◌≢◌, ℕ, ◌+◌, ◌-◌, ◌*◌, ◌<◌, ◌≤◌, if◌then◌else◌, Bool, true, false, List, [], ◌∷◌, ◌++◌, length, map, take, drop, set, get_or, All, refl, sym, ap, ◌∙◌, subst, ⊎_elim, arith}
+use Rattle.std.proofs.Common.{◌≡◌, ℕ, ◌+◌, ◌<◌, ◌≤◌, true, List, [], ◌∷◌, length, take, get_or, sym, ap, ◌∙◌, subst, ⊎_elim, arith}
 use Rattle.std.specs.List.{sum_by}
 use Rattle.std.proofs.Math.Seq.{map-set_same}
 use Rattle.std.proofs.lemmas.Bool.{cases_lt}
@@ -19,16 +19,17 @@ use Rattle.tower.proofs.groups.gather_groups.Goals as goal
 pub loop-g-preserved : goal.loop-g-preserved
 loop-g-preserved g c =
     let i = c.loop-g.invariant in
-    let e = c.gather.ensures in
+    let e = c.gather-settled.ensures in
     let at : ℕ = c.loop-g.g in
     let board : Board = c.args.board.now in
     let gs : List Placing = c.loop-g.groups in
     let first : List Placing = c.args.groups.now in
-    let new : Placing = c.gather.new.self in
+    let new : Placing = c.gather-settled.new.self in
     let d : Placing = c.index-groups-g.result in
     let old : Placing = get_or gs at d in
     let less : at < length gs = omega (arith, c.loop-g-test.true, i.size) in
     let Stands : Placing → Type 0 = λ p. Stands (sent_of board p.height) p.group in
+    let Settled : Placing → Type 0 = λ p. p.group.is_settled ≡ true in
     let cost : cost_of board new ≡ cost_of board old =
     ap (λ f. length (honest_in board.faulty f new.group.nums.nodes)) e.same_first
     ∙ ap (λ (m : LevelNums). length (honest_in board.faulty old.group.first m.nodes)) e.same_nums in
@@ -58,6 +59,13 @@ loop-g-preserved g c =
           (λ earlier. subst Stands (sym (get_or-set_other gs at j new none (λ (same : j ≡ at). omega arith))) (i.stand j none earlier))
           (λ le. let is : j ≡ at = omega arith in
           subst Stands (sym (get_or-set_at gs at j new none is less)) e.stands)
+          (cases_lt j at);
+      settled = λ all j none lt.
+          let both = c.both-all_settled.ensures all in
+          ⊎_elim
+          (λ earlier. subst Settled (sym (get_or-set_other gs at j new none (λ (same : j ≡ at). omega arith))) (i.settled both.0 j none earlier))
+          (λ le. let is : j ≡ at = omega arith in
+          subst Settled (sym (get_or-set_at gs at j new none is less)) (sym e.settled ∙ both.1))
           (cases_lt j at);
       capacity = e.capacity ∙ i.capacity;
       steps = omega (arith, e.steps, i.steps, sum, one, cost_at);

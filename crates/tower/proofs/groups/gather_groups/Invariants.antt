@@ -1,4 +1,4 @@
-use Rattle.std.proofs.Common.{◌≡◌, ℕ, ◌+◌, ◌*◌, ◌<◌, ◌≤◌, length, map, take, get_or, All}
+use Rattle.std.proofs.Common.{◌≡◌, ℕ, ◌+◌, ◌*◌, ◌<◌, ◌≤◌, true, length, map, take, get_or, All}
 use Rattle.std.specs.List.{sum_by}
 use Rattle.group_votes.specs.Groups.{Stands}
 use Rattle.shared_board.specs.Boards.{sent_of}
@@ -16,6 +16,8 @@ invariant-loop-g g l = record {
   within : All (λ p. p.group.first + p.group.nums.nodes ≤ length l.board.states) l.groups;
   stand : (i : ℕ) (none : Placing) → i < l.g
       → Stands (sent_of l.board (get_or l.groups i none).height) (get_or l.groups i none).group;
+  settled : l.all_settled ≡ true → (i : ℕ) (none : Placing) → i < l.g
+      → (get_or l.groups i none).group.is_settled ≡ true;
   capacity : l.scratch.capacity ≡ l.initial.scratch.capacity;
   steps : l.steps ≤ l.initial.steps + 3 * sum_by (cost_of l.board) (take l.g l.initial.groups);
 }

@@ -1,4 +1,4 @@
-use Rattle.std.proofs.Common.{◌≡◌, ◌≤◌, vec_capacity}
+use Rattle.std.proofs.Common.{◌≤◌, vec_capacity}
 use Rattle.plan_numbers.specs.Numbers.{levels_in}
 use Rattle.tower.specs.Rows.{AreRows}
 use Rattle.tower.proofs.rows.rows_of.Given as goal

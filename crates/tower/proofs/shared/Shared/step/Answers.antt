@@ -1,8 +1,8 @@
-use Rattle.std.proofs.Common.{◌≡◌, ◌≢◌, ℕ, ◌+◌, ◌-◌, ◌*◌, ◌<◌, ◌≤◌, ◌++◌, Bool, true, false, if◌then◌else◌, List, [], ◌∷◌, length, map, take, drop, get_or, All, refl, sym, ap, ◌∙◌, subst, arith}
+use Rattle.std.proofs.Common.{◌≡◌, ℕ, ◌*◌, ◌<◌, ◌≤◌, ◌++◌, true, if◌then◌else◌, List, [], length, map, drop, All, sym, ap, ◌∙◌, subst, arith}
 use Rattle.std.specs.Prelude.{◌==◌}
 use Rattle.std.specs.List.{range_with_len}
 use Rattle.std.proofs.lemmas.Bool.{eq-eqb, ne_eqb}
-use Rattle.std.proofs.lemmas.List.{length-map, with_items_is, get_or_read}
+use Rattle.std.proofs.lemmas.List.{with_items_is}
 use Rattle.std.proofs.lemmas.List.FromFn.{length-map-range_with_len}
 use Rattle.sync_types.specs.declared.states.Reg.{Reg}
 use Rattle.sync_types.specs.FaultSets.{is_in}
@@ -12,16 +12,14 @@ use Rattle.construction.specs.PhaseKing.{up}
 use Rattle.construction.specs.Steps.{state_of, step_of}
 use Rattle.counter_core.specs.Meanings.{cut, written}
 use Rattle.plan_numbers.specs.Numbers.{levels_in}
-use Rattle.plan_numbers.proofs.Stacking.{length-levels_in}
-use Rattle.plan_laws.specs.PlanMeaning.{IsInRange, IsWithin}
-use Rattle.majority_votes.specs.Votes.{Votes}
-use Rattle.shared_laws.specs.Sharing.{Shares, Tells, heard_with, place_among}
+use Rattle.plan_laws.specs.PlanMeaning.{IsInRange}
+use Rattle.shared_laws.specs.Sharing.{Shares, heard_with, place_among}
 use Rattle.shared_laws.specs.Groups.{index_at}
-use Rattle.shared_board.specs.Boards.{Board, AreLiars}
+use Rattle.shared_board.specs.Boards.{Board}
 use Rattle.tower.specs.declared.rows.Row.{Row}
 use Rattle.tower.specs.Rows.{IsRow}
-use Rattle.tower.specs.Placings.{Placing, key_of, cost_of, IsReady, Leads, row_register}
-use Rattle.tower.specs.Sharing.{IsShared, plan_of, shares_of}
+use Rattle.tower.specs.Placings.{Placing, Leads, row_register}
+use Rattle.tower.specs.Sharing.{IsShared, plan_of}
 use Rattle.tower.proofs.Made.{is_made, made_states}
 use Rattle.tower.proofs.Stepped.{place_less, can_step, step_is}
 use Rattle.tower.proofs.shared.Shared.step.Goals as goal
@@ -87,7 +85,7 @@ invariant_of-self g c =
     let new : List Placing = c.write_registers.new.groups in
     let same : new ≡ inside.groups.items = c.write_registers.ensures.same ∙ c.deref_mut.ensures.value in
     let long : length new ≡ inside.groups.len = ap length c.write_registers.ensures.same ∙ c.deref_mut.ensures.len in
-    let kept : IsShared inside.version inside.base inside.levels.items inside.rows.items inside.is_made inside.board inside.groups.items c.write_registers.new.scratch = record {
+    let kept : IsShared inside.version inside.base inside.levels.items inside.rows.items inside.is_made inside.board inside.groups.items c.write_registers.new.scratch inside.all_settled = record {
       accepted = i.accepted;
       numbers = i.numbers;
       are_rows = i.are_rows;
@@ -98,8 +96,9 @@ invariant_of-self g c =
       room = omega (arith, c.write_registers.ensures.capacity, i.room);
       stand = i.stand;
       range = i.range;
+      settled = i.settled;
     } in
-    subst (λ gs. IsShared inside.version inside.base inside.levels.items inside.rows.items inside.is_made inside.board gs c.write_registers.new.scratch)
+    subst (λ gs. IsShared inside.version inside.base inside.levels.items inside.rows.items inside.is_made inside.board gs c.write_registers.new.scratch inside.all_settled)
     (sym (with_items_is inside.groups new long ∙ same)) kept
 
 pub returns-clause-out : goal.returns-clause-out

@@ -1,22 +1,20 @@
-use Rattle.std.proofs.Common.{◌≡◌, ◌≢◌, ℕ, ◌+◌, ◌-◌, ◌*◌, ◌<◌, ◌≤◌, ◌++◌, Bool, true, false, if◌then◌else◌, List, [], ◌∷◌, length, map, take, drop, get_or, All, refl, sym, ap, ◌∙◌, subst, arith}
+use Rattle.std.proofs.Common.{◌≡◌, ◌+◌, ◌-◌, ◌*◌, ◌<◌, ◌≤◌, true, List, length, map, All, sym, ap, ◌∙◌, subst, arith}
 use Rattle.std.specs.List.{sum_by}
-use Rattle.std.proofs.lemmas.List.{length-map, with_items_is, get_or_default}
-use Rattle.sync_types.specs.States.{State}
+use Rattle.std.proofs.lemmas.List.{length-map, with_items_is}
 use Rattle.construction.specs.Plans.{Level, Plan, nodes_of, plan_nodes, plan_depth}
 use Rattle.counter_core.specs.Meanings.{cut}
 use Rattle.plan_numbers.specs.Numbers.{levels_in}
-use Rattle.plan_laws.specs.PlanMeaning.{IsInRange, IsWithin}
-use Rattle.majority_votes.specs.Votes.{Votes}
+use Rattle.plan_laws.specs.PlanMeaning.{IsInRange}
 use Rattle.shared_laws.specs.Sharing.{Shares}
 use Rattle.shared_board.specs.Boards.{Board, AreLiars}
-use Rattle.tower.specs.Placings.{Placing, key_of, cost_of, IsReady}
+use Rattle.tower.specs.Placings.{Placing, key_of, cost_of}
 use Rattle.tower.specs.Sharing.{IsShared, plan_of}
 use Rattle.tower.proofs.Stepped.{groups_fit, groups_low}
 use Rattle.tower.proofs.Taken.{cut_range, all_cost}
 use Rattle.tower.proofs.shared.Shared.take.Goals as goal
 
-pub gather_groups-requires-clause-heights : goal.gather_groups-requires-clause-heights
-gather_groups-requires-clause-heights g c =
+pub gather_groups-all_settled-requires-clause-heights : goal.gather_groups-all_settled-requires-clause-heights
+gather_groups-all_settled-requires-clause-heights g c =
     let inside = c.self.inside in
     let levels : List Level = levels_in inside.levels.items in
     let board : Board = c.take.new.self in
@@ -28,8 +26,8 @@ gather_groups-requires-clause-heights g c =
     subst (All (λ (p : Placing). p.height < board.depth)) (sym c.deref_mut.ensures.value)
     (groups_low levels board inside.groups.items size depth c.self.invariant.keys c.self.invariant.ready)
 
-pub gather_groups-requires-clause-within : goal.gather_groups-requires-clause-within
-gather_groups-requires-clause-within g c =
+pub gather_groups-all_settled-requires-clause-within : goal.gather_groups-all_settled-requires-clause-within
+gather_groups-all_settled-requires-clause-within g c =
     let inside = c.self.inside in
     let levels : List Level = levels_in inside.levels.items in
     let board : Board = c.take.new.self in
@@ -48,33 +46,34 @@ invariant_of-self g c =
     let levels : List Level = levels_in inside.levels.items in
     let plan : Plan = plan_of inside.version inside.base inside.levels.items in
     let board : Board = c.take.new.self in
-    let new : List Placing = c.gather_groups.new.groups in
+    let new : List Placing = c.gather_groups-all_settled.new.groups in
     let plan_is : plan ≡ c.args.self.now.plan = ap (λ (s : Shares). s.plan) c.self.view_is in
     let nodes = ap plan_nodes plan_is in
     let size : length board.states ≡ nodes_of levels =
     ap (λ (b : Board). length b.states) c.take.ensures
     ∙ (length-map c.args.config.now.current (cut inside.board.depth) ∙ (c.requires.size ∙ sym nodes)) in
     let depth : board.depth ≡ length levels = ap (λ (b : Board). b.depth) c.take.ensures ∙ i.depth in
-    let keys = c.gather_groups.ensures.keys ∙ (ap (map key_of) c.deref_mut.ensures.value ∙ i.keys) in
+    let keys = c.gather_groups-all_settled.ensures.keys ∙ (ap (map key_of) c.deref_mut.ensures.value ∙ i.keys) in
     let long : length new ≡ inside.groups.len =
-    omega (arith, ap length c.gather_groups.ensures.keys, length-map new key_of, length-map c.deref_mut.result.now key_of, c.deref_mut.ensures.len) in
+    omega (arith, ap length c.gather_groups-all_settled.ensures.keys, length-map new key_of, length-map c.deref_mut.result.now key_of, c.deref_mut.ensures.len) in
     let range : All (IsInRange plan) board.states =
     subst (All (IsInRange plan)) (sym (ap (λ (b : Board). b.states) c.take.ensures))
     (cut_range plan inside.board.depth c.args.config.now.current i.accepted i.depth
     (subst (λ (p : Plan). All (IsInRange p) c.args.config.now.current) (sym plan_is) c.requires.range)) in
-    let kept : IsShared inside.version inside.base inside.levels.items inside.rows.items true board new c.gather_groups.new.scratch = record {
+    let kept : IsShared inside.version inside.base inside.levels.items inside.rows.items true board new c.gather_groups-all_settled.new.scratch c.gather_groups-all_settled.result = record {
       accepted = i.accepted;
       numbers = i.numbers;
       are_rows = i.are_rows;
       size = size;
       depth = depth;
       keys = keys;
-      ready = c.gather_groups.ensures.ready;
-      room = omega (arith, c.gather_groups.ensures.capacity, i.room);
-      stand = λ made. c.gather_groups.ensures.stand;
+      ready = c.gather_groups-all_settled.ensures.ready;
+      room = omega (arith, c.gather_groups-all_settled.ensures.capacity, i.room);
+      stand = λ made. c.gather_groups-all_settled.ensures.stand;
       range = λ made. range;
+      settled = c.gather_groups-all_settled.ensures.settled;
     } in
-    subst (λ gs. IsShared inside.version inside.base inside.levels.items inside.rows.items true board gs c.gather_groups.new.scratch)
+    subst (λ gs. IsShared inside.version inside.base inside.levels.items inside.rows.items true board gs c.gather_groups-all_settled.new.scratch c.gather_groups-all_settled.result)
     (sym (with_items_is inside.groups new long)) kept
 
 pub returns-clause-cost : goal.returns-clause-cost
@@ -94,4 +93,4 @@ returns-clause-cost g c =
     let few : 3 * length levels * (nodes_of levels - length board.faulty) ≡ 3 * plan_depth c.args.self.now.plan * (plan_nodes c.args.self.now.plan - length c.args.faulty.now.ids) =
     ap (λ ids. 3 * length levels * (nodes_of levels - length ids)) faulty
     ∙ ap (λ (p : Plan). 3 * plan_depth p * (plan_nodes p - length c.args.faulty.now.ids)) plan_is in
-    omega (arith, c.gather_groups.ensures.steps, sum, cost, few)
+    omega (arith, c.gather_groups-all_settled.ensures.steps, sum, cost, few)
