@@ -87,3 +87,15 @@ module _ (n : ℕ) (faulty : List ℕ) (config : List State) (lie : ℕ → ℕ 
       either_has (P u) (u == v || not (is_in faulty u)) (state_of config u)
       (state_of (slice_index_or table u []) v) (states u ult)
       (subst (P u) (sym (table_at u ult vlt)) (lies u ult)))
+
+  -- a node hears its own state of itself
+  own_of : (same : Bool) (told : State) → same ≡ true
+      → cond (same || not (is_in faulty v)) (state_of config v) told ≡ state_of config v
+  own_of true told is = refl
+  own_of false told is = absurd (true≢false (sym is))
+
+  pub heard_own : v < n → state_of (heard_by n faulty config table v) v ≡ state_of config v
+  heard_own lt =
+      get_or-map-range_with_len (heard_of faulty config table v) 0 n v v (zero_state 0) lt
+      (omega arith)
+      ∙ own_of (v == v) (state_of (slice_index_or table v []) v) (eq-eqb v v refl)

@@ -8,7 +8,7 @@ use Rattle.sync_types.specs.States.{State}
 use Rattle.counter_core.specs.Meanings.{written}
 use Rattle.counter_core.specs.Overlays.{Layer, layered}
 
-none_or_some : (n : ℕ) → (n ≡ 0) ⊎ (0 < n)
+pub none_or_some : (n : ℕ) → (n ≡ 0) ⊎ (0 < n)
 none_or_some zero = inl refl
 none_or_some (suc n) = inr (omega arith)
 

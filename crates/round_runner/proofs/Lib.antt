@@ -1,5 +1,7 @@
 pub mod Begun
 pub mod Correct
+pub mod Costs
+pub mod Counted
 pub mod Digits
 pub mod EraRuns
 pub mod FirstLocked
@@ -10,10 +12,17 @@ pub mod HeardAt
 pub mod HeardFrom
 pub mod Hits
 pub mod Laid
+pub mod LayerSteps
 pub mod Layered
+pub mod Layering
+pub mod Liars
+pub mod LiesLaid
 pub mod Locked
+pub mod Own
 pub mod Places
 pub mod Playing
 pub mod ScenesLock
 pub mod ScenesRun
 pub mod Stepped
+pub mod Told
+pub mod ToldBelow

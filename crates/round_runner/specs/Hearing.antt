@@ -1,8 +1,10 @@
 -- What a node hears of the faulty ones, and the list in which what is heard is laid.
-use Rattle.std.specs.Prelude.{◌≡◌, ℕ, ◌<◌, List, length, All, false, ◌==◌, if◌then◌else◌}
+use Rattle.std.specs.Prelude.{◌≡◌, ℕ, ◌<◌, List, length, slice_index, All, false, ◌==◌, if◌then◌else◌}
 use Rattle.sync_types.specs.FaultSets.{is_in}
 use Rattle.sync_types.specs.States.{State}
 use Rattle.construction.specs.Steps.{state_of}
+use Rattle.state_codec.specs.Shapes.{fields_at}
+use Rattle.state_codec.specs.Ranges.{InRange}
 use Rattle.adversary_script.specs.Scripts.{Script}
 use Rattle.adversary_script.specs.Eras.{faulty_at}
 use Rattle.adversary_script.specs.Lies.{lie_of}
@@ -20,3 +22,18 @@ pub record HasRoom (script : Script) (heard : List State) : Type 0 where
 abbrev pub AreHonest : Script → (t : ℕ) → List State → (heard : List State) → Type 0
 AreHonest script t config heard = (u : ℕ) → u < script.nodes → is_in (faulty_at script t) u ≡ false
     → state_of heard u ≡ state_of config u
+
+-- a state of some node of a script
+pub record IsOfSome (script : Script) (state : State) : Type 0 where
+  pub node : ℕ
+  pub inside : node < script.nodes
+  pub range : InRange (fields_at script.shape node) state
+
+-- Each is a state of some node. A place may hold what a faulty node of another era told.
+abbrev pub AreOfNodes : Script → (lies : List State) → Type 0
+AreOfNodes script lies = All (IsOfSome script) lies
+
+-- in the order of the faulty nodes' ids: node v, where it is faulty, tells itself its own state
+abbrev pub TellsItself : (ids : List ℕ) → (v : ℕ) → (config lies : List State) → Type 0
+TellsItself ids v config lies = (j : ℕ) → j < length ids → slice_index ids j ≡ v
+    → state_of lies j ≡ state_of config v

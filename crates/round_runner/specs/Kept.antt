@@ -8,7 +8,7 @@ use Rattle.state_codec.specs.Shapes.{IsShape}
 use Rattle.state_codec.specs.Packs.{Pack}
 use Rattle.counter_core.specs.Overlays.{Layer}
 use Rattle.adversary_script.specs.Scripts.{Script, IsScript}
-use Rattle.round_runner.specs.declared.rounds.Room.{Room}
+use Rattle.round_runner.specs.declared.stepping.Room.{Room}
 use Rattle.round_runner.specs.Fits.{Fits}
 use Rattle.round_runner.specs.Rooms.{IsReady}
 use Rattle.round_runner.specs.Runners.{IsFor}
@@ -20,7 +20,7 @@ pub record IsKept {Kept : Type 0} (plan : Plan) (script : Script) (layer : Layer
   pub sound : IsShape script.shape
   pub whole : IsScript script
   pub fits : Fits script.shape (plan_meaning plan) (IsInRange plan) layer
-  pub ready : IsReady script room
+  pub ready : IsReady plan script room
   pub shape : states.shape ≡ script.shape
   pub size : length states.current ≡ script.nodes
   pub within : at ≤ script.rounds

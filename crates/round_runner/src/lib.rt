@@ -9,5 +9,8 @@ mod locks;
 mod rounds;
 mod runners;
 mod stepping;
+mod telling;
+#[cfg(test)]
+mod tests;
 
 pub use runners::Runner;

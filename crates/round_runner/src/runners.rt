@@ -1,20 +1,24 @@
 ghost use Rattle.std.specs.Prelude.{◌≡◌, ◌<◌, ◌≤◌, length, replicate, IfOk};
 ghost use Rattle.sync_types.specs.States.{zero_state};
 ghost use Rattle.construction.specs.Plans.{plan_depth, plan_nodes};
-ghost use Rattle.construction.specs.Shown.{shown};
-ghost use Rattle.construction.specs.Steps.{state_of};
+ghost use Rattle.adversary_script.specs.Scripts.{IsScript};
+ghost use Rattle.state_codec.specs.Shapes.{IsShape};
+ghost use Rattle.round_runner.specs.Hearing.{AreOfNodes};
 ghost use Rattle.round_runner.specs.Locks.{is_locked, first_of};
 ghost use Rattle.round_runner.specs.Played.{starts};
 ghost use Rattle.round_runner.specs.Rooms.{IsReady};
 ghost use Rattle.round_runner.specs.Runners.{begun_locks};
 
 use crate::locks::are_locked;
-use crate::rounds::{Room, step_all};
+use crate::rounds::step_all;
+use crate::stepping::{Room, shown_at};
 use adversary_script::{Noise, Script};
 use counter_core::{Counter, Overlay};
+use majority_votes::Steps;
 use state_codec::{Packed, StateShape};
 use std::alloc::Global;
-use std::marker::Model;
+use std::marker::{Brand, Model};
+use std::sync::ledger::{Blank, Ledger};
 use sync_types::{FaultSet, NoMemory, NodeState};
 use tower::Tower;
 
@@ -120,6 +124,17 @@ fn zero_states(alloc: Global, nodes: u32, depth: usize) -> Result<Vec<NodeState>
     Ok(states)
 }
 
+/// Zero states of that depth, one for each node. What the faulty nodes tell will stand in them.
+fn zero_lies(alloc: Global, script: &Script, depth: usize) -> Result<Vec<NodeState>, NoMemory>
+    requires sound { IsShape script.now.shape }
+    requires depth { depth ≡ length script.now.shape.moduli }
+    ensures told { IfOk result (λ lies. length lies.items ≡ script.now.nodes) }
+    ensures lies { IfOk result (λ lies. AreOfNodes script.now lies.items) }
+{
+    let lies = zero_states(alloc, script.faulty().nodes(), depth)?;
+    Ok(lies)
+}
+
 /// The configuration in which the nodes of a script start. `out` has room for a state.
 fn started(
     alloc: Global,
@@ -150,33 +165,23 @@ fn started(
 /// What rounds of a script need beside two configurations.
 fn room_for(alloc: Global, tower: &Tower, script: &Script, depth: usize) -> Result<Room, NoMemory>
     requires nodes { script.now.nodes ≡ plan_nodes tower.now }
+    requires sound { IsShape script.now.shape }
     requires depth { depth ≡ length script.now.shape.moduli }
-    ensures { IfOk result (IsReady script.now) }
+    ensures { IfOk result (IsReady tower.now script.now) }
 {
     Ok(Room {
         noise: Noise::with_room(alloc, script)?,
         heard: zero_states(alloc, script.faulty().nodes(), depth)?,
+        lies: zero_lies(alloc, script, depth)?,
+        shared: tower.shared(alloc)?,
         work: tower.work(alloc)?,
         out: NodeState::zero(alloc, depth)?,
     })
 }
 
-/// The output of depth `depth` of node `v`, whose state has as many registers: the value of its
-/// register of that level, or 0 where that is infinite; without levels its number.
-fn shown_at(states: &Packed, v: u32, depth: usize) -> u64
-    requires node { v < length states.now.current }
-    requires depth { depth ≤ length states.now.shape.moduli }
-    ensures { result ≡ shown depth (state_of states.now.current v) }
-{
-    match depth {
-        0 => states.x(v),
-        depth => states.reg(v, depth - 1).a.unwrap_or(0),
-    }
-}
-
 impl<O: Overlay> Runner<O> {
     ghost use Rattle.std.specs.Prelude.{◌≡◌, ◌≢◌, ◌+◌, ◌-◌, ◌*◌, ◌<◌, ◌≤◌, List, None, true, length, IfOk, slice_index_or};
-    ghost use Rattle.construction.specs.Plans.{plan_nodes, plan_bound, plan_depth};
+    ghost use Rattle.construction.specs.Plans.{plan_nodes, plan_bound, plan_depth, plan_faults};
     ghost use Rattle.construction.specs.Shown.{shown};
     ghost use Rattle.construction.specs.Steps.{state_of};
     ghost use Rattle.sync_types.specs.FaultSets.{is_in};
@@ -230,6 +235,35 @@ impl<O: Overlay> Runner<O> {
         ensures played { (began : List O.Kept) → IsPlaying O.layer O.kept began self.old
             → IsPlaying O.layer O.kept began self.new }
     {
+        self.round_in::<Brand>(Blank::new(1));
+    }
+
+    /// Makes the next configuration, and counts the steps in a ledger of its own.
+    fn round_in<G: Ledger>(&mut self, blank: Blank)
+        requires name { blank.name ≡ G.name }
+        requires parts { blank.parts ≡ G.parts }
+        requires some { 0 < blank.parts }
+        requires round { self.old.at < self.old.script.rounds }
+        ensures advances { Advances O.layer O.kept self.old self.new }
+        ensures played { (began : List O.Kept) → IsPlaying O.layer O.kept began self.old
+            → IsPlaying O.layer O.kept began self.new }
+    {
+        let mut steps = Steps::<G>::new(blank);
+        self.round_counted(&mut steps);
+    }
+
+    /// Makes the next configuration, as [`round`](Runner::round) does, and counts its steps: each is
+    /// the placing of one pointer, part or register value that is heard in a tally. There are at
+    /// most three a level for each node, as sender and as receiver of each faulty one. What the
+    /// layer takes is not counted.
+    pub fn round_counted<G: Ledger>(&mut self, steps: &mut Steps<G>)
+        requires { self.old.at < self.old.script.rounds }
+        ensures advances { Advances O.layer O.kept self.old self.new }
+        ensures played { (began : List O.Kept) → IsPlaying O.layer O.kept began self.old
+            → IsPlaying O.layer O.kept began self.new }
+        ensures cost { steps.new ≤ steps.old + 3 * plan_depth self.old.plan
+            * plan_nodes self.old.plan * (plan_faults self.old.plan + 1) }
+    {
         self.overlay.begin(self.at);
         step_all(
             &self.tower,
@@ -238,6 +272,7 @@ impl<O: Overlay> Runner<O> {
             self.at,
             &mut self.room,
             &mut self.states,
+            steps,
         );
         self.states.flip();
         self.at += 1;
@@ -297,6 +332,13 @@ impl<O: Overlay> Runner<O> {
         ensures { out.new ≡ state_of self.now.states v }
     {
         self.states.old(v, out);
+    }
+
+    /// The shape of the runner's states.
+    pub fn shape(&self) -> &StateShape
+        ensures { result.now ≡ self.now.script.shape }
+    {
+        self.states.shape()
     }
 
     /// Writes the state of node `v` as digits of `0-9a-f` into `out`, which has just their length,

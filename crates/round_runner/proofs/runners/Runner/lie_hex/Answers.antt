@@ -32,6 +32,9 @@ invariant_of-self g c =
       ready = record {
         noise = c.lie_into.ensures.noise ∙ kept.ready.noise;
         heard = kept.ready.heard;
+        told = kept.ready.told;
+        lies = kept.ready.lies;
+        shared = kept.ready.shared;
         work = kept.ready.work;
         out = depth_of_node c.self.inside.script.shape c.args.u _ c.lie_into.ensures.range;
       };

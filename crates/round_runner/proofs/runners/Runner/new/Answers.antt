@@ -30,6 +30,9 @@ invariant_of-result g c =
       ready = record {
         noise = c.started.ensures.noise ∙ room.noise;
         heard = room.heard;
+        told = room.told;
+        lies = room.lies;
+        shared = room.shared;
         work = room.work;
         out = c.started.ensures.depth ∙ room.out;
       };

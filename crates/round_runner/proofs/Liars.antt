@@ -1,0 +1,62 @@
+-- What the faulty nodes tell, as far as they are many.
+use Rattle.std.proofs.Common.{◌≡◌, ℕ, ◌<◌, ◌≤◌, List, length, take, All, arith, ◌∙◌, sym, ap, subst}
+use Rattle.std.proofs.lemmas.List.{ext_get_or, length-take-le, get_or-take}
+use Rattle.sync_types.specs.States.{State, zero_state}
+use Rattle.construction.specs.Plans.{Plan}
+use Rattle.construction.specs.Steps.{state_of, step_of}
+use Rattle.plan_laws.specs.PlanMeaning.{IsInRange}
+use Rattle.state_codec.specs.Shapes.{fields_at}
+use Rattle.state_codec.specs.Ranges.{InRange}
+use Rattle.shared_laws.specs.Sharing.{Shares, heard_with, Tells}
+use Rattle.adversary_script.specs.Scripts.{Script}
+use Rattle.adversary_script.proofs.LiesInRange.{depth_of_node}
+use Rattle.round_runner.specs.Hearing.{IsOfSome, AreOfNodes}
+use Rattle.round_runner.proofs.Places.{all_places}
+
+-- where all of them tell the same, so does the step
+pub all_enough : (plan : Plan) (v : ℕ) (shares : Shares) (lies told : List State)
+    → Tells shares v lies → Tells shares v told
+    → ((j : ℕ) → 0 ≤ j → j < length shares.faulty → state_of lies j ≡ state_of told j)
+    → step_of plan v (heard_with shares.faulty lies shares.states)
+    ≡ step_of plan v (heard_with shares.faulty told shares.states)
+all_enough plan v shares lies told first second same =
+    let one = first.size in
+    let two = second.size in
+    ap (λ (xs : List State). step_of plan v (heard_with shares.faulty xs shares.states))
+    (ext_get_or (zero_state 0) lies told (one ∙ sym two) (λ j lt.
+    same j (omega arith) (omega (arith, lt, one))))
+
+module _ (script : Script) (lies : List State) (are : AreOfNodes script lies) where
+  -- each has the depth of the shape
+  pub deep_lies : All (λ (s : State). length s.registers ≡ length script.shape.moduli) lies
+  deep_lies = λ k d lt. let some = are k d lt in depth_of_node script.shape some.node _ some.range
+
+  module _ (q : ℕ) (le : q ≤ length lies) where
+    pub taken_long : length (take q lies) ≡ q
+    taken_long = length-take-le q lies le
+
+    pub taken_at : (j : ℕ) → j < q → state_of (take q lies) j ≡ state_of lies j
+    taken_at j lt = get_or-take q lies j (zero_state 0) lt
+
+    taken_of : (j : ℕ) → j < length (take q lies) → IsOfSome script (state_of (take q lies) j)
+    taken_of j lt =
+        let inside : j < q = omega (arith, lt, taken_long) in
+        subst (IsOfSome script) (sym (taken_at j inside))
+        (are j (zero_state 0) (omega (arith, inside, le)))
+
+    -- the first of them are states that the plan takes
+    pub taken_counts : (plan : Plan)
+        → ((u : ℕ) → u < script.nodes → (s : State) → InRange (fields_at script.shape u) s
+        → IsInRange plan s)
+        → All (IsInRange plan) (take q lies)
+    taken_counts plan counts = all_places (IsInRange plan) (take q lies) (λ j lt.
+        let some = taken_of j lt in counts some.node some.inside _ some.range)
+
+    -- with a register for each level
+    pub taken_deep : (depth : ℕ) → depth ≤ length script.shape.moduli
+        → All (λ (s : State). depth ≤ length s.registers) (take q lies)
+    taken_deep depth room = all_places (λ (s : State). depth ≤ length s.registers) (take q lies)
+        (λ j lt.
+        let some = taken_of j lt in
+        let deep = depth_of_node script.shape some.node _ some.range in
+        omega (arith, deep, room))
