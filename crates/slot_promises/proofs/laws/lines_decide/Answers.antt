@@ -1,0 +1,5 @@
+use Rattle.slot_promises.proofs.laws.lines_decide.Goals as goal
+use Rattle.slot_promises.proofs.Lines as law
+
+pub returns : goal.returns
+returns c = law.lines_decide

@@ -1,0 +1,112 @@
+-- What the words in lines of slots are.
+use Rattle.std.specs.Prelude.{◌≡◌, ℕ, ◌+◌, ◌-◌, ◌<◌, List, [], Bool, true, false, codes, replicate, slice_index, if◌then◌else◌}
+use Rattle.construction.specs.Plans.{Plan, plan_nodes, plan_faults, plan_modulus}
+use Rattle.construction.specs.Runs.{is_in}
+use Rattle.adversary_script.specs.Scripts.{Script}
+use Rattle.adversary_script.specs.Eras.{faulty_at}
+use Rattle.layer_laws.specs.Scenes.{Scene}
+use Rattle.layer_laws.specs.Slots.{slot_length}
+use Rattle.layered_eras.specs.LayeredEras.{IsReadFor}
+use Rattle.consensus_layer.specs.AgreeSaid.{AgreeSaid}
+use Rattle.consensus_layer.specs.AgreePart as agree
+use Rattle.consensus_layer.specs.Agreements.{agree_layer}
+use Rattle.firing.specs.declared.requests.Request.{Request}
+use Rattle.firing.specs.declared.fires.Fire.{Fire}
+use Rattle.firing.specs.FirePart.{AreFor}
+use Rattle.firing.specs.Firings.{fire_layer, unfired, requests_in}
+use Rattle.replicated_log.specs.declared.entries.Entry.{Entry}
+use Rattle.replicated_log.specs.EntryLength.{entry_length, owner_at, command_at}
+use Rattle.replicated_log.specs.LogSaid.{LogSaid}
+use Rattle.replicated_log.specs.LogPart as log
+use Rattle.replicated_log.specs.Logs.{log_layer}
+use Rattle.run_lines.specs.RunTexts.{number_word}
+use Rattle.run_lines.specs.PlayedTexts.{Wording, scene_in}
+use Rattle.run_lines.specs.SlotTexts.{begins_at, lead_output}
+use Rattle.layer_lines.specs.DecisionTexts.{slot_of, agree_scene, decision_word}
+use Rattle.log_lines.specs.FireTexts.{fire_wording}
+use Rattle.log_lines.specs.EntryTexts.{output_before, entry_wording}
+
+-- the words of all nodes that are correct in configuration c are this one
+abbrev pub AllSay : Plan → Script → (c : ℕ) → (word_of : ℕ → List ℕ) → (word : List ℕ) → Type 0
+AllSay plan script c word_of word = (v : ℕ) → v < plan_nodes plan
+    → is_in (faulty_at script c) v ≡ false → word_of v ≡ word
+
+-- ---- consensus
+
+-- the line of a slot that begins in configuration t has one decision
+pub record LineDecides (plan : Plan) (script : Script) (said : AgreeSaid) (t : ℕ) : Type 0 where
+  pub value : ℕ
+  pub words : AllSay plan script (t + slot_of plan script said)
+      (decision_word (agree_scene plan script said (t + slot_of plan script said)))
+      (number_word value)
+  pub valid : (common : ℕ) → ((v : ℕ) → v < plan_nodes plan → is_in (faulty_at script t) v ≡ false
+      → slice_index said.inputs v ≡ common) → value ≡ common
+
+abbrev pub LinesDecide : Type 0
+LinesDecide = (plan : Plan) (script : Script) (said : AgreeSaid) → agree.IsFor plan said
+    → IsReadFor plan (agree_layer plan said.values said.inputs) script
+    → (t : ℕ) → begins_at plan script (slot_of plan script said) t (agree_scene plan script said t).states ≡ true
+    → LineDecides plan script said t
+
+-- ---- firing
+
+-- scene c of what is played, where none fires at first
+abbrev pub fire_scene : Plan → Script → List Request → (c : ℕ) → Scene Fire
+fire_scene plan script requests c =
+    scene_in plan script (fire_layer plan requests) (replicate (plan_nodes plan) unfired) c
+
+abbrev pub fire_word : Bool → List ℕ
+fire_word fired = if fired then codes " 1" else codes " ."
+
+-- the line of a slot that begins in configuration t: all fire, or none
+pub record LineFires (plan : Plan) (script : Script) (requests : List Request) (t : ℕ)
+    : Type 0 where
+  pub fired : Bool
+  pub words : let q = slot_length (plan_faults plan) in
+      AllSay plan script (t + q)
+      ((fire_wording q).word plan (fire_scene plan script requests (t + q))) (fire_word fired)
+  pub valid : (common : Bool) → ((v : ℕ) → v < plan_nodes plan → is_in (faulty_at script t) v ≡ false
+      → requests_in requests v (t - 1) ≡ common) → fired ≡ common
+
+abbrev pub LinesFireTogether : Type 0
+LinesFireTogether = (plan : Plan) (script : Script) (requests : List Request)
+    → AreFor plan requests → IsReadFor plan (fire_layer plan requests) script
+    → (t : ℕ) → begins_at plan script (slot_length (plan_faults plan)) t (fire_scene plan script requests t).states ≡ true
+    → LineFires plan script requests t
+
+-- ---- the log
+
+-- scene c of what is played, where all logs are empty at first
+abbrev pub log_scene : Plan → Script → LogSaid → (c : ℕ) → Scene (List Entry)
+log_scene plan script said c =
+    scene_in plan script (log_layer plan said) (replicate (plan_nodes plan) []) c
+
+-- how its lines are written
+abbrev pub wording_of : Plan → Wording (List Entry)
+wording_of plan = entry_wording (plan_nodes plan) (plan_faults plan) (plan_modulus plan)
+
+-- the owner that the line of a slot names which ends in configuration c
+abbrev pub named_owner : Plan → Script → LogSaid → (c : ℕ) → ℕ
+named_owner plan script said c =
+    owner_at (plan_nodes plan) (plan_faults plan)
+    (output_before (plan_modulus plan) (entry_length (plan_faults plan))
+    (lead_output plan script c (log_scene plan script said c).states))
+
+-- the line of a slot that begins in configuration t: one value, that of its owner
+pub record LinePuts (plan : Plan) (script : Script) (said : LogSaid) (t : ℕ) : Type 0 where
+  pub entry : Entry
+  pub words : let c = t + entry_length (plan_faults plan) in
+      AllSay plan script c ((wording_of plan).word plan (log_scene plan script said c))
+      (number_word entry.value)
+  pub owner : named_owner plan script said (t + entry_length (plan_faults plan))
+      ≡ owner_at (plan_nodes plan) (plan_faults plan) entry.slot
+  pub commanded : let owner = owner_at (plan_nodes plan) (plan_faults plan) entry.slot in
+      is_in (faulty_at script t) owner ≡ false
+      → entry.value
+      ≡ command_at (plan_nodes plan) (plan_faults plan) said.commands owner entry.slot
+
+abbrev pub LinesPutOne : Type 0
+LinesPutOne = (plan : Plan) (script : Script) (said : LogSaid) → log.IsFor plan said
+    → IsReadFor plan (log_layer plan said) script
+    → (t : ℕ) → begins_at plan script (entry_length (plan_faults plan)) t (log_scene plan script said t).states ≡ true
+    → LinePuts plan script said t

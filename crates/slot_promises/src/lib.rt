@@ -1,0 +1,7 @@
+//! What the lines of slots promise: of consensus, of firing and of the log.
+//!
+//! A line is written of each slot that counts: it begins later than the plan's bound after the begin
+//! of its era, and ends in that era. [`laws`] has one empty function for each kind of line.
+#![tactic(auto)]
+
+pub mod laws;
