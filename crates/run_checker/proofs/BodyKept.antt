@@ -1,0 +1,160 @@
+-- What is kept of a certificate's configuration holds behind each line.
+use Rattle.std.proofs.Common.{◌≡◌, ℕ, zero, suc, ◌+◌, ◌<◌, ◌≤◌, Bool, true, false, cond, List, [], ◌∷◌, ◌++◌, length, map, set, get_or, replicate, All, Result, Ok, Err, drop, eqb, ◌&&◌, refl, sym, ap, ◌∙◌, subst, arith}
+use Rattle.std.specs.List.{range_with_len}
+use Rattle.std.proofs.lemmas.List.{length-replicate, length-set}
+use Rattle.std.proofs.lemmas.List.Elements.{All-set, All-push, All-nil, All-cons, All-head, All-tail}
+use Rattle.sync_types.specs.States.{State, zero_state, zero_register}
+use Rattle.sync_types.specs.FaultSets.{is_in}
+use Rattle.construction.specs.Plans.{Plan, plan_nodes, plan_depth}
+use Rattle.plan_numbers.specs.Premises.{IsAccepted}
+use Rattle.plan_laws.specs.PlanMeaning.{IsInRange}
+use Rattle.plan_laws.proofs.PlanCounter.{positive, plan_zero}
+use Rattle.plan_laws.proofs.Ranges.{range_of_state}
+use Rattle.state_codec.specs.Shapes.{Shape, shape_of, fields_at}
+use Rattle.state_codec.specs.Ranges.{InRange}
+use Rattle.state_codec.proofs.PlanStates.{state_of_node}
+use Rattle.state_codec.specs.Texts.{read_text, decoded}
+use Rattle.state_codec.proofs.Ranged.{read_is_in_range}
+use Rattle.state_codec.proofs.Lows.{fields_limited}
+use Rattle.state_codec.proofs.Plans.{shape_of_accepted, length-moduli_of}
+use Rattle.sync_types.specs.declared.answers.NoMemory.{NoMemory}
+use Rattle.std.specs.Prelude.{slice_index_or}
+use Rattle.run_certificates.specs.Grammar.{pairs_of}
+use Rattle.run_certificates.specs.Checking.{is_next}
+use Rattle.run_certificates.specs.Stated.{unless_faulty}
+use Rattle.run_checker.specs.Tellings.{Telling, AddsState}
+use Rattle.std.proofs.lemmas.List.FromFn.{length-map-range_with_len}
+use Rattle.construction.specs.Plans.{plan_low}
+use Rattle.std.specs.List.{flat_map}
+use Rattle.round_runner.specs.Locks.{correct_nodes}
+use Rattle.std.proofs.lemmas.Bool.{and_parts, eqb-true}
+use Rattle.run_checker.specs.Rounds.{AreStates}
+
+module _ (plan : Plan) (accepted : IsAccepted plan) where
+  -- a state of a node's fields is one of the counter
+  pub node_range : (v : ℕ) → v < plan_nodes plan → (s : State) → InRange (fields_at (shape_of plan) v) s
+      → IsInRange plan s
+  node_range v lt s range =
+      let some = positive plan.base plan.levels accepted.levels in
+      range_of_state plan some.0 some.1 v s (state_of_node plan accepted v lt s range)
+
+  pub node_deep : (v : ℕ) → v < plan_nodes plan → (s : State) → InRange (fields_at (shape_of plan) v) s
+      → length s.registers ≡ plan_depth plan
+  node_deep v lt s range = (state_of_node plan accepted v lt s range).depth
+
+  -- zero states
+  all_replicate : (P : State → Type 0) (n : ℕ) (s : State) → P s → All P (replicate n s)
+  all_replicate P zero s h = All-nil P
+  all_replicate P (suc n) s h = All-cons P s (replicate n s) h (all_replicate P n s h)
+
+  pub zeros_are : (n : ℕ) → AreStates plan (replicate n (zero_state (plan_depth plan)))
+  zeros_are n = record {
+    deep = all_replicate (λ s. length s.registers ≡ plan_depth plan) n (zero_state (plan_depth plan)) (length-replicate (plan_depth plan) zero_register);
+    range = all_replicate (IsInRange plan) n (zero_state (plan_depth plan)) (plan_zero plan accepted);
+  }
+
+  -- a state that is put, and one that is told
+  pub states_set : (states : List State) (v : ℕ) (s : State) → AreStates plan states
+      → length s.registers ≡ plan_depth plan → IsInRange plan s → AreStates plan (set states v s)
+  states_set states v s h deep range = record {
+    deep = All-set (λ s. length s.registers ≡ plan_depth plan) states v s deep h.deep;
+    range = All-set (IsInRange plan) states v s range h.range;
+  }
+
+  pub states_more : (states : List State) (s : State) → AreStates plan states
+      → length s.registers ≡ plan_depth plan → IsInRange plan s → AreStates plan (states ++ s ∷ [])
+  states_more states s h deep range = record {
+    deep = All-push (λ s. length s.registers ≡ plan_depth plan) states s h.deep deep;
+    range = All-push (IsInRange plan) states s h.range range;
+  }
+
+  -- a state more was told, or not
+  pub record IsKeptTold (old new : Telling) : Type 0 where
+    pub pairs : new.pairs ≡ old.pairs
+    pub depth : new.depth ≡ old.depth
+    pub states : AreStates plan new.states
+
+  same_told : (old new : Telling) → new ≡ old → AreStates plan old.states → IsKeptTold old new
+  same_told old new e h = record {
+    pairs = ap (λ (t : Telling). t.pairs) e;
+    depth = ap (λ (t : Telling). t.depth) e;
+    states = subst (λ (t : Telling). AreStates plan t.states) (sym e) h;
+  }
+
+  pub told_kept : (v : ℕ) → v < plan_nodes plan → (digits : List ℕ) (old new : Telling) (result : Result Bool NoMemory)
+      → AddsState (fields_at (shape_of plan) v) digits old new result → AreStates plan old.states → IsKeptTold old new
+  told_kept v lt digits old new (Err e) h states = same_told old new h states
+  told_kept v lt digits old new (Ok false) h states = same_told old new h.1 states
+  told_kept v lt digits old new (Ok true) h states =
+      let s : State = read_text (fields_at (shape_of plan) v) digits in
+      let range : InRange (fields_at (shape_of plan) v) s =
+      read_is_in_range (fields_at (shape_of plan) v) (decoded digits)
+      (fields_limited (shape_of plan) (slice_index_or (shape_of plan).lows v 0) (shape_of_accepted plan accepted)) in
+      record {
+        pairs = ap (λ (t : Telling). t.pairs) h.1;
+        depth = ap (λ (t : Telling). t.depth) h.1;
+        states = subst (λ (t : Telling). AreStates plan t.states) (sym h.1)
+            (states_more old.states s states (node_deep v lt s range) (node_range v lt s range));
+      }
+
+  pub no_states : AreStates plan []
+  no_states = record { deep = λ k d lt. absurd (omega arith); range = λ k d lt. absurd (omega arith) }
+
+-- where no state is known, all are zero
+same_both : (b : Bool) (s : State) → s ≡ cond b s s
+same_both true s = refl
+same_both false s = refl
+
+zeros_from : (faulty : List ℕ) (s : State) (a n : ℕ) → replicate n s ≡ map (λ v. cond (is_in faulty v) s s) (range_with_len a n)
+zeros_from faulty s a zero = refl
+zeros_from faulty s a (suc n) =
+    ap (λ rest. s ∷ rest) (zeros_from faulty s (a + 1) n)
+    ∙ ap (λ t. t ∷ map (λ v. cond (is_in faulty v) s s) (range_with_len (a + 1) n)) (same_both (is_in faulty a) s)
+
+pub zeros_known : (plan : Plan) (faulty : List ℕ) → replicate (plan_nodes plan) (zero_state (plan_depth plan))
+    ≡ unless_faulty plan faulty (λ v. zero_state (plan_depth plan))
+zeros_known plan faulty = zeros_from faulty (zero_state (plan_depth plan)) 0 (plan_nodes plan)
+
+-- ---- the shape of a plan
+
+pub shape_nodes : (plan : Plan) (fields : Shape) → fields ≡ shape_of plan → length fields.lows ≡ plan_nodes plan
+shape_nodes plan fields is =
+    ap (λ (f : Shape). length f.lows) is ∙ length-map-range_with_len (plan_low plan) 0 (plan_nodes plan)
+
+pub shape_depth : (plan : Plan) (fields : Shape) → fields ≡ shape_of plan → length fields.moduli ≡ plan_depth plan
+shape_depth plan fields is = ap (λ (f : Shape). length f.moduli) is ∙ length-moduli_of plan.levels
+
+-- ---- pairs
+
+abbrev pub Below : ℕ → ℕ × ℕ → Type 0
+Below n pair = pair.0 < n
+
+row_below : (n u : ℕ) (vs : List ℕ) → u < n → All (Below n) (map (λ v. (u, v)) vs)
+row_below n u [] lt = All-nil (Below n)
+row_below n u (v ∷ vs) lt = All-cons (Below n) (u, v) (map (λ v. (u, v)) vs) lt (row_below n u vs lt)
+
+both_below : (n : ℕ) (xs ys : List (ℕ × ℕ)) → All (Below n) xs → All (Below n) ys → All (Below n) (xs ++ ys)
+both_below n [] ys h k = k
+both_below n (x ∷ xs) ys h k =
+    All-cons (Below n) x (xs ++ ys) (All-head (Below n) x xs h) (both_below n xs ys (All-tail (Below n) x xs h) k)
+
+-- the senders of pairs are nodes
+pub senders_below : (n : ℕ) (vs us : List ℕ) → All (λ id. id < n) us
+    → All (Below n) (flat_map (λ u. map (λ v. (u, v)) vs) us)
+senders_below n vs [] h = All-nil (Below n)
+senders_below n vs (u ∷ us) h =
+    both_below n (map (λ v. (u, v)) vs) (flat_map (λ u. map (λ v. (u, v)) vs) us)
+    (row_below n u vs (All-head (λ id. id < n) u us h)) (senders_below n vs us (All-tail (λ id. id < n) u us h))
+
+-- and so is that of the next pair, which is one of those that are left
+pub next_below : (n u v k : ℕ) (pairs : List (ℕ × ℕ)) → All (Below n) pairs → is_next u v (drop k pairs) ≡ true
+    → (u < n) × (k < length pairs)
+next_below n u v zero [] h e = absurd cc
+next_below n u v zero (p ∷ pairs) h e =
+    let same : p.0 ≡ u = eqb-true p.0 u (and_parts (eqb p.0 u) (eqb p.1 v) e).0 in
+    let lt : p.0 < n = All-head (Below n) p pairs h in
+    (omega (arith, same, lt), omega arith)
+next_below n u v (suc k) [] h e = absurd cc
+next_below n u v (suc k) (p ∷ pairs) h e =
+    let r = next_below n u v k pairs (All-tail (Below n) p pairs h) e in
+    (r.0, omega (arith, r.1))

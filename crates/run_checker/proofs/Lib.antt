@@ -1,0 +1,10 @@
+mod Attributed
+mod BodyKept
+mod BodySteps
+mod LineTexts
+mod Ranges
+mod RecordTexts
+mod RoundSteps
+mod RowWords
+mod SourceReads
+mod Unlimited

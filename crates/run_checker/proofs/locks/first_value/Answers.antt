@@ -1,0 +1,14 @@
+use Rattle.std.proofs.Common.{◌<◌, List, sym, ap, ◌∙◌, arith}
+use Rattle.sync_types.specs.declared.states.Reg.{Reg}
+use Rattle.round_runner.specs.Locks.{first_value}
+use Rattle.round_runner.proofs.Correct.{from_faulty}
+use Rattle.run_checker.proofs.locks.first_value.Goals as goal
+
+pub loop-v-preserved : goal.loop-v-preserved
+loop-v-preserved c =
+    let lt : c.loop-v.v < c.args.faulty.now.nodes =
+    omega (arith, c.loop-v-test.true, c.nodes-v-end.ensures) in
+    ap (λ (registers : List Reg). first_value registers)
+    (sym (from_faulty c.args.level c.args.faulty.now.nodes c.args.faulty.now.ids
+    c.args.config.now c.loop-v.v lt (sym c.contains.ensures ∙ c.if-not-contains.false)))
+    ∙ c.loop-v.invariant

@@ -1,0 +1,41 @@
+-- How far the lines behind the head of a certificate were read.
+use Rattle.std.specs.Prelude.{◌≡◌, ℕ, ◌≤◌, List, length, Bool, All, ◌<◌, if◌then◌else◌}
+use Rattle.sync_types.specs.States.{State}
+use Rattle.sync_types.specs.FaultSets.{FaultIds}
+use Rattle.construction.specs.Plans.{Plan, plan_nodes, plan_depth}
+use Rattle.plan_numbers.specs.Premises.{IsAccepted}
+use Rattle.state_codec.specs.Shapes.{Shape, shape_of}
+use Rattle.run_certificates.specs.Grammar.{pairs_of}
+use Rattle.run_certificates.specs.Checking.{Known, Stage, putting, telling}
+use Rattle.run_checker.specs.declared.rounds.Room.{Room}
+use Rattle.run_checker.specs.Rounds.{AreStates, IsReady}
+use Rattle.run_checker.specs.Tellings.{Telling}
+
+-- What is known, and whether states are put; if so, of which nodes none is known, and from which on
+-- they may follow. What was told stands there too.
+pub record BodySeen : Type 0 where
+  pub known : Known
+  pub is_putting : Bool
+  pub unknown : List ℕ
+  pub from : ℕ
+  pub told : List State
+
+abbrev pub stage_of : BodySeen → Stage
+stage_of b = if b.is_putting then putting b.known b.unknown b.from else telling b.known b.told
+
+-- the configuration is one of the plan, the pairs are those of its faulty nodes, and there is room
+-- for a round
+pub record IsBody (plan : Plan) (fields : Shape) (bad none_known : FaultIds) (states : List State)
+    (tellings : Telling) (needed : Room) (behind number : ℕ) : Type 0 where
+  pub shape : fields ≡ shape_of plan
+  pub faulty : bad.nodes ≡ plan_nodes plan
+  pub unknown : none_known.nodes ≡ plan_nodes plan
+  pub size : length states ≡ plan_nodes plan
+  pub config : AreStates plan states
+  pub pairs : tellings.pairs ≡ pairs_of (plan_nodes plan) bad.ids
+  pub senders : All (λ pair. pair.0 < plan_nodes plan) tellings.pairs
+  pub depth : tellings.depth ≡ plan_depth plan
+  pub told : AreStates plan tellings.states
+  pub room : IsReady (plan_nodes plan) (plan_depth plan) needed
+  pub from : behind ≤ plan_nodes plan
+  pub at : number ≤ 1000000

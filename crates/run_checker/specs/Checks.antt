@@ -1,0 +1,75 @@
+-- A text under a limit, and what checking it did to its source.
+use Rattle.std.specs.Prelude.{◌≡◌, ℕ, ◌+◌, ◌<◌, ◌≤◌, List, ◌++◌, length, Bool, true, false, nat_lt, Option, Result, Ok, Err}
+use Rattle.std.specs.Io.KnownBytes.{Consumes, IsAtEnd}
+use Rattle.texts.specs.Causes.{Counted}
+use Rattle.texts.specs.Parts.{At}
+use Rattle.texts.specs.Limits.{Limited, by, beyond}
+use Rattle.texts.specs.EndedTexts.{ended_text, ended_text_in}
+use Rattle.edge_io.specs.FedParts.{MayFollow}
+use Rattle.run_certificates.specs.declared.Verdict.{Verdict}
+use Rattle.run_certificates.specs.Checking.{unread, line_step, checked}
+use Rattle.run_checker.specs.declared.checks.CheckError.{CheckError}
+use Rattle.run_checker.specs.declared.checks.CheckError.TheVariants as check
+
+-- What a text comes to, of which at most so many bytes may be read, and of which there are more or
+-- not. A text that is longer than its limit is refused at its first line that is refused up to
+-- there, or is too long.
+abbrev pub checked_by : (limit : ℕ) → (longer : Bool) → List ℕ → Result Verdict (At (Limited (Unit {0})))
+checked_by limit longer text = ended_text line_step tt unread limit longer text
+
+-- the same of a text
+abbrev pub checked_within : (limit : ℕ) → List ℕ → Result Verdict (At (Limited (Unit {0})))
+checked_within limit text = checked_by limit (nat_lt limit (length text)) text
+
+-- an answer to a text that has no limit
+abbrev pub unlimited : Result Verdict ℕ → Result Verdict (At (Limited (Unit {0})))
+unlimited (Ok verdict) = Ok verdict
+unlimited (Err line) = Err (record { line = line; rule = by tt })
+
+-- a text that is not longer than the limit comes to what it is checked to
+abbrev pub LimitsMatterBeyond : Type 0
+LimitsMatterBeyond = (limit : ℕ) (text : List ℕ) → length text ≤ limit
+    → checked_within limit text ≡ unlimited (checked text)
+
+-- the whole text was read, and comes to this verdict
+pub record IsChecked (limit : ℕ) (old new : Option (List ℕ)) (verdict : Verdict) : Type 0 where
+  pub text : List ℕ
+  pub read : Consumes old new text
+  pub at_end : IsAtEnd new
+  pub within : length text ≤ limit
+  pub is : checked text ≡ Ok verdict
+
+-- These bytes were read, and decide that this line is refused, whatever may follow: nothing where
+-- the end was met, and then the text is no longer than the limit.
+pub record IsRefused (limit : ℕ) (old new : Option (List ℕ)) (line : ℕ) : Type 0 where
+  pub bytes : List ℕ
+  pub ended : Bool
+  pub read : Consumes old new bytes
+  pub at_end : ended ≡ true → IsAtEnd new
+  pub decides : (longer : Bool) (rest : List ℕ) → MayFollow ended longer rest
+      → checked_by limit longer (bytes ++ rest) ≡ Err (record { line = line; rule = by tt })
+
+-- these bytes were read, one of them behind the limit, and no line up to there is refused
+pub record IsTooLong (limit : ℕ) (old new : Option (List ℕ)) : Type 0 where
+  pub bytes : List ℕ
+  pub line : ℕ
+  pub read : Consumes old new bytes
+  pub past : limit < length bytes
+  pub decides : (rest : List ℕ)
+      → checked_by limit true (bytes ++ rest) ≡ Err (record { line = line; rule = beyond })
+
+-- what checking a text did: what its source had left, and has left
+abbrev pub Checks : (limit : ℕ) → (old new : Option (List ℕ)) → Result Verdict CheckError → Type 0
+Checks limit old new (Ok verdict) = IsChecked limit old new verdict
+Checks limit old new (Err (check.Refused line)) = IsRefused limit old new line
+Checks limit old new (Err check.TooLong) = IsTooLong limit old new
+Checks limit old new (Err check.ReadFault) = (bytes : List ℕ) × Consumes old new bytes
+Checks limit old new (Err check.NoMemory) = (bytes : List ℕ) × Consumes old new bytes
+
+-- only a read fault is counted
+abbrev pub HasCheckCause : (before now : ℕ) → Result Verdict CheckError → Type 0
+HasCheckCause before now (Err check.ReadFault) = Counted before now
+HasCheckCause before now (Ok verdict) = now ≡ before
+HasCheckCause before now (Err (check.Refused line)) = now ≡ before
+HasCheckCause before now (Err check.TooLong) = now ≡ before
+HasCheckCause before now (Err check.NoMemory) = now ≡ before

@@ -1,0 +1,11 @@
+pub mod SaidLines
+pub mod Sets
+pub mod Rows
+pub mod Rounds
+pub mod Tellings
+pub mod Bodies
+pub mod Changes
+pub mod Phases
+pub mod Checks
+pub mod RunLines
+pub mod Playing

@@ -1,0 +1,54 @@
+-- What is told in a round, by the order of the pairs, and the steps of all nodes from it.
+use Rattle.std.specs.Prelude.{◌≡◌, ℕ, ◌<◌, ◌&&◌, ◌==◌, List, [], ◌∷◌, length, map, All, Result, Ok, Err, if◌then◌else◌}
+use Rattle.std.specs.List.{range_with_len}
+use Rattle.sync_types.specs.States.{State, zero_state}
+use Rattle.sync_types.specs.FaultSets.{is_in}
+use Rattle.sync_types.specs.declared.answers.NoMemory.{NoMemory}
+use Rattle.construction.specs.Plans.{Plan, plan_nodes, plan_depth}
+use Rattle.construction.specs.Steps.{step_of}
+use Rattle.construction.specs.Runs.{heard_by}
+use Rattle.counter_core.specs.Working.{IsFor}
+use Rattle.plan_laws.specs.PlanMeaning.{IsInRange}
+use Rattle.run_checker.specs.declared.rounds.Room.{Room}
+
+-- what u tells v: the state told for the first pair of both, or the zero state where there is none
+abbrev pub told_for : (depth : ℕ) → List (ℕ × ℕ) → List State → (u v : ℕ) → State
+told_for depth [] states u v = zero_state depth
+told_for depth (pair ∷ pairs) [] u v = zero_state depth
+told_for depth (pair ∷ pairs) (state ∷ states) u v =
+    if pair.0 == u && pair.1 == v then state else told_for depth pairs states u v
+
+-- what each node tells each other
+abbrev pub told_table : (n depth : ℕ) → List (ℕ × ℕ) → List State → List (List State)
+told_table n depth pairs told =
+    map (λ u. map (λ v. told_for depth pairs told u v) (range_with_len 0 n)) (range_with_len 0 n)
+
+-- the state of node v behind a round
+abbrev pub stepped_at : Plan → (faulty : List ℕ) → List State → List (ℕ × ℕ) → List State → (v : ℕ)
+    → State
+stepped_at plan faulty config pairs told v =
+    step_of plan v (heard_by (plan_nodes plan) faulty config (told_table (plan_nodes plan) (plan_depth plan) pairs told) v)
+
+-- the configuration behind a round, with the new faulty nodes in the zero state
+abbrev pub stepped_all : Plan → (faulty new : List ℕ) → List State → List (ℕ × ℕ) → List State
+    → List State
+stepped_all plan faulty new config pairs told =
+    map (λ v. if is_in new v then zero_state (plan_depth plan) else stepped_at plan faulty config pairs told v)
+    (range_with_len 0 (plan_nodes plan))
+
+-- states that the plan's counter takes
+pub record AreStates (plan : Plan) (states : List State) : Type 0 where
+  pub deep : All (λ s. length s.registers ≡ plan_depth plan) states
+  pub range : All (IsInRange plan) states
+
+-- there is room for a state of each of n nodes
+pub record HasRoom (n depth : ℕ) (states : List State) : Type 0 where
+  pub size : length states ≡ n
+  pub deep : All (λ s. length s.registers ≡ depth) states
+
+-- the room that a round of a plan needs
+pub record IsReady (n depth : ℕ) (room : Room) : Type 0 where
+  pub lies : HasRoom n depth room.lies.items
+  pub next : HasRoom n depth room.next.items
+  pub zero : room.zero ≡ zero_state depth
+  pub work : IsFor n room.work

@@ -1,0 +1,45 @@
+-- What a line says, as the code holds it: lists stand as the words that are still to be read.
+use Rattle.std.specs.Prelude.{ℕ, List, [], ◌∷◌, Option, Some, None, if◌then◌else◌, codes}
+use Rattle.std.specs.List.{list_all}
+use Rattle.std.specs.Str.{bytes_eq}
+use Rattle.std.specs.Option.{option_map}
+use Rattle.texts.specs.Numbers.{number_of}
+use Rattle.state_codec.specs.Texts.{is_lower_digit}
+use Rattle.adversary_script.specs.WordTests.{numbers_in}
+use Rattle.run_certificates.specs.Items.{Item, run_item, base_item, level_item, faulty_item, start_item, row_item, lie_item, era_item, end_item, values_said, row_by, era_by}
+use Rattle.run_checker.specs.declared.said_lines.Said.{Said}
+use Rattle.run_checker.specs.declared.said_lines.Said.TheVariants as said
+
+-- the item that is said, where the words that are left say what they have to
+abbrev pub item_seen : Said → Option Item
+item_seen (said.Run version) = Some (run_item version)
+item_seen (said.Base base) = Some (base_item base)
+item_seen (said.Level k f c spares) = Some (level_item k f c spares)
+item_seen (said.Faulty words) = option_map faulty_item (numbers_in words)
+item_seen (said.Start v digits) = Some (start_item v digits.now)
+item_seen (said.Row t words) = row_by (Some t) (values_said words)
+item_seen (said.Lie u v digits) = Some (lie_item u v digits.now)
+item_seen (said.Era t words) = era_by (Some t) (numbers_in words)
+item_seen said.End = Some end_item
+
+abbrev pub item_or_none : Option Said → Option Item
+item_or_none None = None
+item_or_none (Some s) = item_seen s
+
+-- ---- parts of what is said
+
+-- the one number of words
+abbrev pub only_number : List (List ℕ) → Option ℕ
+only_number (a ∷ []) = number_of a
+only_number other = None
+
+-- the spares that stand behind a level
+abbrev pub spares_in : List (List ℕ) → Option (Option ℕ)
+spares_in [] = Some None
+spares_in (key ∷ s ∷ []) = if bytes_eq key (codes "spare") then option_map Some (number_of s) else None
+spares_in other = None
+
+-- the one word, where it is of digits
+abbrev pub digits_in : List (List ℕ) → Option (List ℕ)
+digits_in (digits ∷ []) = if list_all is_lower_digit digits then Some digits else None
+digits_in other = None

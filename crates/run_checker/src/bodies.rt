@@ -1,0 +1,400 @@
+ghost use Rattle.std.specs.Prelude.{◌≡◌, ◌<◌, length};
+ghost use Rattle.round_runner.specs.Locks.{first_of};
+ghost use Rattle.run_certificates.specs.Grammar.{most_eras};
+
+use crate::id_lists::{all_nodes, borne_set, needs_state};
+use crate::locks::is_locked;
+use crate::rounds::{Room, room_for, step_all, zero_states};
+use crate::rows::compare_row;
+use crate::tellings::{Tellings, pairs_of};
+use counter_core::Counter;
+use edge_io::{TakeError, Words};
+use plan_numbers::Plan;
+use run_certificates::Verdict;
+use state_codec::{NotState, StateShape};
+use std::alloc::Global;
+use std::marker::Model;
+use std::mem;
+use sync_types::{FaultSet, NoMemory, NodeState};
+use tower::{Tower, build};
+
+/// The most rounds that a certificate has.
+const MOST_ROUNDS: u64 = 1_000_000;
+
+/// How many eras may begin behind rounds in a certificate of a version.
+fn most_eras(version: u32) -> u32
+    ensures { result ≡ most_eras version }
+{
+    if version == 1 { 0 } else { 16 }
+}
+
+/// What was read behind the head of a certificate: the configuration that its lines have come to.
+#[derive(Drop)]
+pub struct Body {
+    alloc: Global,
+    version: u32,
+    tower: Tower,
+    shape: StateShape,
+    faulty: FaultSet,
+    unknown: FaultSet,
+    config: Vec<NodeState>,
+    tellings: Tellings,
+    room: Room,
+    is_putting: bool,
+    from: u32,
+    eras: u32,
+    at: u64,
+    differs: Option<u64>,
+    locked: Option<u64>,
+}
+
+impl Model for Body {
+    ghost use Rattle.run_checker.specs.Bodies.{BodySeen, IsBody};
+
+    ghost Value = { BodySeen };
+
+    ghost view = { λ b. record {
+      known = record {
+        version = b.version;
+        plan = b.tower;
+        eras = b.eras;
+        at = b.at;
+        stand = record { faulty = b.faulty.ids; config = b.config.items };
+        differs = b.differs;
+        locked = b.locked;
+      };
+      is_putting = b.is_putting;
+      unknown = b.unknown.ids;
+      from = b.from;
+      told = b.tellings.states;
+    } };
+
+    ghost invariant = { λ b. IsBody b.tower b.shape b.faulty b.unknown b.config.items b.tellings b.room b.from b.at };
+}
+
+/// The first of some numbers: the one that was known before, or this one, where it is one of them.
+fn first_of(known: Option<u64>, is_one: bool, now: u64) -> Option<u64>
+    ensures { result ≡ first_of known is_one now }
+{
+    match known {
+        Some(before) => Some(before),
+        None => { if is_one { Some(now) } else { None } }
+    }
+}
+
+impl Body {
+    ghost use Rattle.std.specs.Prelude.{true, Some, IfOk};
+    ghost use Rattle.construction.specs.Plans.{plan_nodes};
+    ghost use Rattle.edge_io.specs.Taking.{Takes};
+    ghost use Rattle.adversary_script.specs.WordTests.{numbers_in};
+    ghost use Rattle.run_certificates.specs.Grammar.{pairs_of};
+    ghost use Rattle.run_certificates.specs.Items.{start_item, lie_item, end_item, era_by, row_by, values_said};
+    ghost use Rattle.run_certificates.specs.Checking.{has_round, all_told, verdict_now, step, step_by};
+    ghost use Rattle.run_checker.specs.Bodies.{stage_of};
+    ghost use Rattle.run_checker.specs.Changes.{first_body, may_put, Puts, may_tell, Tells, played_on, may_begin, renewed_with, has_states, Marks, ComesToRow, is_at_row};
+
+    /// What is known behind the head: the plan and its faulty nodes. It takes all memory that the
+    /// rounds of this era need, but for what is told in one.
+    pub fn new(alloc: Global, version: u32, plan: &Plan, faulty: FaultSet) -> Result<Body, NoMemory>
+        requires { faulty.nodes ≡ plan_nodes plan.now }
+        ensures { IfOk result (λ body. body ≡ first_body version plan.now faulty.ids) }
+    {
+        let tower = build(alloc, plan)?;
+        let shape = StateShape::of(alloc, plan)?;
+        let unknown = all_nodes(alloc, plan.nodes())?;
+        let config = zero_states(alloc, plan.nodes(), plan.depth())?;
+        let pairs = pairs_of(alloc, &faulty)?;
+        let tellings = Tellings::new(alloc, plan.depth(), pairs);
+        let room = room_for(alloc, &tower)?;
+        Ok(Body {
+            alloc,
+            version,
+            tower,
+            shape,
+            faulty,
+            unknown,
+            config,
+            tellings,
+            room,
+            is_putting: true,
+            from: 0,
+            eras: 0,
+            at: 0,
+            differs: None,
+            locked: None,
+        })
+    }
+
+    /// Whether states are put.
+    fn is_putting(&self) -> bool
+        ensures { result ≡ self.now.is_putting }
+    {
+        self.is_putting
+    }
+
+    /// Whether the next state that is put may be that of a node of this id.
+    fn may_put(&self, v: u64) -> bool
+        ensures value { result ≡ may_put self.now v }
+        ensures small { result ≡ true → v < 256 }
+    {
+        self.tower.tell();
+        if v < u64::from(self.from) || v >= u64::from(self.tower.nodes()) {
+            return false;
+        }
+        let v = v as u32;
+        !self.faulty.contains(v) && !needs_state(&self.unknown, &self.faulty, self.from, v)
+    }
+
+    /// Puts node `v` into the state of these digits; false where they are those of no state of it.
+    fn put(&mut self, v: u32, digits: &[u8]) -> bool
+        requires { v < plan_nodes self.old.known.plan }
+        ensures { Puts v digits.now self.old self.new result }
+    {
+        self.tower.tell();
+        match self.shape.read_hex(v, digits, &mut self.config[v as usize]) {
+            Ok(()) => {
+                self.from = v + 1;
+                true
+            }
+            Err(NotState) => false,
+        }
+    }
+
+    /// Takes the state into which a node is put.
+    pub fn take_start(&mut self, v: u64, digits: &[u8]) -> Result<Option<Verdict>, TakeError<()>>
+        ensures { Takes (step (stage_of self.old) (start_item v digits.now)) (stage_of self.new) result }
+    {
+        if !self.is_putting() {
+            return Err(TakeError::Refused(()));
+        }
+        if !self.may_put(v) {
+            return Err(TakeError::Refused(()));
+        }
+        if !self.put(v as u32, digits) {
+            return Err(TakeError::Refused(()));
+        }
+        Ok(None)
+    }
+
+    /// Whether another round may be told.
+    fn has_round(&self) -> bool
+        ensures { result ≡ has_round self.now.known }
+    {
+        self.at < MOST_ROUNDS
+    }
+
+    /// Whether the next state that is told may be of these two.
+    fn may_tell(&self, sender: u64, receiver: u64) -> bool
+        ensures value { result ≡ may_tell self.now sender receiver }
+        ensures node { result ≡ true → sender < plan_nodes self.now.known.plan }
+        ensures small { result ≡ true → sender < 256 }
+        ensures more { result ≡ true → length self.now.told < length (pairs_of (plan_nodes self.now.known.plan) self.now.known.stand.faulty) }
+    {
+        self.tower.tell();
+        self.has_round() && self.tellings.is_next(sender, receiver)
+    }
+
+    /// Reads what the sender of the next pair tells; false where the digits are those of no state
+    /// of it.
+    fn tell_state(&mut self, sender: u32, digits: &[u8]) -> Result<bool, NoMemory>
+        requires node { sender < plan_nodes self.old.known.plan }
+        requires more { length self.old.told < length (pairs_of (plan_nodes self.old.known.plan) self.old.known.stand.faulty) }
+        ensures { Tells sender digits.now self.old self.new result }
+    {
+        self.tower.tell();
+        self.tellings.add(self.alloc, &self.shape, sender, digits)
+    }
+
+    /// Takes a state that a faulty node tells.
+    pub fn take_lie(
+        &mut self,
+        sender: u64,
+        receiver: u64,
+        digits: &[u8],
+    ) -> Result<Option<Verdict>, TakeError<()>>
+        ensures { Takes (step (stage_of self.old) (lie_item sender receiver digits.now)) (stage_of self.new) result }
+    {
+        if self.is_putting() {
+            return Err(TakeError::Refused(()));
+        }
+        if !self.may_tell(sender, receiver) {
+            return Err(TakeError::Refused(()));
+        }
+        match self.tell_state(sender as u32, digits) {
+            Ok(true) => Ok(None),
+            Ok(false) => Err(TakeError::Refused(())),
+            Err(NoMemory) => Err(TakeError::NoMemory),
+        }
+    }
+
+    /// Whether all of a round was told.
+    fn is_told(&self) -> bool
+        ensures { result ≡ all_told self.now.known self.now.told }
+    {
+        self.has_round() && self.tellings.is_whole()
+    }
+
+    /// Makes the steps of the round that was told, with the same faulty nodes behind it.
+    fn play(&mut self)
+        requires { all_told self.old.known self.old.told ≡ true }
+        ensures { self.new ≡ played_on self.old }
+    {
+        step_all(
+            &self.tower,
+            &self.faulty,
+            &self.faulty,
+            self.tellings.pairs(),
+            self.tellings.states(),
+            &self.config,
+            &mut self.room,
+        );
+        mem::swap(&mut self.config, &mut self.room.next);
+        self.tellings.clear();
+        self.at += 1;
+    }
+
+    /// Makes the steps of the round that was told, with these faulty nodes behind it. Where memory
+    /// is wanted, nothing is known of what was read.
+    fn play_into(&mut self, faulty: FaultSet) -> Result<(), NoMemory>
+        requires told { all_told self.old.known self.old.told ≡ true }
+        requires nodes { faulty.nodes ≡ plan_nodes self.old.known.plan }
+        requires eras { self.old.known.eras < 16 }
+        ensures { IfOk result (λ _. self.new ≡ renewed_with self.old faulty.ids) }
+    {
+        let pairs = pairs_of(self.alloc, &faulty)?;
+        step_all(
+            &self.tower,
+            &self.faulty,
+            &faulty,
+            self.tellings.pairs(),
+            self.tellings.states(),
+            &self.config,
+            &mut self.room,
+        );
+        mem::swap(&mut self.config, &mut self.room.next);
+        self.tellings.begin(pairs);
+        self.unknown = mem::replace(&mut self.faulty, faulty);
+        self.is_putting = true;
+        self.from = 0;
+        self.eras += 1;
+        self.at += 1;
+        self.locked = None;
+        Ok(())
+    }
+
+    /// Whether another era may begin at this configuration.
+    fn may_begin(&self, t: u64) -> bool
+        ensures { result ≡ may_begin self.now t }
+    {
+        self.is_told() && t == self.at + 1 && self.eras < most_eras(self.version)
+    }
+
+    /// Takes an era that begins behind the round that was told.
+    pub fn take_era(&mut self, t: u64, words: Words<'_>) -> Result<Option<Verdict>, TakeError<()>>
+        ensures { Takes (step_by (stage_of self.old) (era_by (Some t) (numbers_in words.entry))) (stage_of self.new) result }
+    {
+        if self.is_putting() {
+            return Err(TakeError::Refused(()));
+        }
+        if !self.may_begin(t) {
+            return Err(TakeError::Refused(()));
+        }
+        match borne_set(self.alloc, self.tower.nodes(), self.tower.faults(), words) {
+            Ok(Some(faulty)) => match self.play_into(faulty) {
+                Ok(()) => Ok(None),
+                Err(NoMemory) => Err(TakeError::NoMemory),
+            },
+            Ok(None) => Err(TakeError::Refused(())),
+            Err(NoMemory) => Err(TakeError::NoMemory),
+        }
+    }
+
+    /// Whether no correct node is left that needs a state.
+    fn has_states(&self) -> bool
+        ensures { result ≡ has_states self.now }
+    {
+        !needs_state(&self.unknown, &self.faulty, self.from, self.tower.nodes())
+    }
+
+    /// Compares a row with what the configuration shows, and takes it where it is one.
+    fn mark_row(&mut self, words: Words<'_>) -> bool
+        ensures { Marks (values_said words.entry) self.old self.new result }
+    {
+        let Some(same) = compare_row(words, &self.faulty, self.tower.depth(), &self.config) else {
+            return false;
+        };
+        let locked = is_locked(&self.tower, &self.faulty, &self.config);
+        self.differs = first_of(self.differs, !same, self.at);
+        self.locked = first_of(self.locked, locked, self.at);
+        self.tellings.clear();
+        self.is_putting = false;
+        true
+    }
+
+    /// Makes the configuration that is known the one whose row is next; false where no row may be.
+    fn come_to_row(&mut self) -> bool
+        ensures { ComesToRow self.old self.new result }
+    {
+        if self.is_putting() {
+            return self.has_states();
+        }
+        if !self.is_told() {
+            return false;
+        }
+        self.play();
+        true
+    }
+
+    /// Takes a row.
+    pub fn take_row(&mut self, t: u64, words: Words<'_>) -> Result<Option<Verdict>, TakeError<()>>
+        ensures { Takes (step_by (stage_of self.old) (row_by (Some t) (values_said words.entry))) (stage_of self.new) result }
+    {
+        if !self.come_to_row() {
+            return Err(TakeError::Refused(()));
+        }
+        if t != self.at() {
+            return Err(TakeError::Refused(()));
+        }
+        if !self.mark_row(words) {
+            return Err(TakeError::Refused(()));
+        }
+        Ok(None)
+    }
+
+    /// The number of the configuration.
+    fn at(&self) -> u64
+        ensures { result ≡ self.now.known.at }
+    {
+        self.at
+    }
+
+    /// Whether nothing was told behind the last row.
+    fn is_at_row(&self) -> bool
+        ensures { result ≡ is_at_row self.now }
+    {
+        !self.is_putting && self.tellings.is_empty()
+    }
+
+    /// The verdict, where the certificate ends with the last row.
+    fn verdict(&self) -> Verdict
+        ensures { result ≡ verdict_now self.now.known }
+    {
+        match self.differs {
+            Some(row) => Verdict::False { row },
+            None => Verdict::True {
+                rows: self.at + 1,
+                locked: self.locked,
+            },
+        }
+    }
+
+    /// Takes the last line.
+    pub fn take_end(&self) -> Result<Option<Verdict>, TakeError<()>>
+        ensures { Takes (step (stage_of self.now) end_item) (stage_of self.now) result }
+    {
+        if !self.is_at_row() {
+            return Err(TakeError::Refused(()));
+        }
+        Ok(Some(self.verdict()))
+    }
+}

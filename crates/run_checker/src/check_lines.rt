@@ -1,0 +1,194 @@
+ghost use Rattle.std.specs.Prelude.{◌≡◌, ◌≤◌, true};
+ghost use Rattle.edge_io.specs.Taking.{Takes};
+ghost use Rattle.adversary_script.specs.WordTests.{numbers_in};
+ghost use Rattle.std.specs.Option.{option_map};
+ghost use Rattle.run_certificates.specs.Grammar.{plan_version};
+ghost use Rattle.run_certificates.specs.Items.{run_item, faulty_item};
+ghost use Rattle.run_certificates.specs.Checking.{unread, planned, step, step_by, base_step, level_step};
+ghost use Rattle.run_checker.specs.SaidLines.{item_seen};
+ghost use Rattle.run_checker.specs.Bodies.{stage_of};
+ghost use Rattle.run_checker.specs.Phases.{phase_seen, HasVersion, is_head, Enters};
+
+use crate::bodies::Body;
+use crate::id_lists::borne_set;
+use crate::said_lines::{Said, read_said};
+use edge_io::{LineReader, TakeError, Words};
+use plan_numbers::{Plan, PremiseError};
+use run_certificates::Verdict;
+use std::alloc::Global;
+use std::marker::Model;
+use std::mem;
+use sync_types::NoMemory;
+
+/// How far a certificate was read.
+#[derive(Drop)]
+pub enum Phase {
+    /// No line of it.
+    Unread,
+    /// Its first line, which says its version, 1 to 3.
+    Begun(u32),
+    /// Its base line, and as many lines of levels as the plan has levels.
+    Planned(u32, Plan),
+    /// Its head, and lines behind it.
+    Inside(Body),
+}
+
+/// Reads the lines of a certificate.
+#[derive(Drop)]
+pub struct CheckLines {
+    alloc: Global,
+    phase: Phase,
+}
+
+impl Model for CheckLines {
+    ghost use Rattle.run_certificates.specs.Checking.{Stage};
+    ghost use Rattle.run_checker.specs.Phases.{phase_seen, HasVersion};
+
+    ghost Value = { Stage };
+
+    ghost view = { λ l. phase_seen l.phase };
+
+    ghost invariant = { λ l. HasVersion l.phase };
+}
+
+/// What stands behind the first line.
+fn behind_run(version: u64) -> Result<Phase, TakeError<()>>
+    ensures { Enters (step unread (run_item version)) result }
+{
+    if version < 1 || version > 3 {
+        return Err(TakeError::Refused(()));
+    }
+    Ok(Phase::Begun(version as u32))
+}
+
+/// What stands behind the base line.
+fn behind_base(alloc: Global, version: u32, base: u64) -> Result<Phase, TakeError<()>>
+    requires oldest { 1 ≤ version }
+    requires newest { version ≤ 3 }
+    ensures { Enters (base_step version base) result }
+{
+    let plan_version = if version == 3 { 2 } else { 1 };
+    match Plan::base_of(alloc, plan_version, base) {
+        Ok(plan) => Ok(Phase::Planned(version, plan)),
+        Err(PremiseError::Refused(_)) => Err(TakeError::Refused(())),
+        Err(PremiseError::NoMemory) => Err(TakeError::NoMemory),
+    }
+}
+
+/// What stands behind the line of a level.
+fn behind_level(
+    version: u32,
+    mut plan: Plan,
+    blocks: u64,
+    faults: u64,
+    modulus: u64,
+    spares: Option<u64>,
+) -> Result<Phase, TakeError<()>>
+    requires oldest { 1 ≤ version }
+    requires newest { version ≤ 3 }
+    requires plan { plan.version ≡ plan_version version }
+    ensures { Enters (level_step version plan blocks faults modulus spares) result }
+{
+    if spares.is_some() != (version == 3) {
+        return Err(TakeError::Refused(()));
+    }
+    match plan.push_with(blocks, faults, modulus, spares.unwrap_or(0)) {
+        Ok(()) => Ok(Phase::Planned(version, plan)),
+        Err(_) => Err(TakeError::Refused(())),
+    }
+}
+
+/// What stands behind the line of the nodes that are faulty at first.
+fn behind_faulty(
+    alloc: Global,
+    version: u32,
+    plan: &Plan,
+    words: Words<'_>,
+) -> Result<Phase, TakeError<()>>
+    ensures { Enters (step_by (planned version plan.now) (option_map faulty_item (numbers_in words.entry))) result }
+{
+    match borne_set(alloc, plan.nodes(), plan.faults(), words) {
+        Ok(Some(faulty)) => match Body::new(alloc, version, plan, faulty) {
+            Ok(body) => Ok(Phase::Inside(body)),
+            Err(NoMemory) => Err(TakeError::NoMemory),
+        },
+        Ok(None) => Err(TakeError::Refused(())),
+        Err(NoMemory) => Err(TakeError::NoMemory),
+    }
+}
+
+/// What stands behind a line, where the head was not read before it.
+fn behind_head(alloc: Global, phase: Phase, said: Said<'_>) -> Result<Phase, TakeError<()>>
+    requires version { HasVersion phase }
+    requires head { is_head phase ≡ true }
+    ensures { Enters (step_by (phase_seen phase) (item_seen said.entry)) result }
+{
+    match (phase, said) {
+        (Phase::Unread, Said::Run(version)) => behind_run(version),
+        (Phase::Begun(version), Said::Base(base)) => behind_base(alloc, version, base),
+        (Phase::Planned(version, plan), Said::Level(blocks, faults, modulus, spares)) => {
+            behind_level(version, plan, blocks, faults, modulus, spares)
+        }
+        (Phase::Planned(version, plan), Said::Faulty(words)) => {
+            behind_faulty(alloc, version, &plan, words)
+        }
+        _ => Err(TakeError::Refused(())),
+    }
+}
+
+/// Takes a line behind the head.
+fn take_inside(body: &mut Body, said: Said<'_>) -> Result<Option<Verdict>, TakeError<()>>
+    ensures { Takes (step_by (stage_of body.old) (item_seen said.entry)) (stage_of body.new) result }
+{
+    match said {
+        Said::Row(t, words) => body.take_row(t, words),
+        Said::Lie(sender, receiver, digits) => body.take_lie(sender, receiver, digits),
+        Said::Start(v, digits) => body.take_start(v, digits),
+        Said::Era(t, words) => body.take_era(t, words),
+        Said::End => body.take_end(),
+        _ => Err(TakeError::Refused(())),
+    }
+}
+
+impl CheckLines {
+    ghost use Rattle.run_certificates.specs.Checking.{unread};
+
+    /// A reader of a text of which nothing was read.
+    pub fn new(alloc: Global) -> CheckLines
+        ensures { result ≡ unread }
+    {
+        CheckLines {
+            alloc,
+            phase: Phase::Unread,
+        }
+    }
+
+    /// Takes what a line says.
+    fn take_said(&mut self, said: Said<'_>) -> Result<Option<Verdict>, TakeError<()>>
+        ensures { Takes (step_by self.old (item_seen said.entry)) self.new result }
+    {
+        if let Phase::Inside(body) = &mut self.phase {
+            return take_inside(body, said);
+        }
+        let phase = mem::replace(&mut self.phase, Phase::Unread);
+        self.phase = behind_head(self.alloc, phase, said)?;
+        Ok(None)
+    }
+}
+
+impl LineReader for CheckLines {
+    type Value = Verdict;
+
+    type Rule = ();
+
+    ghost use Rattle.run_certificates.specs.Checking.{line_step};
+
+    ghost step = { line_step };
+
+    fn take(&mut self, line: &[u8]) -> Result<Option<Verdict>, TakeError<()>> {
+        match read_said(line) {
+            Some(said) => self.take_said(said),
+            None => Err(TakeError::Refused(())),
+        }
+    }
+}

@@ -1,0 +1,57 @@
+ghost use Rattle.std.specs.Prelude.{◌<◌, ◌^◌, ◌-◌};
+ghost use Rattle.run_checker.specs.Checks.{Checks, HasCheckCause};
+
+use crate::check_lines::CheckLines;
+use edge_io::{FedError, Feed, LineBuf, Source, read_ended};
+use run_certificates::Verdict;
+use std::alloc::Global;
+use thiserror::Error;
+
+/// Why a certificate was not checked to its end.
+#[derive(Clone, Copy, Debug, PartialEq, Eq, Error)]
+pub enum CheckError {
+    /// No certificate begins with the lines up to this one, the first such.
+    #[error("line {0} of the certificate fails")]
+    Refused(u64),
+    /// The text is longer than the limit, and none of its lines up to there is refused.
+    #[error("the certificate is too long")]
+    TooLong,
+    /// A read failed, which the source has counted.
+    #[error("a read failed")]
+    ReadFault,
+    /// Memory was refused.
+    #[error("out of memory")]
+    NoMemory,
+}
+
+/// Checks the text that a source has left: the verdict of the certificate whose text it is. It may
+/// have `limit` bytes.
+///
+/// `Refused` names the first line at which its lines begin no certificate; a line that lacks its
+/// newline, is longer than 4096 bytes or stands behind the last one is refused so, and the line
+/// behind the last one where the text ends before the certificate does. The source may then have
+/// been read some way behind that line. `TooLong` comes where the byte behind the limit was read,
+/// and no line that is shown before it is refused. `ReadFault` comes only where the source counted
+/// a fault. Memory is taken for the plan, its configuration and what is told in one round.
+pub fn check_run<S: Source>(
+    alloc: Global,
+    source: &mut S,
+    limit: u64,
+) -> Result<Verdict, CheckError>
+    requires { limit < 2 ^ 64 - 2 }
+    ensures checks { Checks limit (S.left source.old) (S.left source.new) result }
+    ensures cause { HasCheckCause (S.faults source.old) (S.faults source.new) result }
+{
+    let mut line = match LineBuf::new(alloc) {
+        Ok(line) => line,
+        Err(_) => return Err(CheckError::NoMemory),
+    };
+    let mut feed = Feed::new(source);
+    match read_ended(&mut feed, &mut line, CheckLines::new(alloc), (), limit) {
+        Ok(verdict) => Ok(verdict),
+        Err(FedError::Refused(refused)) => Err(CheckError::Refused(refused.line)),
+        Err(FedError::TooLong) => Err(CheckError::TooLong),
+        Err(FedError::ReadFault) => Err(CheckError::ReadFault),
+        Err(FedError::NoMemory) => Err(CheckError::NoMemory),
+    }
+}

@@ -1,0 +1,191 @@
+ghost use Rattle.std.specs.Prelude.{◌≡◌, ◌∷◌};
+ghost use Rattle.std.specs.List.{list_all};
+ghost use Rattle.std.specs.Option.{option_map};
+ghost use Rattle.state_codec.specs.Texts.{is_lower_digit};
+ghost use Rattle.run_certificates.specs.Items.{one_said, run_item, base_item, level_said, start_said, lie_said, row_said, era_said, end_said, item_of, said};
+ghost use Rattle.texts.specs.Lines.{words_of};
+ghost use Rattle.run_checker.specs.SaidLines.{item_or_none, only_number, spares_in, digits_in};
+
+use edge_io::{LONGEST_LINE, Words, number};
+
+/// What a line of a certificate says, as its first word has it. Lists of numbers are still to be
+/// read.
+#[derive(Drop)]
+pub enum Said<'a> {
+    /// `run V`
+    Run(u64),
+    /// `base C`
+    Base(u64),
+    /// `level K F C`, or with ` spare S` behind.
+    Level(u64, u64, u64, Option<u64>),
+    /// `faulty`, and ids.
+    Faulty(Words<'a>),
+    /// `start V H`
+    Start(u64, &'a [u8]),
+    /// `row T`, and a word for each node.
+    Row(u64, Words<'a>),
+    /// `lie U V H`
+    Lie(u64, u64, &'a [u8]),
+    /// `era T`, and ids.
+    Era(u64, Words<'a>),
+    /// `end`
+    End,
+}
+
+/// The one number that is left, where there is just one word and it is a number.
+fn one_number(mut words: Words<'_>) -> Option<u64>
+    ensures { result ≡ only_number words.entry }
+{
+    let value = number(words.next()?)?;
+    match words.next() {
+        Some(_) => None,
+        None => Some(value),
+    }
+}
+
+fn run_said<'a>(words: Words<'a>) -> Option<Said<'a>>
+    ensures { item_or_none result ≡ one_said run_item words.entry }
+{
+    let version = one_number(words)?;
+    Some(Said::Run(version))
+}
+
+fn base_said<'a>(words: Words<'a>) -> Option<Said<'a>>
+    ensures { item_or_none result ≡ one_said base_item words.entry }
+{
+    let base = one_number(words)?;
+    Some(Said::Base(base))
+}
+
+/// The spares of a level: none where no word is left, and else `spare S`.
+fn spares_said(mut words: Words<'_>) -> Option<Option<u64>>
+    ensures { result ≡ spares_in words.entry }
+{
+    match words.next() {
+        None => Some(None),
+        Some(key) => {
+            let spares = one_number(words)?;
+            if key == b"spare".as_slice() {
+                Some(Some(spares))
+            } else {
+                None
+            }
+        }
+    }
+}
+
+fn level_said<'a>(mut words: Words<'a>) -> Option<Said<'a>>
+    ensures { item_or_none result ≡ level_said words.entry }
+{
+    let blocks = number(words.next()?)?;
+    let faults = number(words.next()?)?;
+    let modulus = number(words.next()?)?;
+    let spares = spares_said(words)?;
+    Some(Said::Level(blocks, faults, modulus, spares))
+}
+
+/// Whether each is a digit of `0-9a-f`.
+fn are_lower(digits: &[u8]) -> bool
+    ensures { result ≡ list_all is_lower_digit digits.now }
+{
+    digits
+        .iter()
+        .all(|digit| matches!(*digit, b'0'..=b'9' | b'a'..=b'f'))
+}
+
+/// The one word that is left, where it is of digits.
+fn digits_said<'a>(mut words: Words<'a>) -> Option<&'a [u8]>
+    ensures { option_map (λ digits. digits.now) result ≡ digits_in words.entry }
+{
+    let digits = words.next()?;
+    if words.next().is_some() || !are_lower(digits) {
+        return None;
+    }
+    Some(digits)
+}
+
+fn start_said<'a>(mut words: Words<'a>) -> Option<Said<'a>>
+    ensures { item_or_none result ≡ start_said words.entry }
+{
+    let node = number(words.next()?)?;
+    let digits = digits_said(words)?;
+    Some(Said::Start(node, digits))
+}
+
+fn lie_said<'a>(mut words: Words<'a>) -> Option<Said<'a>>
+    ensures { item_or_none result ≡ lie_said words.entry }
+{
+    let sender = number(words.next()?)?;
+    let receiver = number(words.next()?)?;
+    let digits = digits_said(words)?;
+    Some(Said::Lie(sender, receiver, digits))
+}
+
+fn row_said<'a>(mut words: Words<'a>) -> Option<Said<'a>>
+    ensures { item_or_none result ≡ row_said words.entry }
+{
+    let at = number(words.next()?)?;
+    Some(Said::Row(at, words))
+}
+
+fn era_said<'a>(mut words: Words<'a>) -> Option<Said<'a>>
+    ensures { item_or_none result ≡ era_said words.entry }
+{
+    let at = number(words.next()?)?;
+    Some(Said::Era(at, words))
+}
+
+fn end_said<'a>(mut words: Words<'a>) -> Option<Said<'a>>
+    ensures { item_or_none result ≡ end_said words.entry }
+{
+    match words.next() {
+        Some(_) => None,
+        None => Some(Said::End),
+    }
+}
+
+/// What the words behind the first one say.
+fn said_behind<'a>(key: &[u8], words: Words<'a>) -> Option<Said<'a>>
+    ensures { item_or_none result ≡ item_of (key.now ∷ words.entry) }
+{
+    if key == b"row".as_slice() {
+        return row_said(words);
+    }
+    if key == b"lie".as_slice() {
+        return lie_said(words);
+    }
+    if key == b"start".as_slice() {
+        return start_said(words);
+    }
+    if key == b"era".as_slice() {
+        return era_said(words);
+    }
+    if key == b"end".as_slice() {
+        return end_said(words);
+    }
+    if key == b"faulty".as_slice() {
+        return Some(Said::Faulty(words));
+    }
+    if key == b"level".as_slice() {
+        return level_said(words);
+    }
+    if key == b"base".as_slice() {
+        return base_said(words);
+    }
+    if key == b"run".as_slice() {
+        return run_said(words);
+    }
+    None
+}
+
+/// What a line says.
+pub fn read_said<'a>(line: &'a [u8]) -> Option<Said<'a>>
+    ensures { item_or_none result ≡ said line.now }
+{
+    if line.len() > LONGEST_LINE {
+        return None;
+    }
+    let mut words = Words::new(line);
+    let key = words.next()?;
+    said_behind(key, words)
+}
