@@ -5,6 +5,9 @@ pub mod Words
 pub mod Locks
 pub mod Promise
 pub mod ReadRun
+pub mod ReadExplained
+pub mod Explained
+pub mod ExplainLaws
 pub mod FirstListed
 pub mod Whole
 pub mod Unread
@@ -15,3 +18,9 @@ pub mod NodeService
 pub mod Complete
 pub mod ReadLayers
 pub mod ReadSlots
+pub mod ReadConsensus
+pub mod RefusedScripts
+pub mod ReadFire
+pub mod ReadLog
+pub mod LayerPromises
+pub mod WriteEnds

@@ -1,5 +1,5 @@
 -- What the word `node` did whose header was not whole.
-use Rattle.std.proofs.Common.{◌≡◌, ℕ, ◌<◌, ◌^◌, Bool, true, ltb, List, [], ◌++◌, length, Option, Some, None, Err, refl, sym, ap, ◌∙◌, length-append, arith}
+use Rattle.std.proofs.Common.{◌≡◌, ℕ, ◌^◌, Bool, true, ltb, List, [], ◌++◌, length, Option, Some, Err, sym, ap, ◌∙◌, length-append, arith}
 use Rattle.std.specs.Io.KnownBytes.{prepend_known, Keeps}
 use Rattle.std.proofs.lemmas.Bool.{lt-ltb}
 use Rattle.texts.specs.Causes.{Counted}

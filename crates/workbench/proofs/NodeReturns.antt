@@ -6,7 +6,7 @@ use Rattle.texts.specs.Growth.{Told}
 use Rattle.edge_io.specs.FedParts.{MayFollow}
 use Rattle.sync_types.specs.declared.status.Status.{Status}
 use Rattle.workbench.specs.declared.commands.Command.{Command}
-use Rattle.workbench.specs.Conduct.{Holds, ReadsFront, ReadsAll, Does}
+use Rattle.workbench.specs.Conduct.{ReadsFront, ReadsAll, Does}
 use Rattle.workbench.proofs.Unread.{left_of, holds_left}
 
 -- bytes read of a feed and those in its buffer were read of its source

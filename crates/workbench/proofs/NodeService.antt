@@ -1,13 +1,11 @@
 -- What the word `node` did whose header was whole.
-use Rattle.std.proofs.Common.{◌≡◌, ℕ, ◌≤◌, ◌^◌, Bool, true, false, ltb, List, [], ◌++◌, length, Option, Some, None, Result, Ok, Err, refl, sym, ap, ◌∙◌, subst, append_assoc, append-nil, length-append, arith}
+use Rattle.std.proofs.Common.{◌≡◌, ℕ, ◌^◌, Bool, true, false, ltb, List, [], ◌++◌, length, Option, Some, None, Result, Ok, Err, refl, sym, ap, ◌∙◌, subst, append_assoc, append-nil, length-append, arith}
 use Rattle.std.specs.Io.KnownBytes.{prepend_known, Consumes, Keeps, IsAtEnd}
 use Rattle.std.proofs.KnownBytes.{Consumes-trans}
 use Rattle.std.proofs.lemmas.Bool.{le-ltb}
 use Rattle.texts.specs.Causes.{Counted}
 use Rattle.texts.specs.Growth.{Told, Wrote, Cut}
-use Rattle.texts.specs.Limits.{behind_lines}
 use Rattle.edge_io.specs.FedParts.{MayFollow}
-use Rattle.sync_types.specs.declared.status.Status.TheVariants as status
 use Rattle.node_header.specs.declared.headers.HeaderRead.{HeaderRead}
 use Rattle.node_header.specs.FedHeaders.{HeaderWhole}
 use Rattle.node_stepper.specs.declared.faults.NodeFault.{NodeFault}

@@ -21,6 +21,8 @@ use Rattle.round_runner.specs.Locks.{first_locked, era_locked, IsFirstLocked}
 use Rattle.round_runner.specs.Played.{played_at}
 use Rattle.round_runner.specs.Laws.{IsUpTo, IsReadFor, EraCountsFrom, EachIsOfOneEra, ErasAreRuns, ErasLock, ErasCount, ErasStayLocked}
 use Rattle.round_runner.proofs.FirstLocked.{first_is_locked}
+use Rattle.run_explanations.specs.Laws.{ExplainedErasLock, LongErasAreExplained, FoundIsFirst}
+use Rattle.workbench.proofs.ExplainLaws.{why_is_true}
 use Rattle.workbench.proofs.FirstListed.{first_listed}
 use Rattle.workbench.specs.declared.refusals.Refusal.{Refusal}
 use Rattle.workbench.specs.RunText.{number_word, lock_of_era}
@@ -85,7 +87,8 @@ module _ (plan : Plan) (script : Script) (read : IsReadFor plan script) (j : ℕ
       rows_count w (stays plan script read j among w first.1.from first.1.before locked).counts
 
 module _ (each : EachIsOfOneEra) (runs : ErasAreRuns) (locks : ErasLock) (counts : ErasCount)
-    (stays : ErasStayLocked) where
+    (stays : ErasStayLocked) (explained : ExplainedErasLock) (long : LongErasAreExplained)
+    (found : FoundIsFirst) where
   era_keeps : (plan : Plan) (script : Script) → IsReadFor plan script → (j : ℕ)
       → j ≤ length script.eras → EraKeepsPromise plan script j
   era_keeps plan script read j among = record {
@@ -106,6 +109,8 @@ module _ (each : EachIsOfOneEra) (runs : ErasAreRuns) (locks : ErasLock) (counts
     shown = read.whole.formed.shown;
     all = each s.script read.whole;
     eras = era_keeps s.plan s.script read;
+    why = why_is_true each stays explained long found s.plan s.script read
+        (locked_first s.plan s.script read (length s.script.eras) (omega arith));
   }
 
   pub promise_kept : PromiseIsKept

@@ -1,5 +1,5 @@
 -- What an input of a plan, a part and a script says, by what was read of it.
-use Rattle.std.proofs.Common.{◌≡◌, ℕ, ◌+◌, ◌-◌, ◌≤◌, List, length, take, drop, Result, Ok, Err, refl, sym, ap, ◌∙◌, subst, arith}
+use Rattle.std.proofs.Common.{◌≡◌, ℕ, ◌+◌, ◌-◌, List, length, take, drop, Result, Ok, refl, sym, ◌∙◌, subst, arith}
 use Rattle.std.proofs.lemmas.List.{take_all, length-drop}
 use Rattle.texts.specs.Lines.{lines_of}
 use Rattle.texts.specs.Parts.{At, Found}
@@ -13,20 +13,27 @@ use Rattle.counter_core.specs.Overlays.{Layer, StandsOver}
 use Rattle.adversary_script.specs.Scripts.{Script}
 use Rattle.adversary_script.specs.ScriptPart as script
 use Rattle.adversary_script.specs.ScriptPart.{script_of}
+use Rattle.round_runner.specs.Fits.{IsDeaf}
 use Rattle.round_runner.specs.Runners.{IsFor}
-use Rattle.workbench.specs.Layered.{Layered, layered_of}
+use Rattle.workbench.specs.Layered.{layered_of}
 
 -- a script that was read for a plan is one to play with a layer over its counter
 pub for_runner : {Kept : Type 0} (plan tower : Plan) (layer : Layer Kept) (shape : Shape)
-    (s : Script) → tower ≡ plan → StandsOver layer (plan_meaning plan)
+    (s : Script) → tower ≡ plan → StandsOver layer (plan_meaning plan) → IsDeaf layer
     → shape ≡ shape_with plan layer.values layer.extra → script.IsFor plan shape s
     → IsFor tower layer s
-for_runner plan tower layer shape s same over is right =
+for_runner plan tower layer shape s same over deaf is right =
     subst (λ (p : Plan). IsFor p layer s) (sym same)
-    (record { nodes = right.nodes; shape = right.states ∙ is; over = over; borne = right.borne })
+    (record {
+      nodes = right.nodes;
+      shape = right.states ∙ is;
+      over = over;
+      deaf = deaf;
+      borne = right.borne;
+    })
 
 -- all that is left of a text behind its front
-all_left : (input : List ℕ) (bytes : ℕ)
+pub all_left : (input : List ℕ) (bytes : ℕ)
     → take (length input - bytes) (drop bytes input) ≡ drop bytes input
 all_left input bytes =
     take_all (length input - bytes) (drop bytes input) (omega (arith, length-drop bytes input))

@@ -7,7 +7,21 @@ use Rattle.workbench.specs.declared.refusals.Refusal.TheVariants as refusal
 use Rattle.workbench.specs.Outcomes.{Outcome, outcome_of, of_whole}
 use Rattle.workbench.specs.Answers.{run_answer, plan_answer, upgrade_answer, find_answer, table_answer}
 use Rattle.workbench.specs.SlotsAnswers.{slots_answer}
+use Rattle.workbench.specs.ExplainText.{explain_answer}
+use Rattle.workbench.specs.ConsensusAnswers.{consensus_answer}
+use Rattle.workbench.specs.FireAnswers.{fire_answer}
+use Rattle.workbench.specs.LogAnswers.{log_answer}
 use Rattle.workbench.specs.NodeAnswers.{node_outcome, node_so_far}
+
+-- the command of a single word of the second half of the table
+abbrev pub later_command : List ℕ → Option Command
+later_command word =
+    if bytes_eq word (codes "table") then Some command.Table
+    else if bytes_eq word (codes "explain") then Some command.Explain
+    else if bytes_eq word (codes "fire") then Some command.Fire
+    else if bytes_eq word (codes "log") then Some command.Log
+    else if bytes_eq word (codes "node") then Some command.Node
+    else None
 
 -- the command of a single word
 abbrev pub command_named : List ℕ → Option Command
@@ -16,10 +30,9 @@ command_named word =
     else if bytes_eq word (codes "plan") then Some command.Plan
     else if bytes_eq word (codes "upgrade") then Some command.Upgrade
     else if bytes_eq word (codes "slots") then Some command.Slots
+    else if bytes_eq word (codes "consensus") then Some command.Consensus
     else if bytes_eq word (codes "find") then Some command.Find
-    else if bytes_eq word (codes "table") then Some command.Table
-    else if bytes_eq word (codes "node") then Some command.Node
-    else None
+    else later_command word
 
 -- the table of words
 abbrev pub command_of : List (List ℕ) → Option Command
@@ -34,8 +47,12 @@ defined (Some command.Run) input = of_whole (2 ^ 20) run_answer input
 defined (Some command.Plan) input = of_whole (2 ^ 20) plan_answer input
 defined (Some command.Upgrade) input = of_whole (2 ^ 20) upgrade_answer input
 defined (Some command.Slots) input = of_whole (2 ^ 20) slots_answer input
+defined (Some command.Consensus) input = of_whole (2 ^ 20) consensus_answer input
 defined (Some command.Find) input = of_whole (2 ^ 20) find_answer input
 defined (Some command.Table) input = of_whole (2 ^ 20) table_answer input
+defined (Some command.Explain) input = of_whole (2 ^ 20) explain_answer input
+defined (Some command.Fire) input = of_whole (2 ^ 20) fire_answer input
+defined (Some command.Log) input = of_whole (2 ^ 20) log_answer input
 defined (Some command.Node) input = node_outcome input
 
 -- How a command reads: not at all, or all of its input before it writes, or what it needs for each
@@ -51,8 +68,12 @@ manner (Some command.Run) = all_first
 manner (Some command.Plan) = all_first
 manner (Some command.Upgrade) = all_first
 manner (Some command.Slots) = all_first
+manner (Some command.Consensus) = all_first
 manner (Some command.Find) = all_first
 manner (Some command.Table) = all_first
+manner (Some command.Explain) = all_first
+manner (Some command.Fire) = all_first
+manner (Some command.Log) = all_first
 manner (Some command.Node) = as_it_goes
 
 -- what is written where a read fails behind these bytes

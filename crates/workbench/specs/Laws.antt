@@ -1,6 +1,6 @@
 -- What holds of every input, whatever becomes of it.
 use Rattle.std.specs.Prelude.{◌≡◌, ℕ, ◌+◌, ◌%◌, ◌<◌, ◌≤◌, List, length, Some, false, IfOk}
-use Rattle.construction.specs.Plans.{Plan, plan_nodes, plan_bound, plan_modulus}
+use Rattle.construction.specs.Plans.{Plan, plan_nodes, plan_bound, plan_modulus, plan_depth}
 use Rattle.construction.specs.Runs.{is_in, IsBorne, Settles}
 use Rattle.plan_reader.specs.PlanPart.{plan_of}
 use Rattle.adversary_script.specs.Scripts.{Script}
@@ -10,6 +10,7 @@ use Rattle.round_runner.specs.Locks.{IsFirstLocked}
 use Rattle.round_runner.specs.Played.{played_at}
 use Rattle.workbench.specs.RunText.{number_word, node_word, lock_of_era}
 use Rattle.workbench.specs.Answers.{scripted_of}
+use Rattle.workbench.specs.ExplainLaws.{WhyIsTrue}
 
 -- where the plan part of an input is accepted the plan settles
 abbrev pub AcceptedPlansSettle : Type 0
@@ -39,11 +40,13 @@ pub record EraKeepsPromise (plan : Plan) (script : Script) (j : ℕ) : Type 0 wh
   pub locked_rows : (w : ℕ) → lock_of_era plan script j ≡ Some w → RowsCountFrom plan script j w
 
 -- All rows that are shown are of configurations that are played, each of these is of one era, and
--- each era keeps the promise.
+-- each era keeps the promise. Of a plan with levels, what is written of why the last era locks is
+-- true.
 pub record KeepsPromise (plan : Plan) (script : Script) : Type 0 where
   pub shown : script.last ≤ script.rounds
   pub all : (t : ℕ) → t ≤ script.rounds → IsOfOneEra script t
   pub eras : (j : ℕ) → j ≤ length script.eras → EraKeepsPromise plan script j
+  pub why : 1 ≤ plan_depth plan → WhyIsTrue plan script
 
 -- where an input is a plan and a script, the promise is kept
 abbrev pub PromiseIsKept : Type 0

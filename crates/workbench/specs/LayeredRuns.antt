@@ -1,5 +1,5 @@
 -- A runner of a plan and a script, with a layer above the counter, at configuration 0.
-use Rattle.std.specs.Prelude.{◌≡◌, ℕ, List}
+use Rattle.std.specs.Prelude.{◌≡◌, List}
 use Rattle.construction.specs.Plans.{Plan, plan_bound}
 use Rattle.counter_core.specs.Overlays.{Layer}
 use Rattle.adversary_script.specs.Scripts.{Script}

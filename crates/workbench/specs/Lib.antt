@@ -12,6 +12,16 @@ pub mod Readings
 pub mod Completeness
 pub mod Laws
 pub mod Layered
+pub mod FireAnswers
+pub mod FireRuns
+pub mod LogAnswers
+pub mod LogRuns
 pub mod LayeredRuns
 pub mod SlotsAnswers
 pub mod SlotsRuns
+pub mod ExplainText
+pub mod ExplainRuns
+pub mod ExplainLaws
+pub mod ConsensusAnswers
+pub mod ConsensusRuns
+pub mod LayerPromises

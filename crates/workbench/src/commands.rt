@@ -1,10 +1,16 @@
 ghost use Rattle.std.specs.Prelude.{◌≡◌, map, string_bytes, None};
-ghost use Rattle.workbench.specs.Commands.{command_of};
+ghost use Rattle.workbench.specs.Commands.{later_command, command_named, command_of};
 ghost use Rattle.workbench.specs.Conduct.{Does};
 ghost use Rattle.workbench.specs.Laws.{AcceptedPlansSettle, PromiseIsKept};
+ghost use Rattle.workbench.specs.LayerPromises.{HoldsAreKept, DecisionsAreKept, FiresAreKept, EntriesAreKept};
 
+use crate::consensus_word::consensus;
+use crate::explain_word::explain;
 use crate::find_word::find_least;
+use crate::fire_word::fire;
 use crate::laws::{accepted_plans_settle, promise_is_kept};
+use crate::layer_promises::{decisions_are_kept, entries_are_kept, fires_are_kept, holds_are_kept};
+use crate::log_word::log;
 use crate::node_word::node;
 use crate::plan_word::plan;
 use crate::refusals::{Refusal, put_refusal};
@@ -27,25 +33,67 @@ pub enum Command {
     Upgrade,
     /// Who holds, by a slot table, at the outputs of the configurations that a script shows.
     Slots,
+    /// The decisions of consensus in the slots that a script shows.
+    Consensus,
     /// The plan of least bound that meets some wants, and the least costs that show it.
     Find,
     /// Whether a text is the table of some plan.
     Table,
+    /// Why the last era of a run locks.
+    Explain,
+    /// A run with simultaneous firing: which nodes fire at the end of each slot.
+    Fire,
+    /// A run with a replicated log: the entry that each slot puts.
+    Log,
     /// One node that is given packets: its cell at the start and behind each packet.
     Node,
+}
+
+/// The command of a single word of the second half of the table.
+fn later_command(word: &str) -> Option<Command>
+    ensures { result ≡ later_command word.now }
+{
+    if word == "table" {
+        Some(Command::Table)
+    } else if word == "explain" {
+        Some(Command::Explain)
+    } else if word == "fire" {
+        Some(Command::Fire)
+    } else if word == "log" {
+        Some(Command::Log)
+    } else if word == "node" {
+        Some(Command::Node)
+    } else {
+        None
+    }
+}
+
+/// The command of a single word.
+fn command_named(word: &str) -> Option<Command>
+    ensures { result ≡ command_named word.now }
+{
+    if word == "run" {
+        Some(Command::Run)
+    } else if word == "plan" {
+        Some(Command::Plan)
+    } else if word == "upgrade" {
+        Some(Command::Upgrade)
+    } else if word == "slots" {
+        Some(Command::Slots)
+    } else if word == "consensus" {
+        Some(Command::Consensus)
+    } else if word == "find" {
+        Some(Command::Find)
+    } else {
+        later_command(word)
+    }
 }
 
 fn command_of(words: &[String]) -> Option<Command>
     ensures { result ≡ command_of (map string_bytes words.now) }
 {
     match words {
-        [word] if word.as_str() == "run" => Some(Command::Run),
-        [word] if word.as_str() == "plan" => Some(Command::Plan),
-        [word] if word.as_str() == "upgrade" => Some(Command::Upgrade),
-        [word] if word.as_str() == "slots" => Some(Command::Slots),
-        [word] if word.as_str() == "find" => Some(Command::Find),
-        [word] if word.as_str() == "table" => Some(Command::Table),
-        [word] if word.as_str() == "node" => Some(Command::Node),
+        [word] => command_named(word.as_str()),
         _ => None,
     }
 }
@@ -79,8 +127,12 @@ fn answer<S: Source, K: Sink>(
         Some(Command::Plan) => plan(alloc, source, sink),
         Some(Command::Upgrade) => upgrade(alloc, source, sink),
         Some(Command::Slots) => slots(alloc, source, sink),
+        Some(Command::Consensus) => consensus(alloc, source, sink),
         Some(Command::Find) => find_least(alloc, source, sink),
         Some(Command::Table) => table(alloc, source, sink),
+        Some(Command::Explain) => explain(alloc, source, sink),
+        Some(Command::Fire) => fire(alloc, source, sink),
+        Some(Command::Log) => log(alloc, source, sink),
         Some(Command::Node) => node(alloc, source, sink),
     }
 }
@@ -117,11 +169,22 @@ pub fn counterlab<S: Source, K: Sink>(
     // Whatever becomes of the input: where its plan part is accepted, the plan settles.
     ensures settles { AcceptedPlansSettle }
 
-    // Where it is a plan and a script, what is played is a run of the plan, and what is written of
-    // it counts.
+    // Where it is a plan and a script, what is played is a run of the plan, what is written of it
+    // counts, and what `explain` writes is why it locks.
     ensures promise { PromiseIsKept }
+
+    // What the lines of `slots`, `consensus`, `fire` and `log` say, where it is a plan, such a part
+    // and a script.
+    ensures holds { HoldsAreKept }
+    ensures decisions { DecisionsAreKept }
+    ensures fires { FiresAreKept }
+    ensures entries { EntriesAreKept }
 {
     accepted_plans_settle();
     promise_is_kept();
+    holds_are_kept();
+    decisions_are_kept();
+    fires_are_kept();
+    entries_are_kept();
     answer(alloc, words, source, sink)
 }

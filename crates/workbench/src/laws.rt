@@ -8,6 +8,7 @@ use plan_laws::laws::every_plan_settles;
 use round_runner::laws::{
     each_is_of_one_era, eras_are_runs, eras_count, eras_lock, eras_stay_locked,
 };
+use run_explanations::laws::{explained_eras_lock, found_is_first, long_eras_are_explained};
 
 /// Where the plan part of an input is accepted the plan settles.
 pub fn accepted_plans_settle()
@@ -18,7 +19,8 @@ pub fn accepted_plans_settle()
 
 /// Where an input is a plan and a script, all rows that are shown are played ones. What is played of
 /// each era is a run of the plan with few faulty nodes; what is written of it counts from the bound
-/// on, and from its first locked configuration on, to the era's end.
+/// on, and from its first locked configuration on, to the era's end. What is written of why the last
+/// one locks is its first explanation, and it is locked from the end of that phase on.
 pub fn promise_is_kept()
     ensures { PromiseIsKept }
 {
@@ -27,6 +29,9 @@ pub fn promise_is_kept()
     eras_lock();
     eras_count();
     eras_stay_locked();
+    explained_eras_lock();
+    long_eras_are_explained();
+    found_is_first();
 }
 
 /// A call of `counterlab` whose source tells its bytes, and in which no fault is counted, has the

@@ -3,10 +3,16 @@
 #![tactic(auto)]
 
 mod commands;
+mod consensus_word;
 mod ends;
+mod explain_word;
+mod explaining;
 mod find_word;
+mod fire_word;
 pub mod laws;
+pub mod layer_promises;
 mod layered;
+mod log_word;
 #[cfg(test)]
 mod node_tests;
 mod node_word;

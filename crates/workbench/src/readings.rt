@@ -20,7 +20,7 @@ use sync_types::NoMemory;
 use tower::build;
 
 /// The runner of a script that was read for a plan, at configuration 0.
-fn runner_of(
+pub fn runner_of(
     alloc: Global,
     plan: &Plan,
     shape: StateShape,

@@ -3,11 +3,14 @@ ghost use Rattle.texts.specs.Growth.{Puts};
 ghost use Rattle.workbench.specs.Refusals.{cause_word, part_word, premise_word, rule_word, refusal_line, refusal_status};
 
 use adversary_script::ScriptError;
+use consensus_layer::AgreeError;
 use edge_io::{Piece, Sink, WriteFault, put_pieces};
+use firing::FireError;
 use node_header::HeaderRefusal;
 use plan_certificate::TableError;
 use plan_finder::FindError;
 use plan_reader::PlanError;
+use replicated_log::LogError;
 use slot_table::SlotError;
 use sync_types::{Cause, NoMemory, Part, Premise, Rule, Status};
 use thiserror::Error;
@@ -96,6 +99,23 @@ impl From<SlotError> for ReadError {
     }
 }
 
+impl From<AgreeError> for ReadError {
+    ghost use Rattle.workbench.specs.Readings.{agree_error};
+
+    ghost from_gives = { λ error e. e ≡ agree_error error };
+
+    fn from(error: AgreeError) -> Self {
+        match error {
+            AgreeError::Refused(refused) => ReadError::Refused(Refusal::Part {
+                part: Part::Agree,
+                line: refused.line,
+                rule: refused.rule,
+            }),
+            AgreeError::NoMemory => ReadError::NoMemory,
+        }
+    }
+}
+
 impl From<FindError> for ReadError {
     ghost use Rattle.workbench.specs.Readings.{wants_error};
 
@@ -125,6 +145,40 @@ impl From<TableError> for ReadError {
                 cause: refused.cause,
             }),
             TableError::NoMemory => ReadError::NoMemory,
+        }
+    }
+}
+
+impl From<FireError> for ReadError {
+    ghost use Rattle.workbench.specs.Readings.{firing_error};
+
+    ghost from_gives = { λ error e. e ≡ firing_error error };
+
+    fn from(error: FireError) -> Self {
+        match error {
+            FireError::Refused(refused) => ReadError::Refused(Refusal::Part {
+                part: Part::Fire,
+                line: refused.line,
+                rule: refused.rule,
+            }),
+            FireError::NoMemory => ReadError::NoMemory,
+        }
+    }
+}
+
+impl From<LogError> for ReadError {
+    ghost use Rattle.workbench.specs.Readings.{logging_error};
+
+    ghost from_gives = { λ error e. e ≡ logging_error error };
+
+    fn from(error: LogError) -> Self {
+        match error {
+            LogError::Refused(refused) => ReadError::Refused(Refusal::Part {
+                part: Part::Log,
+                line: refused.line,
+                rule: refused.rule,
+            }),
+            LogError::NoMemory => ReadError::NoMemory,
         }
     }
 }

@@ -1,4 +1,5 @@
-ghost use Rattle.std.specs.Prelude.{◌≡◌, ◌<◌, ◌≤◌, ◌&&◌, nat_le, length, OnOk};
+ghost use Rattle.std.specs.Prelude.{◌≡◌, ◌<◌, ◌≤◌, ◌&&◌, [], ◌∷◌, nat_le, decimal, length, OnOk};
+ghost use Rattle.std.specs.List.{concat};
 ghost use Rattle.texts.specs.Growth.{Puts};
 ghost use Rattle.construction.specs.Plans.{plan_nodes};
 ghost use Rattle.adversary_script.specs.Eras.{faulty_at};
@@ -8,13 +9,24 @@ ghost use Rattle.workbench.specs.Playing.{HasPlayed, IsAtStart, IsAtEnd, IsToPla
 ghost use Rattle.workbench.specs.Playing.{own_row, shown_row, text_of};
 
 use counter_core::NoOverlay;
-use edge_io::{Gathered, Piece, Sink, WriteFault, put_all, put_pieces};
+use edge_io::{Gathered, Piece, Sink, TextSink, WriteFault, put_all, put_pieces};
 use round_runner::Runner;
 use sync_types::FaultSet;
 
+/// Writes a text and behind it a number.
+fn put_labelled<K: TextSink>(sink: &mut K, label: &[u8], value: u64) -> Result<(), WriteFault>
+    ensures { Puts result (concat (label.now ∷ decimal value ∷ []))
+        (K.Sink.told sink.old) (K.Sink.told sink.new) }
+{
+    match sink.text(label) {
+        Ok(()) => sink.number(value),
+        Err(WriteFault) => Err(WriteFault),
+    }
+}
+
 /// Writes a node's word in the row of the runner's configuration: what it shows, or a star where it
 /// is one of these faulty ones.
-fn put_word<K: Sink>(
+fn put_word<K: TextSink>(
     sink: &mut K,
     runner: &Runner<NoOverlay>,
     faulty: &FaultSet,
@@ -22,23 +34,23 @@ fn put_word<K: Sink>(
 ) -> Result<(), WriteFault>
     requires { v < plan_nodes runner.now.plan }
     ensures { Puts result (node_word runner.now.plan faulty.now.ids runner.now.states v)
-        (K.told sink.old) (K.told sink.new) }
+        (K.Sink.told sink.old) (K.Sink.told sink.new) }
 {
     if faulty.contains(v) {
-        put_all(sink, b" *")
+        sink.text(b" *")
     } else {
-        put_pieces(sink, &[Piece::Text(b" "), Piece::Number(runner.output(v))])
+        put_labelled(sink, b" ", runner.output(v))
     }
 }
 
 /// Writes the words of all nodes.
-fn put_words<K: Sink>(
+fn put_words<K: TextSink>(
     sink: &mut K,
     runner: &Runner<NoOverlay>,
     faulty: &FaultSet,
 ) -> Result<(), WriteFault>
     ensures { Puts result (node_words runner.now.plan faulty.now.ids runner.now.states)
-        (K.told sink.old) (K.told sink.new) }
+        (K.Sink.told sink.old) (K.Sink.told sink.new) }
 {
     for v in 0..runner.nodes() {
         match put_word(sink, runner, faulty, v) {
@@ -50,12 +62,12 @@ fn put_words<K: Sink>(
 }
 
 /// Writes the row of the runner's configuration.
-fn put_row<K: Sink>(sink: &mut K, runner: &Runner<NoOverlay>) -> Result<(), WriteFault>
-    ensures { Puts result (own_row runner.now) (K.told sink.old) (K.told sink.new) }
+fn put_row<K: TextSink>(sink: &mut K, runner: &Runner<NoOverlay>) -> Result<(), WriteFault>
+    ensures { Puts result (own_row runner.now) (K.Sink.told sink.old) (K.Sink.told sink.new) }
 {
-    put_pieces(sink, &[Piece::Text(b"row "), Piece::Number(runner.at())])?;
+    put_labelled(sink, b"row ", runner.at())?;
     put_words(sink, runner, runner.script().faulty_at(runner.at()))?;
-    put_all(sink, b"\n")
+    sink.text(b"\n")
 }
 
 /// Whether a number is one of those from `first` to `last`.
@@ -66,13 +78,13 @@ fn is_among(t: u64, first: u64, last: u64) -> bool
 }
 
 /// Writes the row of the runner's configuration, where it is one of those from `first` to `last`.
-fn put_if_shown<K: Sink>(
+fn put_if_shown<K: TextSink>(
     sink: &mut K,
     runner: &Runner<NoOverlay>,
     first: u64,
     last: u64,
 ) -> Result<(), WriteFault>
-    ensures { Puts result (shown_row runner.now first last) (K.told sink.old) (K.told sink.new) }
+    ensures { Puts result (shown_row runner.now first last) (K.Sink.told sink.old) (K.Sink.told sink.new) }
 {
     if is_among(runner.at(), first, last) {
         put_row(sink, runner)
@@ -82,10 +94,10 @@ fn put_if_shown<K: Sink>(
 }
 
 /// Plays all rounds of a script, and writes the rows that it shows.
-fn put_rows<K: Sink>(sink: &mut K, runner: &mut Runner<NoOverlay>) -> Result<(), WriteFault>
+fn put_rows<K: TextSink>(sink: &mut K, runner: &mut Runner<NoOverlay>) -> Result<(), WriteFault>
     requires { IsAtStart runner.old }
     ensures rows { Puts result (rows_text runner.old.plan runner.old.script)
-        (K.told sink.old) (K.told sink.new) }
+        (K.Sink.told sink.old) (K.Sink.told sink.new) }
     ensures played { OnOk result (HasPlayed runner.old runner.new) }
 {
     let rounds = runner.script().rounds();
@@ -136,7 +148,7 @@ fn put_era<K: Sink>(sink: &mut K, runner: &Runner<NoOverlay>, era: usize) -> Res
 }
 
 /// Writes the first locked configuration of each era, of a runner at the end.
-fn put_locks<K: Sink>(sink: &mut K, runner: &Runner<NoOverlay>) -> Result<(), WriteFault>
+pub fn put_locks<K: Sink>(sink: &mut K, runner: &Runner<NoOverlay>) -> Result<(), WriteFault>
     requires { IsAtEnd runner.now }
     ensures { Puts result (lock_lines runner.now.plan runner.now.script)
         (K.told sink.old) (K.told sink.new) }
@@ -154,7 +166,7 @@ fn put_locks<K: Sink>(sink: &mut K, runner: &Runner<NoOverlay>) -> Result<(), Wr
 }
 
 /// Writes the bound.
-fn put_bound<K: Sink>(sink: &mut K, bound: u64) -> Result<(), WriteFault>
+pub fn put_bound<K: Sink>(sink: &mut K, bound: u64) -> Result<(), WriteFault>
     ensures { Puts result (bound_line bound) (K.told sink.old) (K.told sink.new) }
 {
     put_pieces(
@@ -168,13 +180,13 @@ fn put_bound<K: Sink>(sink: &mut K, bound: u64) -> Result<(), WriteFault>
 }
 
 /// Writes the lines of a run.
-fn put_run_lines<K: Sink>(
+fn put_run_lines<K: TextSink>(
     sink: &mut K,
     bound: u64,
     runner: &mut Runner<NoOverlay>,
 ) -> Result<(), WriteFault>
     requires { IsToPlay bound runner.old }
-    ensures { Puts result (text_of runner.old) (K.told sink.old) (K.told sink.new) }
+    ensures { Puts result (text_of runner.old) (K.Sink.told sink.old) (K.Sink.told sink.new) }
 {
     put_bound(sink, bound)?;
     put_rows(sink, runner)?;

@@ -12,6 +12,12 @@ const COUNTS: &str = "plan 1\nbase 5\nend\nscript 1\nfaulty\nstart zero\nrounds 
 const COUNTED: &str =
     "bound 0\nrow 0 0\nrow 1 1\nrow 2 2\nrow 3 3\nrow 4 4\nrow 5 0\nrow 6 1\nlocked 0\n";
 
+/// Four nodes, of which node 3 lies.
+const EXPLAINED: &str =
+    "plan 1\nbase 2304\nlevel 4 1 10\nend\nscript 1\nfaulty 3\nstart zero\nlie 0 9 3 to all hex 000700\nrounds 12\nshow 0 0\nend\n";
+
+const EXPLANATION: &str = "bound 2304\nwindow 0 leader 0\nphase 0 king 0\nlocked 2\n";
+
 const TWO_LEVELS: &str = "plan 1\nbase 2304\nlevel 4 1 960\nlevel 3 3 10\nend\n";
 
 const TABLE: &str =
@@ -23,6 +29,21 @@ const SLOTS: &str =
     "plan 1\nbase 5\nend\nslots 1\nslot 0 1 2\nend\nscript 1\nfaulty\nstart zero\nrounds 4\nshow 0 4\nend\n";
 
 const HELD: &str = "bound 0\nhold 0 .\nhold 1 1\nhold 2 1\nhold 3 .\nhold 4 .\nlocked 0\n";
+
+const AGREE: &str =
+    "plan 1\nbase 2304\nlevel 4 1 12\nend\nagree 1\nvalues 2\ninputs 1 1 1 0\nend\nscript 1\nfaulty 3\nstart zero\nlie 0 2315 3 to all noise\nrounds 2316\nshow 2304 2316\nend\n";
+
+const DECIDED: &str = "bound 2304\nslot 2310 1 1 1 *\nlocked 2\n";
+
+const FIRES: &str =
+    "plan 1\nbase 12\nend\nfire 1\nrequest 0 8 8\nend\nscript 1\nfaulty\nstart zero\nrounds 12\nshow 4 12\nend\n";
+
+const FIRED: &str = "bound 0\nfire 6 .\nfire 9 1\nlocked 0\n";
+
+const LOGS: &str =
+    "plan 1\nbase 12\nend\nlog 1\nvalues 3\nkeep 4\ncommands 0 1 2\nend\nscript 1\nfaulty\nstart zero\nrounds 12\nshow 4 12\nend\n";
+
+const LOGGED: &str = "bound 0\nentry 4 owner 0 2\nentry 8 owner 0 1\nlocked 0\n";
 
 const WANTS: &str = "find 1\nwant 1 10 4\nend\n";
 
@@ -54,9 +75,14 @@ fn answer(alloc: Global, line: &str, input: &[u8]) -> Result<(Status, MemSink), 
 fn accepted_inputs_are_answered(rt: HostRuntime) -> Result<(), Fail> {
     for (words, input, text) in [
         ("run", COUNTS, COUNTED),
+        ("explain", COUNTS, "bound 0\nexplain base\nlocked 0\n"),
+        ("explain", EXPLAINED, EXPLANATION),
         ("plan", TWO_LEVELS, TABLE),
         ("upgrade", TWO_LEVELS, UPGRADED),
         ("slots", SLOTS, HELD),
+        ("consensus", AGREE, DECIDED),
+        ("fire", FIRES, FIRED),
+        ("log", LOGS, LOGGED),
         ("find", WANTS, FOUND),
         ("table", TABLE, "true\n"),
     ] {

@@ -1,4 +1,4 @@
-use Rattle.std.proofs.Common.{◌≡◌, ◌∙◌, sym, Some, rules}
+use Rattle.std.proofs.Common.{◌∙◌, sym, Some, rules}
 use Rattle.sync_types.specs.declared.status.Status.TheVariants as status
 use Rattle.workbench.specs.declared.commands.Command.TheVariants as command
 use Rattle.workbench.proofs.NodeReturns.{does_end, none_held}

@@ -14,6 +14,9 @@ read_script-requires-clause-shape c = inl c.in_ok-shape.ensures.shape
 pub layered_runner-requires-clause-over : goal.layered_runner-requires-clause-over
 layered_runner-requires-clause-over c = λ lt. absurd (omega (arith, lt))
 
+pub layered_runner-requires-clause-deaf : goal.layered_runner-requires-clause-deaf
+layered_runner-requires-clause-deaf c = λ none v kept output heard told. refl
+
 pub layered_runner-requires-clause-shape : goal.layered_runner-requires-clause-shape
 layered_runner-requires-clause-shape c =
     c.in_ok-shape.ensures.shape ∙ none_behind c.in_ok-plan.plan 0

@@ -1,0 +1,26 @@
+-- What is written of an input of the word `fire`, by what was read of it.
+use Rattle.std.proofs.Common.{◌≡◌, ℕ, List, Ok, ap}
+use Rattle.std.specs.Prelude.{replicate}
+use Rattle.sync_types.specs.declared.answers.Part.TheVariants as part
+use Rattle.construction.specs.Plans.{Plan, plan_nodes, plan_faults}
+use Rattle.counter_core.specs.Overlays.{Layer}
+use Rattle.adversary_script.specs.Scripts.{Script}
+use Rattle.layer_laws.specs.Slots.{slot_length}
+use Rattle.run_lines.specs.PlayedTexts.{played_text}
+use Rattle.firing.specs.declared.requests.Request.{Request}
+use Rattle.firing.specs.declared.fires.Fire.{Fire}
+use Rattle.firing.specs.Firings.{fire_layer, unfired}
+use Rattle.firing.specs.FirePart.{part_of}
+use Rattle.log_lines.specs.FireTexts.{fire_text, fire_wording}
+use Rattle.workbench.specs.Layered.{layered_of, text_of_layered}
+use Rattle.workbench.specs.FireAnswers.{fire_shape, fire_answer}
+
+pub fire_text_is : (input : List ℕ) (plan played_plan : Plan) (script played : Script)
+    (requests : List Request) (layer : Layer Fire) (kept : List Fire) (length : ℕ)
+    → layered_of part.Fire part_of fire_shape input
+    ≡ Ok (record { plan = plan; said = requests; script = script })
+    → played_plan ≡ plan → played ≡ script → layer ≡ fire_layer plan requests
+    → kept ≡ replicate (plan_nodes plan) unfired → length ≡ slot_length (plan_faults plan)
+    → fire_answer input ≡ Ok (played_text played_plan played layer kept (fire_wording length))
+fire_text_is input plan played_plan script played requests layer kept length said p s l k n =
+    rw (p, s, l, k, n) (ap (text_of_layered fire_text) said)

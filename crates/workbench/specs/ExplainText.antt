@@ -1,0 +1,38 @@
+-- What the word `explain` answers to an input: the bound, why the last era of its script locks, and
+-- the lines of the first locked configurations.
+use Rattle.std.specs.Prelude.{ℕ, List, [], ◌∷◌, Option, Some, None, Result, Ok, Err, codes, decimal}
+use Rattle.std.specs.List.{concat}
+use Rattle.construction.specs.Plans.{Level, Plan, plan_bound}
+use Rattle.adversary_script.specs.Scripts.{Script}
+use Rattle.run_explanations.specs.declared.explanations.Explanation.{Explanation}
+use Rattle.run_explanations.specs.Explanations.{explanation_of}
+use Rattle.workbench.specs.declared.refusals.Refusal.{Refusal}
+use Rattle.workbench.specs.RunText.{bound_line, lock_lines}
+use Rattle.workbench.specs.Answers.{Scripted, scripted_of}
+
+-- the window with its leader, and the phase with its king
+abbrev pub explanation_lines : Option Explanation → List ℕ
+explanation_lines None = codes "explain none\n"
+explanation_lines (Some e) =
+    concat (codes "window " ∷ decimal e.window ∷ codes " leader " ∷ decimal e.leader
+    ∷ codes "\nphase " ∷ decimal e.phase ∷ codes " king " ∷ decimal e.king ∷ codes "\n" ∷ [])
+
+-- a plan without levels has no window
+abbrev pub lines_over : List Level → Plan → Script → List ℕ
+lines_over [] plan script = codes "explain base\n"
+lines_over (level ∷ below) plan script = explanation_lines (explanation_of plan script)
+
+abbrev pub why_lines : Plan → Script → List ℕ
+why_lines plan script = lines_over plan.levels plan script
+
+abbrev pub explain_text : Plan → Script → List ℕ
+explain_text plan script =
+    concat (bound_line (plan_bound plan) ∷ why_lines plan script ∷ lock_lines plan script ∷ [])
+
+abbrev pub explained_text : Result Scripted Refusal → Result (List ℕ) Refusal
+explained_text (Err refusal) = Err refusal
+explained_text (Ok scripted) = Ok (explain_text scripted.plan scripted.script)
+
+-- an input is that of the word `run`
+abbrev pub explain_answer : List ℕ → Result (List ℕ) Refusal
+explain_answer input = explained_text (scripted_of input)
