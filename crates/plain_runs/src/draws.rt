@@ -1,6 +1,7 @@
 //! Choices that are drawn: the same each time.
 
-use crate::plans::{Level, Plan, remainder, width};
+use crate::bits::{packed, put};
+use crate::plans::{Plan, remainder, width};
 use rand_chacha::ChaCha8Rng;
 use rand_core::{Rng, SeedableRng};
 use std::alloc::{AllocError, Global};
@@ -12,37 +13,11 @@ pub struct Draws {
     pub alloc: Global,
 }
 
-/// What states are near to: a number, and a value for each level.
+/// What states are near to: a number, and a value for each register.
 #[derive(Drop)]
 pub struct Centre {
     x: u64,
     values: Vec<u64>,
-}
-
-/// Puts the lowest bits of a number, the highest of them first.
-fn put(bits: &mut Vec<bool>, number: u64, width: u64) -> Result<(), AllocError> {
-    for i in 0..width {
-        let place = width.wrapping_sub(i).wrapping_sub(1) % 64;
-        bits.push(number >> place & 1 == 1)?;
-    }
-    Ok(())
-}
-
-/// So many bytes of bits, the highest bit of the first byte first, with zeros behind.
-fn packed(alloc: Global, bits: &[bool], bytes: u64) -> Result<Vec<u8>, AllocError> {
-    let mut packed = Vec::new(alloc);
-    for i in 0..bytes {
-        let mut byte = 0u8;
-        for j in 0..8 {
-            let bit = bits.get(i.wrapping_mul(8).wrapping_add(j) as usize);
-            byte = byte.wrapping_mul(2);
-            if bit.copied().unwrap_or(false) {
-                byte = byte.wrapping_add(1);
-            }
-        }
-        packed.push(byte)?;
-    }
-    Ok(packed)
 }
 
 impl Draws {
@@ -73,7 +48,7 @@ impl Draws {
     }
 
     /// So many bytes of any kind.
-    fn any_bytes(&mut self, count: u64) -> Result<Vec<u8>, AllocError> {
+    pub fn any_bytes(&mut self, count: u64) -> Result<Vec<u8>, AllocError> {
         let mut bytes = Vec::new(self.alloc);
         for _ in 0..count {
             bytes.push((self.generator.next_u32() % 256) as u8)?;
@@ -109,8 +84,8 @@ impl Draws {
     /// What states are near to.
     pub fn centre(&mut self, plan: &Plan) -> Result<Centre, AllocError> {
         let mut values = Vec::new(self.alloc);
-        for level in &plan.levels {
-            values.push(self.below(level.modulus))?;
+        for depth in 0..plan.registers() {
+            values.push(self.below(plan.modulus_of(depth)))?;
         }
         Ok(Centre {
             x: self.below(plan.base),
@@ -138,11 +113,11 @@ impl Draws {
 
     /// A value near to another: mostly that, else infinity, the one above, or any that fits the
     /// bits.
-    fn near(&mut self, value: u64, level: &Level) -> u64 {
+    fn near(&mut self, value: u64, modulus: u64) -> u64 {
         match self.below(10) {
-            0 => level.modulus,
-            1 => remainder(value.wrapping_add(1), level.modulus),
-            2 => self.below(level.modulus.wrapping_add(3)),
+            0 => modulus,
+            1 => remainder(value.wrapping_add(1), modulus),
+            2 => self.below(modulus.wrapping_add(3)),
             _ => value,
         }
     }
@@ -162,9 +137,11 @@ impl Draws {
             let x = self.near_number(centre.x, plan.base);
             put(&mut bits, x, width(plan.base))?;
         }
-        for (depth, (level, value)) in plan.levels.iter().zip(&centre.values).enumerate() {
+        for (depth, value) in centre.values.iter().enumerate() {
             if plan.has_register(node, depth) {
-                put(&mut bits, self.near(*value, level), level.width())?;
+                let modulus = plan.modulus_of(depth);
+                let bits_of_value = width(modulus.wrapping_add(1));
+                put(&mut bits, self.near(*value, modulus), bits_of_value)?;
                 put(&mut bits, self.below(2), 1)?;
             }
         }

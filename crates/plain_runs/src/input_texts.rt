@@ -34,7 +34,7 @@ pub fn write_plan(text: &mut String, plan: &Plan) -> Result<(), AllocError> {
 }
 
 /// Writes numbers, each behind a space.
-fn write_numbers(text: &mut String, numbers: &[u64]) -> Result<(), AllocError> {
+pub fn write_numbers(text: &mut String, numbers: &[u64]) -> Result<(), AllocError> {
     for number in numbers {
         write!(text, " {number}")?;
     }
@@ -42,7 +42,7 @@ fn write_numbers(text: &mut String, numbers: &[u64]) -> Result<(), AllocError> {
 }
 
 /// Writes bytes as hex digits behind a space.
-fn write_bytes(text: &mut String, bytes: &[u8]) -> Result<(), AllocError> {
+pub fn write_bytes(text: &mut String, bytes: &[u8]) -> Result<(), AllocError> {
     write!(text, " ")?;
     for byte in bytes {
         write!(text, "{byte:02x}")?;

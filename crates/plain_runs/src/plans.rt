@@ -12,11 +12,15 @@ pub struct Level {
 }
 
 /// A version, 1 or 2, a base modulus, and levels from the bottom up. Version 1 has no spare nodes.
+/// Behind the registers of the levels each node has those of a layer, whose values are below
+/// `values`.
 #[derive(Drop)]
 pub struct Plan {
     pub version: u64,
     pub base: u64,
     pub levels: Vec<Level>,
+    pub behind: usize,
+    pub values: u64,
 }
 
 /// `a` divided by `b`, or 0 where `b` is 0.
@@ -54,7 +58,7 @@ impl Level {
     pub fn interval(&self, block: u64) -> u64 {
         let mut rounds = self.beat();
         for _ in 0..block {
-            rounds = rounds.wrapping_mul(self.leaders()).wrapping_mul(2);
+            rounds = rounds.saturating_mul(self.leaders()).saturating_mul(2);
         }
         rounds
     }
@@ -62,11 +66,6 @@ impl Level {
     /// For how many rounds the pointers of all blocks together take each course.
     pub fn span(&self) -> u64 {
         self.interval(self.blocks)
-    }
-
-    /// How many bits the value of a register has.
-    pub fn width(&self) -> u64 {
-        width(self.modulus.wrapping_add(1))
     }
 }
 
@@ -91,7 +90,36 @@ impl Plan {
             version,
             base,
             levels,
+            behind: 0,
+            values: 0,
         })
+    }
+
+    /// Puts so many registers of a layer behind those of the levels, with values below `values`.
+    pub fn set_layer(&mut self, behind: usize, values: u64) {
+        self.behind = behind;
+        self.values = values;
+    }
+
+    /// How many registers a state has.
+    pub fn registers(&self) -> usize {
+        self.levels.len().saturating_add(self.behind)
+    }
+
+    /// Below what the values of a register are.
+    pub fn modulus_of(&self, register: usize) -> u64 {
+        let level = self.levels.get(register);
+        level.map_or(self.values, |level| level.modulus)
+    }
+
+    /// The modulus that the nodes count by.
+    pub fn modulus(&self) -> u64 {
+        self.levels.last().map_or(self.base, |level| level.modulus)
+    }
+
+    /// How many rounds a slot has.
+    pub fn slot(&self) -> u64 {
+        self.faults().wrapping_add(1).wrapping_mul(3)
     }
 
     /// How many nodes a group of the lowest `depth` levels has.
@@ -157,7 +185,8 @@ impl Plan {
         self.low(node) == 0
     }
 
-    /// Whether a node has a register on the level above the lowest `depth` ones.
+    /// Whether a node has a register on the level above the lowest `depth` ones; it has those of a
+    /// layer.
     pub fn has_register(&self, node: u64, depth: usize) -> bool {
         self.low(node) <= depth.wrapping_add(1)
     }
@@ -169,9 +198,10 @@ impl Plan {
         } else {
             0
         };
-        for (depth, level) in self.levels.iter().enumerate() {
+        for depth in 0..self.registers() {
             if self.has_register(node, depth) {
-                bits = bits.wrapping_add(level.width()).wrapping_add(1);
+                let value = width(self.modulus_of(depth).wrapping_add(1));
+                bits = bits.wrapping_add(value).wrapping_add(1);
             }
         }
         bits

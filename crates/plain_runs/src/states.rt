@@ -1,5 +1,6 @@
 //! States of nodes, and how bytes are read as one.
 
+use crate::bits::{bit, number, packed, put};
 use crate::plans::{Plan, remainder, width};
 use std::alloc::{AllocError, Global};
 
@@ -10,8 +11,8 @@ pub struct Register {
     pub mark: bool,
 }
 
-/// A number and a register for each level, from the bottom up. What a node lacks is 0, with no
-/// mark.
+/// A number and a register for each level, from the bottom up, and behind them those of a layer.
+/// What a node lacks is 0, with no mark.
 #[derive(Clone, Drop)]
 pub struct State {
     pub x: u64,
@@ -24,23 +25,6 @@ pub const ZERO: Register = Register {
     mark: false,
 };
 
-/// The bit at a place of some bytes, the highest bit of the first byte being at place 0.
-fn bit(bytes: &[u8], place: u64) -> u64 {
-    let byte = bytes.get((place / 8) as usize).copied().unwrap_or(0);
-    u64::from(byte >> (7 - place % 8) & 1)
-}
-
-/// The number that stands in some bits, the highest first.
-fn number(bytes: &[u8], first: u64, bits: u64) -> u64 {
-    let mut number = 0u64;
-    for i in 0..bits {
-        number = number
-            .wrapping_mul(2)
-            .wrapping_add(bit(bytes, first.wrapping_add(i)));
-    }
-    number
-}
-
 /// The state of a node that some bytes are read as: a number that is too large is 0, and a value
 /// that is too large is infinite.
 pub fn read(alloc: Global, plan: &Plan, node: u64, bytes: &[u8]) -> Result<State, AllocError> {
@@ -51,12 +35,13 @@ pub fn read(alloc: Global, plan: &Plan, node: u64, bytes: &[u8]) -> Result<State
         x = number(bytes, 0, at);
     }
     let mut registers = Vec::new(alloc);
-    for (depth, level) in plan.levels.iter().enumerate() {
+    for depth in 0..plan.registers() {
         if plan.has_register(node, depth) {
-            let value = number(bytes, at, level.width());
-            at = at.wrapping_add(level.width());
+            let bits = width(plan.modulus_of(depth).wrapping_add(1));
+            let value = number(bytes, at, bits);
+            at = at.wrapping_add(bits);
             registers.push(Register {
-                value: if value < level.modulus {
+                value: if value < plan.modulus_of(depth) {
                     Some(value)
                 } else {
                     None
@@ -72,6 +57,28 @@ pub fn read(alloc: Global, plan: &Plan, node: u64, bytes: &[u8]) -> Result<State
         x: if x < plan.base { x } else { 0 },
         registers,
     })
+}
+
+/// The bytes of a state of a node: an infinite value stands as the first that is too large.
+pub fn written(
+    alloc: Global,
+    plan: &Plan,
+    node: u64,
+    state: &State,
+) -> Result<Vec<u8>, AllocError> {
+    let mut bits = Vec::new(alloc);
+    if plan.has_number(node) {
+        put(&mut bits, state.x, width(plan.base))?;
+    }
+    for (depth, register) in state.registers.iter().enumerate() {
+        if plan.has_register(node, depth) {
+            let modulus = plan.modulus_of(depth);
+            let value = register.value.unwrap_or(modulus);
+            put(&mut bits, value, width(modulus.wrapping_add(1)))?;
+            put(&mut bits, u64::from(register.mark), 1)?;
+        }
+    }
+    packed(alloc, &bits, plan.bytes(node))
 }
 
 /// The state of zeros.
@@ -108,9 +115,9 @@ pub fn part_of(plan: &Plan, node: u64, mut state: State) -> State {
 /// A state of a node whose number and finite values are all raised by `by`, each in its modulus.
 pub fn shifted(plan: &Plan, node: u64, mut state: State, by: u64) -> State {
     state.x = remainder(state.x.wrapping_add(by), plan.base);
-    for (register, level) in state.registers.iter_mut().zip(&plan.levels) {
+    for (depth, register) in state.registers.iter_mut().enumerate() {
         let raised = register.value.map(|value| value.wrapping_add(by));
-        register.value = raised.map(|value| remainder(value, level.modulus));
+        register.value = raised.map(|value| remainder(value, plan.modulus_of(depth)));
     }
     part_of(plan, node, state)
 }

@@ -45,33 +45,42 @@ fn count(values: &[Option<u64>], wanted: Option<u64>) -> u64 {
 fn least(values: &[Option<u64>], faults: u64) -> Option<u64> {
     let mut least: Option<u64> = None;
     for value in values.iter().flatten() {
-        let enough = count(values, Some(*value)) > faults;
-        if enough && least.is_none_or(|least| *value < least) {
+        let is_less = least.is_none_or(|least| *value < least);
+        if is_less && count(values, Some(*value)) > faults {
             least = Some(*value);
         }
     }
     least
 }
 
-/// What a register becomes by the instruction of a kind.
-fn instructed(
-    level: &Level,
+/// What a register becomes by the instruction of a kind, without increment, where so many nodes may
+/// be faulty.
+pub fn agreed(
+    faults: u64,
     kind: u64,
     own: Register,
     values: &[Option<u64>],
     king: Option<u64>,
 ) -> Register {
-    let many = (values.len() as u64).saturating_sub(level.faults);
+    let many = (values.len() as u64).saturating_sub(faults);
     let have = count(values, own.value) >= many;
     let (value, mark) = match kind {
         0 if have => (own.value, own.mark),
         0 => (None, own.mark),
-        1 => (least(values, level.faults), have),
+        1 => (least(values, faults), have),
         _ if own.value.is_none() || !own.mark => (Some(king.unwrap_or(0)), true),
         _ => (own.value, true),
     };
-    let value = value.map(|value| remainder(value.wrapping_add(1), level.modulus));
     Register { value, mark }
+}
+
+/// A register whose finite value is raised by one.
+fn raised(register: Register, modulus: u64) -> Register {
+    let value = register.value.map(|value| value.wrapping_add(1));
+    Register {
+        value: value.map(|value| remainder(value, modulus)),
+        mark: register.mark,
+    }
 }
 
 /// Some states of a list: `length` of them from place `first` on.
@@ -120,7 +129,7 @@ fn place_in_beat(
 }
 
 /// The register of a state on the level above `depth`.
-fn register(state: Option<&State>, depth: usize) -> Register {
+pub fn register(state: Option<&State>, depth: usize) -> Register {
     let found = state.and_then(|state| state.registers.get(depth).copied());
     found.unwrap_or(ZERO)
 }
@@ -142,17 +151,18 @@ fn new_register(
     for state in group {
         values.push(register(Some(state), depth).value)?;
     }
-    Ok(instructed(
-        level,
+    let agreed = agreed(
+        level.faults,
         place % 3,
         register(heard.get(node as usize), depth),
         &values,
         register(king, depth).value,
-    ))
+    );
+    Ok(raised(agreed, level.modulus))
 }
 
-/// The state of a node after a round in which it hears these states, its own among them. What the
-/// node lacks stays as it stands.
+/// The state of a node after a round in which it hears these states, its own among them, without
+/// the registers of a layer. What the node lacks stays as it stands.
 pub fn stepped(
     alloc: Global,
     plan: &Plan,
