@@ -1,0 +1,34 @@
+/* Plays a script and writes its rows, as the word `run` does.
+ *
+ *   gcc -O2 -o run bench/run.c && time ./run < bench/twelve_nodes.txt
+ */
+#include "script.h"
+
+static void put_row(uint64_t t, const struct era *era) {
+    put_text("row "), put_number(t);
+    for (int v = 0; v < nodes; v++) {
+        put_byte(' ');
+        if (era->is_faulty[v]) put_byte('*');
+        else put_number(shown(&config[v], depth));
+    }
+    put_byte('\n');
+}
+
+int main(void) {
+    struct era *era = eras;
+    read_input();
+    read_plan();
+    end_plan(0, 0);
+    read_script();
+    put_text("bound "), put_number(bound), put_byte('\n');
+    start_all();
+    for (uint64_t t = 0;; t++) {
+        look(t, era);
+        if (shown_from <= t && t <= shown_to) put_row(t, era);
+        if (t == rounds) break;
+        era = play(t, era, NULL);
+    }
+    put_locks();
+    pass_on();
+    return 0;
+}
