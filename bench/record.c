@@ -31,16 +31,6 @@ static void put_head(void) {
         if (!eras[0].is_faulty[v]) put_start(v);
 }
 
-static void put_row(uint64_t t, const struct era *era) {
-    put_text("row "), put_number(t);
-    for (int v = 0; v < nodes; v++) {
-        put_byte(' ');
-        if (era->is_faulty[v]) put_byte('*');
-        else put_number(shown(&config[v], depth));
-    }
-    put_byte('\n');
-}
-
 static void put_lies(uint64_t t, const struct era *era) {
     struct state told;
     for (int i = 0; i < era->count; i++)

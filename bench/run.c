@@ -4,16 +4,6 @@
  */
 #include "script.h"
 
-static void put_row(uint64_t t, const struct era *era) {
-    put_text("row "), put_number(t);
-    for (int v = 0; v < nodes; v++) {
-        put_byte(' ');
-        if (era->is_faulty[v]) put_byte('*');
-        else put_number(shown(&config[v], depth));
-    }
-    put_byte('\n');
-}
-
 int main(void) {
     struct era *era = eras;
     read_input();

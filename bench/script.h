@@ -296,6 +296,17 @@ static void look(uint64_t t, struct era *era) {
     era->is_locked = 1, era->locked = t;
 }
 
+/* Prints the row of configuration t. */
+static void put_row(uint64_t t, const struct era *era) {
+    put_text("row "), put_number(t);
+    for (int v = 0; v < nodes; v++) {
+        put_byte(' ');
+        if (era->is_faulty[v]) put_byte('*');
+        else put_number(shown(&config[v], depth));
+    }
+    put_byte('\n');
+}
+
 static void put_locks(void) {
     for (struct era *era = eras; era < eras + era_count; era++) {
         if (script_version == 2) put_text("era "), put_number(era->at), put_byte(' ');
