@@ -1,4 +1,5 @@
 pub mod Mapped
+pub mod OneEra
 pub mod RisingIds
 pub mod Taken
 pub mod WordBytes

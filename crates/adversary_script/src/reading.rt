@@ -1,4 +1,4 @@
-ghost use Rattle.std.specs.Prelude.{◌≡◌, ◌≤◌, ◌<◌, ◌+◌, ◌^◌, length, IfOk};
+ghost use Rattle.std.specs.Prelude.{◌≡◌, ◌≤◌, ◌<◌, ◌+◌, ◌^◌, [], length, IfOk};
 ghost use Rattle.texts.specs.Lines.{lines_of};
 ghost use Rattle.adversary_script.specs.ScriptPart.{IsAnswer, IsFor};
 ghost use Rattle.adversary_script.specs.StateShapes.{IsShapeFor};
@@ -18,9 +18,10 @@ use sync_types::Rule;
 /// of `bytes` has the number `first_line`, which is at least 1 and whose sum with the length of
 /// `bytes` is below 2^64.
 ///
-/// `Refused` is the first line that fails, with the first rule that it fails. A script that lacks
-/// its `end` is refused `Form` at the line after the last, and so is the first line behind `end`
-/// that is not skipped. `NoMemory` comes where memory was refused.
+/// A script of version 1 has no further eras. `Refused` is the first line that fails, with the first
+/// rule that it fails. A script that lacks its `end` is refused `Form` at the line after the last,
+/// and so is the first line behind `end` that is not skipped. `NoMemory` comes where memory was
+/// refused.
 pub fn read_script(
     alloc: Global,
     plan: &Plan,
@@ -33,6 +34,7 @@ pub fn read_script(
     requires count { first_line + length bytes.now < 2 ^ 64 }
     ensures exact { IsAnswer plan.now shape.now first_line (lines_of bytes.now) result }
     ensures borne { IfOk result (λ script. IsFor plan.now shape.now script) }
+    ensures eras { IfOk result (λ script. script.version ≡ 1 → script.eras ≡ []) }
 {
     shape.tell();
     read_exactly(alloc, plan, shape, bytes, first_line)
