@@ -1,14 +1,14 @@
-ghost use Rattle.std.specs.Prelude.{◌≡◌, ◌+◌, ◌*◌, ◌<◌, ◌≤◌, ℕ, List, length, slice_index_or, All, false};
+ghost use Rattle.std.specs.Prelude.{◌≡◌, ◌+◌, ◌*◌, ◌<◌, ◌≤◌, ℕ, List, length, slice_index_or, All, IfSome, false};
 ghost use Rattle.sync_types.specs.States.{State};
 ghost use Rattle.majority_votes.specs.Votes.{Votes};
-ghost use Rattle.group_votes.specs.Senders.{IsTold, TellsItself, liars_in, parts_of};
+ghost use Rattle.group_votes.specs.Senders.{Sent, IsTold, TellsItself, liars_in, parts_of};
 ghost use Rattle.group_votes.specs.Votes.{IsKnown, IsVote, AreVotes, block_vote, block_part, blocks_lead};
 ghost use Rattle.group_votes.specs.Groups.{contents, IsGroup, IsCounted, StandsFor, register_heard, AreBelow, AreLies, beat_of_lead};
 
 use crate::group::Group;
 use crate::laying::{part_heard, vote_heard};
 use crate::locks::is_locked_at;
-use crate::obeying::{is_king_open, is_test_open, next, obey};
+use crate::obeying::{is_king_open, is_test_open, locked_next, obey};
 use crate::senders::Senders;
 use majority_votes::{Steps, Tally};
 use std::sync::ledger::Ledger;
@@ -211,10 +211,7 @@ impl Group {
         if let Some(value) = self.locked
             && is_locked_at(own, value)
         {
-            return Reg {
-                a: Some(next(value, self.nums.modulus)),
-                d: true,
-            };
+            return locked_next(value, self.nums.modulus);
         }
         let nums = self.nums;
         let first = self.first;
@@ -231,6 +228,24 @@ impl Group {
             &mut self.values,
             steps,
         )
+    }
+
+    /// The new register of every node of the group, whatever it is told, where all of the group's
+    /// registers are locked at one value. Where there is none, nothing is claimed.
+    pub fn common_register(&self) -> Option<Reg>
+        requires { IsGroup self.now }
+        ensures { IfSome result (λ register. (senders : Sent) (node : ℕ) (lies : List State)
+            → StandsFor senders self.now
+            → self.now.first ≤ node → node < self.now.first + self.now.nums.nodes
+            → register_heard senders self.now.nums self.now.first node lies ≡ register) }
+    {
+        if !self.is_settled {
+            return None;
+        }
+        match self.locked {
+            Some(value) if value < self.nums.modulus => Some(locked_next(value, self.nums.modulus)),
+            _ => None,
+        }
     }
 
     /// The beat that is heard, of a group that is counted.

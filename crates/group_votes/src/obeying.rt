@@ -16,12 +16,24 @@ use std::sync::ledger::Ledger;
 use sync_types::{NodeState, Reg};
 
 /// The value after a value, by a modulus.
-pub(crate) fn next(value: u64, modulus: u64) -> u64
+fn next(value: u64, modulus: u64) -> u64
     requires below { value < modulus }
     requires modulus { modulus ≤ 2 ^ 40 }
     ensures { result ≡ up modulus value }
 {
     if value + 1 == modulus { 0 } else { value + 1 }
+}
+
+/// The register after one that is locked at a value, in a group that is.
+pub(crate) fn locked_next(value: u64, modulus: u64) -> Reg
+    requires below { value < modulus }
+    requires modulus { modulus ≤ 2 ^ 40 }
+    ensures { result ≡ locked_at (up modulus value) }
+{
+    Reg {
+        a: Some(next(value, modulus)),
+        d: true,
+    }
 }
 
 /// The value of the register of one of the lies.

@@ -1,22 +1,19 @@
 -- What columns of outputs and registers are of the states that they make up.
-use Rattle.std.proofs.Common.{◌≡◌, ℕ, zero, suc, ◌+◌, ◌<◌, ◌≤◌, List, [], length, map, get_or, take, All, Bool, false, unwrap_or, refl, sym, ap, ◌∙◌, subst, arith}
-use Rattle.std.specs.Prelude.{slice_index_or}
+use Rattle.std.proofs.Common.{◌≡◌, ℕ, zero, suc, ◌+◌, ◌<◌, List, [], length, map, get_or, All, Bool, false, unwrap_or, refl, sym, ap, ◌∙◌, subst, arith}
 use Rattle.std.specs.List.{range_with_len}
-use Rattle.std.proofs.lemmas.List.{get_or-map, ext_get_or, length-map, length-take, get_or-take}
+use Rattle.std.proofs.lemmas.List.{get_or-map, ext_get_or, length-map}
 use Rattle.std.proofs.lemmas.List.FromFn.{length-map-range_with_len, get_or-map-range_with_len}
 use Rattle.std.proofs.lemmas.Simd.{map-map}
-use Rattle.counting.specs.Places.{places}
 use Rattle.counting.proofs.Places.{same_places}
 use Rattle.sync_types.specs.declared.states.Reg.{Reg}
 use Rattle.sync_types.specs.FaultSets.{is_in}
 use Rattle.sync_types.specs.States.{State, zero_state, zero_register, register_at}
 use Rattle.construction.specs.Shown.{shown}
 use Rattle.construction.specs.Steps.{state_of}
-use Rattle.counter_core.specs.Meanings.{cut}
 use Rattle.group_votes.specs.Senders.{AreSent}
 use Rattle.shared_laws.specs.Sharing.{place_among}
 use Rattle.shared_laws.proofs.Stretches.{same_range}
-use Rattle.shared_board.specs.Boards.{Board, AreLiars, IsBoard, AreFilled, board_of, state_by, sent_of, registers_of, outputs_of, numbers_of}
+use Rattle.shared_board.specs.Boards.{Board, AreLiars, IsBoard, board_of, state_by, sent_of}
 
 -- a list by its places
 pub by_places : {X : Type 0} → (d : X) (xs : List X) (n : ℕ) → length xs ≡ n
@@ -44,6 +41,12 @@ module _ (nodes : ℕ) (shows : List (List ℕ)) (columns : List (List Reg)) (id
   board_liars are =
       subst (λ n. AreLiars n b.faulty) (sym board_size)
       (subst (AreLiars nodes) (sym board_faulty) are)
+
+  -- the number of a node is that of its place in the first column
+  pub number_at : (u : ℕ) → u < nodes → (state_of b.states u).x ≡ get_or (get_or shows 0 []) u 0
+  number_at u lt =
+      ap (λ (s : State). s.x) (ap (λ ss. state_of ss u) states_are
+      ∙ get_or-map-range_with_len (state_by shows columns) 0 nodes u u (zero_state 0) lt (omega arith))
 
   module _ (marks : List Bool) (before : List ℕ) (room : ℕ)
       (kept : IsBoard nodes shows columns ids marks before room) (h : ℕ) (deep : h < length columns) where

@@ -1,5 +1,5 @@
 -- What columns that were filled from states make up.
-use Rattle.std.proofs.Common.{◌≡◌, ℕ, zero, suc, ◌+◌, ◌<◌, ◌≤◌, List, [], length, map, get_or, take, All, unwrap_or, refl, sym, ap, ◌∙◌, subst, arith}
+use Rattle.std.proofs.Common.{◌≡◌, ℕ, zero, suc, ◌+◌, ◌<◌, ◌≤◌, List, [], length, map, get_or, take, All, unwrap_or, sym, ap, ◌∙◌, arith}
 use Rattle.std.specs.List.{range_with_len}
 use Rattle.std.proofs.lemmas.List.{get_or-map, get_or_default, ext_get_or, length-map, length-take-le, get_or-take}
 use Rattle.std.proofs.lemmas.Simd.{map-map}
@@ -8,7 +8,7 @@ use Rattle.sync_types.specs.States.{State, zero_state, zero_register, register_a
 use Rattle.construction.specs.Steps.{state_of}
 use Rattle.counter_core.specs.Meanings.{cut}
 use Rattle.shared_laws.proofs.Stretches.{same_range}
-use Rattle.shared_board.specs.Boards.{AreFilled, state_by, numbers_of, registers_of, outputs_of}
+use Rattle.shared_board.specs.Boards.{AreFilled, state_by}
 use Rattle.shared_board.proofs.ByPlace.{by_places}
 
 module _ (states : List State) (columns : List (List Reg)) (shows : List (List ℕ)) (nodes : ℕ)

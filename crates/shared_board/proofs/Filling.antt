@@ -1,11 +1,11 @@
 -- Columns of one level more.
-use Rattle.std.proofs.Common.{◌≡◌, ◌≢◌, ℕ, ◌+◌, ◌<◌, ◌≤◌, List, [], length, map, set, get_or, refl, sym, ap, ◌∙◌, subst, ⊎_elim, arith}
+use Rattle.std.proofs.Common.{◌≡◌, ℕ, ◌+◌, ◌<◌, List, [], length, map, set, sym, ap, ◌∙◌, subst, ⊎_elim, arith}
 use Rattle.std.proofs.lemmas.Bool.{cases_lt}
 use Rattle.std.proofs.lemmas.List.{map-set, get_or-set_other}
 use Rattle.std.proofs.lemmas.Grind.{get_or-set_at}
 use Rattle.sync_types.specs.declared.states.Reg.{Reg}
 use Rattle.sync_types.specs.States.{State}
-use Rattle.shared_board.specs.Boards.{AreFilled, numbers_of, registers_of, outputs_of}
+use Rattle.shared_board.specs.Boards.{AreFilled, registers_of, outputs_of}
 
 pub filled_more : (states : List State) (columns : List (List Reg)) (shows : List (List ℕ)) (l : ℕ)
     (r : List Reg) (o : List ℕ) → l < length columns → l + 1 < length shows

@@ -1,26 +1,23 @@
 -- What a level's senders tell is what is heard where the lies stand in the order of the liars.
-use Rattle.std.proofs.Common.{◌≡◌, ℕ, zero, suc, ◌+◌, ◌-◌, ◌*◌, ◌<◌, ◌≤◌, Bool, true, false, not, cond, if◌then◌else◌, List, [], ◌∷◌, length, map, take, get_or, Option, None, refl, sym, ap, ap₂, ◌∙◌, subst, arith}
+use Rattle.std.proofs.Common.{◌≡◌, ℕ, zero, suc, ◌+◌, ◌*◌, ◌<◌, ◌≤◌, Bool, true, false, not, cond, if◌then◌else◌, List, ◌∷◌, length, map, take, refl, sym, ap, ap₂, ◌∙◌, arith}
 use Rattle.std.specs.List.{filter, range_with_len}
-use Rattle.std.proofs.lemmas.List.{get_or-map, get_or-take, length-map}
+use Rattle.std.proofs.lemmas.List.{get_or-map, length-map}
 use Rattle.std.proofs.lemmas.List.FromFn.{get_or-map-range_with_len, take-map-range_with_len}
 use Rattle.std.proofs.lemmas.Simd.{map-map}
-use Rattle.counting.specs.Places.{places}
 use Rattle.counting.proofs.Places.{same_places, shorter}
 use Rattle.sync_types.specs.declared.states.Reg.{Reg}
 use Rattle.sync_types.specs.FaultSets.{is_in}
 use Rattle.sync_types.specs.States.{State, zero_state, zero_register, register_at}
-use Rattle.construction.specs.Plans.{group_size}
 use Rattle.construction.specs.Shown.{shown}
 use Rattle.construction.specs.Steps.{state_of, register_after}
-use Rattle.counter_core.specs.Meanings.{cut}
 use Rattle.plan_numbers.specs.declared.numbers.LevelNums.{LevelNums}
 use Rattle.plan_numbers.specs.Numbers.{level_of}
 use Rattle.plan_numbers.specs.Sizes.{block_nodes}
 use Rattle.plan_laws.specs.Stretches.{stretch}
-use Rattle.group_votes.specs.Senders.{Sent, is_liar, output_of, register_of, correct_in, liars_below, liars_in, told_by, IsTold, output_heard, value_heard, outputs_heard, values_heard, TellsItself}
+use Rattle.group_votes.specs.Senders.{Sent, is_liar, output_of, register_of, correct_in, liars_below, liars_in, told_by, IsTold, output_heard, value_heard, outputs_heard, values_heard}
 use Rattle.group_votes.specs.Groups.{register_heard}
 use Rattle.shared_laws.specs.Sharing.{place_among, heard_at, heard_with, honest_in}
-use Rattle.shared_laws.specs.Groups.{Group, register_for, nodes_in}
+use Rattle.shared_laws.specs.Groups.{register_for}
 use Rattle.shared_laws.proofs.Stretches.{stretch_of_range, same_range}
 use Rattle.shared_laws.proofs.Ids.{places_of_all}
 use Rattle.shared_board.specs.Boards.{Board, sent_of, AreLiars}

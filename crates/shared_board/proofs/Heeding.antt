@@ -1,7 +1,6 @@
 -- What is heard of a stretch of nodes hangs on the lies of its liars alone.
-use Rattle.std.proofs.Common.{◌≡◌, ℕ, suc, ◌+◌, ◌*◌, ◌<◌, ◌≤◌, Bool, true, false, if◌then◌else◌, List, length, refl, sym, ap, ◌∙◌, arith}
+use Rattle.std.proofs.Common.{◌≡◌, ℕ, suc, ◌+◌, ◌*◌, ◌<◌, ◌≤◌, Bool, true, false, if◌then◌else◌, List, length, refl, ap, ◌∙◌, arith}
 use Rattle.counting.proofs.Places.{shorter}
-use Rattle.sync_types.specs.declared.states.Reg.{Reg}
 use Rattle.sync_types.specs.States.{State, register_at}
 use Rattle.construction.specs.Shown.{shown}
 use Rattle.construction.specs.Steps.{state_of, register_after}

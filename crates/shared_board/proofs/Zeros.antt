@@ -1,14 +1,13 @@
 -- Columns of zeros.
-use Rattle.std.proofs.Common.{◌≡◌, ℕ, zero, suc, ◌+◌, ◌<◌, ◌≤◌, List, [], ◌∷◌, length, map, get_or, replicate, All, Bool, false, unwrap_or, refl, sym, ap, ap₂, ◌∙◌, subst, arith}
+use Rattle.std.proofs.Common.{◌≡◌, ℕ, zero, suc, ◌+◌, ◌<◌, ◌≤◌, List, [], ◌∷◌, length, map, get_or, replicate, Bool, false, unwrap_or, refl, sym, ap, ap₂, ◌∙◌, subst, arith}
 use Rattle.std.specs.List.{range_with_len}
 use Rattle.std.proofs.lemmas.List.{get_or-replicate, length-replicate}
-use Rattle.counting.specs.Places.{places}
 use Rattle.counting.proofs.Places.{none_pass}
 use Rattle.sync_types.specs.declared.states.Reg.{Reg}
 use Rattle.sync_types.specs.FaultSets.{is_in}
-use Rattle.sync_types.specs.States.{State, zero_state, zero_register}
+use Rattle.sync_types.specs.States.{zero_state, zero_register}
 use Rattle.shared_laws.specs.Sharing.{place_among}
-use Rattle.shared_board.specs.Boards.{Board, IsBoard, board_of, state_by}
+use Rattle.shared_board.specs.Boards.{IsBoard, board_of, state_by}
 
 map-same : {X Y : Type 0} → (f : X → Y) (x : X) (n : ℕ) → map f (replicate n x) ≡ replicate n (f x)
 map-same f x zero = refl

@@ -6,7 +6,6 @@ use Rattle.sync_types.specs.declared.states.Reg.{Reg}
 use Rattle.sync_types.specs.FaultSets.{is_in}
 use Rattle.sync_types.specs.States.{State, zero_register, register_at}
 use Rattle.construction.specs.Shown.{shown}
-use Rattle.construction.specs.Steps.{state_of}
 use Rattle.shared_laws.specs.Sharing.{place_among}
 use Rattle.group_votes.specs.Senders.{Sent}
 

@@ -1,5 +1,6 @@
 ghost use Rattle.std.specs.Prelude.{◌≡◌, ◌<◌, ◌≤◌, ◌+◌, [], ℕ, length, map, replicate, All, IfOk};
 ghost use Rattle.sync_types.specs.States.{zero_state};
+ghost use Rattle.construction.specs.Steps.{state_of};
 ghost use Rattle.counter_core.specs.Meanings.{cut};
 ghost use Rattle.shared_board.specs.Boards.{sent_of, AreLiars};
 ghost use Rattle.shared_laws.specs.Sharing.{place_among};
@@ -88,6 +89,14 @@ impl Board {
             &self.marks,
             &self.before,
         )
+    }
+
+    /// The number of node `u`.
+    pub fn number(&self, u: usize) -> u64
+        requires { u < length self.now.states }
+        ensures { result ≡ (state_of self.now.states u).x }
+    {
+        self.outputs[0][u]
     }
 
     /// How many liars have ids below `u`.

@@ -1,4 +1,4 @@
-ghost use Rattle.std.specs.Prelude.{◌≡◌, ◌<◌, ◌≤◌, ◌+◌, ◌*◌, ◌^◌, length, take, drop, slice_index, All};
+ghost use Rattle.std.specs.Prelude.{◌≡◌, ◌<◌, ◌≤◌, ◌+◌, ◌*◌, ◌^◌, ℕ, length, take, drop, slice_index, slice_index_or, All};
 ghost use Rattle.std.specs.Int.{div_ceil};
 ghost use Rattle.sync_types.specs.States.{register_at};
 ghost use Rattle.state_codec.specs.Shapes.{Fields, register_bits, registers_bits, bits_in, bytes_in, IsFields};
@@ -14,6 +14,9 @@ use crate::writer::{Pending, put};
 use std::marker::Model;
 use sync_types::{NodeState, Reg};
 
+/// A state has no more registers.
+const MOST_REGISTERS: usize = 16;
+
 /// The fields of a node's state, and so which bits it takes: the modulus of the number, and that of
 /// each register, the lowest first. A number that the node lacks has the modulus 1, and a register
 /// that it lacks has 0.
@@ -21,6 +24,8 @@ use sync_types::{NodeState, Reg};
 pub struct Fields {
     base: u64,
     moduli: Vec<u64>,
+    // How many bits stand before each register, and how many all are.
+    offsets: [u32; MOST_REGISTERS],
     size: u32,
 }
 
@@ -32,21 +37,7 @@ impl Model for Fields {
 
     ghost view = { λ s. record { base = s.base; moduli = s.moduli.items } };
 
-    ghost invariant = { λ s. IsKept s.base s.moduli.items s.size };
-}
-
-/// How many bits registers of these moduli have.
-fn size_of(moduli: &[u64]) -> u32
-    requires moduli { All (λ modulus. modulus ≤ 2 ^ 40) moduli.now }
-    requires few { length moduli.now ≤ 16 }
-    ensures value { result ≡ registers_bits moduli.now }
-    ensures most { result ≤ 16 * 42 }
-{
-    let mut bits = 0;
-    for i in 0..moduli.len() {
-        bits += size_of_register(moduli[i]);
-    }
-    bits
+    ghost invariant = { λ s. IsKept s.base s.moduli.items s.offsets s.size };
 }
 
 /// How many bits a register has; one that is lacking has none.
@@ -62,6 +53,27 @@ fn size_of_register(modulus: u64) -> u32
     }
 }
 
+/// Puts how many bits stand before each register into its place, where so many stand before the
+/// first one. The answer is how many stand behind the last one.
+fn set_offsets(front: u32, moduli: &[u64], offsets: &mut [u32]) -> u32
+    requires front { front ≤ 41 }
+    requires moduli { All (λ modulus. modulus ≤ 2 ^ 40) moduli.now }
+    requires few { length moduli.now ≤ 16 }
+    requires room { length moduli.now ≤ length offsets.old }
+    ensures offsets { (i : ℕ) → i < length moduli.now
+        → slice_index_or offsets.new i 0 ≡ front + registers_bits (take i moduli.now) }
+    ensures length { length offsets.new ≡ length offsets.old }
+    ensures value { result ≡ front + registers_bits moduli.now }
+    ensures most { result ≤ 41 + 16 * 42 }
+{
+    let mut at = front;
+    for i in 0..moduli.len() {
+        offsets[i] = at;
+        at += size_of_register(moduli[i]);
+    }
+    at
+}
+
 impl Fields {
     /// Fields of these moduli.
     pub fn new(base: u64, moduli: Vec<u64>) -> Fields
@@ -71,8 +83,14 @@ impl Fields {
         requires few { length moduli.items ≤ 16 }
         ensures { result ≡ record { base = base; moduli = moduli.items } }
     {
-        let size = bit_length(base - 1) + size_of(&moduli);
-        Fields { base, moduli, size }
+        let mut offsets = [0; MOST_REGISTERS];
+        let size = set_offsets(bit_length(base - 1), &moduli, &mut offsets);
+        Fields {
+            base,
+            moduli,
+            offsets,
+            size,
+        }
     }
 
     /// How many bits a state has, without padding.
@@ -169,8 +187,22 @@ impl Fields {
         if modulus == 0 {
             return ZERO;
         }
-        let front = bit_length(self.base - 1) + size_of(&self.moduli[..i]);
-        full_register_at(bytes, 8 * start + front as usize, modulus)
+        full_register_at(bytes, 8 * start + self.offsets[i] as usize, modulus)
+    }
+
+    /// Reads a state whose bytes begin at `start` into `out`, which has the fields' depth; eight
+    /// bytes more stand behind them.
+    pub fn read_at(&self, bytes: &[u8], start: usize, out: &mut NodeState)
+        requires small { start < 2 ^ 32 }
+        requires within { start + bytes_in self.now + 8 ≤ length bytes.now }
+        requires depth { length out.old.registers ≡ length self.now.moduli }
+        ensures { out.new ≡ read self.now (take (bytes_in self.now) (drop start bytes.now)) }
+    {
+        self.tell();
+        out.set_x(self.number_at(bytes, start));
+        for i in 0..self.moduli.len() {
+            out.set_reg(i, self.register_at(bytes, start, i));
+        }
     }
 
     /// Reads a state from any bytes.

@@ -149,7 +149,8 @@ impl Packed {
         requires depth { length out.old.registers ≡ length self.now.shape.moduli }
         ensures { out.new ≡ state_of self.now.current v }
     {
-        self.shape.read_state(v, self.bytes(v), out);
+        let start = self.start_of(v);
+        self.shape.fields(v).read_at(&self.current, start, out);
     }
 
     /// The number of the current state of node `v`.

@@ -111,9 +111,11 @@ pub fn full_register_at(bytes: &[u8], from: usize, modulus: u64) -> Reg
     ensures { result ≡ full_register modulus (drop from (bits_of_bytes bytes.now)) }
 {
     let width = bit_length(modulus);
-    let a = below(modulus, field_at(bytes, from, width));
-    let mark = field_at(bytes, from + width as usize, 1);
-    Reg { a, d: mark == 1 }
+    let both = field_at(bytes, from, width + 1);
+    Reg {
+        a: below(modulus, both / 2),
+        d: both % 2 == 1,
+    }
 }
 
 /// Takes a register from the front; one that is lacking is zero.

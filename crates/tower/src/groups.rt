@@ -94,6 +94,9 @@ impl Placed {
         ensures steps { steps.new ≤ steps.old + 3 * length board.now.faulty }
     {
         board.tell();
+        if let Some(register) = self.group.common_register() {
+            return register;
+        }
         let senders = board.senders(self.height);
         self.group.register(&senders, node, lies, scratch, steps)
     }
@@ -103,6 +106,9 @@ impl Placed {
         requires { Holds board.now node self.now }
         ensures { result ≡ false → IsShut board.now node self.now }
     {
+        if let Some(_register) = self.group.common_register() {
+            return false;
+        }
         let senders = board.senders(self.height);
         self.group.is_open(&senders, node)
     }

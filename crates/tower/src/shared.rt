@@ -1,6 +1,7 @@
-ghost use Rattle.std.specs.Prelude.{◌≡◌, ◌<◌, ◌≤◌, ◌+◌, ◌-◌, ◌*◌, ℕ, List, length, All};
+ghost use Rattle.std.specs.Prelude.{◌≡◌, ◌<◌, ◌≤◌, ◌+◌, ◌-◌, ◌*◌, ◌^◌, ℕ, List, length, All};
 ghost use Rattle.sync_types.specs.States.{State};
 ghost use Rattle.construction.specs.Plans.{plan_nodes, plan_depth};
+ghost use Rattle.construction.specs.PhaseKing.{up};
 ghost use Rattle.construction.specs.Steps.{state_of, step_of};
 ghost use Rattle.counter_core.specs.Meanings.{written};
 ghost use Rattle.plan_laws.specs.PlanMeaning.{IsInRange};
@@ -46,6 +47,15 @@ impl Model for Shared {
     ghost invariant = { λ s. IsShared s.version s.base s.levels.items s.rows.items s.is_made s.board s.groups.items s.scratch s.all_settled };
 }
 
+/// The number after a number that is below the base.
+fn after(x: u64, base: u64) -> u64
+    requires below { x < base }
+    requires small { base ≤ 2 ^ 40 }
+    ensures { result ≡ up base x }
+{
+    if x + 1 == base { 0 } else { x + 1 }
+}
+
 impl Shared {
     /// Stands for the current states of a configuration and a faulty set.
     pub(crate) fn take<G: Ledger>(
@@ -69,18 +79,16 @@ impl Shared {
         self.is_made = true;
     }
 
-    /// Writes the step of a node that has the number `x`, by what it is told.
+    /// Writes the step of a node, by what it is told.
     pub(crate) fn step<G: Ledger>(
         &mut self,
         node: u32,
-        x: u64,
         lies: &[NodeState],
         out: &mut NodeState,
         steps: &mut Steps<G>,
     )
         requires size { length self.old.states ≡ plan_nodes self.old.plan }
         requires node { node < plan_nodes self.old.plan }
-        requires number { x ≡ (state_of self.old.states node).x }
         requires tells { Tells self.old node lies.now }
         requires range { All (IsInRange self.old.plan) lies.now }
         requires deep { All (λ s. plan_depth self.old.plan ≤ length s.registers) lies.now }
@@ -91,7 +99,11 @@ impl Shared {
         ensures cost { steps.new ≤ steps.old + 3 * plan_depth self.old.plan * length self.old.faulty }
     {
         let row = &self.rows[node as usize];
-        let next = if row.low == 0 { (x + 1) % self.base } else { 0 };
+        let next = if row.low == 0 {
+            after(self.board.number(node as usize), self.base)
+        } else {
+            0
+        };
         out.set_x(next);
         write_registers(
             &self.board,

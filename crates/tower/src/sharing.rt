@@ -104,7 +104,7 @@ impl Tower {
         ensures cost { steps.new ≤ steps.old + 3 * plan_depth self.now * length shared.old.faulty }
     {
         self.tell();
-        shared.step(node, config.x(node), lies, out, steps);
+        shared.step(node, lies, out, steps);
     }
 
     /// The liars, as a stretch of the faulty list from the first place to before the second, on

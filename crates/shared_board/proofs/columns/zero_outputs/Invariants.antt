@@ -1,5 +1,4 @@
 use Rattle.std.proofs.Common.{◌≡◌, ◌≤◌, map, replicate, vec_capacity}
-use Rattle.sync_types.specs.States.{zero_register}
 use Rattle.shared_board.proofs.columns.zero_outputs.Given as goal
 
 abbrev pub invariant-loop : goal.invariant-loop

@@ -1,5 +1,4 @@
-use Rattle.std.proofs.Common.{ℕ, ◌<◌, ◌∙◌, IfSome, refl, ap, sym, subst}
-use Rattle.construction.specs.PhaseKing.{locked_at}
+use Rattle.std.proofs.Common.{ℕ, ◌<◌, ◌∙◌, IfSome, refl, sym, subst}
 use Rattle.phase_king.specs.Groups.{IsLockedGroup}
 use Rattle.group_votes.specs.Senders.{is_liar, register_of}
 use Rattle.group_votes.specs.Groups.{contents}
@@ -15,7 +14,7 @@ returns-clause-register g c =
     let value : ℕ = c.in-Some.value in
     let locked : IsLockedGroup group.first nums.nodes nums.faults (is_liar s) (register_of s) value =
     subst (λ o. IfSome o (IsLockedGroup group.first nums.nodes nums.faults (is_liar s) (register_of s))) c.in-Some.is c.requires.stands.locked in
-    ap locked_at c.next.ensures
+    c.locked_next.ensures
     ∙ sym (locked_heard s nums c.requires.stands.room.numbers group.first c.args.node c.args.lies.now value locked (sym c.register-own.ensures ∙ c.if-is_locked_at.ensures.0 refl))
 
 -- the beat is one

@@ -1,14 +1,7 @@
-use Rattle.std.proofs.Common.{◌≡◌, ℕ, ◌+◌, ◌<◌, ◌≤◌, List, [], length, map, get_or, Vec, Global, All, Bool, refl, sym, ap, ◌∙◌, subst, arith}
-use Rattle.std.specs.List.{range_with_len}
-use Rattle.std.proofs.lemmas.List.{length-map, get_or-map}
+use Rattle.std.proofs.Common.{ℕ, ◌+◌, List, length, map, get_or, Vec, Global, sym, ap, ◌∙◌, arith}
 use Rattle.std.proofs.lemmas.List.FromFn.{length-map-range_with_len, get_or-map-range_with_len}
 use Rattle.sync_types.specs.declared.states.Reg.{Reg}
-use Rattle.sync_types.specs.FaultSets.{is_in}
-use Rattle.sync_types.specs.States.{State}
-use Rattle.construction.specs.Steps.{state_of}
-use Rattle.counter_core.specs.Meanings.{cut}
 use Rattle.shared_laws.specs.Sharing.{place_among}
-use Rattle.shared_board.specs.Boards.{Board, IsBoard, AreLiars, board_of, state_by}
 use Rattle.shared_board.proofs.ByPlace.{board_size, board_faulty}
 use Rattle.shared_board.proofs.board.Board.liars_below.Goals as goal
 

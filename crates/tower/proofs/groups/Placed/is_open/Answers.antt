@@ -1,9 +1,22 @@
-use Rattle.std.proofs.Common.{◌≡◌, ℕ, List, sym, subst}
+use Rattle.std.proofs.Common.{◌≡◌, ℕ, List, sym, ◌∙◌, subst}
 use Rattle.sync_types.specs.States.{State}
 use Rattle.group_votes.specs.Senders.{Sent, IsTold, TellsItself}
 use Rattle.group_votes.specs.Groups.{Stands, contents, register_heard}
+use Rattle.shared_board.specs.Boards.{Board, sent_of}
 use Rattle.tower.specs.Heeding.{Holds, IsShut}
 use Rattle.tower.proofs.groups.Placed.is_open.Goals as goal
+
+-- all registers of a settled group go on
+pub returns-in-Some : goal.returns-in-Some
+returns-in-Some c = λ _.
+    let board : Board = c.args.board.now in
+    let node : ℕ = c.args.node in
+    let holds = subst (Holds board node) (sym c.self.view_is) c.requires in
+    let s : Sent = sent_of board c.self.inside.height in
+    let goes = c.in-Some.ensures in
+    subst (IsShut board node) c.self.view_is (λ lies told is_lies is_told own_lies own_told.
+    goes s node lies holds.stands holds.first holds.last
+    ∙ sym (goes s node told holds.stands holds.first holds.last))
 
 pub is_open-requires-clause-stands : goal.is_open-requires-clause-stands
 is_open-requires-clause-stands c =

@@ -20,10 +20,15 @@ use Rattle.tower.specs.declared.rows.Row.{Row}
 use Rattle.tower.specs.Rows.{IsRow}
 use Rattle.tower.specs.Placings.{Placing, Leads, row_register}
 use Rattle.tower.specs.Sharing.{IsShared, plan_of}
+use Rattle.tower.proofs.Descent.{base_limits}
 use Rattle.tower.proofs.Made.{is_made, made_states}
 use Rattle.tower.proofs.Stepped.{place_less, can_step, step_is}
 use Rattle.tower.proofs.shared.Shared.step.Goals as goal
 use Rattle.tower.proofs.shared.Shared.step.Goals.{then-row-eq0, else-row-eq0}
+
+pub after-next-requires-clause-small : goal.after-next-requires-clause-small
+after-next-requires-clause-small g c =
+    (base_limits c.self.inside.base _ c.self.invariant.accepted.levels).1
 
 pub write_registers-requires-clause-leads : goal.write_registers-requires-clause-leads
 write_registers-requires-clause-leads g c = λ l lt has.
@@ -131,8 +136,8 @@ returns-clause-out g c =
     let number : ℕ = (state_of board.states node).x in
     let next : c.if-row-eq0.next ≡ (if row.low == 0 then up inside.base number else 0) =
     elim c.if-row-eq0.branch [
-      | then-row-eq0 w ↦ w.next-is ∙ (ap (up inside.base) (c.requires.number ∙ ap (λ ss. (state_of ss node).x) (sym states_are))
-          ∙ sym (ap (λ t. if t then up inside.base number else 0) (eq-eqb row.low 0 w.if-row-eq0.true)))
+      | then-row-eq0 w ↦ w.next-is ∙ (w.after-next.ensures ∙ (ap (up inside.base) w.number.ensures
+          ∙ sym (ap (λ t. if t then up inside.base number else 0) (eq-eqb row.low 0 w.if-row-eq0.true))))
       | else-row-eq0 w ↦ w.next-is ∙ sym (ap (λ t. if t then up inside.base number else 0) (ne_eqb row.low 0 w.if-row-eq0.false))
     ] in
     let f : List Placing → ℕ → Reg = row_register board row node lies in

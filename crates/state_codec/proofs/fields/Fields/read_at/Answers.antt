@@ -1,0 +1,54 @@
+use Rattle.std.proofs.Common.{arith, ℕ, ◌≡◌, ◌+◌, ◌<◌, inl, inr, ap, sym, ◌∙◌, List, length, set, take, drop}
+use Rattle.std.proofs.lemmas.Bool.{cases_lt}
+use Rattle.std.proofs.lemmas.List.{length-set, get_or-set_same, get_or-set_other, ext_get_or}
+use Rattle.sync_types.specs.declared.states.Reg.{Reg}
+use Rattle.sync_types.specs.States.{State, zero_register, register_at}
+use Rattle.state_codec.specs.Shapes.{Fields, bytes_in}
+use Rattle.state_codec.specs.Reading.{read}
+use Rattle.state_codec.proofs.Ranged.{read_is_in_range}
+use Rattle.state_codec.proofs.RegisterSteps.{state_is}
+use Rattle.state_codec.proofs.fields.Fields.read_at.Goals as goal
+
+-- a register more is that of a state
+register_more : (rs after : List Reg) (state : State) (i : ℕ) (r : Reg) → i < length rs
+    → after ≡ set rs i r → r ≡ register_at i state
+    → ((j : ℕ) → j < i → register_at j (record { x = 0; registers = rs }) ≡ register_at j state)
+    → (j : ℕ) → j < i + 1 → register_at j (record { x = 0; registers = after }) ≡ register_at j state
+register_more rs after state i r lt same is held j less =
+    elim (cases_lt j i) [
+      | inl below ↦ ap (λ xs. register_at j (record { x = 0; registers = xs })) same
+          ∙ (get_or-set_other rs i j r zero_register (λ e. absurd (omega (arith, e, below))) ∙ held j below)
+      | inr over ↦
+          let e : j ≡ i = omega arith in
+          ap (λ xs. register_at j (record { x = 0; registers = xs })) same
+          ∙ (ap (λ k. register_at k (record { x = 0; registers = set rs i r })) e
+          ∙ (get_or-set_same rs i r zero_register lt ∙ (is ∙ ap (λ k. register_at k state) (sym e))))
+    ]
+
+pub loop-i-preserved : goal.loop-i-preserved
+loop-i-preserved c =
+    let i = c.loop-i.invariant in
+    let v : ℕ = c.loop-i.i in
+    let fields : Fields = c.args.self.now in
+    let state : State = read fields (take (bytes_in fields) (drop c.args.start c.args.bytes.now)) in
+    let moduli = ap (λ (f : Fields). length f.moduli) c.self.view_is in
+    let within : v < length c.loop-i.out.registers = omega (arith, moduli) in
+    record {
+      number = ap (λ (s : State). s.x) c.set_reg.ensures ∙ i.number;
+      depth = ap (λ (s : State). length s.registers) c.set_reg.ensures
+          ∙ (length-set c.loop-i.out.registers v c.register_at.result ∙ i.depth);
+      registers = register_more c.loop-i.out.registers c.set_reg.new.self.registers state v
+          c.register_at.result within (ap (λ (s : State). s.registers) c.set_reg.ensures)
+          c.register_at.ensures i.registers;
+    }
+
+pub returns : goal.returns
+returns c =
+    let i = c.loop-i.invariant in
+    let fields : Fields = c.args.self.now in
+    let state : State = read fields (take (bytes_in fields) (drop c.args.start c.args.bytes.now)) in
+    let moduli = ap (λ (f : Fields). length f.moduli) c.self.view_is in
+    let range = read_is_in_range fields (take (bytes_in fields) (drop c.args.start c.args.bytes.now)) c.tell.ensures in
+    state_is c.loop-i.out state.x state.registers i.number
+    (ext_get_or zero_register c.loop-i.out.registers state.registers (i.depth ∙ sym range.depth)
+    (λ j lt. i.registers j (omega (arith, moduli, lt, i.depth, c.loop-i-test.false))))
