@@ -1,5 +1,5 @@
 -- What is told by the order of the pairs is what the statements attribute.
-use Rattle.std.proofs.Common.{◌≡◌, ℕ, Bool, true, false, cond, eqb, ◌&&◌, List, [], ◌∷◌, map, Option, Some, None, find, unwrap_or, refl, sym, ap, ap₂, ◌∙◌}
+use Rattle.std.proofs.Common.{◌≡◌, ℕ, Bool, true, false, cond, eqb, ◌&&◌, List, [], ◌∷◌, map, Some, find, unwrap_or, refl, sym, ap, ap₂, ◌∙◌}
 use Rattle.std.specs.Option.{option_map}
 use Rattle.std.specs.List.{range_with_len, zip}
 use Rattle.sync_types.specs.States.{State, zero_state}
@@ -7,7 +7,7 @@ use Rattle.construction.specs.Plans.{Plan, plan_nodes, plan_depth}
 use Rattle.construction.specs.Runs.{is_in, heard_by}
 use Rattle.construction.specs.Steps.{step_of}
 use Rattle.run_certificates.specs.Grammar.{pairs_of}
-use Rattle.run_certificates.specs.Stated.{Stand, Told, told_of, lies_table, stepped}
+use Rattle.run_certificates.specs.Stated.{Told, told_of, lies_table, stepped}
 use Rattle.run_certificates.specs.Checking.{attributed}
 use Rattle.run_checker.specs.Rounds.{told_for, told_table, stepped_all}
 

@@ -1,7 +1,7 @@
 -- What is kept of a certificate's configuration holds behind each line.
-use Rattle.std.proofs.Common.{◌≡◌, ℕ, zero, suc, ◌+◌, ◌<◌, ◌≤◌, Bool, true, false, cond, List, [], ◌∷◌, ◌++◌, length, map, set, get_or, replicate, All, Result, Ok, Err, drop, eqb, ◌&&◌, refl, sym, ap, ◌∙◌, subst, arith}
+use Rattle.std.proofs.Common.{◌≡◌, ℕ, zero, suc, ◌+◌, ◌<◌, Bool, true, false, cond, List, [], ◌∷◌, ◌++◌, length, map, set, replicate, All, Result, Ok, Err, drop, eqb, refl, sym, ap, ◌∙◌, subst, arith}
 use Rattle.std.specs.List.{range_with_len}
-use Rattle.std.proofs.lemmas.List.{length-replicate, length-set}
+use Rattle.std.proofs.lemmas.List.{length-replicate}
 use Rattle.std.proofs.lemmas.List.Elements.{All-set, All-push, All-nil, All-cons, All-head, All-tail}
 use Rattle.sync_types.specs.States.{State, zero_state, zero_register}
 use Rattle.sync_types.specs.FaultSets.{is_in}
@@ -19,14 +19,12 @@ use Rattle.state_codec.proofs.Lows.{fields_limited}
 use Rattle.state_codec.proofs.Plans.{shape_of_accepted, length-moduli_of}
 use Rattle.sync_types.specs.declared.answers.NoMemory.{NoMemory}
 use Rattle.std.specs.Prelude.{slice_index_or}
-use Rattle.run_certificates.specs.Grammar.{pairs_of}
 use Rattle.run_certificates.specs.Checking.{is_next}
 use Rattle.run_certificates.specs.Stated.{unless_faulty}
 use Rattle.run_checker.specs.Tellings.{Telling, AddsState}
 use Rattle.std.proofs.lemmas.List.FromFn.{length-map-range_with_len}
 use Rattle.construction.specs.Plans.{plan_low}
 use Rattle.std.specs.List.{flat_map}
-use Rattle.round_runner.specs.Locks.{correct_nodes}
 use Rattle.std.proofs.lemmas.Bool.{and_parts, eqb-true}
 use Rattle.run_checker.specs.Rounds.{AreStates}
 

@@ -1,10 +1,17 @@
 mod Attributed
 mod BodyKept
 mod BodySteps
+mod EraFound
+mod LevelLines
 mod LineTexts
 mod Ranges
 mod RecordTexts
+mod Recording
 mod RoundSteps
 mod RowWords
+mod RunnerTexts
+mod ShortTexts
 mod SourceReads
+mod TrueTexts
 mod Unlimited
+mod WordsBefore

@@ -1,9 +1,8 @@
 -- What a node hears of what was told, and the configuration of all steps.
-use Rattle.std.proofs.Common.{◌≡◌, ℕ, zero, suc, ◌+◌, ◌<◌, ◌≤◌, inl, inr, Bool, true, false, cond, eqb, not, ◌&&◌, List, [], ◌∷◌, ◌++◌, length, map, get_or, set, drop, All, refl, sym, ap, ap₂, ◌∙◌, subst, arith}
+use Rattle.std.proofs.Common.{◌≡◌, ℕ, zero, suc, ◌+◌, ◌<◌, ◌≤◌, Bool, true, false, cond, eqb, ◌&&◌, List, [], ◌∷◌, ◌++◌, length, get_or, set, drop, All, refl, sym, ap, ap₂, ◌∙◌, subst, arith}
 use Rattle.std.specs.Prelude.{slice_index_or}
-use Rattle.std.specs.List.{range_with_len}
 use Rattle.std.proofs.Math.Seq.{drop-cons}
-use Rattle.std.proofs.lemmas.Bool.{cases_eq, eq-eqb, eqb-true, and_parts, true≢false}
+use Rattle.std.proofs.lemmas.Bool.{eq-eqb, eqb-true, true≢false}
 use Rattle.std.proofs.lemmas.List.{append-nil, length-replicate, length-set, get_or-set_same, get_or-set_other}
 use Rattle.std.proofs.lemmas.List.Elements.{All-set}
 use Rattle.std.proofs.lemmas.List.FromFn.{fill_by_all, length-map-range_with_len}
@@ -21,7 +20,7 @@ use Rattle.counter_core.proofs.LiesHeard.{length-with_lies, get_or-with_lies}
 use Rattle.round_runner.proofs.Heard.{heard_is, heard_has}
 use Rattle.round_runner.proofs.Places.{all_places, each, set_has}
 use Rattle.run_checker.specs.declared.rounds.Room.{Room}
-use Rattle.run_checker.specs.Rounds.{told_for, told_table, stepped_at, stepped_all, AreStates, HasRoom, IsReady}
+use Rattle.run_checker.specs.Rounds.{told_for, told_table, stepped_at, stepped_all, AreStates, IsReady}
 
 -- ---- zero states
 

@@ -1,15 +1,13 @@
 -- What was read of a feed, of its source.
-use Rattle.std.proofs.Common.{◌≡◌, ℕ, ◌<◌, ◌≤◌, Bool, true, false, List, [], ◌∷◌, ◌++◌, length, Option, Some, None, Result, Ok, Err, refl, sym, ap, ◌∙◌, subst, append_assoc, append-nil, length-append, arith}
+use Rattle.std.proofs.Common.{◌≡◌, ℕ, Bool, true, false, List, [], ◌∷◌, ◌++◌, length, Option, Some, None, Result, Ok, Err, refl, sym, ap, ◌∙◌, subst, append_assoc, length-append, arith}
 use Rattle.std.specs.Prelude.{nat_lt}
 use Rattle.std.specs.Io.KnownBytes.{prepend_known, Consumes, Keeps, IsAtEnd}
 use Rattle.std.proofs.lemmas.Bool.{le-ltb}
-use Rattle.texts.specs.Parts.{At}
-use Rattle.texts.specs.Limits.{Limited}
 use Rattle.edge_io.specs.FedParts.{MayFollow}
 use Rattle.edge_io.specs.EndedReads.{WholeText, RefusedText, LongText}
 use Rattle.run_certificates.specs.declared.Verdict.{Verdict}
 use Rattle.run_certificates.specs.Checking.{unread, line_step, checked}
-use Rattle.run_checker.specs.Checks.{checked_by, checked_within, unlimited, IsChecked, IsRefused, IsTooLong}
+use Rattle.run_checker.specs.Checks.{checked_by, unlimited, IsChecked, IsRefused, IsTooLong}
 use Rattle.run_checker.proofs.Unlimited.{limits_matter_beyond}
 
 -- bytes read of a feed and those in its buffer were read of its source
@@ -62,6 +60,7 @@ module _ (limit : ℕ) (s f l : Option (List ℕ)) (held : List ℕ) (keeps : Ke
         ended = true;
         read = all.0;
         at_end = λ same. all.1;
+        within = λ same. h.within;
         decides = λ longer rest follows. h.decides longer rest (subst (λ (b : Bool). MayFollow b longer rest) (sym e) follows);
       }
   refused_by line r h false e = record {
@@ -69,6 +68,7 @@ module _ (limit : ℕ) (s f l : Option (List ℕ)) (held : List ℕ) (keeps : Ke
     ended = false;
     read = read_of s f l held h.bytes keeps h.read;
     at_end = λ same. absurd (not_both same);
+    within = λ same. absurd (not_both same);
     decides = λ longer rest follows. ap (checked_by limit longer) (append_assoc h.bytes held rest)
         ∙ h.decides longer (held ++ rest) (subst (λ (b : Bool). MayFollow b longer (held ++ rest)) (sym e) tt);
   } where

@@ -1,17 +1,17 @@
 -- A text that is not longer than its limit is answered as if there were none.
-use Rattle.std.proofs.Common.{◌≡◌, ℕ, zero, suc, ◌+◌, ◌<◌, ◌≤◌, Bool, true, false, cond, eqb, ltb, not, List, [], ◌∷◌, ◌++◌, length, drop, Option, Some, None, Result, Ok, Err, refl, sym, ap, ap₂, ◌∙◌, arith}
+use Rattle.std.proofs.Common.{◌≡◌, ℕ, zero, suc, ◌+◌, ◌<◌, ◌≤◌, Bool, true, false, cond, eqb, List, [], ◌∷◌, ◌++◌, length, drop, Option, None, Result, Ok, Err, refl, sym, ap, ap₂, ◌∙◌, arith}
 use Rattle.std.proofs.lemmas.Bool.{le-ltb, ltb-true, leb-true}
 use Rattle.texts.specs.Lines.{lines_of, whole_from, whole_lines}
-use Rattle.texts.specs.Parts.{Next, goes, ends, refuses, Found, At, part_from}
-use Rattle.texts.specs.Limits.{Limited, by, beyond, with_limit, with_rest, behind_lines}
+use Rattle.texts.specs.Parts.{goes, ends, refuses, Found, At, part_from}
+use Rattle.texts.specs.Limits.{Limited, by, with_limit, with_rest, behind_lines}
 use Rattle.texts.specs.EndedTexts as texts
 use Rattle.texts.specs.EndedTexts.{with_length, then_alone}
 use Rattle.texts.proofs.Lines.{lines_of_first}
 use Rattle.line_words.specs.Words.{text_of, open_from, open_rest}
 use Rattle.line_words.proofs.Texts.{whole_text}
 use Rattle.run_certificates.specs.declared.Verdict.{Verdict}
-use Rattle.run_certificates.specs.Items.{said, item_of}
-use Rattle.run_certificates.specs.Checking.{Stage, Onward, unread, refused, step_by, line_step, unless_followed, alone, checked}
+use Rattle.run_certificates.specs.Items.{item_of}
+use Rattle.run_certificates.specs.Checking.{Stage, Onward, unread, refused, step_by, line_step, alone, checked}
 use Rattle.texts.specs.Lines.{words_of}
 use Rattle.std.specs.Prelude.{nat_le, nat_lt}
 use Rattle.run_checker.specs.Checks.{checked_by, checked_within, unlimited, LimitsMatterBeyond}

@@ -3,7 +3,6 @@ use Rattle.std.specs.Prelude.{◌≡◌, ℕ, ◌≤◌, List, length, Bool, All
 use Rattle.sync_types.specs.States.{State}
 use Rattle.sync_types.specs.FaultSets.{FaultIds}
 use Rattle.construction.specs.Plans.{Plan, plan_nodes, plan_depth}
-use Rattle.plan_numbers.specs.Premises.{IsAccepted}
 use Rattle.state_codec.specs.Shapes.{Shape, shape_of}
 use Rattle.run_certificates.specs.Grammar.{pairs_of}
 use Rattle.run_certificates.specs.Checking.{Known, Stage, putting, telling}

@@ -1,10 +1,10 @@
 -- A text under a limit, and what checking it did to its source.
-use Rattle.std.specs.Prelude.{◌≡◌, ℕ, ◌+◌, ◌<◌, ◌≤◌, List, ◌++◌, length, Bool, true, false, nat_lt, Option, Result, Ok, Err}
+use Rattle.std.specs.Prelude.{◌≡◌, ℕ, ◌<◌, ◌≤◌, List, ◌++◌, length, Bool, true, nat_lt, Option, Result, Ok, Err}
 use Rattle.std.specs.Io.KnownBytes.{Consumes, IsAtEnd}
 use Rattle.texts.specs.Causes.{Counted}
 use Rattle.texts.specs.Parts.{At}
 use Rattle.texts.specs.Limits.{Limited, by, beyond}
-use Rattle.texts.specs.EndedTexts.{ended_text, ended_text_in}
+use Rattle.texts.specs.EndedTexts.{ended_text}
 use Rattle.edge_io.specs.FedParts.{MayFollow}
 use Rattle.run_certificates.specs.declared.Verdict.{Verdict}
 use Rattle.run_certificates.specs.Checking.{unread, line_step, checked}
@@ -46,6 +46,7 @@ pub record IsRefused (limit : ℕ) (old new : Option (List ℕ)) (line : ℕ) : 
   pub ended : Bool
   pub read : Consumes old new bytes
   pub at_end : ended ≡ true → IsAtEnd new
+  pub within : ended ≡ true → length bytes ≤ limit
   pub decides : (longer : Bool) (rest : List ℕ) → MayFollow ended longer rest
       → checked_by limit longer (bytes ++ rest) ≡ Err (record { line = line; rule = by tt })
 

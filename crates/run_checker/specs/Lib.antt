@@ -9,3 +9,4 @@ pub mod Phases
 pub mod Checks
 pub mod RunLines
 pub mod Playing
+pub mod TrueTexts

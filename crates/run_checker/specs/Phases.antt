@@ -1,5 +1,5 @@
 -- The stage of the reader of a certificate, and what a line of the head makes of it.
-use Rattle.std.specs.Prelude.{◌≡◌, ℕ, ◌≤◌, ⊤, Bool, true, false, Result, Ok, Err}
+use Rattle.std.specs.Prelude.{◌≡◌, ◌≤◌, ⊤, Bool, true, false, Result, Ok, Err}
 use Rattle.texts.specs.Parts.{goes, ends, refuses}
 use Rattle.edge_io.specs.declared.taking.TakeError.{TakeError}
 use Rattle.edge_io.specs.declared.taking.TakeError.TheVariants as take

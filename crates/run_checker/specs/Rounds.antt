@@ -1,9 +1,8 @@
 -- What is told in a round, by the order of the pairs, and the steps of all nodes from it.
-use Rattle.std.specs.Prelude.{◌≡◌, ℕ, ◌<◌, ◌&&◌, ◌==◌, List, [], ◌∷◌, length, map, All, Result, Ok, Err, if◌then◌else◌}
+use Rattle.std.specs.Prelude.{◌≡◌, ℕ, ◌&&◌, ◌==◌, List, [], ◌∷◌, length, map, All, if◌then◌else◌}
 use Rattle.std.specs.List.{range_with_len}
 use Rattle.sync_types.specs.States.{State, zero_state}
 use Rattle.sync_types.specs.FaultSets.{is_in}
-use Rattle.sync_types.specs.declared.answers.NoMemory.{NoMemory}
 use Rattle.construction.specs.Plans.{Plan, plan_nodes, plan_depth}
 use Rattle.construction.specs.Steps.{step_of}
 use Rattle.construction.specs.Runs.{heard_by}

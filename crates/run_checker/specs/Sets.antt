@@ -1,5 +1,5 @@
 -- What reading ids, and making a set of them, gives. Want of memory says nothing.
-use Rattle.std.specs.Prelude.{◌≡◌, ℕ, List, length, Bool, true, false, nat_le, ◌&&◌, Option, Some, None, Result, Ok, Err, if◌then◌else◌}
+use Rattle.std.specs.Prelude.{◌≡◌, ℕ, List, length, Bool, nat_le, ◌&&◌, Option, Some, None, Result, Ok, Err, if◌then◌else◌}
 use Rattle.std.specs.Option.{option_map}
 use Rattle.sync_types.specs.FaultSets.{FaultIds}
 use Rattle.sync_types.specs.declared.answers.NoMemory.{NoMemory}

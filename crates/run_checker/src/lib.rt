@@ -1,5 +1,7 @@
-//! Checks certificates of runs, line by line, while they are read.
+//! Writes certificates of runs while scripts are played, and checks certificates while they are
+//! read.
 //!
+//! [`write_run`] writes the certificate of a script's run, line by line.
 //! [`check_run`] answers the verdict of the certificate whose text a source has, or the first line
 //! at which its lines begin none. It holds one configuration and what was told in one round.
 #![tactic(auto)]
@@ -7,12 +9,22 @@
 mod bodies;
 mod check_lines;
 mod checks;
+mod head_lines;
 mod id_lists;
 pub mod laws;
+mod lie_lines;
 mod locks;
+#[cfg(test)]
+mod record_tests;
+mod records;
 mod rounds;
+mod row_lines;
 mod rows;
 mod said_lines;
+mod start_lines;
 mod tellings;
+#[cfg(test)]
+mod tests;
 
 pub use checks::{CheckError, check_run};
+pub use records::write_run;

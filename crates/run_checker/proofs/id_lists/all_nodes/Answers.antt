@@ -1,4 +1,4 @@
-use Rattle.std.proofs.Common.{◌∷◌, [], ◌++◌, List, ℕ, ap, sym, ◌∙◌, refl, arith}
+use Rattle.std.proofs.Common.{◌∷◌, [], ◌++◌, List, ℕ, ap, sym, ◌∙◌, arith}
 use Rattle.sync_types.specs.FaultSets.{FaultIds}
 use Rattle.run_checker.proofs.Ranges.{range_more, last_below}
 use Rattle.run_checker.proofs.id_lists.all_nodes.Goals as goal

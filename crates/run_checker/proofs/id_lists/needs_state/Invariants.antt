@@ -1,4 +1,4 @@
-use Rattle.std.proofs.Common.{◌≡◌, ◌≤◌}
+use Rattle.std.proofs.Common.{◌≡◌}
 use Rattle.run_certificates.specs.Checking.{needs_state}
 use Rattle.run_checker.proofs.id_lists.needs_state.Given as goal
 

@@ -1,4 +1,4 @@
-use Rattle.std.proofs.Common.{◌≡◌, ◌<◌, ◌≤◌, ℕ, List, length, set, All, sym, ap, ◌∙◌, subst, arith}
+use Rattle.std.proofs.Common.{◌≡◌, ◌<◌, ℕ, length, set, All, ap, ◌∙◌, subst, arith}
 use Rattle.std.proofs.lemmas.List.{length-set}
 use Rattle.std.proofs.lemmas.List.Elements.{All-set}
 use Rattle.sync_types.specs.States.{State}
@@ -6,7 +6,7 @@ use Rattle.construction.specs.Plans.{plan_nodes, plan_depth}
 use Rattle.construction.specs.Steps.{step_of}
 use Rattle.round_runner.proofs.Places.{read_at}
 use Rattle.round_runner.proofs.Stepped.{as_roomy}
-use Rattle.run_checker.specs.Rounds.{told_for, stepped_at}
+use Rattle.run_checker.specs.Rounds.{told_for}
 use Rattle.run_checker.proofs.RoundSteps.{heard_facts, written_over, step_deep}
 use Rattle.run_checker.proofs.rounds.step_one.Goals as goal
 

@@ -1,8 +1,4 @@
-use Rattle.std.proofs.Common.{◌≡◌, Bool, true, ℕ, List, Option, Some, sym, ap, ◌∙◌, subst, arith}
 use Rattle.run_certificates.specs.Items.{values_said}
-use Rattle.run_checker.specs.Bodies.{BodySeen}
-use Rattle.run_checker.specs.Rows.{row_compared}
-use Rattle.run_checker.specs.Changes.{Marks}
 use Rattle.run_checker.proofs.BodySteps.{row_marks}
 use Rattle.run_checker.proofs.bodies.Body.mark_row.Goals as goal
 

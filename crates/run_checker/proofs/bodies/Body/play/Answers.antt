@@ -1,9 +1,5 @@
-use Rattle.std.proofs.Common.{◌≡◌, ℕ, ◌+◌, List, [], sym, ap, ap₂, ◌∙◌, arith}
+use Rattle.std.proofs.Common.{◌+◌, List, ap, ap₂, ◌∙◌}
 use Rattle.sync_types.specs.States.{State}
-use Rattle.construction.specs.Plans.{plan_nodes}
-use Rattle.run_certificates.specs.Stated.{stepped}
-use Rattle.run_certificates.specs.Checking.{attributed}
-use Rattle.run_checker.specs.Rounds.{stepped_all}
 use Rattle.run_checker.specs.Tellings.{Telling}
 use Rattle.run_checker.specs.Bodies.{BodySeen}
 use Rattle.run_checker.specs.Changes.{played_on}

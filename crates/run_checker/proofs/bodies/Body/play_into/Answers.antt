@@ -1,10 +1,6 @@
-use Rattle.std.proofs.Common.{◌≡◌, ℕ, ◌+◌, List, [], true, None, sym, ap, ap₂, ◌∙◌, arith}
+use Rattle.std.proofs.Common.{◌+◌, List, true, None, ap, ap₂, ◌∙◌, arith}
 use Rattle.sync_types.specs.States.{State}
 use Rattle.sync_types.specs.FaultSets.{FaultIds}
-use Rattle.construction.specs.Plans.{plan_nodes}
-use Rattle.run_certificates.specs.Stated.{stepped}
-use Rattle.run_certificates.specs.Checking.{attributed}
-use Rattle.run_checker.specs.Rounds.{stepped_all}
 use Rattle.run_checker.specs.Tellings.{Telling}
 use Rattle.run_checker.specs.Bodies.{BodySeen}
 use Rattle.run_checker.specs.Changes.{renewed_with}

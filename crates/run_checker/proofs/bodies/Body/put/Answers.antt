@@ -1,7 +1,7 @@
-use Rattle.std.proofs.Common.{◌≡◌, ◌<◌, ℕ, length, sym, ap, ◌∙◌, subst, arith}
+use Rattle.std.proofs.Common.{◌<◌, length, sym, ap, ◌∙◌, subst, arith}
 use Rattle.std.proofs.lemmas.List.{length-set}
 use Rattle.sync_types.specs.States.{State}
-use Rattle.construction.specs.Plans.{plan_nodes, plan_depth}
+use Rattle.construction.specs.Plans.{plan_nodes}
 use Rattle.state_codec.specs.Shapes.{Shape, shape_of, fields_at}
 use Rattle.state_codec.specs.Ranges.{InRange}
 use Rattle.plan_laws.proofs.PlanCounter.{plan_sizes}

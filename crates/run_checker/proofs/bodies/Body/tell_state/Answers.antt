@@ -1,6 +1,6 @@
-use Rattle.std.proofs.Common.{◌≡◌, ◌<◌, All, sym, ap, ◌∙◌, subst, arith}
-use Rattle.construction.specs.Plans.{plan_nodes, plan_depth}
-use Rattle.state_codec.specs.Shapes.{Shape, shape_of, fields_at}
+use Rattle.std.proofs.Common.{◌<◌, All, sym, ap, ◌∙◌, subst, arith}
+use Rattle.construction.specs.Plans.{plan_nodes}
+use Rattle.state_codec.specs.Shapes.{Shape, fields_at}
 use Rattle.run_checker.specs.Bodies.{BodySeen}
 use Rattle.run_checker.specs.Tellings.{AddsState}
 use Rattle.run_checker.proofs.BodyKept.{shape_nodes, shape_depth, told_kept}

@@ -1,4 +1,4 @@
-use Rattle.std.proofs.Common.{Ok, None, Option, subst, arith}
+use Rattle.std.proofs.Common.{Ok, None, subst}
 use Rattle.edge_io.specs.Taking.{Takes}
 use Rattle.run_certificates.specs.Checking.{Stage, step_by}
 use Rattle.run_checker.specs.SaidLines.{item_seen}

@@ -1,0 +1,71 @@
+use Rattle.std.proofs.Common.{◌≡◌, ◌<◌, ℕ, List, true, length, refl, sym, ap, ◌∙◌, subst, arith}
+use Rattle.std.specs.Prelude.{slice_index}
+use Rattle.std.specs.List.{flat_map}
+use Rattle.std.proofs.lemmas.List.{take_all}
+use Rattle.sync_types.specs.FaultSets.{is_in}
+use Rattle.texts.specs.Growth.{Wrote, Cut}
+use Rattle.texts.proofs.Growth.{wrote_none, wrote_at, cut_at}
+use Rattle.construction.specs.Plans.{plan_nodes}
+use Rattle.counter_core.specs.declared.overlays.NoOverlay.{NoOverlay}
+use Rattle.adversary_script.specs.Eras.{faulty_at}
+use Rattle.round_runner.specs.Runners.{Running}
+use Rattle.round_runner.proofs.Heard.{is_among}
+use Rattle.run_checker.specs.RunLines.{lies_from}
+use Rattle.run_checker.proofs.Recording.{faulty_ids}
+use Rattle.run_checker.proofs.lie_lines.put_lies.Goals as goal
+
+pub loop-i-init : goal.loop-i-init
+loop-i-init g c = record { same = refl; wrote = wrote_none _ }
+
+pub put_lies_from-requires-clause-sender : goal.put_lies_from-requires-clause-sender
+put_lies_from-requires-clause-sender g c =
+    let r = c.args.runner.now in
+    let ids = faulty_at r.script r.at in
+    let same = c.loop-i.invariant.same in
+    let one = faulty_ids _ _ r.script _ r.at c.faulty_at.ensures c.script.ensures c.at.ensures in
+    let two = faulty_ids _ _ r.script _ r.at c.faulty_at-in-loop-i.ensures (c.script-in-loop-i.ensures ∙ ap (λ (x : Running NoOverlay). x.script) same)
+    (c.at-in-loop-i.ensures ∙ ap (λ (x : Running NoOverlay). x.at) same) in
+    let u = c.at-u.ensures.id ∙ ap (λ (l : List ℕ). slice_index l c.loop-i.i) two in
+    let within : c.loop-i.i < length ids = omega (arith, c.loop-i-test.true, c.len-count.ensures.exact, ap (λ (l : List ℕ). length l) one) in
+    subst (λ (x : Running NoOverlay). is_in (faulty_at x.script x.at) c.at-u.result ≡ true) (sym same)
+    (subst (λ (w : ℕ). is_in ids w ≡ true) (sym u) (is_among ids c.loop-i.i within))
+
+pub returns-in-Err-clause-text : goal.returns-in-Err-clause-text
+returns-in-Err-clause-text g c =
+    let r = c.args.runner.now in
+    let ids = faulty_at r.script r.at in
+    let same = c.loop-i.invariant.same in
+    let one = faulty_ids _ _ r.script _ r.at c.faulty_at.ensures c.script.ensures c.at.ensures in
+    let two = faulty_ids _ _ r.script _ r.at c.faulty_at-in-loop-i.ensures (c.script-in-loop-i.ensures ∙ ap (λ (x : Running NoOverlay). x.script) same)
+    (c.at-in-loop-i.ensures ∙ ap (λ (x : Running NoOverlay). x.at) same) in
+    let u = c.at-u.ensures.id ∙ ap (λ (l : List ℕ). slice_index l c.loop-i.i) two in
+    let within : c.loop-i.i < length ids = omega (arith, c.loop-i-test.true, c.len-count.ensures.exact, ap (λ (l : List ℕ). length l) one) in
+    cut_at (lies_from r.script (plan_nodes r.plan) r.at r.states) ids c.loop-i.i 0 _ _ _ within c.loop-i.invariant.wrote
+    (subst (λ (w : ℕ). Cut (lies_from r.script (plan_nodes r.plan) r.at r.states w) (g.K.Sink.told c.loop-i.sink) (g.K.Sink.told c.put_lies_from.new.sink)) u
+    (subst (λ (x : Running NoOverlay). Cut (lies_from x.script (plan_nodes x.plan) x.at x.states c.at-u.result) (g.K.Sink.told c.loop-i.sink) (g.K.Sink.told c.put_lies_from.new.sink)) same c.in-Err.ensures.text))
+
+pub loop-i-preserved : goal.loop-i-preserved
+loop-i-preserved g c =
+    let r = c.args.runner.now in
+    let ids = faulty_at r.script r.at in
+    let same = c.loop-i.invariant.same in
+    let one = faulty_ids _ _ r.script _ r.at c.faulty_at.ensures c.script.ensures c.at.ensures in
+    let two = faulty_ids _ _ r.script _ r.at c.faulty_at-in-loop-i.ensures (c.script-in-loop-i.ensures ∙ ap (λ (x : Running NoOverlay). x.script) same)
+    (c.at-in-loop-i.ensures ∙ ap (λ (x : Running NoOverlay). x.at) same) in
+    let u = c.at-u.ensures.id ∙ ap (λ (l : List ℕ). slice_index l c.loop-i.i) two in
+    let within : c.loop-i.i < length ids = omega (arith, c.loop-i-test.true, c.len-count.ensures.exact, ap (λ (l : List ℕ). length l) one) in
+    record {
+      same = c.in-Ok.ensures.same ∙ same;
+      wrote = wrote_at (lies_from r.script (plan_nodes r.plan) r.at r.states) ids c.loop-i.i 0 _ _ _ within c.loop-i.invariant.wrote
+          (subst (λ (w : ℕ). Wrote (lies_from r.script (plan_nodes r.plan) r.at r.states w) (g.K.Sink.told c.loop-i.sink) (g.K.Sink.told c.put_lies_from.new.sink)) u
+          (subst (λ (x : Running NoOverlay). Wrote (lies_from x.script (plan_nodes x.plan) x.at x.states c.at-u.result) (g.K.Sink.told c.loop-i.sink) (g.K.Sink.told c.put_lies_from.new.sink)) same c.in-Ok.ensures.text));
+    }
+
+pub returns-clause-text : goal.returns-clause-text
+returns-clause-text g c =
+    let r = c.args.runner.now in
+    let ids = faulty_at r.script r.at in
+    let same = c.loop-i.invariant.same in
+    let one = faulty_ids _ _ r.script _ r.at c.faulty_at.ensures c.script.ensures c.at.ensures in
+    subst (λ (l : List ℕ). Wrote (flat_map (lies_from r.script (plan_nodes r.plan) r.at r.states) l) (g.K.Sink.told c.args.sink.now) (g.K.Sink.told c.loop-i.sink))
+    (take_all c.loop-i.i ids (omega (arith, c.loop-i-test.false, c.len-count.ensures.exact, ap (λ (l : List ℕ). length l) one))) c.loop-i.invariant.wrote

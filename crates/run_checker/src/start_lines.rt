@@ -1,0 +1,150 @@
+ghost use Rattle.std.specs.Prelude.{◌≡◌, ◌<◌, ◌+◌, ◌&&◌, ◌||◌, not, length, Some};
+ghost use Rattle.texts.specs.Growth.{Puts};
+ghost use Rattle.construction.specs.Plans.{Plan, plan_nodes};
+ghost use Rattle.adversary_script.specs.Scripts.{IsScript};
+ghost use Rattle.round_runner.specs.Beginnings.{BeginsAt};
+ghost use Rattle.run_certificates.specs.Recorded.{is_put};
+ghost use Rattle.run_checker.specs.RunLines.{start_text, first_start, first_starts, start_if, starts_text};
+
+use adversary_script::Script;
+use counter_core::NoOverlay;
+use edge_io::{Piece, Sink, WriteFault, put_pieces};
+use round_runner::Runner;
+
+/// No state has more digits.
+const MOST_DIGITS: usize = 256;
+
+/// Writes the state of node `v` in the runner's configuration.
+fn put_start<K: Sink>(
+    sink: &mut K,
+    runner: &mut Runner<NoOverlay>,
+    v: u32,
+) -> Result<(), WriteFault>
+    requires node { v < plan_nodes runner.old.plan }
+    requires lows { length runner.old.script.shape.lows ≡ plan_nodes runner.old.plan }
+    ensures text { Puts result (start_text runner.old.script runner.old.states v)
+        (K.told sink.old) (K.told sink.new) }
+    ensures same { runner.new ≡ runner.old }
+{
+    let mut buffer = [0; MOST_DIGITS];
+    let digits = 2 * runner.shape().bytes_of(v);
+    runner.state_hex(v, &mut buffer[..digits]);
+    put_pieces(
+        sink,
+        &[
+            Piece::Text(b"start "),
+            Piece::Number(u64::from(v)),
+            Piece::Text(b" "),
+            Piece::Text(&buffer[..digits]),
+            Piece::Text(b"\n"),
+        ],
+    )
+}
+
+/// Writes the state of node `v`, where it is correct at first.
+fn put_first_start<K: Sink>(
+    sink: &mut K,
+    runner: &mut Runner<NoOverlay>,
+    v: u32,
+) -> Result<(), WriteFault>
+    requires node { v < plan_nodes runner.old.plan }
+    requires lows { length runner.old.script.shape.lows ≡ plan_nodes runner.old.plan }
+    ensures text { Puts result (first_start runner.old.script runner.old.states v)
+        (K.told sink.old) (K.told sink.new) }
+    ensures same { runner.new ≡ runner.old }
+{
+    if runner.script().faulty_at(0).contains(v) {
+        return Ok(());
+    }
+    put_start(sink, runner, v)
+}
+
+/// Writes the states of the nodes that are correct at first, which are those of the runner's
+/// configuration.
+pub fn put_first_starts<K: Sink>(
+    sink: &mut K,
+    runner: &mut Runner<NoOverlay>,
+) -> Result<(), WriteFault>
+    requires lows { length runner.old.script.shape.lows ≡ plan_nodes runner.old.plan }
+    ensures text { Puts result
+        (first_starts runner.old.script (plan_nodes runner.old.plan) runner.old.states)
+        (K.told sink.old) (K.told sink.new) }
+    ensures same { runner.new ≡ runner.old }
+{
+    for v in 0..runner.nodes() {
+        match put_first_start(sink, runner, v) {
+            Ok(()) => {}
+            Err(WriteFault) => return Err(WriteFault),
+        }
+    }
+    Ok(())
+}
+
+/// Whether a node is put into a state: it is correct, and it was faulty, or an era hits it.
+fn put_by(bad: bool, was: bool, hit: bool) -> bool
+    ensures { result ≡ (not bad && (was || hit)) }
+{
+    !bad && (was || hit)
+}
+
+/// Whether the state of node `v` is stated where era `j` begins at configuration `t + 1`: it is
+/// correct there, and was faulty before, or the era puts it into a state.
+fn is_put(script: &Script, t: u64, j: usize, v: u32) -> bool
+    requires script { IsScript script.now }
+    requires begins { BeginsAt script.now (t + 1) (Some j) }
+    requires small { t < 1000000 }
+    ensures { (plan : Plan) → result ≡ is_put plan script.now t v }
+{
+    let bad = script.faulty_at(t + 1).contains(v);
+    let was = script.faulty_at(t).contains(v);
+    let hit = script.hits(j, v);
+    put_by(bad, was, hit)
+}
+
+/// Writes the state of node `v`, where it is stated where era `j` begins with the runner's
+/// configuration, `t + 1`.
+fn put_start_if<K: Sink>(
+    sink: &mut K,
+    runner: &mut Runner<NoOverlay>,
+    t: u64,
+    j: usize,
+    v: u32,
+) -> Result<(), WriteFault>
+    requires script { IsScript runner.old.script }
+    requires begins { BeginsAt runner.old.script (t + 1) (Some j) }
+    requires small { t < 1000000 }
+    requires node { v < plan_nodes runner.old.plan }
+    requires lows { length runner.old.script.shape.lows ≡ plan_nodes runner.old.plan }
+    ensures text { Puts result (start_if runner.old.plan runner.old.script t runner.old.states v)
+        (K.told sink.old) (K.told sink.new) }
+    ensures same { runner.new ≡ runner.old }
+{
+    if !is_put(runner.script(), t, j, v) {
+        return Ok(());
+    }
+    put_start(sink, runner, v)
+}
+
+/// Writes the states that are stated where era `j` begins with the runner's configuration, `t + 1`.
+pub fn put_starts<K: Sink>(
+    sink: &mut K,
+    runner: &mut Runner<NoOverlay>,
+    t: u64,
+    j: usize,
+) -> Result<(), WriteFault>
+    requires script { IsScript runner.old.script }
+    requires begins { BeginsAt runner.old.script (t + 1) (Some j) }
+    requires small { t < 1000000 }
+    requires lows { length runner.old.script.shape.lows ≡ plan_nodes runner.old.plan }
+    ensures text { Puts result (starts_text runner.old.plan runner.old.script t runner.old.states)
+        (K.told sink.old) (K.told sink.new) }
+    ensures same { runner.new ≡ runner.old }
+{
+    for v in 0..runner.nodes() {
+        match put_start_if(sink, runner, t, j, v) {
+            Ok(()) => {}
+            Err(WriteFault) => return Err(WriteFault),
+        }
+    }
+    Ok(())
+}
