@@ -1,1 +1,5 @@
 pub mod Rooms
+pub mod Ending
+pub mod FireLaws
+pub mod Owners
+pub mod EntryLaws

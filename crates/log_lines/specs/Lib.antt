@@ -1,3 +1,4 @@
 pub mod FireTexts
 pub mod EntryTexts
 pub mod LengthSeen
+pub mod Laws

@@ -2,6 +2,7 @@
 #![tactic(auto)]
 
 mod fires;
+pub mod laws;
 mod logged;
 
 pub use fires::Fires;

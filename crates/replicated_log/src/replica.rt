@@ -133,7 +133,7 @@ impl Replica {
         owner_at(self.nodes, self.faults, o)
     }
 
-    /// How many entries the log of node `v` has, which is below the number of nodes.
+    /// How many entries the log of node `v` has; `v` is below the number of nodes.
     pub fn entries(&self, v: u32) -> usize
         requires { v < (layer_seen self.now).nodes }
         ensures { result ≡ length (log_in (logs_seen self.now) v) }

@@ -6,7 +6,7 @@ use Rattle.std.proofs.lemmas.List.{length-map}
 use Rattle.std.proofs.lemmas.List.Elements.{All-get_or}
 use Rattle.std.proofs.lemmas.List.FromFn.{length-map-range_with_len, get_or-map-range_with_len}
 use Rattle.counting.proofs.Places.{one_fails}
-use Rattle.construction.specs.Plans.{Plan, plan_nodes, plan_modulus, plan_bound, plan_depth}
+use Rattle.construction.specs.Plans.{Plan, plan_nodes, plan_bound, plan_depth}
 use Rattle.construction.specs.Shown.{shown}
 use Rattle.construction.specs.Steps.{state_of}
 use Rattle.construction.specs.Runs.{is_in, IsBorne}
@@ -24,7 +24,6 @@ use Rattle.run_lines.specs.PlayedTexts.{scene_in}
 use Rattle.run_lines.specs.SlotTexts.{lowest_correct, lead_output, counts_at, begins_at}
 use Rattle.run_lines.proofs.LowestCorrect.{lowest_among}
 use Rattle.layered_eras.specs.LayeredEras.{IsReadFor, era_scenes}
-use Rattle.layered_eras.proofs.States.{shows_below, configuration_is}
 use Rattle.layered_eras.proofs.EraRuns.{eras_are_layer_runs}
 
 module _ {Kept : Type 0} (plan : Plan) (script : Script) (layer : Layer Kept)
@@ -46,7 +45,7 @@ module _ {Kept : Type 0} (plan : Plan) (script : Script) (layer : Layer Kept)
   abbrev lead_rests : Bool
   lead_rests = lead_output plan script t (scene_in plan script layer began t).states % q == 0
 
-  pub counting : counts_at (plan_bound plan) script q t ≡ true
+  counting : counts_at (plan_bound plan) script q t ≡ true
   counting = (and_parts (counts_at (plan_bound plan) script q t) lead_rests begins).0
 
   rests : lead_output plan script t (scene_in plan script layer began t).states % q ≡ 0
@@ -145,15 +144,6 @@ module _ {Kept : Type 0} (plan : Plan) (script : Script) (layer : Layer Kept)
       let hi = ends in
       shows_one place v (omega (arith, lo)) (omega (arith, hi)) lt correct
       ∙ ap (λ (s : Scene Kept). lead_output plan script t s.states) scene_here
-
-  -- which is below the modulus
-  pub lead_below : lead_output plan script t (scene_in plan script layer began t).states
-      < plan_modulus plan
-  lead_below =
-      let node = lowest_correct (plan_nodes plan) faulty in
-      shows_below plan script layer keeps is node
-      (state_of (scene_in plan script layer began t).states node) leads.0
-      ((configuration_is plan script layer keeps is began t).states node leads.0)
 
   pub all_are : AllAre plan faulty (scene run place).states q 0
   all_are v lt correct = ap (λ o. o % q) (shows_lead v lt correct) ∙ rests

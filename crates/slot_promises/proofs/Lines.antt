@@ -1,17 +1,13 @@
 -- What the lines of slots promise.
-use Rattle.std.proofs.Common.{◌≡◌, ℕ, zero, suc, true, ◌+◌, ◌-◌, ◌*◌, ◌%◌, ◌<◌, ◌≤◌, inl, inr, cond, List, [], ◌∷◌, take, replicate, refl, sym, ap, ◌∙◌, subst, arith}
-use Rattle.std.proofs.Math.Nat.{mod-eq_of_lt, add-mod_right}
-use Rattle.std.proofs.lemmas.Bool.{cases_lt, lt-ltb, le-ltb}
+use Rattle.std.proofs.Common.{◌≡◌, ℕ, zero, suc, false, ◌+◌, ◌-◌, ◌≤◌, inr, List, [], ◌∷◌, take, replicate, refl, sym, ap, ◌∙◌, subst, arith}
 use Rattle.std.proofs.lemmas.List.{length-replicate}
-use Rattle.sync_types.specs.States.{State}
-use Rattle.construction.specs.Plans.{Plan, plan_nodes, plan_faults, plan_modulus, plan_bound}
-use Rattle.adversary_script.specs.Scripts.{Script}
-use Rattle.adversary_script.specs.Eras.{first_of_era, era_of, faulty_of_era}
+use Rattle.construction.specs.Plans.{plan_nodes, plan_faults}
+use Rattle.construction.specs.Runs.{is_in}
+use Rattle.adversary_script.specs.Eras.{first_of_era, era_of, faulty_of_era, faulty_at}
 use Rattle.layer_laws.specs.Scenes.{Scene}
 use Rattle.layer_laws.specs.Played.{IsKeptFor}
 use Rattle.layer_laws.specs.Slots.{slot_length}
 use Rattle.layer_laws.proofs.PlanSlots.{quorum_of}
-use Rattle.layered_eras.specs.LayeredEras.{IsReadFor}
 use Rattle.consensus_layer.specs.Agreements.{agree_layer, decision}
 use Rattle.consensus_layer.specs.AgreeLaws.{agree_keeps}
 use Rattle.consensus_layer.proofs.Decisions.{every_run_decides}
@@ -19,17 +15,15 @@ use Rattle.firing.specs.Firings.{fire_layer, fires, unfired, requests_in}
 use Rattle.firing.specs.FireLaws.{fire_keeps}
 use Rattle.firing.proofs.FiredTogether.{fires_together}
 use Rattle.replicated_log.specs.declared.entries.Entry.{Entry}
-use Rattle.replicated_log.specs.EntryLength.{entry_length, owner_at}
-use Rattle.replicated_log.specs.LogSaid.{LogSaid}
+use Rattle.replicated_log.specs.EntryLength.{entry_length, owner_at, command_at}
 use Rattle.replicated_log.specs.LogLaws.{log_keeps}
 use Rattle.replicated_log.specs.Logs.{log_layer, log_of}
 use Rattle.replicated_log.proofs.SlotEntries.{every_slot_puts_one}
 use Rattle.run_lines.specs.RunTexts.{number_word}
-use Rattle.run_lines.specs.SlotTexts.{lead_output, counts_at}
-use Rattle.run_lines.proofs.LaterOutputs.{later_output}
-use Rattle.log_lines.specs.EntryTexts.{newest_value, output_before}
-use Rattle.slot_promises.specs.Promises.{LinesDecide, fire_word, LinesFireTogether, log_scene, LinesPutOne}
-use Rattle.slot_promises.proofs.Counted.{borne, is_run, past, ends, scene_is, all_are, correct_there, past_bound, leads, shows_lead, lead_below, counting}
+use Rattle.log_lines.specs.FireTexts.{fired_word}
+use Rattle.log_lines.specs.EntryTexts.{newest_value, output_at}
+use Rattle.slot_promises.specs.Promises.{LinesDecide, LinesFireTogether, LinesPutOne}
+use Rattle.slot_promises.proofs.Counted.{borne, is_run, past, ends, scene_is, all_are, correct_there, past_bound, leads, shows_lead}
 
 at_most : (q : ℕ) → q ≤ q
 at_most q = omega arith
@@ -86,9 +80,9 @@ lines_fire_together plan script requests for is t begins =
     record {
       fired = together.fired;
       words = λ v lt correct.
-          ap (λ s. fire_word (fires s v))
+          ap (λ s. fired_word (fires s v))
           (sym (scene_is plan script layer keeps is began enough q t begins q (at_most q)))
-          ∙ ap fire_word (together.each v lt
+          ∙ ap fired_word (together.each v lt
           (correct_there plan script layer keeps is began enough q t begins v correct));
       valid = λ common all. together.valid common (λ v lt correct.
           subst (λ u. requests_in requests v u ≡ common) before (all v lt correct));
@@ -99,55 +93,10 @@ newest_kept : (keep : ℕ) (entry : Entry) (log : List Entry) → 1 ≤ keep
 newest_kept zero entry log some = absurd (omega arith)
 newest_kept (suc keep) entry log some = refl
 
--- a round of the modulus behind an output, the output is the one before
-back_again : (m q o : ℕ) → o < m → q ≤ m → output_before m q ((o + q) % m) ≡ o
-back_again m q o lt le = elim (cases_lt (o + q) m) [
-  | inl below ↦
-      let same : (o + q) % m ≡ o + q = mod-eq_of_lt below in
-      ap (output_before m q) same
-      ∙ ap (λ b. cond b (o + q + m - q) (o + q - q)) (le-ltb (o + q) q (omega arith))
-      ∙ omega arith
-  | inr above ↦
-      let less : ℕ = o + q - m in
-      let parts : o + q ≡ less + m = omega (arith, above) in
-      let same : (o + q) % m ≡ less =
-      ap (λ y. y % m) parts ∙ (add-mod_right less m ∙ mod-eq_of_lt (omega (arith, above))) in
-      ap (output_before m q) same
-      ∙ ap (λ b. cond b (less + m - q) (less - q)) (lt-ltb less q (omega (arith, above)))
-      ∙ omega (arith, above)
-]
-
--- the length of an entry is at most the modulus
-entry_fits : (m n q : ℕ) → 0 < m → 0 < n → m % (n * q) ≡ 0 → q ≤ m
-entry_fits m zero q some nodes whole = absurd (omega arith)
-entry_fits m (suc n) q some nodes whole = elim (cases_lt m (suc n * q)) [
-  | inl below ↦ absurd (let same = sym (mod-eq_of_lt below) ∙ whole in omega (arith, same))
-  | inr over ↦ omega (arith, over)
-]
-
--- what the lowest correct node shows when a slot that counts ends
-module _ (plan : Plan) (script : Script) (said : LogSaid)
-    (is : IsReadFor plan (log_layer plan said) script) (t : ℕ) where
-  abbrev config_at : ℕ → List State
-  config_at c = (log_scene plan script said c).states
-
-  abbrev GoesOn : ℕ → Type 0
-  GoesOn q = counts_at (plan_bound plan) script q t ≡ true
-      → lead_output plan script (t + q) (config_at (t + q))
-      ≡ (lead_output plan script t (config_at t) + q) % plan_modulus plan
-
-  goes_on : GoesOn (entry_length (plan_faults plan))
-  goes_on =
-      let f : ℕ = plan_faults plan in
-      let length_is : suc (slot_length f) ≡ entry_length f = omega arith in
-      subst GoesOn length_is (later_output plan script (log_layer plan said)
-      (replicate (plan_nodes plan) []) is.accepted is.right is.sound is.whole (slot_length f) t)
-
 pub lines_put_one : LinesPutOne
 lines_put_one plan script said for is t begins =
     let f : ℕ = plan_faults plan in
     let n : ℕ = plan_nodes plan in
-    let m : ℕ = plan_modulus plan in
     let q : ℕ = entry_length (plan_faults plan) in
     let layer = log_layer plan said in
     let keeps = log_keeps n f _ _ said.values said.keep said.commands
@@ -163,26 +112,20 @@ lines_put_one plan script said for is t begins =
     (ends plan script layer keeps is began enough q t begins)
     (all_are plan script layer keeps is began enough q t begins) in
     let lead = leads plan script layer keeps is began enough q t begins in
-    let output : ℕ = lead_output plan script t (log_scene plan script said t).states in
-    let slot : output ≡ puts.entry.slot =
+    let slot : output_at plan script said t ≡ puts.entry.slot =
     sym (shows_lead plan script layer keeps is began enough q t begins _ lead.0 lead.1)
     ∙ puts.is.slot _ lead.0 lead.1 in
-    let below : output < m = lead_below plan script layer keeps is began enough q t begins in
-    let fits : q ≤ m = entry_fits m n q (omega (arith, below)) (omega (arith, lead.0)) for.whole in
-    let later : lead_output plan script (t + q) (log_scene plan script said (t + q)).states
-    ≡ (output + q) % m =
-    goes_on plan script said is t
-    (counting plan script layer keeps is began enough q t begins) in
     record {
       entry = puts.entry;
+      slot = sym slot;
       words = λ v lt correct.
           ap (λ (s : Scene (List Entry)). number_word (newest_value (log_of s v)))
           (sym (scene_is plan script layer keeps is began enough q t begins q (at_most q)))
           ∙ ap (λ log. number_word (newest_value log)) (puts.is.puts v lt
           (correct_there plan script layer keeps is began enough q t begins v correct))
           ∙ ap number_word (newest_kept said.keep puts.entry _ for.some);
-      owner = ap (λ o. owner_at n f (output_before m q o)) later
-          ∙ ap (owner_at n f) (back_again m q output below fits)
-          ∙ ap (owner_at n f) slot;
-      commanded = puts.is.commanded (past plan script layer keeps is began enough q t begins);
+      owner = ap (owner_at n f) slot;
+      commanded = subst (λ o. is_in (faulty_at script t) (owner_at n f o) ≡ false → puts.entry.value
+          ≡ command_at n f said.commands (owner_at n f o) puts.entry.slot) (sym slot)
+          (puts.is.commanded (past plan script layer keeps is began enough q t begins));
     }

@@ -1,30 +1,27 @@
 -- What the words in lines of slots are.
-use Rattle.std.specs.Prelude.{◌≡◌, ℕ, ◌+◌, ◌-◌, ◌<◌, List, [], Bool, true, false, codes, replicate, slice_index, if◌then◌else◌}
-use Rattle.construction.specs.Plans.{Plan, plan_nodes, plan_faults, plan_modulus}
+use Rattle.std.specs.Prelude.{◌≡◌, ℕ, ◌+◌, ◌-◌, ◌<◌, List, Bool, true, false, slice_index}
+use Rattle.construction.specs.Plans.{Plan, plan_nodes, plan_faults}
 use Rattle.construction.specs.Runs.{is_in}
 use Rattle.adversary_script.specs.Scripts.{Script}
 use Rattle.adversary_script.specs.Eras.{faulty_at}
-use Rattle.layer_laws.specs.Scenes.{Scene}
 use Rattle.layer_laws.specs.Slots.{slot_length}
 use Rattle.layered_eras.specs.LayeredEras.{IsReadFor}
 use Rattle.consensus_layer.specs.AgreeSaid.{AgreeSaid}
 use Rattle.consensus_layer.specs.AgreePart as agree
 use Rattle.consensus_layer.specs.Agreements.{agree_layer}
 use Rattle.firing.specs.declared.requests.Request.{Request}
-use Rattle.firing.specs.declared.fires.Fire.{Fire}
 use Rattle.firing.specs.FirePart.{AreFor}
-use Rattle.firing.specs.Firings.{fire_layer, unfired, requests_in}
+use Rattle.firing.specs.Firings.{fire_layer, requests_in}
 use Rattle.replicated_log.specs.declared.entries.Entry.{Entry}
 use Rattle.replicated_log.specs.EntryLength.{entry_length, owner_at, command_at}
 use Rattle.replicated_log.specs.LogSaid.{LogSaid}
 use Rattle.replicated_log.specs.LogPart as log
 use Rattle.replicated_log.specs.Logs.{log_layer}
 use Rattle.run_lines.specs.RunTexts.{number_word}
-use Rattle.run_lines.specs.PlayedTexts.{Wording, scene_in}
-use Rattle.run_lines.specs.SlotTexts.{begins_at, lead_output}
+use Rattle.run_lines.specs.SlotTexts.{begins_at}
 use Rattle.layer_lines.specs.DecisionTexts.{slot_of, agree_scene, decision_word}
-use Rattle.log_lines.specs.FireTexts.{fire_wording}
-use Rattle.log_lines.specs.EntryTexts.{output_before, entry_wording}
+use Rattle.log_lines.specs.FireTexts.{fire_scene, fired_word, fire_word}
+use Rattle.log_lines.specs.EntryTexts.{log_scene, output_at, slot_owner, entry_word}
 
 -- the words of all nodes that are correct in configuration c are this one
 abbrev pub AllSay : Plan → Script → (c : ℕ) → (word_of : ℕ → List ℕ) → (word : List ℕ) → Type 0
@@ -50,21 +47,12 @@ LinesDecide = (plan : Plan) (script : Script) (said : AgreeSaid) → agree.IsFor
 
 -- ---- firing
 
--- scene c of what is played, where none fires at first
-abbrev pub fire_scene : Plan → Script → List Request → (c : ℕ) → Scene Fire
-fire_scene plan script requests c =
-    scene_in plan script (fire_layer plan requests) (replicate (plan_nodes plan) unfired) c
-
-abbrev pub fire_word : Bool → List ℕ
-fire_word fired = if fired then codes " 1" else codes " ."
-
 -- the line of a slot that begins in configuration t: all fire, or none
 pub record LineFires (plan : Plan) (script : Script) (requests : List Request) (t : ℕ)
     : Type 0 where
   pub fired : Bool
-  pub words : let q = slot_length (plan_faults plan) in
-      AllSay plan script (t + q)
-      ((fire_wording q).word plan (fire_scene plan script requests (t + q))) (fire_word fired)
+  pub words : let c = t + slot_length (plan_faults plan) in
+      AllSay plan script c (fire_word (fire_scene plan script requests c)) (fired_word fired)
   pub valid : (common : Bool) → ((v : ℕ) → v < plan_nodes plan → is_in (faulty_at script t) v ≡ false
       → requests_in requests v (t - 1) ≡ common) → fired ≡ common
 
@@ -76,31 +64,16 @@ LinesFireTogether = (plan : Plan) (script : Script) (requests : List Request)
 
 -- ---- the log
 
--- scene c of what is played, where all logs are empty at first
-abbrev pub log_scene : Plan → Script → LogSaid → (c : ℕ) → Scene (List Entry)
-log_scene plan script said c =
-    scene_in plan script (log_layer plan said) (replicate (plan_nodes plan) []) c
-
--- how its lines are written
-abbrev pub wording_of : Plan → Wording (List Entry)
-wording_of plan = entry_wording (plan_nodes plan) (plan_faults plan) (plan_modulus plan)
-
--- the owner that the line of a slot names which ends in configuration c
-abbrev pub named_owner : Plan → Script → LogSaid → (c : ℕ) → ℕ
-named_owner plan script said c =
-    owner_at (plan_nodes plan) (plan_faults plan)
-    (output_before (plan_modulus plan) (entry_length (plan_faults plan))
-    (lead_output plan script c (log_scene plan script said c).states))
-
--- the line of a slot that begins in configuration t: one value, that of its owner
+-- The line of a slot that begins in configuration t: one value, that of the slot's own entry. Where
+-- the owner that the line names is correct, it is what the owner commands at the slot's output.
 pub record LinePuts (plan : Plan) (script : Script) (said : LogSaid) (t : ℕ) : Type 0 where
   pub entry : Entry
+  pub slot : entry.slot ≡ output_at plan script said t
   pub words : let c = t + entry_length (plan_faults plan) in
-      AllSay plan script c ((wording_of plan).word plan (log_scene plan script said c))
-      (number_word entry.value)
-  pub owner : named_owner plan script said (t + entry_length (plan_faults plan))
+      AllSay plan script c (entry_word (log_scene plan script said c)) (number_word entry.value)
+  pub owner : slot_owner plan script said t
       ≡ owner_at (plan_nodes plan) (plan_faults plan) entry.slot
-  pub commanded : let owner = owner_at (plan_nodes plan) (plan_faults plan) entry.slot in
+  pub commanded : let owner = slot_owner plan script said t in
       is_in (faulty_at script t) owner ≡ false
       → entry.value
       ≡ command_at (plan_nodes plan) (plan_faults plan) said.commands owner entry.slot
