@@ -99,7 +99,7 @@ abbrev pub AreFew : List Level → Type 0
 AreFew [] = Unit {0}
 AreFew (level ∷ below) = (level.blocks < 17) × (level.faults < 86) × AreFew below
 
-few_path : (most : ℕ) (levels : List Level) → IsPath most levels → AreFew levels
+pub few_path : (most : ℕ) (levels : List Level) → IsPath most levels → AreFew levels
 few_path most [] path = tt
 few_path most (level ∷ below) (path, spares, step) =
     (omega (arith, step.most_blocks), omega (arith, step.most_faults), few_path most below path)
@@ -124,7 +124,7 @@ in_over level below is blocks faults =
     (in_flat_map (λ k. map (λ g. line k g 0 0 ∷ below) (range_with_len 0 86)) level.blocks (line level.blocks level.faults 0 0 ∷ below) (range_with_len 0 17)
     (in_range level.blocks 0 17 (omega arith) (omega (arith, blocks))) here)
 
-in_all : (depth : ℕ) (levels : List Level) → IsPlain levels → AreFew levels → length levels ≤ depth → IsIn levels (all_levels depth)
+pub in_all : (depth : ℕ) (levels : List Level) → IsPlain levels → AreFew levels → length levels ≤ depth → IsIn levels (all_levels depth)
 unfolding all_levels
 in_all zero [] plain few deep = inl refl
 in_all zero (level ∷ below) plain few deep = absurd (omega (arith, deep))
@@ -150,7 +150,7 @@ from_over levels below plain few is =
     let faults = below_range g 0 86 inner.1 in
     subst (λ ls. IsPlain ls × AreFew ls) inner.2 ((refl, plain), (omega (arith, blocks), omega (arith, faults), few))
 
-from_all : (depth : ℕ) (levels : List Level) → IsIn levels (all_levels depth) → IsPlain levels × AreFew levels
+pub from_all : (depth : ℕ) (levels : List Level) → IsIn levels (all_levels depth) → IsPlain levels × AreFew levels
 unfolding all_levels
 from_all zero levels (inl same) = subst (λ ls. IsPlain ls × AreFew ls) same (tt, tt)
 from_all zero levels (inr is) = absurd is
@@ -181,7 +181,7 @@ less_true (x ∷ xs) (y ∷ ys) holds = elim (or_cases (nat_lt x y) (x == y && i
   | inr both ↦ let parts = and_parts (x == y) (is_less xs ys) both in inr (eqb-true x y parts.0, less_true xs ys parts.1)
 ]
 
-abbrev IsLeastIn : List (List Level) → Option (List Level) → Type 0
+abbrev pub IsLeastIn : List (List Level) → Option (List Level) → Type 0
 IsLeastIn xs None = (y : List Level) → ¬ IsIn y xs
 IsLeastIn xs (Some x) = IsIn x xs × ((y : List Level) → IsIn y xs → ¬ IsLess (rank_of y) (rank_of x))
 
@@ -218,7 +218,7 @@ first_is levels others None none = (
 )
 first_is levels others (Some other) is = first_by levels other others (is_less (rank_of other) (rank_of levels)) refl is
 
-least_is : (xs : List (List Level)) → IsLeastIn xs (least_of xs)
+pub least_is : (xs : List (List Level)) → IsLeastIn xs (least_of xs)
 least_is [] = λ y is. is
 least_is (levels ∷ others) = first_is levels others (least_of others) (least_is others)
 
@@ -236,7 +236,7 @@ module _ (most : ℕ) (some : 1 ≤ most) (limit : most ≤ 256) (set : List Lev
       in_filter test (levels_in best) (all_levels 5) (holds (levels_in best) in_set)
       (in_all 5 (levels_in best) (plain_down (reverse (steps_in best))) (few_path most (levels_in best) is) deep)
 
-  in_set_of : (levels : List Level) → IsIn levels (filter test (all_levels 5)) → set levels
+  pub in_set_of : (levels : List Level) → IsIn levels (filter test (all_levels 5)) → set levels
   in_set_of levels is =
       let parts = from_filter test levels (all_levels 5) is in
       let all = from_all 5 levels parts.1 in
@@ -260,10 +260,10 @@ module _ (most : ℕ) (some : 1 ≤ most) (limit : most ≤ 256) (set : List Lev
 -- ---- the plan, and the pairs
 
 module _ (most : ℕ) (some : 1 ≤ most) (limit : most ≤ 256) (f : ℕ) where
-  faults_yes : (levels : List Level) → HasFaults most f (most + 1) levels → has_faults most f levels ≡ true
+  pub faults_yes : (levels : List Level) → HasFaults most f (most + 1) levels → has_faults most f levels ≡ true
   faults_yes levels has = and_from (is_path most levels) (faults_of levels == f) (path_true most levels has.path) (eq-eqb (faults_of levels) f has.faults)
 
-  faults_from : (levels : List Level) → IsPlain levels → AreFew levels → has_faults most f levels ≡ true → HasFaults most f (most + 1) levels
+  pub faults_from : (levels : List Level) → IsPlain levels → AreFew levels → has_faults most f levels ≡ true → HasFaults most f (most + 1) levels
   faults_from levels plain few holds =
       let parts = and_parts (is_path most levels) (faults_of levels == f) holds in
       let is = path_from most levels plain few parts.0 in
@@ -280,12 +280,12 @@ module _ (most : ℕ) (some : 1 ≤ most) (limit : most ≤ 256) (f : ℕ) where
       ∙ ap (option_map (plan_with c)) (found_least most some limit (HasFaults most f (most + 1)) (has_faults most f) (λ levels has. has.path) faults_yes faults_from best is)
 
 module _ (most : ℕ) (some : 1 ≤ most) (limit : most ≤ 256) (n f : ℕ) where
-  reaches_yes : (levels : List Level) → Reaches most n f levels → reaches most n f levels ≡ true
+  pub reaches_yes : (levels : List Level) → Reaches most n f levels → reaches most n f levels ≡ true
   reaches_yes levels has =
       and_from (is_path most levels) ((nodes_of levels == n) && (faults_of levels == f)) (path_true most levels has.path)
       (and_from (nodes_of levels == n) (faults_of levels == f) (eq-eqb (nodes_of levels) n has.nodes) (eq-eqb (faults_of levels) f has.faults))
 
-  reaches_from : (levels : List Level) → IsPlain levels → AreFew levels → reaches most n f levels ≡ true → Reaches most n f levels
+  pub reaches_from : (levels : List Level) → IsPlain levels → AreFew levels → reaches most n f levels ≡ true → Reaches most n f levels
   reaches_from levels plain few holds =
       let parts = and_parts (is_path most levels) ((nodes_of levels == n) && (faults_of levels == f)) holds in
       let both = and_parts (nodes_of levels == n) (faults_of levels == f) parts.1 in

@@ -9,4 +9,6 @@ pub mod Gathered
 pub mod Answered
 pub mod Members
 pub mod Enumerated
+pub mod PlainLevels
+pub mod LeastFound
 pub mod FitWants

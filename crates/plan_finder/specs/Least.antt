@@ -3,11 +3,7 @@
 -- say.
 use Rattle.std.specs.Prelude.{ℕ, zero, suc, ◌+◌, ◌*◌, ◌/◌, ◌^◌, List, [], ◌∷◌, map, Bool, true}
 use Rattle.std.specs.Prelude.{false, ◌&&◌, ◌||◌, ◌==◌, nat_lt, nat_le, if◌then◌else◌, Option, Some}
-use Rattle.std.specs.Prelude.{None, Result, Ok, Err}
-use Rattle.texts.specs.Parts.{At}
-use Rattle.sync_types.specs.declared.answers.Rule.{Rule}
-use Rattle.plan_finder.specs.declared.wants.Want.{Want}
-use Rattle.plan_finder.specs.FindPart.{want_of}
+use Rattle.std.specs.Prelude.{None}
 use Rattle.std.specs.Option.{option_map}
 use Rattle.std.specs.Int.{div_ceil}
 use Rattle.std.specs.List.{flat_map, filter, range_with_len}
@@ -89,11 +85,3 @@ costs_of most = costs_within most (most / 3 + 1)
 -- the text that is written for wants
 abbrev pub found_text : (f c most : ℕ) → List ℕ
 found_text f c most = find_text (find_plan f c most) (costs_of most)
-
--- what is answered to an input that is a find part, or the first line that fails
-abbrev pub found_answer : Result Want (At Rule) → Result (List ℕ) (At Rule)
-found_answer (Ok want) = Ok (found_text want.faults want.modulus want.most)
-found_answer (Err refusal) = Err refusal
-
-abbrev pub find_answer : List ℕ → Result (List ℕ) (At Rule)
-find_answer input = found_answer (want_of input)

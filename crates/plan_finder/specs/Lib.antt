@@ -9,3 +9,4 @@ pub mod FindPart
 pub mod FindRefusals
 pub mod FindText
 pub mod Least
+pub mod FindLaws
