@@ -1,6 +1,13 @@
 //! The program: the workbench over standard input and standard output.
 #![tactic(auto)]
 
+#[cfg(test)]
+mod check_tests;
+#[cfg(test)]
+mod node_tests;
+#[cfg(test)]
+mod tests;
+
 use edge_io::{StdSink, StdSource};
 use std::alloc::{AllocError, Global};
 use std::io::ErrorKind;

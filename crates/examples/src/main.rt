@@ -12,33 +12,36 @@ use workbench::counterlab;
 /// How many bytes an answer may have.
 const LONGEST_ANSWER: usize = 1 << 16;
 
-/// What the workbench answers to a word and an input: the exit code, and the sink that it wrote to.
-fn answer(alloc: Global, word: &str, input: Vec<u8>) -> anyhow::Result<(u8, MemSink)> {
+/// What the workbench answers to words, which are parted by points, and an input: the exit code, and
+/// the sink that it wrote to.
+fn answer(alloc: Global, line: &str, input: Vec<u8>) -> anyhow::Result<(u8, MemSink)> {
     let mut source = MemSource::new(input, Vec::new(alloc), Vec::new(alloc));
     let mut sink = MemSink::new(alloc, LONGEST_ANSWER, Vec::new(alloc), Vec::new(alloc))?;
     let mut words = Vec::new(alloc);
-    words.push(String::from_str(alloc, word)?)?;
+    for word in line.split('.') {
+        words.push(String::from_str(alloc, word)?)?;
+    }
     let status = counterlab(alloc, &words, &mut source, &mut sink);
     Ok((status.code(), sink))
 }
 
-/// Whether the answer of a word to an example is the one that is written in a file. Its name, the
-/// word and the exit code are printed.
+/// Whether the answer of some words to an example is the one that is written in a file. Its name,
+/// the words and the exit code are printed.
 fn is_answered<R: Files + Print + AllocGlobal>(
     rt: &R,
     folder: &str,
     name: &str,
-    word: &str,
+    line: &str,
     file: &str,
 ) -> anyhow::Result<bool> {
     let alloc = rt.alloc();
     let input = format!(in alloc; "{folder}/{name}.txt")?;
     let output = format!(in alloc; "{folder}/{file}")?;
     let wanted = fs::read(rt, output.as_str())?;
-    let (code, sink) = answer(alloc, word, fs::read(rt, input.as_str())?)?;
+    let (code, sink) = answer(alloc, line, fs::read(rt, input.as_str())?)?;
     let same = sink.taken() == wanted.as_slice();
     let but = if same { "" } else { ", with other bytes" };
-    println!(rt; "{name} {word} {code}{but}")?;
+    println!(rt; "{name} {line} {code}{but}")?;
     Ok(same)
 }
 
@@ -52,11 +55,11 @@ fn names_of(rt: &HostRuntime, folder: &str) -> io::Result<Vec<String>> {
     Ok(names)
 }
 
-/// The word whose answer to an example is in a file of that name: of the example `NAME` and the
-/// file `NAME.WORD.out` it is `WORD`.
-fn word_of<'a>(name: &str, file: &'a str) -> Option<&'a str> {
-    let (front, word) = file.strip_suffix(".out")?.split_once('.')?;
-    if front == name { Some(word) } else { None }
+/// The words whose answer to an example is in a file of that name: of the example `NAME` and the
+/// file `NAME.WORD.out` it is `WORD`, and of `NAME.demo.7.out` they are `demo` and `7`.
+fn words_of<'a>(name: &str, file: &'a str) -> Option<&'a str> {
+    let (front, words) = file.strip_suffix(".out")?.split_once('.')?;
+    if front == name { Some(words) } else { None }
 }
 
 /// Tries an example: each of the files that is an answer to it. Whether there is one, and all are
@@ -70,9 +73,9 @@ fn try_example(
     let mut answers = false;
     let mut same = true;
     for file in files {
-        if let Some(word) = word_of(name, file.as_str()) {
+        if let Some(words) = words_of(name, file.as_str()) {
             answers = true;
-            same = is_answered(rt, folder, name, word, file.as_str())? && same;
+            same = is_answered(rt, folder, name, words, file.as_str())? && same;
         }
     }
     if !answers {
@@ -88,7 +91,7 @@ fn is_stray(files: &[String], file: &str) -> bool {
     }
     for other in files {
         if let Some(name) = other.strip_suffix(".txt") {
-            if word_of(name, file).is_some() {
+            if words_of(name, file).is_some() {
                 return false;
             }
         }

@@ -26,9 +26,11 @@ use Rattle.slot_table.proofs.FitLines.{lines_fit}
 use Rattle.consensus_layer.specs.AgreePart as agree
 use Rattle.consensus_layer.specs.Agreements.{agree_layer}
 use Rattle.consensus_layer.proofs.FitInputs.{inputs_fit}
+use Rattle.firing.specs.declared.requests.Request.{Request}
 use Rattle.firing.specs.FirePart as fire
 use Rattle.firing.specs.Firings.{fire_layer}
 use Rattle.firing.proofs.FitRequests.{requests_fit}
+use Rattle.replicated_log.specs.LogSaid.{LogSaid}
 use Rattle.replicated_log.specs.LogPart as log
 use Rattle.replicated_log.specs.Logs.{log_layer}
 use Rattle.replicated_log.proofs.FitLogs.{log_fits}
@@ -38,20 +40,20 @@ use Rattle.workbench.specs.declared.refusals.Refusal.{Refusal}
 use Rattle.workbench.specs.Layered.{Layered, layered_with, behind_part, behind_plan, layered_of}
 use Rattle.workbench.specs.SlotsAnswers.{slots_shape}
 use Rattle.workbench.specs.ConsensusAnswers.{agree_shape}
-use Rattle.workbench.specs.FireAnswers.{fire_shape}
-use Rattle.workbench.specs.LogAnswers.{log_shape}
+use Rattle.workbench.specs.FireAnswers.{fire_shape, firing_of}
+use Rattle.workbench.specs.LogAnswers.{log_shape, logging_of}
 use Rattle.workbench.specs.LayerPromises.{HoldsAreKept, DecisionsAreKept, FiresAreKept, EntriesAreKept}
 
 -- ---- what is read of an input
 
 -- what was read: a part that fits its plan, and a script for both
-record IsRead {Said : Type 0} (shape_for : Plan → Said → Shape) (Fits : Plan → Said → Type 0)
+pub record IsRead {Said : Type 0} (shape_for : Plan → Said → Shape) (Fits : Plan → Said → Type 0)
     (read : Layered Said) : Type 0 where
-  accepted : IsAccepted read.plan
-  fits : Fits read.plan read.said
-  right : script.IsFor read.plan (shape_for read.plan read.said) read.script
-  whole : IsScript read.script
-  sound : IsShape (shape_for read.plan read.said)
+  pub accepted : IsAccepted read.plan
+  pub fits : Fits read.plan read.said
+  pub right : script.IsFor read.plan (shape_for read.plan read.said) read.script
+  pub whole : IsScript read.script
+  pub sound : IsShape (shape_for read.plan read.said)
 
 module _ {Said : Type 0} (name : Part)
     (part_of : Plan → (number : ℕ) → List (List ℕ) → Result (Found Said) (At Rule))
@@ -94,18 +96,18 @@ module _ {Said : Type 0} (name : Part)
       (part_of found.value (1 + found.taken) found.behind)
       (fit found.value (1 + found.taken) found.behind)
 
-  input_read : (input : List ℕ)
+  pub input_read : (input : List ℕ)
       → IfOk (layered_of name part_of shape_for input) (IsRead shape_for Fits)
   input_read input = plan_read (plan_of input) (plan_accepted input)
 
 -- what follows from it holds of the input
-so : {Said : Type 0} {A B : Layered Said → Type 0} (read : Result (Layered Said) Refusal)
+pub so : {Said : Type 0} {A B : Layered Said → Type 0} (read : Result (Layered Said) Refusal)
     → IfOk read A → ((l : Layered Said) → A l → B l) → IfOk read B
 so (Err refusal) is then = tt
 so (Ok l) is then = then l is
 
 -- further registers of 2 to 65536 values leave a shape sound
-further_sound : (plan : Plan) (values count : ℕ) → IsAccepted plan → 2 ≤ values → values ≤ 65536
+pub further_sound : (plan : Plan) (values count : ℕ) → IsAccepted plan → 2 ≤ values → values ≤ 65536
     → IsShape (shape_with plan values count)
 further_sound plan values count accepted two few =
     let own = shape_of_accepted plan accepted in
@@ -119,7 +121,7 @@ further_sound plan values count accepted two few =
     }
 
 -- a script for such a shape is one to play with the layer
-to_play : {Kept : Type 0} (plan : Plan) (layer : Layer Kept) (shape : Shape) (s : Script)
+pub to_play : {Kept : Type 0} (plan : Plan) (layer : Layer Kept) (shape : Shape) (s : Script)
     → IsAccepted plan → StandsOver layer (plan_meaning plan) → IsDeaf layer → IsShape shape
     → shape ≡ shape_with plan layer.values layer.extra → script.IsFor plan shape s → IsScript s
     → IsReadFor plan layer s
@@ -135,6 +137,12 @@ to_play plan layer shape s accepted over deaf sound is right whole = record {
   whole = whole;
   sound = subst IsShape (sym right.states) sound;
 }
+
+-- a part that fits its plan, and a script to play with the part's layer
+pub record IsToPlay {Said Kept : Type 0} (Fits : Plan → Said → Type 0)
+    (layer_of : Plan → Said → Layer Kept) (read : Layered Said) : Type 0 where
+  pub fits : Fits read.plan read.said
+  pub plays : IsReadFor read.plan (layer_of read.plan read.said) read.script
 
 -- ---- the words
 
@@ -155,20 +163,39 @@ decisions_kept law input =
     (λ lt. record { nodes = refl; modulus = refl; depth = refl }) (λ none. absurd (omega (arith, none)))
     read.sound refl read.right read.whole))
 
-pub fires_kept : LinesFireTogether → FiresAreKept
-fires_kept law input =
+fire_plays : (l : Layered (List Request)) → IsRead fire_shape fire.AreFor l
+    → IsToPlay fire.AreFor fire_layer l
+fire_plays l read = record {
+  fits = read.fits;
+  plays = to_play l.plan (fire_layer l.plan l.said) _ l.script read.accepted
+      (λ lt. record { nodes = refl; modulus = refl; depth = refl })
+      (λ none. absurd (omega (arith, none))) read.sound refl read.right read.whole;
+}
+
+pub fires_to_play : (input : List ℕ) → IfOk (firing_of input) (IsToPlay fire.AreFor fire_layer)
+fires_to_play input =
     so _ (input_read part.Fire fire.part_of fire_shape fire.AreFor requests_fit
     (λ plan requests accepted fits. further_sound plan 2 1 accepted (omega arith) (omega arith)) input)
-    (λ l read. law l.plan l.script l.said read.fits
-    (to_play l.plan (fire_layer l.plan l.said) _ l.script read.accepted
-    (λ lt. record { nodes = refl; modulus = refl; depth = refl }) (λ none. absurd (omega (arith, none)))
-    read.sound refl read.right read.whole))
+    fire_plays
+
+pub fires_kept : LinesFireTogether → FiresAreKept
+fires_kept law input =
+    so _ (fires_to_play input) (λ l read. law l.plan l.script l.said read.fits read.plays)
+
+log_plays : (l : Layered LogSaid) → IsRead log_shape log.IsFor l → IsToPlay log.IsFor log_layer l
+log_plays l read = record {
+  fits = read.fits;
+  plays = to_play l.plan (log_layer l.plan l.said) _ l.script read.accepted
+      (λ lt. record { nodes = refl; modulus = refl; depth = refl })
+      (λ none. absurd (omega (arith, none))) read.sound refl read.right read.whole;
+}
+
+pub entries_to_play : (input : List ℕ) → IfOk (logging_of input) (IsToPlay log.IsFor log_layer)
+entries_to_play input =
+    so _ (input_read part.Log log.part_of log_shape log.IsFor log_fits
+    (λ plan said accepted fits. further_sound plan said.values 2 accepted fits.two fits.few) input)
+    log_plays
 
 pub entries_kept : LinesPutOne → EntriesAreKept
 entries_kept law input =
-    so _ (input_read part.Log log.part_of log_shape log.IsFor log_fits
-    (λ plan said accepted fits. further_sound plan said.values 2 accepted fits.two fits.few) input)
-    (λ l read. law l.plan l.script l.said read.fits
-    (to_play l.plan (log_layer l.plan l.said) _ l.script read.accepted
-    (λ lt. record { nodes = refl; modulus = refl; depth = refl }) (λ none. absurd (omega (arith, none)))
-    read.sound refl read.right read.whole))
+    so _ (entries_to_play input) (λ l read. law l.plan l.script l.said read.fits read.plays)

@@ -15,6 +15,10 @@ pub mod NodeReturns
 pub mod NodeHeaders
 pub mod NodeEngines
 pub mod NodeService
+pub mod CheckWord
+pub mod CheckLaws
+pub mod RecordRuns
+pub mod RecordLaws
 pub mod Complete
 pub mod ReadLayers
 pub mod ReadSlots
@@ -23,4 +27,7 @@ pub mod RefusedScripts
 pub mod ReadFire
 pub mod ReadLog
 pub mod LayerPromises
+pub mod LockPromises
+pub mod FindPromises
 pub mod WriteEnds
+pub mod DemoTexts

@@ -1,6 +1,6 @@
 -- What is written of an input of the word `fire`, by what was read of it.
-use Rattle.std.proofs.Common.{◌≡◌, ℕ, List, Ok, ap}
-use Rattle.std.specs.Prelude.{replicate}
+use Rattle.std.proofs.Common.{◌≡◌, ℕ, List, Result, Ok, sym, ap, ◌∙◌, subst}
+use Rattle.std.specs.Prelude.{replicate, IfOk}
 use Rattle.sync_types.specs.declared.answers.Part.TheVariants as part
 use Rattle.construction.specs.Plans.{Plan, plan_nodes, plan_faults}
 use Rattle.counter_core.specs.Overlays.{Layer}
@@ -10,10 +10,13 @@ use Rattle.run_lines.specs.PlayedTexts.{played_text}
 use Rattle.firing.specs.declared.requests.Request.{Request}
 use Rattle.firing.specs.declared.fires.Fire.{Fire}
 use Rattle.firing.specs.Firings.{fire_layer, unfired}
-use Rattle.firing.specs.FirePart.{part_of}
+use Rattle.firing.specs.FirePart.{part_of, AreFor}
 use Rattle.log_lines.specs.FireTexts.{fire_text, fire_wording}
-use Rattle.workbench.specs.Layered.{layered_of, text_of_layered}
+use Rattle.log_lines.proofs.FireLaws.{fires_as_defined}
+use Rattle.workbench.specs.declared.refusals.Refusal.{Refusal}
+use Rattle.workbench.specs.Layered.{Layered, layered_of, text_of_layered}
 use Rattle.workbench.specs.FireAnswers.{fire_shape, fire_answer}
+use Rattle.workbench.proofs.LayerPromises.{IsToPlay, fires_to_play}
 
 pub fire_text_is : (input : List ℕ) (plan played_plan : Plan) (script played : Script)
     (requests : List Request) (layer : Layer Fire) (kept : List Fire) (length : ℕ)
@@ -23,4 +26,10 @@ pub fire_text_is : (input : List ℕ) (plan played_plan : Plan) (script played :
     → kept ≡ replicate (plan_nodes plan) unfired → length ≡ slot_length (plan_faults plan)
     → fire_answer input ≡ Ok (played_text played_plan played layer kept (fire_wording length))
 fire_text_is input plan played_plan script played requests layer kept length said p s l k n =
-    rw (p, s, l, k, n) (ap (text_of_layered fire_text) said)
+    let read : IsToPlay AreFor fire_layer (record { plan = plan; said = requests; script = script }) =
+    subst (λ (r : Result (Layered (List Request)) Refusal). IfOk r (IsToPlay AreFor fire_layer)) said
+    (fires_to_play input) in
+    let is = read.plays in
+    rw (p, s, l, k, n) (ap (text_of_layered fire_text) said
+    ∙ ap Ok (sym (fires_as_defined plan is.accepted requests read.fits script is.right is.sound
+    is.whole)))

@@ -1,5 +1,5 @@
 -- What is written of an input of the word `log`, by what was read of it.
-use Rattle.std.proofs.Common.{◌≡◌, ℕ, ◌≤◌, List, [], Result, Ok, ap, sym, subst}
+use Rattle.std.proofs.Common.{◌≡◌, ℕ, ◌≤◌, List, [], Result, Ok, ap, sym, ◌∙◌, subst}
 use Rattle.std.specs.Prelude.{replicate, IfOk}
 use Rattle.texts.specs.Lines.{lines_of}
 use Rattle.texts.specs.Parts.{At, Found}
@@ -14,18 +14,21 @@ use Rattle.replicated_log.specs.declared.replica.Replica.{Replica}
 use Rattle.replicated_log.specs.LogReadings.{IsRead}
 use Rattle.replicated_log.specs.LogSaid.{LogSaid}
 use Rattle.replicated_log.specs.Logs.{log_layer}
-use Rattle.replicated_log.specs.LogPart as said
+use Rattle.replicated_log.specs.LogPart as log
 use Rattle.replicated_log.specs.LogPart.{part_of}
 use Rattle.replicated_log.proofs.FitLogs.{log_fits}
 use Rattle.log_lines.specs.EntryTexts.{log_text, entry_wording}
-use Rattle.workbench.specs.Layered.{layered_of, text_of_layered}
+use Rattle.log_lines.proofs.EntryLaws.{entries_as_defined}
+use Rattle.workbench.specs.declared.refusals.Refusal.{Refusal}
+use Rattle.workbench.specs.Layered.{Layered, layered_of, text_of_layered}
 use Rattle.workbench.specs.LogAnswers.{log_shape, log_answer}
+use Rattle.workbench.proofs.LayerPromises.{IsToPlay, entries_to_play}
 
 -- what is read of a log is for the plan
 pub log_is_for : (plan : Plan) (number : ℕ) (input : List ℕ) (replica : Replica) (bytes lines : ℕ)
-    → (read : IsRead plan number input replica bytes lines) → said.IsFor plan read.said
+    → (read : IsRead plan number input replica bytes lines) → log.IsFor plan read.said
 log_is_for plan number input replica bytes lines read =
-    subst (λ (r : Result (Found LogSaid) (At Rule)). IfOk r (λ f. said.IsFor plan f.value))
+    subst (λ (r : Result (Found LogSaid) (At Rule)). IfOk r (λ f. log.IsFor plan f.value))
     read.part (log_fits plan number (lines_of input))
 
 -- it has between 2 and 65536 values
@@ -50,4 +53,10 @@ pub log_text_is : (input : List ℕ) (plan played_plan : Plan) (script played : 
     ≡ Ok (played_text played_plan played layer kept (entry_wording nodes faults modulus))
 log_text_is input plan played_plan script played said layer kept nodes faults modulus read p s l k
     n f m =
-    rw (p, s, l, k, n, f, m) (ap (text_of_layered log_text) read)
+    let played_part : IsToPlay log.IsFor log_layer (record { plan = plan; said = said; script = script }) =
+    subst (λ (r : Result (Layered LogSaid) Refusal). IfOk r (IsToPlay log.IsFor log_layer)) read
+    (entries_to_play input) in
+    let is = played_part.plays in
+    rw (p, s, l, k, n, f, m) (ap (text_of_layered log_text) read
+    ∙ ap Ok (sym (entries_as_defined plan is.accepted said played_part.fits script is.right is.sound
+    is.whole)))

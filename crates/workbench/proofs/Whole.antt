@@ -109,6 +109,7 @@ module _ (c : Command) (answer : List ℕ → Result (List ℕ) Refusal) (whole 
     by_answer (Err refusal.Usage) here wrote = given status.Usage (Err refusal.Usage) here refl read wrote
     by_answer (Err (refusal.Plan line premise)) here wrote = given (status.PlanRefused line premise) (Err (refusal.Plan line premise)) here refl read wrote
     by_answer (Err (refusal.Part part line rule)) here wrote = given (status.PartRefused part line rule) (Err (refusal.Part part line rule)) here refl read wrote
+    by_answer (Err (refusal.Certificate line)) here wrote = given (status.CertRefused line) (Err (refusal.Certificate line)) here refl read wrote
     by_answer (Err (refusal.Table line cause)) here wrote = given (status.TableRefused line cause) (Err (refusal.Table line cause)) here refl read wrote
 
     pub answered : (result : Result Status End) → Answers result (answer input) old new → Does (Some c) (end_status result) left left' before now old new

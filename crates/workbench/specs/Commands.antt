@@ -1,6 +1,8 @@
 -- The words of a command, how it reads, and what it makes of its input.
 use Rattle.std.specs.Prelude.{ℕ, ◌^◌, List, [], ◌∷◌, Option, Some, None, Err, if◌then◌else◌, codes}
+use Rattle.std.specs.Option.{option_map}
 use Rattle.std.specs.Str.{bytes_eq}
+use Rattle.texts.specs.Numbers.{number_of}
 use Rattle.workbench.specs.declared.commands.Command.{Command}
 use Rattle.workbench.specs.declared.commands.Command.TheVariants as command
 use Rattle.workbench.specs.declared.refusals.Refusal.TheVariants as refusal
@@ -12,6 +14,16 @@ use Rattle.workbench.specs.ConsensusAnswers.{consensus_answer}
 use Rattle.workbench.specs.FireAnswers.{fire_answer}
 use Rattle.workbench.specs.LogAnswers.{log_answer}
 use Rattle.workbench.specs.NodeAnswers.{node_outcome, node_so_far}
+use Rattle.workbench.specs.DemoText.{demo_text}
+use Rattle.workbench.specs.RecordAnswers.{record_answer}
+use Rattle.workbench.specs.CheckAnswers.{check_outcome}
+
+-- the command of a single word of those of run certificates
+abbrev pub certificate_command : List ℕ → Option Command
+certificate_command word =
+    if bytes_eq word (codes "record") then Some command.Record
+    else if bytes_eq word (codes "check") then Some command.Check
+    else None
 
 -- the command of a single word of the second half of the table
 abbrev pub later_command : List ℕ → Option Command
@@ -21,7 +33,7 @@ later_command word =
     else if bytes_eq word (codes "fire") then Some command.Fire
     else if bytes_eq word (codes "log") then Some command.Log
     else if bytes_eq word (codes "node") then Some command.Node
-    else None
+    else certificate_command word
 
 -- the command of a single word
 abbrev pub command_named : List ℕ → Option Command
@@ -34,16 +46,24 @@ command_named word =
     else if bytes_eq word (codes "find") then Some command.Find
     else later_command word
 
+-- the command of two words: `demo` and a number
+abbrev pub seeded_command : List ℕ → List ℕ → Option Command
+seeded_command word seed =
+    if bytes_eq word (codes "demo") then option_map command.Demo (number_of seed) else None
+
 -- the table of words
 abbrev pub command_of : List (List ℕ) → Option Command
 command_of [] = None
 command_of (word ∷ []) = command_named word
-command_of (word ∷ other ∷ words) = None
+command_of (word ∷ seed ∷ []) = seeded_command word seed
+command_of (word ∷ other ∷ third ∷ words) = None
 
 -- what the program makes of an input
 abbrev pub defined : Option Command → List ℕ → Outcome
 defined None input = outcome_of (Err refusal.Usage)
 defined (Some command.Run) input = of_whole (2 ^ 20) run_answer input
+defined (Some command.Record) input = of_whole (2 ^ 20) record_answer input
+defined (Some command.Check) input = check_outcome input
 defined (Some command.Plan) input = of_whole (2 ^ 20) plan_answer input
 defined (Some command.Upgrade) input = of_whole (2 ^ 20) upgrade_answer input
 defined (Some command.Slots) input = of_whole (2 ^ 20) slots_answer input
@@ -54,6 +74,7 @@ defined (Some command.Explain) input = of_whole (2 ^ 20) explain_answer input
 defined (Some command.Fire) input = of_whole (2 ^ 20) fire_answer input
 defined (Some command.Log) input = of_whole (2 ^ 20) log_answer input
 defined (Some command.Node) input = node_outcome input
+defined (Some (command.Demo seed)) input = outcome_of (run_answer (demo_text seed))
 
 -- How a command reads: not at all, or all of its input before it writes, or what it needs for each
 -- piece that it writes.
@@ -65,6 +86,8 @@ pub data Manner : Type 0 where
 abbrev pub manner : Option Command → Manner
 manner None = nothing
 manner (Some command.Run) = all_first
+manner (Some command.Record) = all_first
+manner (Some command.Check) = as_it_goes
 manner (Some command.Plan) = all_first
 manner (Some command.Upgrade) = all_first
 manner (Some command.Slots) = all_first
@@ -75,6 +98,7 @@ manner (Some command.Explain) = all_first
 manner (Some command.Fire) = all_first
 manner (Some command.Log) = all_first
 manner (Some command.Node) = as_it_goes
+manner (Some (command.Demo seed)) = nothing
 
 -- what is written where a read fails behind these bytes
 abbrev pub so_far : Option Command → List ℕ → List ℕ

@@ -127,3 +127,9 @@ Does c status.WriteFault left left' before now old new =
 Does c status.NoMemory left left' before now old new = IfCommand c (OutOfMemory before now old new)
 Does c other left left' before now old new =
     Answered (manner c) (defined c) other left left' before now old new
+
+-- a command that reads nothing leaves its source as it was, whatever its status
+abbrev pub LeavesUnread : Manner → (left left' : Option (List ℕ)) → Type 0
+LeavesUnread nothing left left' = left' ≡ left
+LeavesUnread all_first left left' = Unit {0}
+LeavesUnread as_it_goes left left' = Unit {0}

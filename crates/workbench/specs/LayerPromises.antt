@@ -14,7 +14,9 @@ use Rattle.replicated_log.specs.LogSaid.{LogSaid}
 use Rattle.run_lines.specs.SlotTexts.{begins_at}
 use Rattle.layer_lines.specs.HoldTexts.{hold_word}
 use Rattle.layer_lines.specs.DecisionTexts.{slot_of, agree_scene}
-use Rattle.slot_promises.specs.Promises.{LineDecides, LineFires, LinePuts, fire_scene, log_scene}
+use Rattle.log_lines.specs.FireTexts.{fire_scene}
+use Rattle.log_lines.specs.EntryTexts.{log_scene}
+use Rattle.slot_promises.specs.Promises.{LineDecides, LineFires, LinePuts}
 use Rattle.workbench.specs.SlotsAnswers.{slotted_of}
 use Rattle.workbench.specs.ConsensusAnswers.{agreed_of}
 use Rattle.workbench.specs.FireAnswers.{firing_of}
@@ -54,7 +56,7 @@ abbrev pub FiresAreKept : Type 0
 FiresAreKept = (input : List ℕ)
     → IfOk (firing_of input) (λ read. KeepsFires read.plan read.script read.said)
 
--- each line of a slot of the log has one value
+-- each line of a slot of the log has one value, which its owner commands where it is correct
 abbrev pub KeepsEntries : Plan → Script → LogSaid → Type 0
 KeepsEntries plan script said = (t : ℕ)
     → begins_at plan script (entry_length (plan_faults plan)) t

@@ -5,7 +5,13 @@ pub mod Answers
 pub mod Outcomes
 pub mod NodeAnswers
 pub mod NodeService
+pub mod DemoText
+pub mod RecordAnswers
+pub mod RecordRuns
+pub mod CheckAnswers
 pub mod Commands
+pub mod CheckLaws
+pub mod RecordLaws
 pub mod Conduct
 pub mod Ends
 pub mod Readings
@@ -25,3 +31,6 @@ pub mod ExplainLaws
 pub mod ConsensusAnswers
 pub mod ConsensusRuns
 pub mod LayerPromises
+pub mod DemoLaws
+pub mod LockPromises
+pub mod FindPromises

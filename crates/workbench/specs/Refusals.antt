@@ -52,10 +52,12 @@ abbrev pub refusal_line : Refusal → List ℕ
 refusal_line refusal.Usage = codes "usage: counterlab COMMAND\n"
 refusal_line (refusal.Plan line p) = concat (codes "refused plan line " ∷ decimal line ∷ codes " premise " ∷ premise_word p ∷ codes "\n" ∷ [])
 refusal_line (refusal.Part p line r) = concat (codes "refused " ∷ part_word p ∷ codes " line " ∷ decimal line ∷ codes " rule " ∷ rule_word r ∷ codes "\n" ∷ [])
+refusal_line (refusal.Certificate line) = concat (codes "refused certificate line " ∷ decimal line ∷ codes "\n" ∷ [])
 refusal_line (refusal.Table line c) = concat (codes "refused table line " ∷ decimal line ∷ codes " cause " ∷ cause_word c ∷ codes "\n" ∷ [])
 
 abbrev pub refusal_status : Refusal → Status
 refusal_status refusal.Usage = status.Usage
 refusal_status (refusal.Plan line p) = status.PlanRefused line p
 refusal_status (refusal.Part p line r) = status.PartRefused p line r
+refusal_status (refusal.Certificate line) = status.CertRefused line
 refusal_status (refusal.Table line c) = status.TableRefused line c

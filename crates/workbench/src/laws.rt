@@ -3,6 +3,7 @@
 
 ghost use Rattle.workbench.specs.Completeness.{UndisturbedIsDefined, PlainIsDefined, RoomIsDefined, CutsAreUnseen};
 ghost use Rattle.workbench.specs.Laws.{AcceptedPlansSettle, PromiseIsKept};
+ghost use Rattle.workbench.specs.DemoLaws.{DemoIsAccepted, DemoIsAnswered};
 
 use plan_laws::laws::every_plan_settles;
 use round_runner::laws::{
@@ -58,4 +59,11 @@ pub fn room_is_defined()
 /// wants memory.
 pub fn cuts_are_unseen()
     ensures { CutsAreUnseen }
+{}
+
+/// The text that `demo` makes is a plan and a script for every seed, so that the promise holds of
+/// what is written; its rows lie behind the bound. No refusal is answered to `demo` and a number.
+pub fn demo_is_answered()
+    ensures accepted { DemoIsAccepted }
+    ensures answered { DemoIsAnswered }
 {}

@@ -31,7 +31,8 @@ pub fn fires_are_kept()
 }
 
 /// Where an input is a plan, a log and a script: in each line of a slot the words of all correct nodes
-/// are one number, which is what the owner that the line names commands, where it is correct.
+/// are one number, the value of the slot's own entry. It is what the owner that the line names
+/// commands at the output with which the slot begins, where that owner is correct.
 pub fn entries_are_kept()
     ensures { EntriesAreKept }
 {

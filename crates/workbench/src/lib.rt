@@ -2,29 +2,31 @@
 //! here, over any source and any sink.
 #![tactic(auto)]
 
+pub mod certificate_laws;
+mod check_word;
 mod commands;
 mod consensus_word;
+mod demo_word;
 mod ends;
 mod explain_word;
 mod explaining;
+pub mod find_promises;
 mod find_word;
 mod fire_word;
 pub mod laws;
 pub mod layer_promises;
 mod layered;
+pub mod lock_promises;
 mod log_word;
-#[cfg(test)]
-mod node_tests;
 mod node_word;
 mod plan_word;
 mod readings;
+mod record_word;
 mod refusals;
 mod run_word;
 mod running;
 mod slots_word;
 mod table_word;
-#[cfg(test)]
-mod tests;
 mod upgrade_word;
 
 pub use commands::counterlab;

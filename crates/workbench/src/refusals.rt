@@ -24,6 +24,8 @@ pub enum Refusal {
     Plan { line: u64, premise: Premise },
     /// This part fails this rule at this line.
     Part { part: Part, line: u64, rule: Rule },
+    /// No run certificate begins with the lines up to this one.
+    Certificate { line: u64 },
     /// The table fails at this line, for this cause.
     Table { line: u64, cause: Cause },
 }
@@ -263,6 +265,7 @@ impl Refusal {
             Refusal::Usage => Status::Usage,
             Refusal::Plan { line, premise } => Status::PlanRefused { line, premise },
             Refusal::Part { part, line, rule } => Status::PartRefused { part, line, rule },
+            Refusal::Certificate { line } => Status::CertRefused { line },
             Refusal::Table { line, cause } => Status::TableRefused { line, cause },
         }
     }
@@ -293,6 +296,14 @@ pub fn put_refusal<K: Sink>(sink: &mut K, refusal: Refusal) -> Result<(), WriteF
                 Piece::Number(line),
                 Piece::Text(b" rule "),
                 Piece::Text(rule_word(rule).as_bytes()),
+                Piece::Text(b"\n"),
+            ],
+        ),
+        Refusal::Certificate { line } => put_pieces(
+            sink,
+            &[
+                Piece::Text(b"refused certificate line "),
+                Piece::Number(line),
                 Piece::Text(b"\n"),
             ],
         ),

@@ -15,7 +15,7 @@ use std::alloc::Global;
 use sync_types::Status;
 
 /// Answers an input.
-fn run_input<K: Sink>(alloc: Global, input: &[u8], sink: &mut K) -> Result<Status, End>
+pub fn run_input<K: Sink>(alloc: Global, input: &[u8], sink: &mut K) -> Result<Status, End>
     requires { length input.now ≤ 2 ^ 20 }
     ensures { Answers result (run_answer input.now) (K.told sink.old) (K.told sink.new) }
 {

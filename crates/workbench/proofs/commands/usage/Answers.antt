@@ -3,8 +3,8 @@ use Rattle.workbench.specs.Commands.{defined}
 use Rattle.workbench.proofs.Unread.{unread_answered, unread_cut}
 use Rattle.workbench.proofs.commands.usage.Goals as goal
 
-pub returns-in-Ok : goal.returns-in-Ok
-returns-in-Ok g c = unread_answered (defined None) (defined None []) (λ input. refl) _ _ _ _ _ refl c.in-Ok.ensures
+pub returns-in-Ok-clause-does : goal.returns-in-Ok-clause-does
+returns-in-Ok-clause-does g c = unread_answered (defined None) (defined None []) (λ input. refl) _ _ _ _ _ refl c.in-Ok.ensures
 
-pub returns-in-Err : goal.returns-in-Err
-returns-in-Err g c = unread_cut (defined None) (defined None []) (λ input. refl) _ _ _ _ c.in-Err.ensures
+pub returns-in-Err-clause-does : goal.returns-in-Err-clause-does
+returns-in-Err-clause-does g c = unread_cut (defined None) (defined None []) (λ input. refl) _ _ _ _ c.in-Err.ensures

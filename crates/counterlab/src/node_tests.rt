@@ -1,8 +1,8 @@
-use crate::counterlab;
 use edge_io::{MemSink, MemSource};
 use std::alloc::Global;
 use std::test::Fail;
 use sync_types::{Part, Rule, Status};
+use workbench::counterlab;
 
 /// A one-node counter modulo 5, and its node in the state 4.
 const ONE: &[u8] = b"plan 1\nbase 5\nend\nnode 1\nid 0\nstate 80\nend\n";

@@ -1,16 +1,22 @@
 ghost use Rattle.std.specs.Prelude.{◌≤◌, All};
 
-use crate::counterlab;
 use edge_io::{MemSink, MemSource};
 use std::alloc::Global;
 use std::test::Fail;
 use sync_types::{Premise, Status};
+use workbench::counterlab;
 
 /// A one-node counter, six rounds of it.
 const COUNTS: &str = "plan 1\nbase 5\nend\nscript 1\nfaulty\nstart zero\nrounds 6\nshow 0 6\nend\n";
 
 const COUNTED: &str =
     "bound 0\nrow 0 0\nrow 1 1\nrow 2 2\nrow 3 3\nrow 4 4\nrow 5 0\nrow 6 1\nlocked 0\n";
+
+/// Two rounds of it, from 4 on.
+const SHORT_COUNT: &str =
+    "plan 1\nbase 5\nend\nscript 1\nfaulty\nstart zero\nstart node 0 80\nrounds 2\nshow 0 0\nend\n";
+
+const RECORDED: &str = "run 1\nbase 5\nfaulty\nstart 0 80\nrow 0 4\nrow 1 0\nrow 2 1\nend\n";
 
 /// Four nodes, of which node 3 lies.
 const EXPLAINED: &str =
@@ -50,6 +56,10 @@ const WANTS: &str = "find 1\nwant 1 10 4\nend\n";
 const FOUND: &str =
     "plan 1\nbase 2304\nlevel 4 1 10\nend\npot 1 0 0\npot 3 0 384\npot 4 0 1536\npot 4 1 2304\n";
 
+/// What is written of a plan of twelve nodes, of which nodes 0 to 2 lie.
+const SEVENTH: &str =
+    "bound 3264\nrow 3360 * * * 7 7 7 7 7 7 7 7 7\nrow 3361 * * * 8 8 8 8 8 8 8 8 8\nrow 3362 * * * 9 9 9 9 9 9 9 9 9\nrow 3363 * * * 0 0 0 0 0 0 0 0 0\nrow 3364 * * * 1 1 1 1 1 1 1 1 1\nlocked 314\n";
+
 /// The words that are parted by single spaces.
 fn words_of(alloc: Global, line: &str) -> Result<Vec<String>, Fail> {
     let mut words = Vec::new(alloc);
@@ -62,7 +72,7 @@ fn words_of(alloc: Global, line: &str) -> Result<Vec<String>, Fail> {
 }
 
 /// What the workbench answers to some words and an input, and the sink that it wrote to.
-fn answer(alloc: Global, line: &str, input: &[u8]) -> Result<(Status, MemSink), Fail> {
+pub fn answer(alloc: Global, line: &str, input: &[u8]) -> Result<(Status, MemSink), Fail> {
     let none = Vec::new(alloc);
     let mut source = MemSource::new(Vec::from_slice(alloc, input)?, Vec::new(alloc), none);
     let mut sink = MemSink::new(alloc, 4096, Vec::new(alloc), Vec::new(alloc))?;
@@ -75,6 +85,8 @@ fn answer(alloc: Global, line: &str, input: &[u8]) -> Result<(Status, MemSink), 
 fn accepted_inputs_are_answered(rt: HostRuntime) -> Result<(), Fail> {
     for (words, input, text) in [
         ("run", COUNTS, COUNTED),
+        ("record", SHORT_COUNT, RECORDED),
+        ("check", RECORDED, "true rows 3 locked 0\n"),
         ("explain", COUNTS, "bound 0\nexplain base\nlocked 0\n"),
         ("explain", EXPLAINED, EXPLANATION),
         ("plan", TWO_LEVELS, TABLE),
@@ -85,6 +97,7 @@ fn accepted_inputs_are_answered(rt: HostRuntime) -> Result<(), Fail> {
         ("log", LOGS, LOGGED),
         ("find", WANTS, FOUND),
         ("table", TABLE, "true\n"),
+        ("demo 7", "", SEVENTH),
     ] {
         let (status, sink) = answer(rt.alloc(), words, input.as_bytes())?;
         assert_eq!(rt; status, Status::Ok, "at {input}");
@@ -95,7 +108,17 @@ fn accepted_inputs_are_answered(rt: HostRuntime) -> Result<(), Fail> {
 
 #[test]
 fn words_outside_the_table_are_usage(rt: HostRuntime) -> Result<(), Fail> {
-    for words in ["", "run run", "demo", "demo 01", "--help", "Run"] {
+    for words in [
+        "",
+        "run run",
+        "demo",
+        "demo 01",
+        "demo x",
+        "demo 1000000000000000",
+        "demo 7 8",
+        "--help",
+        "Run",
+    ] {
         let (status, sink) = answer(rt.alloc(), words, COUNTS.as_bytes())?;
         assert_eq!(rt; status, Status::Usage, "at {words}");
         assert_eq!(rt;

@@ -1,0 +1,26 @@
+-- What the answer of `find` promises, by what its wants are read as.
+use Rattle.std.proofs.Common.{Result, Ok, Err, refl}
+use Rattle.std.specs.Prelude.{IfOk}
+use Rattle.texts.specs.Parts.{At}
+use Rattle.sync_types.specs.declared.answers.Rule.{Rule}
+use Rattle.plan_finder.specs.declared.wants.Want.{Want}
+use Rattle.plan_finder.specs.FindPart.{want_of}
+use Rattle.plan_finder.specs.FindLaws.{IsAnswerFor, FindsLeast}
+use Rattle.plan_finder.specs.Least.{find_plan, costs_of}
+use Rattle.workbench.specs.Answers.{wants_or_refusal, answer_to}
+use Rattle.workbench.specs.FindPromises.{IsFound, LeastIsFound}
+
+found_by : (read : Result Want (At Rule))
+    → IfOk read (λ want. IsAnswerFor want (find_plan want.faults want.modulus want.most)
+    (costs_of want.most))
+    → IfOk (wants_or_refusal read) (IsFound (answer_to (wants_or_refusal read)))
+found_by (Ok want) is = record {
+  plan = find_plan want.faults want.modulus want.most;
+  pots = costs_of want.most;
+  text = refl;
+  is = is;
+}
+found_by (Err at) is = tt
+
+pub least_found : FindsLeast → LeastIsFound
+least_found law input = found_by (want_of input) (law input)

@@ -1,0 +1,14 @@
+//! What the answer of `find` promises, whatever the input. The function does nothing: its clause is
+//! the law.
+
+ghost use Rattle.workbench.specs.FindPromises.{LeastIsFound};
+
+use plan_finder::laws::finds_least;
+
+/// Where the wants of an input of `find` are read: the plan in the answer is the least accepted one
+/// that meets them, `none` exactly where no plan does, and each pair is there with its least cost.
+pub fn least_is_found()
+    ensures { LeastIsFound }
+{
+    finds_least();
+}
