@@ -1,7 +1,7 @@
 //! Plans that are drawn.
 
 use crate::draws::Draws;
-use crate::plans::{Level, Plan, quotient};
+use plain_answers::plans::{Level, Plan, quotient};
 use std::alloc::AllocError;
 
 /// How many nodes a drawn plan may have.

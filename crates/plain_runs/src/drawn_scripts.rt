@@ -1,8 +1,8 @@
 //! Scripts that are drawn.
 
 use crate::draws::{Centre, Draws};
-use crate::plans::{Plan, quotient};
-use crate::scripts::{Era, Lie, Receivers, Rule, Script, Start};
+use plain_answers::plans::{Plan, quotient};
+use plain_answers::scripts::{Era, Lie, Receivers, Rule, Script, Start};
 use std::alloc::AllocError;
 
 impl Draws {

@@ -1,7 +1,7 @@
 //! Choices that are drawn: the same each time.
 
-use crate::bits::{packed, put};
-use crate::plans::{Plan, remainder, width};
+use plain_answers::bits::{packed, put};
+use plain_answers::plans::{Plan, remainder, width};
 use rand_chacha::ChaCha8Rng;
 use rand_core::{Rng, SeedableRng};
 use std::alloc::{AllocError, Global};

@@ -3,22 +3,21 @@
 #![tactic(auto)]
 
 mod answers;
-mod bits;
+mod drawn_layers;
 mod drawn_plans;
 mod drawn_scripts;
 mod draws;
-mod input_texts;
+mod plain_check;
+mod plain_consensus;
+mod plain_explain;
 mod plain_find;
+mod plain_fire;
+mod plain_log;
 mod plain_node;
+mod plain_record;
 mod plain_run;
 mod plain_slots;
 mod plain_table;
-mod plans;
-mod premises;
-mod runs;
-mod scripts;
-mod states;
-mod steps;
 
 use crate::draws::Draws;
 
@@ -29,5 +28,11 @@ fn main(rt: HostRuntime) -> anyhow::Result<()> {
     plain_node::try_all(&rt, &mut draws)?;
     plain_table::try_all(&rt, &mut draws)?;
     plain_find::try_all(&rt, &mut draws)?;
+    plain_consensus::try_all(&rt, &mut draws)?;
+    plain_fire::try_all(&rt, &mut draws)?;
+    plain_log::try_all(&rt, &mut draws)?;
+    plain_explain::try_all(&rt, &mut draws)?;
+    plain_record::try_all(&rt, &mut draws)?;
+    plain_check::try_all(&rt, &mut draws)?;
     Ok(())
 }

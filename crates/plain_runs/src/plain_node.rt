@@ -2,14 +2,10 @@
 
 use crate::answers::{is_answered, is_answered_within};
 use crate::draws::{Centre, Draws};
-use crate::input_texts::{write_bytes, write_plan};
-use crate::plans::Plan;
-use crate::states::{State, read, written, zero};
-use crate::steps::stepped;
+use plain_answers::input_texts::{write_bytes, write_plan};
+use plain_answers::nodes::{MOST_PACKETS, Node, answer, put_cell};
+use plain_answers::plans::Plan;
 use std::alloc::{AllocError, Global};
-
-/// How many packets a node takes.
-const MOST_PACKETS: u64 = 1_000_000;
 
 /// How many bytes of cells a node may write for them, where a cell has three.
 const LONGEST_CELLS: usize = 3_000_064;
@@ -17,89 +13,11 @@ const LONGEST_CELLS: usize = 3_000_064;
 /// How many nodes are drawn, for each version of plans.
 const DRAWN_NODES: u64 = 60;
 
-/// A node of a plan, and the bytes of the state that it begins with.
-#[derive(Drop)]
-struct Node {
-    id: u64,
-    start: Vec<u8>,
-}
-
-/// The bytes of one cell of each node, without their lengths.
-#[derive(Drop)]
-struct Packet {
-    cells: Vec<Vec<u8>>,
-}
-
 /// An input: the lines of a plan and of a node, and some bytes of packets.
 #[derive(Drop)]
 struct Input {
     header: String,
-    packets: Vec<Packet>,
     bytes: Vec<u8>,
-}
-
-/// Puts the length of a cell and then its bytes.
-fn put_cell(bytes: &mut Vec<u8>, cell: &[u8]) -> Result<(), AllocError> {
-    let length = cell.len() as u64;
-    bytes.push((length / 256 % 256) as u8)?;
-    bytes.push((length % 256) as u8)?;
-    bytes.extend_from_slice(cell)
-}
-
-impl Packet {
-    /// How many bytes it takes.
-    fn length(&self) -> u64 {
-        let mut length = 0u64;
-        for cell in &self.cells {
-            length = length.wrapping_add(cell.len() as u64).wrapping_add(2);
-        }
-        length
-    }
-
-    /// What a node that is in a state hears: of another node the state that its cell has, if it has
-    /// its length, else the zero state.
-    fn heard(
-        &self,
-        alloc: Global,
-        plan: &Plan,
-        node: u64,
-        own: &State,
-    ) -> Result<Vec<State>, AllocError> {
-        let mut heard = Vec::new(alloc);
-        for (cell, sender) in self.cells.iter().zip(0u64..) {
-            heard.push(if sender == node {
-                own.clone()?
-            } else if cell.len() as u64 == plan.bytes(sender) {
-                read(alloc, plan, sender, cell)?
-            } else {
-                zero(alloc, plan)?
-            })?;
-        }
-        Ok(heard)
-    }
-}
-
-/// The cells that a node writes, and the exit code: it answers each packet that is whole.
-fn answer(
-    alloc: Global,
-    plan: &Plan,
-    node: &Node,
-    input: &Input,
-) -> Result<(Vec<u8>, u8), AllocError> {
-    let mut cells = Vec::new(alloc);
-    let mut state = read(alloc, plan, node.id, &node.start)?;
-    let mut left = input.bytes.len() as u64;
-    put_cell(&mut cells, &written(alloc, plan, node.id, &state)?)?;
-    for packet in &input.packets {
-        if left < packet.length() {
-            break;
-        }
-        left = left.wrapping_sub(packet.length());
-        let heard = packet.heard(alloc, plan, node.id, &state)?;
-        state = stepped(alloc, plan, node.id, &heard)?;
-        put_cell(&mut cells, &written(alloc, plan, node.id, &state)?)?;
-    }
-    Ok((cells, if left == 0 { 0 } else { 9 }))
 }
 
 /// What is written where a line of the node is refused, and none where none is.
@@ -131,18 +49,23 @@ impl Draws {
         Ok(Node { id, start })
     }
 
-    /// A packet of cells, most of which are states near to others.
-    fn packet(&mut self, plan: &Plan, centre: &Centre) -> Result<Packet, AllocError> {
-        let mut cells = Vec::new(self.alloc);
+    /// Puts the cells of a packet, most of which are states near to others.
+    fn put_packet(
+        &mut self,
+        bytes: &mut Vec<u8>,
+        plan: &Plan,
+        centre: &Centre,
+    ) -> Result<(), AllocError> {
         for sender in 0..plan.nodes() {
-            cells.push(if self.once_in(20) {
+            let cell = if self.once_in(20) {
                 let length = self.below(plan.bytes(sender).wrapping_mul(2).wrapping_add(2));
                 self.any_bytes(length)?
             } else {
                 self.state(plan, sender, centre)?
-            })?;
+            };
+            put_cell(bytes, &cell)?;
         }
-        Ok(Packet { cells })
+        Ok(())
     }
 
     /// An input for a node of a plan, which at times ends within a packet.
@@ -158,23 +81,14 @@ impl Draws {
         write!(header, "node 1\nid {id}\nstate")?;
         write_bytes(&mut header, &node.start)?;
         writeln!(header, "\nend")?;
-        let mut packets = Vec::new(self.alloc);
         let mut bytes = Vec::new(self.alloc);
         for _ in 0..self.below(14) {
-            let packet = self.packet(plan, centre)?;
-            for cell in &packet.cells {
-                put_cell(&mut bytes, cell)?;
-            }
-            packets.push(packet)?;
+            self.put_packet(&mut bytes, plan, centre)?;
         }
         if self.once_in(4) {
             bytes.truncate(self.below(bytes.len() as u64) as usize);
         }
-        Ok(Input {
-            header,
-            packets,
-            bytes,
-        })
+        Ok(Input { header, bytes })
     }
 }
 
@@ -189,7 +103,7 @@ fn try_node(rt: &HostRuntime, draws: &mut Draws, plan: &Plan) -> anyhow::Result<
     let same = match refusal(alloc, plan, &node)? {
         Some(wanted) => is_answered(rt, "node", &all, wanted.as_bytes(), 3)?,
         None => {
-            let (cells, code) = answer(alloc, plan, &node, &input)?;
+            let (cells, code) = answer(alloc, plan, &node, &input.bytes)?;
             is_answered(rt, "node", &all, &cells, code)?
         }
     };

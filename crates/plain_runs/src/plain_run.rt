@@ -2,9 +2,9 @@
 
 use crate::answers::agrees;
 use crate::draws::Draws;
-use crate::input_texts::{write_plan, write_script};
-use crate::plans::Plan;
-use crate::runs::answer;
+use plain_answers::input_texts::{write_plan, write_script};
+use plain_answers::plans::Plan;
+use plain_answers::runs::answer;
 
 /// How many plans are drawn of a version, for each version of scripts.
 const DRAWN_PLANS: u64 = 30;

@@ -2,48 +2,13 @@
 
 use crate::answers::agrees;
 use crate::draws::Draws;
-use crate::input_texts::{write_plan, write_script};
-use crate::plans::Plan;
-use crate::runs::Run;
-use crate::scripts::Script;
-use crate::steps::shown;
+use plain_answers::input_texts::{write_plan, write_script};
+use plain_answers::plans::Plan;
+use plain_answers::slot_tables::{Slot, broken_rule, played};
 use std::alloc::{AllocError, Global};
 
 /// How many slot tables are drawn, for each version of plans and of scripts.
 const DRAWN_TABLES: u64 = 30;
-
-/// A node has the outputs from the first to the last.
-#[derive(Clone, Copy)]
-struct Slot {
-    node: u64,
-    first: u64,
-    last: u64,
-}
-
-impl Slot {
-    /// Whether the node has an output.
-    fn covers(&self, output: u64) -> bool {
-        self.first <= output && output <= self.last
-    }
-}
-
-/// The first rule that the line of a slot behind those of others fails.
-fn broken_rule(plan: &Plan, slot: &Slot, others: &[Slot]) -> Option<&'static str> {
-    if slot.node >= plan.nodes() {
-        return Some("node");
-    }
-    if slot.first > slot.last || slot.last >= plan.modulus() {
-        return Some("range");
-    }
-    for output in slot.first..=slot.last {
-        for other in others {
-            if other.covers(output) {
-                return Some("overlap");
-            }
-        }
-    }
-    None
-}
 
 /// What is written where a line is refused.
 fn refusal(alloc: Global, plan: &Plan, slots: &[Slot]) -> Result<Option<String>, AllocError> {
@@ -58,61 +23,6 @@ fn refusal(alloc: Global, plan: &Plan, slots: &[Slot]) -> Result<Option<String>,
         line = line.wrapping_add(1);
     }
     Ok(None)
-}
-
-/// Whether a node that shows an output holds.
-fn holds(slots: &[Slot], node: u64, output: u64) -> bool {
-    for slot in slots {
-        if slot.node == node && slot.covers(output) {
-            return true;
-        }
-    }
-    false
-}
-
-/// Writes who holds in the configuration of a run.
-fn write_holds(
-    text: &mut String,
-    plan: &Plan,
-    slots: &[Slot],
-    script: &Script,
-    run: &Run,
-) -> Result<(), AllocError> {
-    let at = run.at();
-    write!(text, "hold {at}")?;
-    for (state, node) in run.config.iter().zip(0..plan.nodes()) {
-        if script.faulty_at(at).contains(&node) {
-            write!(text, " *")?;
-        } else if holds(slots, node, shown(state, plan.levels.len())) {
-            write!(text, " 1")?;
-        } else {
-            write!(text, " .")?;
-        }
-    }
-    writeln!(text)
-}
-
-/// What `slots` writes of slots that are accepted.
-fn played(
-    alloc: Global,
-    plan: &Plan,
-    slots: &[Slot],
-    script: &Script,
-) -> Result<String, AllocError> {
-    let mut text = String::new(alloc);
-    let bound = plan.bound();
-    writeln!(text, "bound {bound}")?;
-    let mut run = Run::new(alloc, plan, script)?;
-    for at in 0..=script.rounds {
-        if at > 0 {
-            run.round(alloc, plan, script)?;
-        }
-        if script.first <= at && at <= script.last {
-            write_holds(&mut text, plan, slots, script, &run)?;
-        }
-    }
-    run.write_locks(&mut text, script)?;
-    Ok(text)
 }
 
 impl Draws {

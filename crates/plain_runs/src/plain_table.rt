@@ -3,134 +3,14 @@
 
 use crate::answers::{agrees, is_answered};
 use crate::draws::Draws;
-use crate::input_texts::write_plan;
-use crate::plans::{Level, Plan, width};
-use crate::premises::{MOST, broken_base, broken_level};
-use std::alloc::{AllocError, Global};
+use plain_answers::input_texts::write_plan;
+use plain_answers::plans::Plan;
+use plain_answers::premises::{MOST, broken_base, broken_level};
+use plain_answers::tables::{Numbers, Whole, numbers_of, table_of, whole_of, write_table};
+use std::alloc::AllocError;
 
 /// How many plans are drawn, of each version.
 const DRAWN_PLANS: u64 = 60;
-
-/// The numbers of a level that follow from those of its line and the levels below.
-#[derive(Clone, Copy)]
-struct Numbers {
-    index: u64,
-    leaders: u64,
-    nodes: u64,
-    beat: u64,
-    span: u64,
-    bound: u64,
-    bits: u64,
-}
-
-/// The numbers of the whole plan.
-#[derive(Clone, Copy)]
-struct Whole {
-    nodes: u64,
-    faults: u64,
-    modulus: u64,
-    bound: u64,
-    bits: u64,
-    bytes: u64,
-}
-
-/// The numbers of each level.
-fn numbers_of(alloc: Global, plan: &Plan) -> Result<Vec<Numbers>, AllocError> {
-    let mut all = Vec::new(alloc);
-    let mut bound = 0u64;
-    let mut bits = width(plan.base);
-    for (depth, level) in plan.levels.iter().enumerate() {
-        bound = bound.wrapping_add(level.span());
-        bits = bits.wrapping_add(width(level.modulus.wrapping_add(1)).wrapping_add(1));
-        all.push(Numbers {
-            index: (depth as u64).wrapping_add(1),
-            leaders: level.leaders(),
-            nodes: plan.group(depth.saturating_add(1)),
-            beat: level.beat(),
-            span: level.span(),
-            bound,
-            bits,
-        })?;
-    }
-    Ok(all)
-}
-
-/// The numbers of a plan.
-fn whole_of(plan: &Plan) -> Whole {
-    Whole {
-        nodes: plan.nodes(),
-        faults: plan.faults(),
-        modulus: plan.modulus(),
-        bound: plan.bound(),
-        bits: plan.bits(0),
-        bytes: plan.bytes(0),
-    }
-}
-
-/// Writes the line of a level.
-fn write_level(
-    text: &mut String,
-    version: u64,
-    level: &Level,
-    numbers: Numbers,
-) -> Result<(), AllocError> {
-    let Level {
-        blocks,
-        faults,
-        modulus,
-        spares,
-    } = *level;
-    let Numbers {
-        index,
-        leaders,
-        nodes,
-        beat,
-        span,
-        bound,
-        bits,
-    } = numbers;
-    write!(
-        text,
-        "level {index} blocks {blocks} leaders {leaders} nodes {nodes} "
-    )?;
-    write!(
-        text,
-        "faults {faults} beat {beat} span {span} modulus {modulus} "
-    )?;
-    write!(text, "bound {bound} bits {bits}")?;
-    if version == 2 {
-        write!(text, " spare {spares}")?;
-    }
-    writeln!(text)
-}
-
-/// Writes a table of a plan with these numbers.
-fn write_table(
-    text: &mut String,
-    plan: &Plan,
-    all: &[Numbers],
-    whole: Whole,
-) -> Result<(), AllocError> {
-    let version = plan.version;
-    let base = plan.base;
-    writeln!(text, "table {version}\nbase {base}")?;
-    for (level, numbers) in plan.levels.iter().zip(all) {
-        write_level(text, version, level, *numbers)?;
-    }
-    let Whole {
-        nodes,
-        faults,
-        modulus,
-        bound,
-        bits,
-        bytes,
-    } = whole;
-    write!(
-        text,
-        "plan nodes {nodes} faults {faults} modulus {modulus} "
-    )?;
-    writeln!(text, "bound {bound} bits {bits} bytes {bytes}\nend")
-}
 
 impl Draws {
     /// Makes one of the numbers of a level wrong.
@@ -204,14 +84,6 @@ impl Draws {
             }
         }
     }
-}
-
-/// The text of the table of a plan.
-fn table_of(alloc: Global, plan: &Plan) -> Result<String, AllocError> {
-    let mut table = String::new(alloc);
-    let all = numbers_of(alloc, plan)?;
-    write_table(&mut table, plan, &all, whole_of(plan))?;
-    Ok(table)
 }
 
 /// Whether a plan is answered with its table, or with its first line that is refused.

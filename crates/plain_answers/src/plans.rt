@@ -95,6 +95,12 @@ impl Plan {
         })
     }
 
+    /// Puts so many registers of a layer behind those of the levels, with values below `values`.
+    pub fn set_layer(&mut self, behind: usize, values: u64) {
+        self.behind = behind;
+        self.values = values;
+    }
+
     /// How many registers a state has.
     pub fn registers(&self) -> usize {
         self.levels.len().saturating_add(self.behind)
@@ -109,6 +115,11 @@ impl Plan {
     /// The modulus that the nodes count by.
     pub fn modulus(&self) -> u64 {
         self.levels.last().map_or(self.base, |level| level.modulus)
+    }
+
+    /// How many rounds a slot has.
+    pub fn slot(&self) -> u64 {
+        self.faults().wrapping_add(1).wrapping_mul(3)
     }
 
     /// How many nodes a group of the lowest `depth` levels has.

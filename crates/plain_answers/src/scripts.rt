@@ -100,6 +100,17 @@ impl Script {
         faulty
     }
 
+    /// With which configuration the era of configuration `at` begins.
+    pub fn era_at(&self, at: u64) -> u64 {
+        let mut first = 0;
+        for era in &self.eras {
+            if era.first <= at {
+                first = era.first;
+            }
+        }
+        first
+    }
+
     /// The state of a node that the noise of a stream is read as, from word `turn * words` on,
     /// where the state has so many words.
     fn noise(

@@ -1,7 +1,11 @@
 //! Runs of scripts, computed plainly and slowly from what a plan and a script mean, and what `run`
 //! writes of them.
 
+use crate::lines::Lines;
+use crate::plan_texts::read_plan;
 use crate::plans::Plan;
+use crate::refusals::Stop;
+use crate::script_texts::read_script;
 use crate::scripts::Script;
 use crate::states::{Register, State, read};
 use crate::steps::{shown, stepped};
@@ -157,7 +161,7 @@ impl Run {
     }
 }
 
-/// What `run` writes.
+/// What `run` writes of a plan and a script.
 pub fn answer(alloc: Global, plan: &Plan, script: &Script) -> Result<String, AllocError> {
     let mut text = String::new(alloc);
     let bound = plan.bound();
@@ -173,4 +177,11 @@ pub fn answer(alloc: Global, plan: &Plan, script: &Script) -> Result<String, All
     }
     run.write_locks(&mut text, script)?;
     Ok(text)
+}
+
+/// What `run` writes.
+pub fn rows(alloc: Global, lines: &mut Lines) -> Result<String, Stop> {
+    let plan = read_plan(alloc, lines)?;
+    let script = read_script(alloc, &plan, lines)?;
+    Ok(answer(alloc, &plan, &script)?)
 }

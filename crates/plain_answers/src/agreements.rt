@@ -1,0 +1,105 @@
+//! Agreement on the values that nodes have as inputs.
+
+use crate::layers::{Layer, MOST_VALUES, answer, loaded, output_of, turned};
+use crate::lines::Lines;
+use crate::plan_texts::read_plan;
+use crate::plans::{Plan, remainder};
+use crate::refusals::Stop;
+use crate::script_texts::read_script;
+use crate::states::State;
+use std::alloc::{AllocError, Global};
+
+/// The name of the part.
+const PART: &str = "agree";
+
+/// Agreement on values below some number: the input of each node, and what it has decided.
+#[derive(Drop)]
+pub struct Agreement {
+    pub values: u64,
+    pub inputs: Vec<u64>,
+    decisions: Vec<u64>,
+}
+
+impl Agreement {
+    /// Agreement on values with these inputs, of nodes that have decided nothing.
+    pub fn new(alloc: Global, values: u64, inputs: Vec<u64>) -> Result<Agreement, AllocError> {
+        let mut decisions = Vec::new(alloc);
+        for _ in &inputs {
+            decisions.push(0)?;
+        }
+        Ok(Agreement {
+            values,
+            inputs,
+            decisions,
+        })
+    }
+
+    /// Takes the lines of an agreement.
+    fn read(alloc: Global, plan: &Plan, lines: &mut Lines) -> Result<Agreement, Stop> {
+        let line = lines.take(PART)?;
+        line.want(line.only(PART)? == 1, "form")?;
+        line.want(remainder(plan.modulus(), plan.slot()) == 0, "slot")?;
+        let line = lines.take(PART)?;
+        let values = line.only("values")?;
+        line.want(values <= MOST_VALUES, "limit")?;
+        line.want(values >= 2, "range")?;
+        let line = lines.take(PART)?;
+        line.want(line.is(0, "inputs"), "form")?;
+        let inputs = line.numbers(alloc, 1)?;
+        line.want(inputs.len() as u64 == plan.nodes(), "form")?;
+        line.want(inputs.iter().all(|input| *input < values), "range")?;
+        lines.take_end(PART)?;
+        Ok(Agreement::new(alloc, values, inputs)?)
+    }
+}
+
+impl Layer for Agreement {
+    fn step(
+        &mut self,
+        alloc: Global,
+        plan: &Plan,
+        _at: u64,
+        node: u64,
+        heard: &[State],
+        state: &mut State,
+    ) -> Result<(), AllocError> {
+        let turn = remainder(output_of(plan, node, heard), plan.slot());
+        let mut result = turned(alloc, plan, turn, node, heard)?;
+        if turn.wrapping_add(1) == plan.slot() {
+            if let Some(decision) = self.decisions.get_mut(node as usize) {
+                *decision = result.value.unwrap_or(0);
+            }
+            result = loaded(self.inputs.get(node as usize).copied().unwrap_or(0));
+        }
+        state.registers.push(result)?;
+        Ok(())
+    }
+
+    fn period(&self, plan: &Plan) -> u64 {
+        plan.slot()
+    }
+
+    fn write_front(
+        &self,
+        text: &mut String,
+        _plan: &Plan,
+        at: u64,
+        _output: u64,
+    ) -> Result<(), AllocError> {
+        write!(text, "slot {at}")
+    }
+
+    fn write_word(&self, text: &mut String, node: u64) -> Result<(), AllocError> {
+        let decision = self.decisions.get(node as usize).copied().unwrap_or(0);
+        write!(text, " {decision}")
+    }
+}
+
+/// What `consensus` writes.
+pub fn consensus(alloc: Global, lines: &mut Lines) -> Result<String, Stop> {
+    let mut plan = read_plan(alloc, lines)?;
+    let mut agreement = Agreement::read(alloc, &plan, lines)?;
+    plan.set_layer(1, agreement.values);
+    let script = read_script(alloc, &plan, lines)?;
+    Ok(answer(alloc, &plan, &mut agreement, &script)?)
+}

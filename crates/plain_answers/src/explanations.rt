@@ -1,0 +1,217 @@
+//! Why the last era of a script locks. All windows and phases are tried, in their order, by what
+//! explains.
+
+use crate::lines::Lines;
+use crate::plan_texts::read_plan;
+use crate::plans::{Level, Plan, quotient, remainder};
+use crate::refusals::Stop;
+use crate::runs::Run;
+use crate::script_texts::read_script;
+use crate::scripts::Script;
+use crate::steps::shown;
+use std::alloc::{AllocError, Global};
+
+/// A plan with levels, and what its nodes show below the top level in the configurations of a run.
+#[derive(Drop)]
+struct Shown {
+    top: Level,
+    nodes: u64,
+    faults: u64,
+    outputs: Vec<Vec<u64>>,
+    faulty: Vec<u64>,
+}
+
+/// A window that begins at a configuration, of a leader, and in it a phase of a king.
+#[derive(Clone, Copy)]
+struct Explanation {
+    window: u64,
+    leader: u64,
+    phase: u64,
+    king: u64,
+}
+
+impl Shown {
+    /// What a node shows in a configuration.
+    fn output(&self, at: u64, node: u64) -> u64 {
+        let outputs = self.outputs.get(at as usize);
+        outputs.map_or(
+            0,
+            |outputs| outputs.get(node as usize).copied().unwrap_or(0),
+        )
+    }
+
+    /// The number of the last configuration.
+    fn last(&self) -> u64 {
+        (self.outputs.len() as u64).wrapping_sub(1)
+    }
+
+    /// Whether a node is correct.
+    fn is_correct(&self, node: u64) -> bool {
+        !self.faulty.contains(&node)
+    }
+
+    /// The first node of a block.
+    fn first_of(&self, block: u64) -> u64 {
+        block.wrapping_mul(self.nodes)
+    }
+
+    /// Whether at most as many nodes of a block are faulty as it stands.
+    fn is_sound(&self, block: u64) -> bool {
+        let first = self.first_of(block);
+        let mut faulty = 0u64;
+        for node in first..first.wrapping_add(self.nodes) {
+            if !self.is_correct(node) {
+                faulty = faulty.wrapping_add(1);
+            }
+        }
+        faulty <= self.faults
+    }
+
+    /// Whether in a configuration all correct nodes of a block point to a leader.
+    fn points(&self, at: u64, block: u64, leader: u64) -> bool {
+        let first = self.first_of(block);
+        for node in first..first.wrapping_add(self.nodes) {
+            let turn = quotient(self.output(at, node), self.top.interval(block));
+            if self.is_correct(node) && remainder(turn, self.top.leaders()) != leader {
+                return false;
+            }
+        }
+        true
+    }
+
+    /// Whether in a configuration all correct nodes of a block are at a place in the beat.
+    fn is_at(&self, at: u64, block: u64, place: u64) -> bool {
+        let first = self.first_of(block);
+        for node in first..first.wrapping_add(self.nodes) {
+            let part = remainder(self.output(at, node), self.top.beat());
+            if self.is_correct(node) && part != place {
+                return false;
+            }
+        }
+        true
+    }
+
+    /// Whether for a beat from configuration `window` on the correct nodes of all sound blocks
+    /// point to a leader, and those of its block are at a place in the beat that is `place` at
+    /// first and grows by one.
+    fn is_window(&self, window: u64, leader: u64, place: u64) -> bool {
+        for i in 0..self.top.beat() {
+            let at = window.wrapping_add(i);
+            let now = remainder(place.wrapping_add(i), self.top.beat());
+            if at > self.last() || !self.is_at(at, leader, now) {
+                return false;
+            }
+            for block in 0..self.top.blocks {
+                if self.is_sound(block) && !self.points(at, block, leader) {
+                    return false;
+                }
+            }
+        }
+        true
+    }
+
+    /// The first phase of a correct king in a window with a place in the beat at first.
+    fn phase(&self, window: u64, leader: u64, place: u64) -> Option<Explanation> {
+        for i in 0..self.top.beat().saturating_sub(2) {
+            let phase = window.wrapping_add(i);
+            let now = remainder(place.wrapping_add(i), self.top.beat());
+            let king = quotient(now, 3);
+            let is_begun = now % 3 == 0 && self.is_correct(king);
+            if is_begun && phase.wrapping_add(3) <= self.last() {
+                return Some(Explanation {
+                    window,
+                    leader,
+                    phase,
+                    king,
+                });
+            }
+        }
+        None
+    }
+
+    /// The first explanation from configuration `first` on.
+    fn explanation(&self, first: u64) -> Option<Explanation> {
+        for window in first..=self.last() {
+            for leader in 0..self.top.leaders() {
+                for place in 0..self.top.beat() {
+                    if self.is_sound(leader) && self.is_window(window, leader, place) {
+                        let found = self.phase(window, leader, place);
+                        if found.is_some() {
+                            return found;
+                        }
+                    }
+                }
+            }
+        }
+        None
+    }
+}
+
+/// What the nodes show below the top level, in each configuration of a script, if there is a level.
+fn shown_in(
+    alloc: Global,
+    plan: &Plan,
+    script: &Script,
+) -> Result<(Option<Shown>, Run), AllocError> {
+    let below = plan.levels.len().saturating_sub(1);
+    let mut outputs = Vec::new(alloc);
+    let mut run = Run::new(alloc, plan, script)?;
+    for at in 0..=script.rounds {
+        if at > 0 {
+            run.round(alloc, plan, script)?;
+        }
+        let mut row = Vec::new(alloc);
+        for state in &run.config {
+            row.push(shown(state, below))?;
+        }
+        outputs.push(row)?;
+    }
+    let Some(top) = plan.levels.last().copied() else {
+        return Ok((None, run));
+    };
+    let under = below
+        .checked_sub(1)
+        .and_then(|place| plan.levels.get(place));
+    let shown = Shown {
+        top,
+        nodes: plan.group(below),
+        faults: under.map_or(0, |under| under.faults),
+        outputs,
+        faulty: Vec::from_slice(alloc, script.faulty_at(script.rounds))?,
+    };
+    Ok((Some(shown), run))
+}
+
+/// What `explain` writes of a plan and a script.
+pub fn answer(alloc: Global, plan: &Plan, script: &Script) -> Result<String, AllocError> {
+    let mut text = String::new(alloc);
+    let bound = plan.bound();
+    writeln!(text, "bound {bound}")?;
+    let first = script.eras.last().map_or(0, |era| era.first);
+    let (shown, run) = shown_in(alloc, plan, script)?;
+    match shown {
+        None => writeln!(text, "explain base")?,
+        Some(shown) => match shown.explanation(first) {
+            None => writeln!(text, "explain none")?,
+            Some(explanation) => {
+                let Explanation {
+                    window,
+                    leader,
+                    phase,
+                    king,
+                } = explanation;
+                writeln!(text, "window {window} leader {leader}")?;
+                writeln!(text, "phase {phase} king {king}")?;
+            }
+        },
+    }
+    run.write_locks(&mut text, script)?;
+    Ok(text)
+}
+
+/// What `explain` writes.
+pub fn explain(alloc: Global, lines: &mut Lines) -> Result<String, Stop> {
+    let plan = read_plan(alloc, lines)?;
+    let script = read_script(alloc, &plan, lines)?;
+    Ok(answer(alloc, &plan, &script)?)
+}

@@ -1,0 +1,66 @@
+//! What the program answers to a word and an input.
+
+use crate::agreements::consensus;
+use crate::explanations::explain;
+use crate::firings::fire;
+use crate::lines::Lines;
+use crate::logs::log;
+use crate::nodes::cells;
+use crate::refusals::{Refusal, Stop};
+use crate::runs::rows;
+use crate::slot_tables::slots;
+use crate::table_texts::table;
+use crate::tables::{plan, upgrade};
+use crate::wants::find;
+use std::alloc::{AllocError, Global};
+
+/// The bytes that are written, the exit code, and by which rule the input is refused, if it is.
+#[derive(Drop)]
+pub struct Answer {
+    pub bytes: Vec<u8>,
+    pub code: u8,
+    pub refusal: Option<Refusal>,
+}
+
+/// The text that is written of an accepted input.
+fn text_of(alloc: Global, word: &str, lines: &mut Lines) -> Result<String, Stop> {
+    match word {
+        "plan" => plan(alloc, lines),
+        "table" => table(alloc, lines),
+        "upgrade" => upgrade(alloc, lines),
+        "find" => find(alloc, lines),
+        "run" => rows(alloc, lines),
+        "explain" => explain(alloc, lines),
+        "slots" => slots(alloc, lines),
+        "consensus" => consensus(alloc, lines),
+        "fire" => fire(alloc, lines),
+        _ => log(alloc, lines),
+    }
+}
+
+/// The bytes that are written of an accepted input, and the exit code.
+fn accepted(alloc: Global, word: &str, input: &[u8]) -> Result<(Vec<u8>, u8), Stop> {
+    let mut lines = Lines::of(alloc, input)?;
+    if word == "node" {
+        return cells(alloc, &mut lines, input);
+    }
+    let text = text_of(alloc, word, &mut lines)?;
+    Ok((Vec::from_slice(alloc, text.as_bytes())?, 0))
+}
+
+/// What is answered to a word, which is one of those above, and an input of at most 2^20 bytes.
+pub fn answered(alloc: Global, word: &str, input: &[u8]) -> Result<Answer, AllocError> {
+    match accepted(alloc, word, input) {
+        Ok((bytes, code)) => Ok(Answer {
+            bytes,
+            code,
+            refusal: None,
+        }),
+        Err(Stop::Refused(refusal)) => Ok(Answer {
+            bytes: Vec::from_slice(alloc, refusal.text(alloc)?.as_bytes())?,
+            code: refusal.code(),
+            refusal: Some(refusal),
+        }),
+        Err(Stop::NoMemory(error)) => Err(error),
+    }
+}

@@ -1,0 +1,59 @@
+//! What a refused input is answered with.
+
+use std::alloc::{AllocError, Global};
+
+/// A line of a part, and the rule that it fails.
+#[derive(Clone, Copy)]
+pub struct Refusal {
+    pub part: &'static str,
+    pub line: u64,
+    pub rule: &'static str,
+}
+
+/// Why reading stops: a line is refused, or there is no memory.
+#[derive(Drop)]
+pub enum Stop {
+    Refused(Refusal),
+    NoMemory(AllocError),
+}
+
+impl From<AllocError> for Stop {
+    fn from(error: AllocError) -> Stop {
+        Stop::NoMemory(error)
+    }
+}
+
+/// Puts a value at the end of a list.
+pub fn put<T: Drop>(list: &mut Vec<T>, value: T) -> Result<(), AllocError> {
+    list.push(value)?;
+    Ok(())
+}
+
+impl Refusal {
+    /// What a rule of the part is called.
+    fn kind(&self) -> &'static str {
+        match self.part {
+            "plan" => "premise",
+            "table" => "cause",
+            _ => "rule",
+        }
+    }
+
+    /// The exit code.
+    pub fn code(&self) -> u8 {
+        match self.part {
+            "plan" => 1,
+            "table" => 4,
+            _ => 3,
+        }
+    }
+
+    /// The line that is written.
+    pub fn text(&self, alloc: Global) -> Result<String, AllocError> {
+        let Refusal { part, line, rule } = *self;
+        let kind = self.kind();
+        let mut text = String::new(alloc);
+        writeln!(text, "refused {part} line {line} {kind} {rule}")?;
+        Ok(text)
+    }
+}
