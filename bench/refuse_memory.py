@@ -1,0 +1,89 @@
+#!/usr/bin/env python3
+"""Refuses each allocation of each word in turn, and looks at what becomes of it.
+
+    python3 bench/refuse_memory.py [--most N] [NAME.WORDS ..]
+
+A row is an input with its answer, NAME.txt and NAME.WORDS.out in crates/faults/data/short; without
+names all rows are taken. The program `faults` gives a row to the workbench over a source and a sink
+that never fail, behind so many allocations of its own. It is run by `rt try --fail-alloc N
+--cases`, which refuses its Nth allocation and needs no proof: once for each of 0 to N - 1
+allocations before, so that each allocation of the row is refused in one run, if it has fewer than
+about N - 10.
+
+Each run has to end with status 10 and no byte taken, or, where the allocation that is refused is
+none of the row's, as it does where nothing is refused. The status is 1 where one ends otherwise.
+"""
+
+import argparse
+import pathlib
+import re
+import shutil
+import subprocess
+import sys
+import tempfile
+
+TOP = pathlib.Path(__file__).resolve().parent.parent
+CRATE = TOP / "crates" / "faults"
+ROWS = CRATE / "data" / "short"
+REFUSED = "10 0"
+
+
+def put_case(folder, row, spent):
+    """Puts a run of a row behind so many allocations into a folder."""
+    name, words = row.split(".")
+    case = folder / f"{row}.{spent}"
+    shutil.copyfile(ROWS / f"{name}.txt", case)
+    arguments = ["spend", str(spent), *words.split("_")]
+    case.with_name(case.name + ".args").write_text("".join(word + "\n" for word in arguments))
+
+
+def answers(rows, counts, flags):
+    """What each row answers behind each count of allocations: its status and how many bytes."""
+    with tempfile.TemporaryDirectory() as name:
+        for row in rows:
+            for spent in counts:
+                put_case(pathlib.Path(name), row, spent)
+        command = ["rt", "try", "--steps", "1", *flags, "--cases", name]
+        done = subprocess.run(command, cwd=CRATE, stdout=subprocess.PIPE, stderr=subprocess.STDOUT)
+    text = done.stdout.decode(errors="replace")
+    found = dict(re.findall(r"^== (\S+)\n(\d+ \d+)$", text, re.MULTILINE))
+    for row in rows:
+        for spent in counts:
+            if f"{row}.{spent}" not in found:
+                print(f"{row} has no answer behind {spent} allocations")
+    return {row: [found.get(f"{row}.{spent}") for spent in counts] for row in rows}, text
+
+
+def report(row, plain, refused):
+    """Prints what became of a row. Whether all is as it has to be."""
+    others = [answer for answer in refused if answer not in (REFUSED, plain)]
+    count = refused.count(REFUSED)
+    first = refused.index(REFUSED) if count else 0
+    status, taken = plain.split()
+    print(f"{row}: {count} allocations, each refused is status 10 and nothing taken;", end=" ")
+    print(f"none refused is status {status} and {taken} bytes")
+    if refused[first : first + count] != [REFUSED] * count:
+        print(f"{row}: some that were refused changed nothing")
+    if refused[-1] != plain:
+        print(f"{row}: not all were tried, take a larger --most")
+    for answer in sorted(set(map(str, others))):
+        print(f"{row}: DIFFERENT: {answer}")
+    return not others and refused[-1] == plain
+
+
+def main():
+    parser = argparse.ArgumentParser(description=__doc__.splitlines()[0])
+    parser.add_argument("--most", type=int, default=60)
+    parser.add_argument("rows", nargs="*")
+    given = parser.parse_args()
+    rows = given.rows or sorted(out.name.removesuffix(".out") for out in ROWS.glob("*.out"))
+    plain, _ = answers(rows, [0], [])
+    counts = range(given.most - 1, -1, -1)
+    refused, text = answers(rows, counts, ["--fail-alloc", str(given.most)])
+    (pathlib.Path(tempfile.gettempdir()) / "refuse_memory.log").write_text(text)
+    same = [report(row, plain[row][0], refused[row]) for row in rows]
+    return 0 if all(same) else 1
+
+
+if __name__ == "__main__":
+    sys.exit(main())
