@@ -53,8 +53,7 @@ int main(void) {
     read_plan();
     read_agree();
     read_script();
-    put_text("bound "), put_number(bound), put_byte('\n');
-    start_all();
+    begin_run();
     for (uint64_t t = 0;; t++) {
         look(t, era);
         /* From the bound on the outputs count, so within an era slots follow one another. */

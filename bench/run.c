@@ -10,8 +10,7 @@ int main(void) {
     read_plan();
     end_plan(0, 0);
     read_script();
-    put_text("bound "), put_number(bound), put_byte('\n');
-    start_all();
+    begin_run();
     for (uint64_t t = 0;; t++) {
         look(t, era);
         if (shown_from <= t && t <= shown_to) put_row(t, era);

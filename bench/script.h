@@ -227,6 +227,12 @@ static void start_all(void) {
     }
 }
 
+/* Writes the bound, and lays the starts of configuration 0. */
+static void begin_run(void) {
+    put_text("bound "), put_number(bound), put_byte('\n');
+    start_all();
+}
+
 static struct state shifted(int u, uint64_t by) {
     struct state s = config[u];
     if (low[u] == 0) s.x = (s.x + by) % base;

@@ -34,8 +34,7 @@ int main(void) {
     end_plan(0, 0);
     read_slots();
     read_script();
-    put_text("bound "), put_number(bound), put_byte('\n');
-    start_all();
+    begin_run();
     for (uint64_t t = 0;; t++) {
         look(t, era);
         if (shown_from <= t && t <= shown_to) {
