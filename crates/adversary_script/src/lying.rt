@@ -14,8 +14,8 @@ use crate::shifting::{fit_into, shift_into, zero_into};
 use state_codec::Packed;
 use sync_types::NodeState;
 
-/// A state has no more bytes.
-const MOST_BYTES: usize = 128;
+/// A state has no more bytes, and eight bytes more are read with it.
+const ROOM: usize = 136;
 
 /// The stream of the noise with which node 0 starts; those of the other nodes stand behind it.
 const FIRST_START_STREAM: u64 = 65536;
@@ -33,11 +33,10 @@ impl Script {
         ensures range { InRange (fields_at self.now.shape v) out.new }
         ensures noise { noise.new ≡ noise.old }
     {
-        let mut room = [0; MOST_BYTES];
+        let mut room = [0; ROOM];
         let count = self.shape.bytes_of(v);
-        let bytes = &mut room[..count];
-        noise.fill_bytes(stream, turn * count.div_ceil(4) as u64, bytes);
-        self.shape.read_state(v, bytes, out);
+        noise.fill_bytes(stream, turn * count.div_ceil(4) as u64, &mut room[..count]);
+        self.shape.read_front(v, &room, out);
     }
 
     /// Writes the start that all nodes have in common, for node `v`.

@@ -10,7 +10,7 @@ use crate::field_bits::field_at;
 use crate::reader::BitReader;
 use crate::registers::{ZERO, below, full_register_at, put_registers, set_zero, take_registers};
 use crate::widths::bit_length;
-use crate::writer::{Pending, put};
+use crate::writer::{Pending, flush, put};
 use std::marker::Model;
 use sync_types::{NodeState, Reg};
 
@@ -147,7 +147,8 @@ impl Fields {
         let front = put(out, start, bit_length(self.base - 1), state.x());
         let end = put_registers(out, front, &self.moduli, state);
         let padding = self.size.div_ceil(8) * 8 - self.size;
-        let _whole = put(out, end, padding, 0);
+        let whole = put(out, end, padding, 0);
+        let _none = flush(out, whole);
     }
 
     /// Reads a state from any bytes into `out`, which has the fields' depth. Bytes that are not
@@ -196,7 +197,9 @@ impl Fields {
         requires small { start < 2 ^ 32 }
         requires within { start + bytes_in self.now + 8 ≤ length bytes.now }
         requires depth { length out.old.registers ≡ length self.now.moduli }
-        ensures { out.new ≡ read self.now (take (bytes_in self.now) (drop start bytes.now)) }
+        ensures value { out.new
+            ≡ read self.now (take (bytes_in self.now) (drop start bytes.now)) }
+        ensures range { InRange self.now out.new }
     {
         self.tell();
         out.set_x(self.number_at(bytes, start));

@@ -183,6 +183,17 @@ impl Packed {
         put_between(&self.shape, v, from, to, state, &mut self.next);
     }
 
+    /// Makes a state the current one of node `v`.
+    pub fn set(&mut self, v: u32, state: &NodeState)
+        requires node { v < length self.old.current }
+        requires range { InRange (fields_at self.old.shape v) state.now }
+        ensures { self.new ≡ record self.old { current = slice_set self.old.current v state.now } }
+    {
+        self.flip();
+        self.put(v, state);
+        self.flip();
+    }
+
     /// Exchanges the two configurations.
     pub fn flip(&mut self)
         ensures { self.new ≡ record self.old { current = self.old.next; next = self.old.current } }

@@ -1,4 +1,4 @@
-ghost use Rattle.std.specs.Prelude.{◌≡◌, ◌<◌, ◌≤◌, ◌*◌, ◌^◌, length, slice_index, All, true, false, IfOk, OnOk, OnErr};
+ghost use Rattle.std.specs.Prelude.{◌≡◌, ◌<◌, ◌≤◌, ◌+◌, ◌*◌, ◌^◌, length, take, slice_index, All, true, false, IfOk, OnOk, OnErr};
 ghost use Rattle.construction.specs.Plans.{plan_bits, plan_depth, plan_nodes};
 ghost use Rattle.state_codec.specs.Shapes.{shape_over, shape_of, shape_with, fields_from, fields_at, bits_in, bytes_in, IsShape};
 ghost use Rattle.state_codec.specs.Ranges.{InRange};
@@ -217,6 +217,20 @@ impl StateShape {
         ensures range { InRange (fields_at self.now v) out.new }
     {
         self.fields(v).read_state(bytes, out);
+    }
+
+    /// Reads a state of node `v` from the front of bytes into `out`, which has the depth of the
+    /// shape; eight bytes more stand behind it. It is read as [`read_state`](StateShape::read_state)
+    /// reads it.
+    pub fn read_front(&self, v: u32, bytes: &[u8], out: &mut NodeState)
+        requires node { v < length self.now.lows }
+        requires within { bytes_in (fields_at self.now v) + 8 ≤ length bytes.now }
+        requires depth { length out.old.registers ≡ length self.now.moduli }
+        ensures value { out.new ≡ read (fields_at self.now v)
+            (take (bytes_in (fields_at self.now v)) bytes.now) }
+        ensures range { InRange (fields_at self.now v) out.new }
+    {
+        self.fields(v).read_at(bytes, 0, out);
     }
 
     /// Writes the bytes of a state of node `v` as digits of `0-9a-f` into `out`, which has just

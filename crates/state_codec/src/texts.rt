@@ -16,6 +16,9 @@ pub struct NotState;
 /// No state has more bytes.
 const MOST_BYTES: usize = 128;
 
+/// Eight bytes more are read with a state.
+const ROOM: usize = MOST_BYTES + 8;
+
 /// Whether each is a digit of `0-9a-f`. The crate `hex` would take upper case too.
 fn all_lower(text: &[u8]) -> bool
     ensures { result ≡ list_all is_lower_digit text.now }
@@ -62,10 +65,9 @@ impl Fields {
         if text.len() != 2 * size || !all_lower(text) {
             return Err(NotState);
         }
-        let mut buffer = [0; MOST_BYTES];
-        let bytes = &mut buffer[..size];
-        decode_lower(text, bytes);
-        self.read_state(bytes, out);
+        let mut buffer = [0; ROOM];
+        decode_lower(text, &mut buffer[..size]);
+        self.read_at(&buffer, 0, out);
         Ok(())
     }
 }

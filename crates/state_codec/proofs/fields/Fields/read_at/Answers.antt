@@ -1,9 +1,10 @@
-use Rattle.std.proofs.Common.{arith, ℕ, ◌≡◌, ◌+◌, ◌<◌, inl, inr, ap, sym, ◌∙◌, List, length, set, take, drop}
+use Rattle.std.proofs.Common.{arith, ℕ, ◌≡◌, ◌+◌, ◌<◌, inl, inr, ap, sym, subst, ◌∙◌, List, length, set, take, drop}
 use Rattle.std.proofs.lemmas.Bool.{cases_lt}
 use Rattle.std.proofs.lemmas.List.{length-set, get_or-set_same, get_or-set_other, ext_get_or}
 use Rattle.sync_types.specs.declared.states.Reg.{Reg}
 use Rattle.sync_types.specs.States.{State, zero_register, register_at}
 use Rattle.state_codec.specs.Shapes.{Fields, bytes_in}
+use Rattle.state_codec.specs.Ranges.{InRange}
 use Rattle.state_codec.specs.Reading.{read}
 use Rattle.state_codec.proofs.Ranged.{read_is_in_range}
 use Rattle.state_codec.proofs.RegisterSteps.{state_is}
@@ -42,8 +43,8 @@ loop-i-preserved c =
           c.register_at.ensures i.registers;
     }
 
-pub returns : goal.returns
-returns c =
+pub returns-clause-value : goal.returns-clause-value
+returns-clause-value c =
     let i = c.loop-i.invariant in
     let fields : Fields = c.args.self.now in
     let state : State = read fields (take (bytes_in fields) (drop c.args.start c.args.bytes.now)) in
@@ -52,3 +53,14 @@ returns c =
     state_is c.loop-i.out state.x state.registers i.number
     (ext_get_or zero_register c.loop-i.out.registers state.registers (i.depth ∙ sym range.depth)
     (λ j lt. i.registers j (omega (arith, moduli, lt, i.depth, c.loop-i-test.false))))
+
+pub returns-clause-range : goal.returns-clause-range
+returns-clause-range c =
+    let i = c.loop-i.invariant in
+    let fields : Fields = c.args.self.now in
+    let state : State = read fields (take (bytes_in fields) (drop c.args.start c.args.bytes.now)) in
+    let moduli = ap (λ (f : Fields). length f.moduli) c.self.view_is in
+    let range = read_is_in_range fields (take (bytes_in fields) (drop c.args.start c.args.bytes.now)) c.tell.ensures in
+    subst (InRange fields) (sym (state_is c.loop-i.out state.x state.registers i.number
+    (ext_get_or zero_register c.loop-i.out.registers state.registers (i.depth ∙ sym range.depth)
+    (λ j lt. i.registers j (omega (arith, moduli, lt, i.depth, c.loop-i-test.false)))))) range

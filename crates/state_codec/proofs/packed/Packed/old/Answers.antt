@@ -44,7 +44,7 @@ pub returns : goal.returns
 returns c =
     let inside : c.args.v < c.self.inside.nodes =
     omega (arith, c.requires.node, count_current _ _ _ _ _ c.self.invariant _ c.self.view_is) in
-    c.read_at.ensures
+    c.read_at.ensures.value
     ∙ state_at_start _ _ _ _ _ c.self.invariant _ c.self.view_is c.args.v inside
     c.start_of-start.result c.fields.result.now c.deref.result.now c.start_of-start.ensures.value
     c.fields.ensures c.deref.ensures.value
