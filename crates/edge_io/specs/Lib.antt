@@ -2,10 +2,12 @@ pub mod EndedReads
 pub mod FedParts
 pub mod Feeds
 pub mod Gathering
+pub mod HeldLines
 pub mod Items
 pub mod Memory
 pub mod Pieces
 pub mod Reading
 pub mod Real
+pub mod Rising
 pub mod Taking
 pub mod Whole

@@ -47,7 +47,8 @@ pub struct Feed<'a, S> {
 }
 
 impl<'a, S: Source> Feed<'a, S> {
-    ghost use Rattle.std.specs.Prelude.{◌≡◌, ◌<◌, ◌≤◌, ℕ, true, false, length, Ok, OnErr};
+    ghost use Rattle.std.specs.Prelude.{◌≡◌, ◌<◌, ◌≤◌, ◌+◌, ℕ, [], true, false, length, Ok, OnErr};
+    ghost use Rattle.edge_io.specs.declared.feed.Line.TheVariants as how;
     ghost use Rattle.std.specs.Io.KnownBytes.{Keeps, IsAtEnd};
     ghost use Rattle.texts.specs.Causes.{HasCause};
     ghost use Rattle.texts.specs.Lines.{is_one_line};
@@ -131,6 +132,27 @@ impl<'a, S: Source> Feed<'a, S> {
         Ok(Some(byte))
     }
 
+    /// Takes the next line where all of it stands in the buffer and within the limit. Else nothing
+    /// changes.
+    fn take_held(&mut self, line: &mut LineBuf, limit: u64) -> bool
+        requires { line.old ≡ [] }
+        ensures taken { result ≡ true → LineIs limit self.old.line_bytes self.new.line_bytes (feed_left S.left self.old) (feed_left S.left self.new) line.new (Ok how.Whole) }
+        ensures one { is_one_line line.new ≡ true }
+        ensures short { length line.new ≤ 4096 }
+        ensures none { result ≡ false → (self.new ≡ self.old) × (line.new ≡ []) }
+        ensures source { self.new.source ≡ self.old.source }
+    {
+        let most = limit.saturating_sub(self.line_bytes);
+        match line.copy_line(&self.buffer[self.at..self.end], most) {
+            Some(count) => {
+                self.at += count;
+                self.line_bytes += count as u64;
+                true
+            }
+            None => false,
+        }
+    }
+
     /// Reads a line, without its newline, where all lines so far may have `limit` bytes, newlines
     /// included.
     ///
@@ -145,6 +167,21 @@ impl<'a, S: Source> Feed<'a, S> {
         ensures cause { HasLineCause (S.faults self.old.source.now) (S.faults self.new.source.now) (self.new.at ≡ self.new.end) result }
     {
         line.clear();
+        if self.take_held(line, limit) {
+            return Ok(Line::Whole);
+        }
+        self.line_by_bytes(line, limit)
+    }
+
+    /// Reads a line byte by byte.
+    fn line_by_bytes(&mut self, line: &mut LineBuf, limit: u64) -> Result<Line, LineFault>
+        requires { line.old ≡ [] }
+        ensures same_reference { self.new.source.ghost_name ≡ self.old.source.ghost_name }
+        ensures line { LineIs limit self.old.line_bytes self.new.line_bytes (feed_left S.left self.old) (feed_left S.left self.new) line.new result }
+        ensures one { is_one_line line.new ≡ true }
+        ensures short { length line.new ≤ 4096 }
+        ensures cause { HasLineCause (S.faults self.old.source.now) (S.faults self.new.source.now) (self.new.at ≡ self.new.end) result }
+    {
         for _ in 0..LONGEST_LINE {
             match self.line_byte(limit) {
                 Err(fault) => return Err(fault),

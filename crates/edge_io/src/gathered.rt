@@ -1,6 +1,7 @@
-ghost use Rattle.std.specs.Prelude.{◌≡◌, ◌≤◌, ◌+◌, ◌++◌, length, take, drop};
+ghost use Rattle.std.specs.Prelude.{◌≡◌, ◌≤◌, length};
 
-use crate::{Failed, Sink, TextSink, WriteFault, put_all};
+use crate::places::place;
+use crate::{Failed, Piece, Sink, TextSink, WriteFault, put_all, put_pieces};
 use itoa::Buffer;
 
 /// How many bytes are held back at most.
@@ -24,7 +25,7 @@ pub struct Gathered<'a, K> {
 }
 
 impl<'a, K: Sink> Gathered<'a, K> {
-    ghost use Rattle.std.specs.Prelude.{◌≡◌, ◌+◌, [], ◌∷◌, ◌<◌, ◌≤◌, List, ℕ, length, take, OnOk};
+    ghost use Rattle.std.specs.Prelude.{◌≡◌, ◌+◌, [], ◌∷◌, ◌<◌, ◌≤◌, List, ℕ, length, take, decimal, OnOk};
     ghost use Rattle.texts.specs.Growth.{Told, Wrote, Puts, gathering};
     ghost use Rattle.edge_io.specs.Gathering.{gathered_told, held};
 
@@ -103,9 +104,24 @@ impl<'a, K: Sink> Gathered<'a, K> {
         requires room { self.old.end + length bytes.now ≤ length self.old.buffer }
         ensures same_reference { self.new.sink.ghost_name ≡ self.old.sink.ghost_name }
         ensures wrote { Wrote bytes.now (gathered_told K.told self.old) (gathered_told K.told self.new) }
+        ensures end { self.new.end ≡ self.old.end + length bytes.now }
     {
         place(&mut self.buffer, self.end, bytes);
         self.end += bytes.len();
+    }
+
+    /// Holds the digits of a number.
+    fn hold_number(&mut self, value: u64)
+        requires room { self.old.end + 20 ≤ length self.old.buffer }
+        ensures same_reference { self.new.sink.ghost_name ≡ self.old.sink.ghost_name }
+        ensures wrote { Wrote (decimal value) (gathered_told K.told self.old) (gathered_told K.told self.new) }
+    {
+        if value < 10 {
+            self.hold_byte(b'0' + value as u8);
+        } else {
+            let mut digits = Buffer::new();
+            self.hold_all(digits.format(value).as_bytes());
+        }
     }
 
     /// Holds as many of the bytes as there is room for.
@@ -127,14 +143,6 @@ impl<'a, K: Sink> Gathered<'a, K> {
         self.end += count;
         count
     }
-}
-
-/// Copies the bytes into the buffer, from that place on.
-fn place(buffer: &mut [u8], at: usize, bytes: &[u8])
-    requires { at + length bytes.now ≤ length buffer.old }
-    ensures { buffer.new ≡ take at buffer.old ++ (bytes.now ++ drop (at + length bytes.now) buffer.old) }
-{
-    buffer[at..at + bytes.len()].copy_from_slice(bytes);
 }
 
 impl<'a, K: Sink> Sink for Gathered<'a, K> {
@@ -168,12 +176,20 @@ impl<'a, K: Sink> TextSink for Gathered<'a, K> {
             Ok(()) => {}
             Err(WriteFault) => return Err(WriteFault),
         }
-        if value < 10 {
-            self.hold_byte(b'0' + value as u8);
-        } else {
-            let mut digits = Buffer::new();
-            self.hold_all(digits.format(value).as_bytes());
+        self.hold_number(value);
+        Ok(())
+    }
+
+    fn labelled(&mut self, label: &[u8], value: u64) -> Result<(), WriteFault> {
+        if label.len() > ROOM - MOST_DIGITS {
+            return put_pieces(self, &[Piece::Text(label), Piece::Number(value)]);
         }
+        match self.make_room(label.len() + MOST_DIGITS) {
+            Ok(()) => {}
+            Err(WriteFault) => return Err(WriteFault),
+        }
+        self.hold_all(label);
+        self.hold_number(value);
         Ok(())
     }
 }

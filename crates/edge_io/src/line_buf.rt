@@ -1,3 +1,4 @@
+use crate::lines::newline_in;
 use crate::{LONGEST_LINE, NoMemory};
 use std::alloc::{AllocError, Global};
 use std::marker::Model;
@@ -19,7 +20,8 @@ impl Model for LineBuf {
 }
 
 impl LineBuf {
-    ghost use Rattle.std.specs.Prelude.{◌≡◌, ◌<◌, [], ◌∷◌, ◌++◌, ◌==◌, length, IfOk};
+    ghost use Rattle.std.specs.Prelude.{◌≡◌, ◌<◌, ◌≤◌, ◌+◌, [], ◌∷◌, ◌++◌, ◌==◌, length, None, IfOk, IfSome};
+    ghost use Rattle.edge_io.specs.HeldLines.{IsLineOf};
 
     /// An empty line. It takes all memory that it ever needs; `NoMemory` comes where there is none.
     pub fn new(alloc: Global) -> Result<LineBuf, NoMemory>
@@ -55,5 +57,28 @@ impl LineBuf {
         ensures { self.new ≡ self.old ++ byte ∷ [] }
     {
         self.bytes.push(byte).unwrap();
+    }
+
+    pub(crate) fn extend(&mut self, bytes: &[u8])
+        requires { length self.old + length bytes.now ≤ 4096 }
+        ensures { self.new ≡ self.old ++ bytes.now }
+    {
+        self.bytes.extend_from_slice(bytes).unwrap();
+    }
+
+    /// Takes the bytes before the first newline, where there is one and with it they are at most
+    /// `most`, and answers how many these are. The line is empty before, and else stays so.
+    pub(crate) fn copy_line(&mut self, bytes: &[u8], most: u64) -> Option<usize>
+        requires empty { self.old ≡ [] }
+        requires few { length bytes.now ≤ 4096 }
+        ensures copied { IfSome result (IsLineOf bytes.now most self.new) }
+        ensures none { result ≡ None → self.new ≡ [] }
+    {
+        let end = newline_in(bytes)?;
+        if end as u64 >= most {
+            return None;
+        }
+        self.extend(&bytes[..end]);
+        Some(end + 1)
     }
 }

@@ -10,7 +10,7 @@ const NEWLINE: u8 = b'\n';
 const SPACE: u8 = b' ';
 
 /// Where the first newline stands.
-fn newline_in(text: &[u8]) -> Option<usize>
+pub(crate) fn newline_in(text: &[u8]) -> Option<usize>
     ensures { result ≡ position (λ b. b == 10) text.now }
 {
     text.iter().position(|byte| *byte == NEWLINE)

@@ -1,7 +1,7 @@
 use crate::{
     Failed, Gathered, InputFault, LineReader, Lines, MemSink, MemSource, NullSink, PartError,
-    Piece, PlainSource, Refused, Sink, Source, StdSink, StdSource, TakeError, Words, WriteFault,
-    number, numbers_after, put_all, put_pieces, read_all, read_part,
+    Piece, PlainSource, Refused, RisingText, Sink, Source, StdSink, StdSource, TakeError, TextSink,
+    Words, WriteFault, number, numbers_after, put_all, put_pieces, read_all, read_part,
 };
 use std::io::{self, ErrorKind, Read, Write};
 use std::process::Abort;
@@ -194,6 +194,36 @@ fn a_full_buffer_is_one_write(rt: HostRuntime) {
     assert_eq!(rt; gathered.finish(Ok(())), Ok(()));
     // 25,890 bytes.
     assert_eq!(rt; sink.writes, 4);
+}
+
+#[test]
+fn a_number_rises_behind_its_label(rt: HostRuntime) {
+    for (value, text) in [
+        (0, "row 1"),
+        (8, "row 9"),
+        (9, "row 10"),
+        (10, "row 11"),
+        (19, "row 20"),
+        (99, "row 100"),
+        (199, "row 200"),
+        (999_999, "row 1000000"),
+    ] {
+        let mut number = RisingText::new(b"row ", value);
+        number.rise();
+        assert_eq!(rt; number.text(), text.as_bytes());
+    }
+}
+
+#[test]
+fn a_label_is_gathered_before_its_number(rt: HostRuntime) -> Result<(), Fail> {
+    let alloc = rt.alloc();
+    let mut sink = MemSink::new(alloc, 20, vec![in alloc]?, vec![in alloc; 3]?)?;
+    let mut gathered = Gathered::new(&mut sink);
+    assert_eq!(rt; gathered.labelled(b"a ", 7), Ok(()));
+    assert_eq!(rt; gathered.labelled(b" ", 18_446_744_073_709_551_615), Ok(()));
+    assert_eq!(rt; gathered.finish(Ok(())), Err(WriteFault));
+    assert_eq!(rt; sink.taken(), b"a 7 1844674407370955".as_slice());
+    Ok(())
 }
 
 #[test]

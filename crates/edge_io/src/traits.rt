@@ -1,4 +1,4 @@
-ghost use Rattle.std.specs.Prelude.{◌<◌, ◌≤◌, List, ℕ, length, decimal, IfOk};
+ghost use Rattle.std.specs.Prelude.{◌<◌, ◌≤◌, ◌++◌, List, ℕ, length, decimal, IfOk};
 ghost use Rattle.std.specs.declared.option.Option.{Option};
 ghost use Rattle.std.specs.Io.{ReadsAtMost};
 ghost use Rattle.std.specs.Io.KnownBytes.{ReadConsumes, WriteAppends};
@@ -62,4 +62,10 @@ pub trait TextSink: Sink {
     /// `WriteFault` comes only where a fault was counted; a front of them was then taken.
     fn number(&mut self, value: u64) -> Result<(), WriteFault>
         ensures { Puts result (decimal value) (Self.Sink.told self.old) (Self.Sink.told self.new) };
+
+    /// Takes the bytes of a label, and behind them the decimal digits of a number.
+    ///
+    /// `WriteFault` comes only where a fault was counted; a front of them was then taken.
+    fn labelled(&mut self, label: &[u8], value: u64) -> Result<(), WriteFault>
+        ensures { Puts result (label.now ++ decimal value) (Self.Sink.told self.old) (Self.Sink.told self.new) };
 }
