@@ -14,6 +14,8 @@ mod locks;
 mod obeying;
 mod rooms;
 mod senders;
+#[cfg(test)]
+mod tests;
 
 pub use gathering::{gather_parts, gather_pointers, gather_values};
 pub use group::Group;

@@ -6,7 +6,7 @@ ghost use Rattle.shared_board.specs.Boards.{sent_of, AreLiars};
 ghost use Rattle.shared_laws.specs.Sharing.{place_among};
 
 use crate::columns::{fill, zero_outputs, zero_registers};
-use crate::liars::{copy_ids, mark, zero_counts, zero_marks};
+use crate::liars::{take_liars, zero_counts, zero_marks};
 use group_votes::Senders;
 use state_codec::Packed;
 use std::alloc::Global;
@@ -72,8 +72,7 @@ impl Board {
     {
         faulty.tell();
         config.tell();
-        copy_ids(faulty, &mut self.liars);
-        mark(faulty, &mut self.marks, &mut self.before);
+        take_liars(faulty, &mut self.liars, &mut self.marks, &mut self.before);
         fill(config, &mut self.registers, &mut self.outputs);
     }
 

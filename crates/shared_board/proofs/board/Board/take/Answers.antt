@@ -13,8 +13,8 @@ use Rattle.shared_board.proofs.ByPlace.{board_size, board_depth, lists_held}
 use Rattle.shared_board.proofs.Filled.{registers_long, outputs_long, shown_filled, filled_states}
 use Rattle.shared_board.proofs.board.Board.take.Goals as goal
 
-pub copy_ids-requires : goal.copy_ids-requires
-copy_ids-requires c =
+pub take_liars-requires-clause-room : goal.take_liars-requires-clause-room
+take_liars-requires-clause-room c =
     let inside = c.self.inside in
     let shows : List (List ℕ) = map (λ (v : Vec ℕ Global). v.items) inside.outputs.items in
     let columns : List (List Reg) = map (λ (v : Vec Reg Global). v.items) inside.registers.items in
@@ -24,16 +24,16 @@ copy_ids-requires c =
     let few = few_liars inside.nodes c.args.faulty.now.ids (record { rising = c.tell.ensures.rising; below = below }) in
     omega (arith, few, c.self.invariant.has_room)
 
-pub mark-requires-clause-size : goal.mark-requires-clause-size
-mark-requires-clause-size c =
+pub take_liars-requires-clause-size : goal.take_liars-requires-clause-size
+take_liars-requires-clause-size c =
     let inside = c.self.inside in
     let ids : List ℕ = inside.liars.items in
     let marks = ap length c.self.invariant.marked ∙ length-map-range_with_len (is_in ids) 0 inside.nodes in
     let before = ap length c.self.invariant.counted ∙ length-map-range_with_len (place_among ids) 0 (inside.nodes + 1) in
     omega (arith, marks, before)
 
-pub mark-requires-clause-most : goal.mark-requires-clause-most
-mark-requires-clause-most c =
+pub take_liars-requires-clause-most : goal.take_liars-requires-clause-most
+take_liars-requires-clause-most c =
     let inside = c.self.inside in
     let ids : List ℕ = inside.liars.items in
     let marks = ap length c.self.invariant.marked ∙ length-map-range_with_len (is_in ids) 0 inside.nodes in
@@ -82,7 +82,7 @@ invariant_of-self c =
     omega (arith, long, length-map c.fill.new.outputs.items oi, c.fill.ensures.many, c.self.invariant.many, length-map inside.outputs.items oi, length-map inside.registers.items ri) in
     let below = subst (λ n. All (λ id. id < n) faulty) size c.requires.ids in
     let liars : AreLiars inside.nodes faulty = record { rising = c.tell.ensures.rising; below = below } in
-    let same : c.copy_ids.new.ids.items ≡ faulty = c.copy_ids.ensures.ids in
+    let same : c.take_liars.new.ids.items ≡ faulty = c.take_liars.ensures.ids in
     let marks = ap length c.self.invariant.marked ∙ length-map-range_with_len (is_in inside.liars.items) 0 inside.nodes in
     record {
       most = c.self.invariant.most;
@@ -91,11 +91,11 @@ invariant_of-self c =
       registers = registers_long states new_columns new_shows inside.nodes filled nodes;
       shown = shown_filled states new_columns new_shows inside.nodes filled nodes;
       liars = subst (AreLiars inside.nodes) (sym same) liars;
-      marked = c.mark.ensures.marks ∙ (ap (λ n. map (is_in faulty) (range_with_len 0 n)) marks
+      marked = c.take_liars.ensures.marks ∙ (ap (λ n. map (is_in faulty) (range_with_len 0 n)) marks
           ∙ ap (λ xs. map (is_in xs) (range_with_len 0 inside.nodes)) (sym same));
-      counted = c.mark.ensures.before ∙ (ap (λ n. map (place_among faulty) (range_with_len 0 (n + 1))) marks
+      counted = c.take_liars.ensures.before ∙ (ap (λ n. map (place_among faulty) (range_with_len 0 (n + 1))) marks
           ∙ ap (λ xs. map (place_among xs) (range_with_len 0 (inside.nodes + 1))) (sym same));
-      has_room = omega (arith, c.self.invariant.has_room, c.copy_ids.ensures.room);
+      has_room = omega (arith, c.self.invariant.has_room, c.take_liars.ensures.room);
     }
 
 pub returns : goal.returns
@@ -122,7 +122,21 @@ returns c =
     let within : v < length states = omega (arith, lt, nodes) in
     let moduli = (c.tell-2.ensures.current v within).depth ∙ length-map-range_with_len _ 0 (length c.args.config.now.shape.moduli) in
     omega (arith, moduli, same_depth, c.requires.deep)) in
-    ap (λ ss. record { depth = length new_columns; faulty = c.copy_ids.new.ids.items; states = ss })
+    ap (λ ss. record { depth = length new_columns; faulty = c.take_liars.new.ids.items; states = ss })
     (whole ∙ ap (λ d. map (cut d) states) same_depth)
-    ∙ (ap (λ d. record { depth = d; faulty = c.copy_ids.new.ids.items; states = map (cut c.args.self.now.depth) states }) same_depth
-    ∙ ap (λ xs. record { depth = c.args.self.now.depth; faulty = xs; states = map (cut c.args.self.now.depth) states }) c.copy_ids.ensures.ids)
+    ∙ (ap (λ d. record { depth = d; faulty = c.take_liars.new.ids.items; states = map (cut c.args.self.now.depth) states }) same_depth
+    ∙ ap (λ xs. record { depth = c.args.self.now.depth; faulty = xs; states = map (cut c.args.self.now.depth) states }) c.take_liars.ensures.ids)
+
+pub take_liars-requires-clause-marks : goal.take_liars-requires-clause-marks
+take_liars-requires-clause-marks c =
+    let inside = c.self.inside in
+    let ids : List ℕ = inside.liars.items in
+    let marks = ap length c.self.invariant.marked ∙ length-map-range_with_len (is_in ids) 0 inside.nodes in
+    c.self.invariant.marked ∙ ap (λ n. map (is_in ids) (range_with_len 0 n)) (sym marks)
+
+pub take_liars-requires-clause-before : goal.take_liars-requires-clause-before
+take_liars-requires-clause-before c =
+    let inside = c.self.inside in
+    let ids : List ℕ = inside.liars.items in
+    let marks = ap length c.self.invariant.marked ∙ length-map-range_with_len (is_in ids) 0 inside.nodes in
+    c.self.invariant.counted ∙ ap (λ n. map (place_among ids) (range_with_len 0 (n + 1))) (sym marks)
