@@ -25,7 +25,7 @@ use majority_votes::Steps;
 use state_codec::Packed;
 use std::sync::ledger::Ledger;
 use sync_types::{FaultSet, NodeState};
-use tower::Tower;
+use tower::{Shared, Tower};
 
 /// Lays the current states into their places.
 fn lay(states: &Packed, heard: &mut [NodeState])
@@ -108,7 +108,7 @@ fn step_one<O: Overlay, G: Ledger>(
     requires shape { states.old.shape ≡ script.now.shape }
     requires size { length states.old.current ≡ script.now.nodes }
     requires room { IsReady tower.now script.now room.old }
-    requires stands { room.old.shared
+    requires stands { 0 < length script.now.shape.moduli → room.old.shared
         ≡ stands_for tower.now states.old.current (faulty_at script.now t) }
     requires honest { 0 < (O.layer overlay.old).extra
         → AreHonest script.now t states.old.current room.old.heard.items }
@@ -131,6 +131,30 @@ fn step_one<O: Overlay, G: Ledger>(
     step_with(tower, overlay, script, faulty, t, v, room, states, steps);
     put_at(script, t + 1, begins, v, &mut room.out);
     states.put(v, &room.out);
+}
+
+/// Counts the correct nodes of the current states, where states have registers.
+fn gather_where<G: Ledger>(
+    tower: &Tower,
+    states: &Packed,
+    faulty: &FaultSet,
+    shared: &mut Shared,
+    steps: &mut Steps<G>,
+)
+    requires plan { shared.old.plan ≡ tower.now }
+    requires size { length states.now.current ≡ plan_nodes tower.now }
+    requires deep { plan_depth tower.now ≤ length states.now.shape.moduli }
+    requires range { All (IsInRange tower.now) states.now.current }
+    requires ids { All (λ id. id < plan_nodes tower.now) faulty.now.ids }
+    ensures plan { shared.new.plan ≡ tower.now }
+    ensures stands { 0 < length states.now.shape.moduli
+        → shared.new ≡ stands_for tower.now states.now.current faulty.now.ids }
+    ensures cost { steps.new ≤ steps.old
+        + 3 * plan_depth tower.now * (plan_nodes tower.now - length faulty.now.ids) }
+{
+    if states.shape().depth() > 0 {
+        tower.gather(states, faulty, shared, steps);
+    }
 }
 
 /// The steps of all nodes in round `t`, which has begun for the layer: from the current states to
@@ -173,7 +197,7 @@ pub fn step_all<O: Overlay, G: Ledger>(
     let begins = beginning_at(script, t + 1);
     let faulty = script.faulty_at(t);
     lay_where(overlay.extra() > 0, script, t, states, &mut room.heard);
-    tower.gather(states, faulty, &mut room.shared, steps);
+    gather_where(tower, states, faulty, &mut room.shared, steps);
     for v in 0..states.nodes() {
         step_one(
             tower, overlay, script, faulty, t, begins, v, room, states, steps,

@@ -80,7 +80,7 @@ fn stretch_for(tower: &Tower, v: u32, all: bool, liars: usize, shared: &Shared) 
 
 /// The counter's step of node `v` in round `t`, by what is shared and what the faulty nodes tell
 /// it: those that it heeds, or all.
-fn step_counter<G: Ledger>(
+fn step_shared<G: Ledger>(
     tower: &Tower,
     script: &Script,
     faulty: &FaultSet,
@@ -125,6 +125,69 @@ fn step_counter<G: Ledger>(
     let stretch = stretch_for(tower, v, all, liars, shared);
     tell(script, faulty, t, v, stretch, noise, states, lies);
     tower.advance_shared(v, states, &lies[..liars], shared, out, steps);
+}
+
+/// The counter's step of a node whose state is a number alone.
+fn step_number(tower: &Tower, v: u32, states: &Packed, out: &mut NodeState)
+    requires node { v < length states.now.current }
+    requires below { (state_of states.now.current v).x < tower.now.base }
+    requires alone { plan_depth tower.now ≡ 0 }
+    ensures { (heard : List State) → state_of heard v ≡ state_of states.now.current v
+        → out.new ≡ written (plan_depth tower.now) (step_of tower.now v heard) out.old }
+{
+    out.set_x(tower.next_number(states.x(v)));
+}
+
+/// The counter's step of node `v` in round `t`. Where states have registers, something is shared.
+fn step_counter<G: Ledger>(
+    tower: &Tower,
+    script: &Script,
+    faulty: &FaultSet,
+    t: u64,
+    v: u32,
+    all: bool,
+    states: &Packed,
+    noise: &mut Noise,
+    lies: &mut [NodeState],
+    shared: &mut Shared,
+    out: &mut NodeState,
+    steps: &mut Steps<G>,
+)
+    requires faulty { faulty.now ≡ record { nodes = script.now.nodes; ids = faulty_at script.now t } }
+    requires noise { noise.old ≡ script.now.key }
+    requires nodes { script.now.nodes ≡ plan_nodes tower.now }
+    requires round { t < script.now.rounds }
+    requires node { v < script.now.nodes }
+    requires shape { states.now.shape ≡ script.now.shape }
+    requires size { length states.now.current ≡ script.now.nodes }
+    requires deep { plan_depth tower.now ≤ length script.now.shape.moduli }
+    requires counts { (u : ℕ) → u < script.now.nodes → (s : State)
+        → InRange (fields_at script.now.shape u) s → IsInRange tower.now s }
+    requires told { length lies.old ≡ script.now.nodes }
+    requires lies { AreOfNodes script.now lies.old }
+    requires registers { all ≡ true → 0 < length script.now.shape.moduli }
+    requires stands { 0 < length script.now.shape.moduli → shared.old
+        ≡ stands_for tower.now states.now.current (faulty_at script.now t) }
+    requires out { length out.old.registers ≡ length script.now.shape.moduli }
+    ensures out { out.new ≡ written (plan_depth tower.now)
+        (step_of tower.now v (heard_at script.now t states.now.current v)) out.old }
+    ensures told { all ≡ true → (j : ℕ) → j < length (faulty_at script.now t)
+        → state_of lies.new j
+        ≡ heard_from script.now t v states.now.current (slice_index (faulty_at script.now t) j) }
+    ensures lies { AreOfNodes script.now lies.new }
+    ensures noise { noise.new ≡ noise.old }
+    ensures shared { shared.new ≡ shared.old }
+    ensures cost { steps.new ≤ steps.old
+        + 3 * plan_depth tower.now * length (faulty_at script.now t) }
+{
+    states.tell();
+    if states.shape().depth() == 0 {
+        step_number(tower, v, states, out);
+        return;
+    }
+    step_shared(
+        tower, script, faulty, t, v, all, states, noise, lies, shared, out, steps,
+    );
 }
 
 /// Lays what the faulty nodes tell into their places among what is heard, where a layer hears it.
@@ -218,7 +281,7 @@ pub fn step_with<O: Overlay, G: Ledger>(
     requires shape { states.now.shape ≡ script.now.shape }
     requires size { length states.now.current ≡ script.now.nodes }
     requires room { IsReady tower.now script.now room.old }
-    requires stands { room.old.shared
+    requires stands { 0 < length script.now.shape.moduli → room.old.shared
         ≡ stands_for tower.now states.now.current (faulty_at script.now t) }
     requires honest { 0 < (O.layer overlay.old).extra
         → AreHonest script.now t states.now.current room.old.heard.items }

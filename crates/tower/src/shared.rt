@@ -48,7 +48,7 @@ impl Model for Shared {
 }
 
 /// The number after a number that is below the base.
-fn after(x: u64, base: u64) -> u64
+pub(crate) fn after(x: u64, base: u64) -> u64
     requires below { x < base }
     requires small { base ≤ 2 ^ 40 }
     ensures { result ≡ up base x }

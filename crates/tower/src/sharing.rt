@@ -1,6 +1,7 @@
 ghost use Rattle.std.specs.Prelude.{◌≡◌, ◌<◌, ◌≤◌, ◌+◌, ◌-◌, ◌*◌, ℕ, List, [], length, All, IfOk};
 ghost use Rattle.sync_types.specs.States.{State};
 ghost use Rattle.construction.specs.Plans.{plan_nodes, plan_depth};
+ghost use Rattle.construction.specs.PhaseKing.{up};
 ghost use Rattle.construction.specs.Steps.{state_of, step_of};
 ghost use Rattle.counter_core.specs.Meanings.{written};
 ghost use Rattle.plan_laws.specs.PlanMeaning.{IsInRange};
@@ -8,7 +9,7 @@ ghost use Rattle.shared_laws.specs.Sharing.{heard_with, stands_for, Tells};
 
 use crate::groups::{add_groups, gather_groups, write_registers};
 use crate::rows::rows_of;
-use crate::shared::Shared;
+use crate::shared::{Shared, after};
 use crate::towers::Tower;
 use counter_core::Counter;
 use majority_votes::{Steps, Tally};
@@ -54,6 +55,14 @@ impl Tower {
             all_settled: false,
             scratch: Tally::new(alloc, BLOCKS).map_err(|_| NoMemory)?,
         })
+    }
+
+    /// The number that follows one at a node that has a number.
+    pub fn next_number(&self, x: u64) -> u64
+        requires { x < self.now.base }
+        ensures { result ≡ up self.now.base x }
+    {
+        after(x, self.base)
     }
 
     /// Counts the correct nodes of the current states of a configuration, so that `shared` stands

@@ -15,7 +15,8 @@ invariant-loop-v g l = record {
       l.states.next (g.O.Overlay.layer l.overlay) (g.O.Overlay.kept l.overlay);
   fixed : l.states ≡ record l.fn.states { next = l.states.next };
   ready : IsReady l.tower l.script l.room;
-  stands : l.room.shared ≡ stands_for l.tower l.fn.states.current (faulty_at l.script l.t);
+  stands : 0 < length l.script.shape.moduli
+      → l.room.shared ≡ stands_for l.tower l.fn.states.current (faulty_at l.script l.t);
   honest : 0 < (g.O.Overlay.layer l.fn.overlay).extra
       → AreHonest l.script l.t l.fn.states.current l.room.heard.items;
   cost : l.steps ≤ l.fn.steps
