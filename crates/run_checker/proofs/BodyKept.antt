@@ -1,10 +1,13 @@
 -- What is kept of a certificate's configuration holds behind each line.
-use Rattle.std.proofs.Common.{◌≡◌, ℕ, zero, suc, ◌+◌, ◌<◌, Bool, true, false, cond, List, [], ◌∷◌, ◌++◌, length, map, set, replicate, All, Result, Ok, Err, drop, eqb, refl, sym, ap, ◌∙◌, subst, arith}
+use Rattle.std.proofs.Common.{◌≡◌, ℕ, zero, suc, ◌+◌, ◌<◌, ◌≤◌, Bool, true, false, cond, ◌&&◌, List, [], ◌∷◌, ◌++◌, length, map, replicate, All, drop, eqb, get_or, refl, sym, ap, ◌∙◌, subst, arith}
 use Rattle.std.specs.List.{range_with_len}
 use Rattle.std.proofs.lemmas.List.{length-replicate}
-use Rattle.std.proofs.lemmas.List.Elements.{All-set, All-push, All-nil, All-cons, All-head, All-tail}
+use Rattle.std.proofs.lemmas.List.Elements.{All-push, All-nil, All-cons, All-head, All-tail}
 use Rattle.sync_types.specs.States.{State, zero_state, zero_register}
-use Rattle.sync_types.specs.FaultSets.{is_in}
+use Rattle.sync_types.specs.FaultSets.{FaultIds, is_in}
+use Rattle.state_codec.specs.Packs.{Pack}
+use Rattle.run_certificates.specs.Grammar.{pairs_of}
+use Rattle.run_checker.specs.Hearing.{IsRound}
 use Rattle.construction.specs.Plans.{Plan, plan_nodes, plan_depth}
 use Rattle.plan_numbers.specs.Premises.{IsAccepted}
 use Rattle.plan_laws.specs.PlanMeaning.{IsInRange}
@@ -17,15 +20,14 @@ use Rattle.state_codec.specs.Texts.{read_text, decoded}
 use Rattle.state_codec.proofs.Ranged.{read_is_in_range}
 use Rattle.state_codec.proofs.Lows.{fields_limited}
 use Rattle.state_codec.proofs.Plans.{shape_of_accepted, length-moduli_of}
-use Rattle.sync_types.specs.declared.answers.NoMemory.{NoMemory}
-use Rattle.std.specs.Prelude.{slice_index_or}
+use Rattle.std.specs.Prelude.{slice_index_or, nat_lt}
 use Rattle.run_certificates.specs.Checking.{is_next}
 use Rattle.run_certificates.specs.Stated.{unless_faulty}
 use Rattle.run_checker.specs.Tellings.{Telling, AddsState}
 use Rattle.std.proofs.lemmas.List.FromFn.{length-map-range_with_len}
 use Rattle.construction.specs.Plans.{plan_low}
 use Rattle.std.specs.List.{flat_map}
-use Rattle.std.proofs.lemmas.Bool.{and_parts, eqb-true}
+use Rattle.std.proofs.lemmas.Bool.{and_parts, eqb-true, ltb-true}
 use Rattle.run_checker.specs.Rounds.{AreStates}
 
 module _ (plan : Plan) (accepted : IsAccepted plan) where
@@ -51,14 +53,7 @@ module _ (plan : Plan) (accepted : IsAccepted plan) where
     range = all_replicate (IsInRange plan) n (zero_state (plan_depth plan)) (plan_zero plan accepted);
   }
 
-  -- a state that is put, and one that is told
-  pub states_set : (states : List State) (v : ℕ) (s : State) → AreStates plan states
-      → length s.registers ≡ plan_depth plan → IsInRange plan s → AreStates plan (set states v s)
-  states_set states v s h deep range = record {
-    deep = All-set (λ s. length s.registers ≡ plan_depth plan) states v s deep h.deep;
-    range = All-set (IsInRange plan) states v s range h.range;
-  }
-
+  -- a state that is told
   pub states_more : (states : List State) (s : State) → AreStates plan states
       → length s.registers ≡ plan_depth plan → IsInRange plan s → AreStates plan (states ++ s ∷ [])
   states_more states s h deep range = record {
@@ -69,30 +64,35 @@ module _ (plan : Plan) (accepted : IsAccepted plan) where
   -- a state more was told, or not
   pub record IsKeptTold (old new : Telling) : Type 0 where
     pub pairs : new.pairs ≡ old.pairs
-    pub depth : new.depth ≡ old.depth
+    pub kept : new.shape ≡ old.shape
     pub states : AreStates plan new.states
 
   same_told : (old new : Telling) → new ≡ old → AreStates plan old.states → IsKeptTold old new
   same_told old new e h = record {
     pairs = ap (λ (t : Telling). t.pairs) e;
-    depth = ap (λ (t : Telling). t.depth) e;
+    kept = ap (λ (t : Telling). t.shape) e;
     states = subst (λ (t : Telling). AreStates plan t.states) (sym e) h;
   }
 
-  pub told_kept : (v : ℕ) → v < plan_nodes plan → (digits : List ℕ) (old new : Telling) (result : Result Bool NoMemory)
-      → AddsState (fields_at (shape_of plan) v) digits old new result → AreStates plan old.states → IsKeptTold old new
-  told_kept v lt digits old new (Err e) h states = same_told old new h states
-  told_kept v lt digits old new (Ok false) h states = same_told old new h.1 states
-  told_kept v lt digits old new (Ok true) h states =
+  pub told_kept : (digits : List ℕ) (old new : Telling) (result : Bool)
+      → AddsState digits old new result → old.shape ≡ shape_of plan
+      → (get_or old.pairs (length old.states) (0, 0)).0 < plan_nodes plan
+      → AreStates plan old.states → IsKeptTold old new
+  told_kept digits old new false h is lt states = same_told old new h.1 states
+  told_kept digits old new true h is lt states =
+      let v : ℕ = (get_or old.pairs (length old.states) (0, 0)).0 in
       let s : State = read_text (fields_at (shape_of plan) v) digits in
       let range : InRange (fields_at (shape_of plan) v) s =
       read_is_in_range (fields_at (shape_of plan) v) (decoded digits)
       (fields_limited (shape_of plan) (slice_index_or (shape_of plan).lows v 0) (shape_of_accepted plan accepted)) in
+      let more : AreStates plan (old.states ++ s ∷ []) =
+      states_more old.states s states (node_deep v lt s range) (node_range v lt s range) in
       record {
         pairs = ap (λ (t : Telling). t.pairs) h.1;
-        depth = ap (λ (t : Telling). t.depth) h.1;
+        kept = ap (λ (t : Telling). t.shape) h.1;
         states = subst (λ (t : Telling). AreStates plan t.states) (sym h.1)
-            (states_more old.states s states (node_deep v lt s range) (node_range v lt s range));
+            (subst (λ (f : Shape). AreStates plan (old.states ++ read_text (fields_at f v) digits ∷ []))
+            (sym is) more);
       }
 
   pub no_states : AreStates plan []
@@ -122,6 +122,37 @@ shape_nodes plan fields is =
 pub shape_depth : (plan : Plan) (fields : Shape) → fields ≡ shape_of plan → length fields.moduli ≡ plan_depth plan
 shape_depth plan fields is = ap (λ (f : Shape). length f.moduli) is ∙ length-moduli_of plan.levels
 
+-- ---- a round
+
+pub none_are : (plan : Plan) → AreStates plan []
+none_are plan = record {
+  deep = λ k d lt. absurd (omega (arith, lt));
+  range = λ k d lt. absurd (omega (arith, lt));
+}
+
+-- a round is left where all of one was told
+pub round_left : (at m n : ℕ) → (nat_lt at 1000000 && eqb m n) ≡ true → at + 1 ≤ 1000000
+round_left at m n e =
+    let lt = ltb-true at 1000000 (and_parts (nat_lt at 1000000) (eqb m n) e).0 in
+    omega (arith, lt)
+
+told_whole : (b : Bool) (m n : ℕ) → (b && eqb m n) ≡ true → m ≡ n
+told_whole b m n e = eqb-true m n (and_parts b (eqb m n) e).1
+
+-- where all of a round was told, it may be played
+pub round_of : (plan : Plan) (faulty : FaultIds) (pack : Pack) (told : List State)
+    → faulty.nodes ≡ plan_nodes plan → AreStates plan told
+    → length pack.current ≡ plan_nodes plan → pack.shape ≡ shape_of plan → (b : Bool)
+    → (b && eqb (length told) (length (pairs_of (plan_nodes plan) faulty.ids))) ≡ true
+    → IsRound plan faulty told pack
+round_of plan faulty pack told nodes states size shape b e = record {
+  nodes = nodes;
+  whole = told_whole b (length told) (length (pairs_of (plan_nodes plan) faulty.ids)) e;
+  states = states;
+  size = size;
+  shape = shape;
+}
+
 -- ---- pairs
 
 abbrev pub Below : ℕ → ℕ × ℕ → Type 0
@@ -146,13 +177,13 @@ senders_below n vs (u ∷ us) h =
 
 -- and so is that of the next pair, which is one of those that are left
 pub next_below : (n u v k : ℕ) (pairs : List (ℕ × ℕ)) → All (Below n) pairs → is_next u v (drop k pairs) ≡ true
-    → (u < n) × (k < length pairs)
+    → (u < n) × (k < length pairs) × ((get_or pairs k (0, 0)).0 ≡ u)
 next_below n u v zero [] h e = absurd cc
 next_below n u v zero (p ∷ pairs) h e =
     let same : p.0 ≡ u = eqb-true p.0 u (and_parts (eqb p.0 u) (eqb p.1 v) e).0 in
     let lt : p.0 < n = All-head (Below n) p pairs h in
-    (omega (arith, same, lt), omega arith)
+    (omega (arith, same, lt), omega arith, same)
 next_below n u v (suc k) [] h e = absurd cc
 next_below n u v (suc k) (p ∷ pairs) h e =
     let r = next_below n u v k pairs (All-tail (Below n) p pairs h) e in
-    (r.0, omega (arith, r.1))
+    (r.0, omega (arith, r.1), r.2)

@@ -27,7 +27,7 @@ chosen : (b : Bool) (t : Stage) → b ≡ true → cond b (goes t) refused ≡ g
 chosen true t e = refl
 chosen false t e = absurd cc
 
-not_chosen : (b : Bool) (t : Stage) → b ≡ false → cond b (goes t) refused ≡ refused
+pub not_chosen : (b : Bool) (t : Stage) → b ≡ false → cond b (goes t) refused ≡ refused
 not_chosen true t e = absurd cc
 not_chosen false t e = refl
 
@@ -39,7 +39,7 @@ and_left : (a b : Bool) → a ≡ false → (a && b) ≡ false
 and_left true b e = absurd cc
 and_left false b e = refl
 
-and_right : (a b : Bool) → b ≡ false → (a && b) ≡ false
+pub and_right : (a b : Bool) → b ≡ false → (a && b) ≡ false
 and_right true b e = e
 and_right false b e = refl
 

@@ -2,6 +2,8 @@ mod Attributed
 mod BodyKept
 mod BodySteps
 mod EraFound
+mod HeardLaid
+mod HeardSteps
 mod LevelLines
 mod LineTexts
 mod Ranges
@@ -12,6 +14,8 @@ mod RowWords
 mod RunnerTexts
 mod ShortTexts
 mod SourceReads
+mod StatesRead
+mod ToldPlaces
 mod TrueTexts
 mod Unlimited
 mod WordsBefore

@@ -1,10 +1,11 @@
 -- Rising ids, one after the other.
-use Rattle.std.proofs.Common.{◌≡◌, ℕ, zero, suc, ◌+◌, ◌-◌, ◌<◌, ◌≤◌, Bool, true, false, cond, not, ◌&&◌, ◌||◌, List, [], ◌∷◌, ◌++◌, length, map, filter, slice_index, take, refl, sym, ap, ap₂, ◌∙◌, add-one, arith}
+use Rattle.std.proofs.Common.{◌≡◌, ℕ, zero, suc, ◌+◌, ◌-◌, ◌<◌, ◌≤◌, Bool, true, false, cond, not, ◌&&◌, ◌||◌, List, [], ◌∷◌, ◌++◌, length, map, filter, slice_index, take, refl, sym, ap, ap₂, ◌∙◌, add-one, arith, length-append}
 use Rattle.std.specs.List.{range_with_len, list_any, flat_map}
 use Rattle.std.proofs.lemmas.List.{append-nil, append_assoc, map-append}
 use Rattle.std.proofs.lemmas.List.FromFn.{length-range_with_len, get_or-range_with_len}
 use Rattle.std.proofs.lemmas.Grind.{flat_map-append, take_at_read}
 use Rattle.std.proofs.lemmas.List.Elements.{filter-append}
+use Rattle.std.proofs.lemmas.List.Filters.{length-filter_both}
 use Rattle.sync_types.specs.FaultSets.{is_in}
 use Rattle.round_runner.specs.Locks.{correct_nodes}
 use Rattle.run_certificates.specs.Checking.{needs_state}
@@ -59,6 +60,24 @@ module _ (faulty : List ℕ) where
   one_faulty v is =
       correct_more v ∙ ap (λ (b : Bool). correct_nodes v faulty ++ cond (not b) (v ∷ []) []) is
       ∙ append-nil (correct_nodes v faulty)
+
+  -- so there is one more of them, or are as many
+  pub count_one : (v : ℕ) → is_in faulty v ≡ false
+      → length (correct_nodes (v + 1) faulty) ≡ length (correct_nodes v faulty) + 1
+  count_one v is =
+      ap (λ (l : List ℕ). length l) (one_correct v is)
+      ∙ length-append (correct_nodes v faulty) (v ∷ [])
+
+  pub count_faulty : (v : ℕ) → is_in faulty v ≡ true
+      → length (correct_nodes (v + 1) faulty) ≡ length (correct_nodes v faulty)
+  count_faulty v is = ap (λ (l : List ℕ). length l) (one_faulty v is)
+
+  -- there are no more of them than nodes
+  pub few_correct : (v : ℕ) → length (correct_nodes v faulty) ≤ v
+  few_correct v =
+      let both = length-filter_both (λ u. not (is_in faulty u)) (λ u. not (not (is_in faulty u)))
+      (λ u. refl) (range_with_len 0 v) in
+      omega (arith, both, length-range_with_len 0 v)
 
   -- the pairs of one more node
   pub pairs_more : (u v : ℕ) (old now : List (ℕ × ℕ)) → now ≡ old ++ map (λ w. (u, w)) (correct_nodes v faulty)

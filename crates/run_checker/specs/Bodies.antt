@@ -2,8 +2,9 @@
 use Rattle.std.specs.Prelude.{◌≡◌, ℕ, ◌≤◌, List, length, Bool, All, ◌<◌, if◌then◌else◌}
 use Rattle.sync_types.specs.States.{State}
 use Rattle.sync_types.specs.FaultSets.{FaultIds}
-use Rattle.construction.specs.Plans.{Plan, plan_nodes, plan_depth}
-use Rattle.state_codec.specs.Shapes.{Shape, shape_of}
+use Rattle.construction.specs.Plans.{Plan, plan_nodes}
+use Rattle.state_codec.specs.Shapes.{shape_of}
+use Rattle.state_codec.specs.Packs.{Pack}
 use Rattle.run_certificates.specs.Grammar.{pairs_of}
 use Rattle.run_certificates.specs.Checking.{Known, Stage, putting, telling}
 use Rattle.run_checker.specs.declared.rounds.Room.{Room}
@@ -24,17 +25,16 @@ stage_of b = if b.is_putting then putting b.known b.unknown b.from else telling 
 
 -- the configuration is one of the plan, the pairs are those of its faulty nodes, and there is room
 -- for a round
-pub record IsBody (plan : Plan) (fields : Shape) (bad none_known : FaultIds) (states : List State)
-    (tellings : Telling) (needed : Room) (behind number : ℕ) : Type 0 where
-  pub shape : fields ≡ shape_of plan
+pub record IsBody (plan : Plan) (bad none_known : FaultIds) (pack : Pack) (tellings : Telling)
+    (needed : Room) (behind number : ℕ) : Type 0 where
+  pub shape : pack.shape ≡ shape_of plan
   pub faulty : bad.nodes ≡ plan_nodes plan
   pub unknown : none_known.nodes ≡ plan_nodes plan
-  pub size : length states ≡ plan_nodes plan
-  pub config : AreStates plan states
+  pub size : length pack.current ≡ plan_nodes plan
   pub pairs : tellings.pairs ≡ pairs_of (plan_nodes plan) bad.ids
   pub senders : All (λ pair. pair.0 < plan_nodes plan) tellings.pairs
-  pub depth : tellings.depth ≡ plan_depth plan
+  pub kept : tellings.shape ≡ shape_of plan
   pub told : AreStates plan tellings.states
-  pub room : IsReady (plan_nodes plan) (plan_depth plan) needed
+  pub room : IsReady plan needed
   pub from : behind ≤ plan_nodes plan
   pub at : number ≤ 1000000

@@ -1,7 +1,6 @@
 -- What the lines behind the head of a certificate change.
-use Rattle.std.specs.Prelude.{◌≡◌, ℕ, ◌+◌, ◌&&◌, ◌==◌, nat_le, nat_lt, nat_eq, List, [], ◌∷◌, ◌++◌, length, drop, Bool, true, false, not, Option, Some, None, Result, Ok, Err, if◌then◌else◌}
+use Rattle.std.specs.Prelude.{◌≡◌, ℕ, ◌+◌, ◌&&◌, ◌==◌, nat_le, nat_lt, nat_eq, List, [], ◌∷◌, ◌++◌, length, drop, Bool, true, false, not, Option, Some, None, slice_index_or, if◌then◌else◌}
 use Rattle.std.specs.List.{range_with_len}
-use Rattle.sync_types.specs.declared.answers.NoMemory.{NoMemory}
 use Rattle.construction.specs.Plans.{Plan, plan_nodes}
 use Rattle.construction.specs.Runs.{is_in}
 use Rattle.state_codec.specs.Texts.{is_state_text, read_text}
@@ -39,12 +38,16 @@ may_tell b u v =
     has_round b.known
     && is_next u v (drop (length b.told) (pairs_of (plan_nodes b.known.plan) b.known.stand.faulty))
 
+-- the sender of the next pair
+abbrev pub next_sender : BodySeen → ℕ
+next_sender b =
+    (slice_index_or (pairs_of (plan_nodes b.known.plan) b.known.stand.faulty) (length b.told) (0, 0)).0
+
 -- a state more was told, or the digits are those of no state
-abbrev pub Tells : (u : ℕ) → (digits : List ℕ) → (old new : BodySeen) → Result Bool NoMemory → Type 0
-Tells u digits old new (Err e) = Unit {0}
-Tells u digits old new (Ok true) = (is_state_text (fields_of old.known.plan u) digits ≡ true)
+abbrev pub Tells : (u : ℕ) → (digits : List ℕ) → (old new : BodySeen) → Bool → Type 0
+Tells u digits old new true = (is_state_text (fields_of old.known.plan u) digits ≡ true)
     × (new ≡ record old { told = old.told ++ read_text (fields_of old.known.plan u) digits ∷ [] })
-Tells u digits old new (Ok false) = is_state_text (fields_of old.known.plan u) digits ≡ false
+Tells u digits old new false = is_state_text (fields_of old.known.plan u) digits ≡ false
 
 -- the round that was told was played
 abbrev pub played_on : BodySeen → BodySeen

@@ -62,7 +62,7 @@ pub record IsTooLong (limit : ℕ) (old new : Option (List ℕ)) : Type 0 where
 -- what checking a text did: what its source had left, and has left
 abbrev pub Checks : (limit : ℕ) → (old new : Option (List ℕ)) → Result Verdict CheckError → Type 0
 Checks limit old new (Ok verdict) = IsChecked limit old new verdict
-Checks limit old new (Err (check.Refused line)) = IsRefused limit old new line
+Checks limit old new (Err (check.Refused refusal)) = IsRefused limit old new refusal.line
 Checks limit old new (Err check.TooLong) = IsTooLong limit old new
 Checks limit old new (Err check.ReadFault) = (bytes : List ℕ) × Consumes old new bytes
 Checks limit old new (Err check.NoMemory) = (bytes : List ℕ) × Consumes old new bytes
@@ -71,6 +71,6 @@ Checks limit old new (Err check.NoMemory) = (bytes : List ℕ) × Consumes old n
 abbrev pub HasCheckCause : (before now : ℕ) → Result Verdict CheckError → Type 0
 HasCheckCause before now (Err check.ReadFault) = Counted before now
 HasCheckCause before now (Ok verdict) = now ≡ before
-HasCheckCause before now (Err (check.Refused line)) = now ≡ before
+HasCheckCause before now (Err (check.Refused refusal)) = now ≡ before
 HasCheckCause before now (Err check.TooLong) = now ≡ before
 HasCheckCause before now (Err check.NoMemory) = now ≡ before

@@ -2,6 +2,7 @@ pub mod SaidLines
 pub mod Sets
 pub mod Rows
 pub mod Rounds
+pub mod Hearing
 pub mod Tellings
 pub mod Bodies
 pub mod Changes

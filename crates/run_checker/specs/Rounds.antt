@@ -6,7 +6,7 @@ use Rattle.sync_types.specs.FaultSets.{is_in}
 use Rattle.construction.specs.Plans.{Plan, plan_nodes, plan_depth}
 use Rattle.construction.specs.Steps.{step_of}
 use Rattle.construction.specs.Runs.{heard_by}
-use Rattle.counter_core.specs.Working.{IsFor}
+use Rattle.run_certificates.specs.Grammar.{pairs_of}
 use Rattle.plan_laws.specs.PlanMeaning.{IsInRange}
 use Rattle.run_checker.specs.declared.rounds.Room.{Room}
 
@@ -35,19 +35,21 @@ stepped_all plan faulty new config pairs told =
     map (λ v. if is_in new v then zero_state (plan_depth plan) else stepped_at plan faulty config pairs told v)
     (range_with_len 0 (plan_nodes plan))
 
+-- the state of node v in it, where its faulty nodes tell all that they have to
+abbrev pub state_next : Plan → (faulty new : List ℕ) → (config told : List State) → (v : ℕ) → State
+state_next plan faulty new config told v =
+    if is_in new v then zero_state (plan_depth plan)
+    else stepped_at plan faulty config (pairs_of (plan_nodes plan) faulty) told v
+
 -- states that the plan's counter takes
 pub record AreStates (plan : Plan) (states : List State) : Type 0 where
   pub deep : All (λ s. length s.registers ≡ plan_depth plan) states
   pub range : All (IsInRange plan) states
 
--- there is room for a state of each of n nodes
-pub record HasRoom (n depth : ℕ) (states : List State) : Type 0 where
-  pub size : length states ≡ n
-  pub deep : All (λ s. length s.registers ≡ depth) states
-
--- the room that a round of a plan needs
-pub record IsReady (n depth : ℕ) (room : Room) : Type 0 where
-  pub lies : HasRoom n depth room.lies.items
-  pub next : HasRoom n depth room.next.items
-  pub zero : room.zero ≡ zero_state depth
-  pub work : IsFor n room.work
+-- the room that rounds of a plan need: as many may lie as there are nodes
+pub record IsReady (plan : Plan) (room : Room) : Type 0 where
+  pub size : length room.lies.items ≡ plan_nodes plan
+  pub lies : AreStates plan room.lies.items
+  pub zero : room.zero ≡ zero_state (plan_depth plan)
+  pub shared : room.shared.plan ≡ plan
+  pub out : length room.out.registers ≡ plan_depth plan

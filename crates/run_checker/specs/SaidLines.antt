@@ -10,15 +10,22 @@ use Rattle.run_certificates.specs.Items.{Item, run_item, base_item, level_item, 
 use Rattle.run_checker.specs.declared.said_lines.Said.{Said}
 use Rattle.run_checker.specs.declared.said_lines.Said.TheVariants as said
 
+-- a state that is put or told, where the word of it is of digits
+abbrev pub start_by : (v : ℕ) → (digits : List ℕ) → Option Item
+start_by v digits = if list_all is_lower_digit digits then Some (start_item v digits) else None
+
+abbrev pub lie_by : (u v : ℕ) → (digits : List ℕ) → Option Item
+lie_by u v digits = if list_all is_lower_digit digits then Some (lie_item u v digits) else None
+
 -- the item that is said, where the words that are left say what they have to
 abbrev pub item_seen : Said → Option Item
 item_seen (said.Run version) = Some (run_item version)
 item_seen (said.Base base) = Some (base_item base)
 item_seen (said.Level k f c spares) = Some (level_item k f c spares)
 item_seen (said.Faulty words) = option_map faulty_item (numbers_in words)
-item_seen (said.Start v digits) = Some (start_item v digits.now)
+item_seen (said.Start v digits) = start_by v digits.now
 item_seen (said.Row t words) = row_by (Some t) (values_said words)
-item_seen (said.Lie u v digits) = Some (lie_item u v digits.now)
+item_seen (said.Lie u v digits) = lie_by u v digits.now
 item_seen (said.Era t words) = era_by (Some t) (numbers_in words)
 item_seen said.End = Some end_item
 
@@ -39,7 +46,7 @@ spares_in [] = Some None
 spares_in (key ∷ s ∷ []) = if bytes_eq key (codes "spare") then option_map Some (number_of s) else None
 spares_in other = None
 
--- the one word, where it is of digits
-abbrev pub digits_in : List (List ℕ) → Option (List ℕ)
-digits_in (digits ∷ []) = if list_all is_lower_digit digits then Some digits else None
-digits_in other = None
+-- the one word
+abbrev pub only_word : List (List ℕ) → Option (List ℕ)
+only_word (word ∷ []) = Some word
+only_word other = None

@@ -1,26 +1,40 @@
 -- The pairs of a round, and what was told for the first of them.
-use Rattle.std.specs.Prelude.{◌≡◌, ℕ, ◌≤◌, List, [], ◌∷◌, ◌++◌, length, All, Bool, true, false, Result, Ok, Err}
+use Rattle.std.specs.Prelude.{◌≡◌, ℕ, ◌≤◌, ◌<◌, ◌*◌, List, [], ◌∷◌, ◌++◌, length, map, take, All, Bool, true, false, slice_index_or}
+use Rattle.std.specs.List.{list_all}
 use Rattle.sync_types.specs.States.{State}
-use Rattle.sync_types.specs.declared.answers.NoMemory.{NoMemory}
-use Rattle.state_codec.specs.Shapes.{Fields}
-use Rattle.state_codec.specs.Texts.{is_state_text, read_text}
+use Rattle.state_codec.specs.Shapes.{Fields, Shape, fields_at, bytes_in}
+use Rattle.state_codec.specs.Texts.{is_lower_digit, is_state_text, read_text}
 
 pub record Telling : Type 0 where
   pub pairs : List (ℕ × ℕ)
-  pub depth : ℕ
+  pub shape : Shape
   pub states : List State
 
--- what it keeps: no more states than pairs count, and there is room for these
-pub record IsTelling (pairs : List (ℕ × ℕ)) (depth : ℕ) (states : List State) (count : ℕ) : Type 0
-  where
-    pub within : count ≤ length states
-    pub fits : count ≤ length pairs
-    pub deep : All (λ s. length s.registers ≡ depth) states
+-- how many digits the sender of a pair tells
+abbrev pub room_of : Shape → ℕ × ℕ → ℕ
+room_of shape pair = 2 * bytes_in (fields_at shape pair.0)
+
+-- the states of the digits that were told for the first of the pairs
+abbrev pub states_read : Shape → List (ℕ × ℕ) → List (List ℕ) → List State
+states_read shape [] texts = []
+states_read shape (pair ∷ pairs) [] = []
+states_read shape (pair ∷ pairs) (text ∷ texts) =
+    read_text (fields_at shape pair.0) text ∷ states_read shape pairs texts
+
+-- what it keeps: there is room for what each pair tells, and what was told is of digits
+pub record IsTelling (shape : Shape) (pairs : List (ℕ × ℕ)) (texts : List (List ℕ)) (count : ℕ)
+    : Type 0 where
+  pub fits : count ≤ length pairs
+  pub senders : All (λ pair. pair.0 < length shape.lows) pairs
+  pub rooms : map length texts ≡ map (room_of shape) pairs
+  pub lower : All (λ text. list_all is_lower_digit text ≡ true) (take count texts)
+
+-- the fields of the sender of the next pair
+abbrev pub next_fields : Telling → Fields
+next_fields t = fields_at t.shape (slice_index_or t.pairs (length t.states) (0, 0)).0
 
 -- a state more was told, or the digits are those of no state, and nothing changed
-abbrev pub AddsState : (fields : Fields) → (digits : List ℕ) → (old new : Telling)
-    → Result Bool NoMemory → Type 0
-AddsState fields digits old new (Err e) = new ≡ old
-AddsState fields digits old new (Ok true) = (is_state_text fields digits ≡ true)
-    × (new ≡ record old { states = old.states ++ read_text fields digits ∷ [] })
-AddsState fields digits old new (Ok false) = (is_state_text fields digits ≡ false) × (new ≡ old)
+abbrev pub AddsState : (digits : List ℕ) → (old new : Telling) → Bool → Type 0
+AddsState digits old new true = (is_state_text (next_fields old) digits ≡ true)
+    × (new ≡ record old { states = old.states ++ read_text (next_fields old) digits ∷ [] })
+AddsState digits old new false = (is_state_text (next_fields old) digits ≡ false) × (new ≡ old)

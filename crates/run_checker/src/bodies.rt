@@ -4,18 +4,18 @@ ghost use Rattle.run_certificates.specs.Grammar.{most_eras};
 
 use crate::id_lists::{all_nodes, borne_set, needs_state};
 use crate::locks::is_locked;
-use crate::rounds::{Room, room_for, step_all, zero_states};
+use crate::rounds::{Room, play, room_for};
 use crate::rows::compare_row;
-use crate::tellings::{Tellings, pairs_of};
+use crate::tellings::{Tellings, pairs_of, rooms_for};
 use counter_core::Counter;
 use edge_io::{TakeError, Words};
 use plan_numbers::Plan;
 use run_certificates::Verdict;
-use state_codec::{NotState, StateShape};
+use state_codec::{NotState, Packed, StateShape};
 use std::alloc::Global;
 use std::marker::Model;
 use std::mem;
-use sync_types::{FaultSet, NoMemory, NodeState};
+use sync_types::{FaultSet, NoMemory};
 use tower::{Tower, build};
 
 /// The most rounds that a certificate has.
@@ -34,10 +34,9 @@ pub struct Body {
     alloc: Global,
     version: u32,
     tower: Tower,
-    shape: StateShape,
     faulty: FaultSet,
     unknown: FaultSet,
-    config: Vec<NodeState>,
+    config: Packed,
     tellings: Tellings,
     room: Room,
     is_putting: bool,
@@ -59,7 +58,7 @@ impl Model for Body {
         plan = b.tower;
         eras = b.eras;
         at = b.at;
-        stand = record { faulty = b.faulty.ids; config = b.config.items };
+        stand = record { faulty = b.faulty.ids; config = b.config.current };
         differs = b.differs;
         locked = b.locked;
       };
@@ -69,7 +68,8 @@ impl Model for Body {
       told = b.tellings.states;
     } };
 
-    ghost invariant = { λ b. IsBody b.tower b.shape b.faulty b.unknown b.config.items b.tellings b.room b.from b.at };
+    ghost invariant = { λ b. IsBody b.tower b.faulty b.unknown b.config b.tellings b.room
+        b.from b.at };
 }
 
 /// The first of some numbers: the one that was known before, or this one, where it is one of them.
@@ -91,10 +91,10 @@ impl Body {
     ghost use Rattle.run_certificates.specs.Items.{start_item, lie_item, end_item, era_by, row_by, values_said};
     ghost use Rattle.run_certificates.specs.Checking.{has_round, all_told, verdict_now, step, step_by};
     ghost use Rattle.run_checker.specs.Bodies.{stage_of};
-    ghost use Rattle.run_checker.specs.Changes.{first_body, may_put, Puts, may_tell, Tells, played_on, may_begin, renewed_with, has_states, Marks, ComesToRow, is_at_row};
+    ghost use Rattle.run_checker.specs.Changes.{first_body, may_put, Puts, may_tell, next_sender, Tells, played_on, may_begin, renewed_with, has_states, Marks, ComesToRow, is_at_row};
 
     /// What is known behind the head: the plan and its faulty nodes. It takes all memory that the
-    /// rounds of this era need, but for what is told in one.
+    /// rounds of this era need.
     pub fn new(alloc: Global, version: u32, plan: &Plan, faulty: FaultSet) -> Result<Body, NoMemory>
         requires { faulty.nodes ≡ plan_nodes plan.now }
         ensures { IfOk result (λ body. body ≡ first_body version plan.now faulty.ids) }
@@ -102,15 +102,16 @@ impl Body {
         let tower = build(alloc, plan)?;
         let shape = StateShape::of(alloc, plan)?;
         let unknown = all_nodes(alloc, plan.nodes())?;
-        let config = zero_states(alloc, plan.nodes(), plan.depth())?;
+        let config = Packed::new(alloc, shape, plan.nodes())?;
+        let told = StateShape::of(alloc, plan)?;
         let pairs = pairs_of(alloc, &faulty)?;
-        let tellings = Tellings::new(alloc, plan.depth(), pairs);
+        let rooms = rooms_for(alloc, &told, &pairs)?;
+        let tellings = Tellings::new(told, pairs, rooms);
         let room = room_for(alloc, &tower)?;
         Ok(Body {
             alloc,
             version,
             tower,
-            shape,
             faulty,
             unknown,
             config,
@@ -151,8 +152,10 @@ impl Body {
         ensures { Puts v digits.now self.old self.new result }
     {
         self.tower.tell();
-        match self.shape.read_hex(v, digits, &mut self.config[v as usize]) {
+        let state = &mut self.room.out;
+        match self.config.shape().read_hex(v, digits, state) {
             Ok(()) => {
+                self.config.set(v, state);
                 self.from = v + 1;
                 true
             }
@@ -189,20 +192,21 @@ impl Body {
         ensures node { result ≡ true → sender < plan_nodes self.now.known.plan }
         ensures small { result ≡ true → sender < 256 }
         ensures more { result ≡ true → length self.now.told < length (pairs_of (plan_nodes self.now.known.plan) self.now.known.stand.faulty) }
+        ensures next { result ≡ true → next_sender self.now ≡ sender }
     {
         self.tower.tell();
         self.has_round() && self.tellings.is_next(sender, receiver)
     }
 
-    /// Reads what the sender of the next pair tells; false where the digits are those of no state
+    /// Takes what the sender of the next pair tells; false where the digits are those of no state
     /// of it.
-    fn tell_state(&mut self, sender: u32, digits: &[u8]) -> Result<bool, NoMemory>
-        requires node { sender < plan_nodes self.old.known.plan }
+    fn tell_state(&mut self, digits: &[u8]) -> bool
+        requires node { next_sender self.old < plan_nodes self.old.known.plan }
         requires more { length self.old.told < length (pairs_of (plan_nodes self.old.known.plan) self.old.known.stand.faulty) }
-        ensures { Tells sender digits.now self.old self.new result }
+        ensures { Tells (next_sender self.old) digits.now self.old self.new result }
     {
         self.tower.tell();
-        self.tellings.add(self.alloc, &self.shape, sender, digits)
+        self.tellings.add(digits)
     }
 
     /// Takes a state that a faulty node tells.
@@ -220,11 +224,10 @@ impl Body {
         if !self.may_tell(sender, receiver) {
             return Err(TakeError::Refused(()));
         }
-        match self.tell_state(sender as u32, digits) {
-            Ok(true) => Ok(None),
-            Ok(false) => Err(TakeError::Refused(())),
-            Err(NoMemory) => Err(TakeError::NoMemory),
+        if !self.tell_state(digits) {
+            return Err(TakeError::Refused(()));
         }
+        Ok(None)
     }
 
     /// Whether all of a round was told.
@@ -239,16 +242,14 @@ impl Body {
         requires { all_told self.old.known self.old.told ≡ true }
         ensures { self.new ≡ played_on self.old }
     {
-        step_all(
+        play(
             &self.tower,
             &self.faulty,
             &self.faulty,
-            self.tellings.pairs(),
-            self.tellings.states(),
-            &self.config,
+            &self.tellings,
+            &mut self.config,
             &mut self.room,
         );
-        mem::swap(&mut self.config, &mut self.room.next);
         self.tellings.clear();
         self.at += 1;
     }
@@ -262,17 +263,16 @@ impl Body {
         ensures { IfOk result (λ _. self.new ≡ renewed_with self.old faulty.ids) }
     {
         let pairs = pairs_of(self.alloc, &faulty)?;
-        step_all(
+        let rooms = rooms_for(self.alloc, self.config.shape(), &pairs)?;
+        play(
             &self.tower,
             &self.faulty,
             &faulty,
-            self.tellings.pairs(),
-            self.tellings.states(),
-            &self.config,
+            &self.tellings,
+            &mut self.config,
             &mut self.room,
         );
-        mem::swap(&mut self.config, &mut self.room.next);
-        self.tellings.begin(pairs);
+        self.tellings.begin(pairs, rooms);
         self.unknown = mem::replace(&mut self.faulty, faulty);
         self.is_putting = true;
         self.from = 0;

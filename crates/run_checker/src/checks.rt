@@ -7,12 +7,21 @@ use run_certificates::Verdict;
 use std::alloc::Global;
 use thiserror::Error;
 
+/// The line of a certificate that is refused.
+#[derive(Clone, Copy, Debug, PartialEq, Eq)]
+pub struct CertRefusal {
+    /// The line's number, from 1: the first at which the lines up to it, each with its newline, are
+    /// the front of no certificate. Where the text ends before its end line it is the line behind
+    /// the last one.
+    pub line: u64,
+}
+
 /// Why a certificate was not checked to its end.
 #[derive(Clone, Copy, Debug, PartialEq, Eq, Error)]
 pub enum CheckError {
-    /// No certificate begins with the lines up to this one, the first such.
-    #[error("line {0} of the certificate fails")]
-    Refused(u64),
+    /// The text is no certificate: its first line that fails.
+    #[error("line {} of the certificate fails", .0.line)]
+    Refused(CertRefusal),
     /// The text is longer than the limit, and none of its lines up to there is refused.
     #[error("the certificate is too long")]
     TooLong,
@@ -49,7 +58,10 @@ pub fn check_run<S: Source>(
     let mut feed = Feed::new(source);
     match read_ended(&mut feed, &mut line, CheckLines::new(alloc), (), limit) {
         Ok(verdict) => Ok(verdict),
-        Err(FedError::Refused(refused)) => Err(CheckError::Refused(refused.line)),
+        Err(FedError::Refused(refused)) => {
+            let line = refused.line;
+            Err(CheckError::Refused(CertRefusal { line }))
+        }
         Err(FedError::TooLong) => Err(CheckError::TooLong),
         Err(FedError::ReadFault) => Err(CheckError::ReadFault),
         Err(FedError::NoMemory) => Err(CheckError::NoMemory),

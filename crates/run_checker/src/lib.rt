@@ -9,7 +9,9 @@
 mod bodies;
 mod check_lines;
 mod checks;
+mod digits;
 mod head_lines;
+mod hearing;
 mod id_lists;
 pub mod laws;
 mod lie_lines;
@@ -26,5 +28,5 @@ mod tellings;
 #[cfg(test)]
 mod tests;
 
-pub use checks::{CheckError, check_run};
+pub use checks::{CertRefusal, CheckError, check_run};
 pub use records::write_run;

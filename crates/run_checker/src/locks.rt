@@ -1,33 +1,24 @@
-ghost use Rattle.std.specs.Prelude.{◌≡◌, ◌<◌, length, All};
+ghost use Rattle.std.specs.Prelude.{◌≡◌, ◌<◌, length};
 ghost use Rattle.std.specs.List.{list_all};
-ghost use Rattle.sync_types.specs.States.{register_at};
-ghost use Rattle.construction.specs.Steps.{state_of};
 ghost use Rattle.construction.specs.Plans.{plan_nodes, plan_depth};
 ghost use Rattle.round_runner.specs.Locks.{are_locked, correct_registers, first_value, is_locked_at, is_locked};
 
 use counter_core::Counter;
-use sync_types::{FaultSet, NodeState, Reg};
+use state_codec::Packed;
+use sync_types::{FaultSet, Reg};
 use tower::Tower;
-
-/// The register of node `v` at a level.
-fn register_in(config: &[NodeState], v: u32, level: usize) -> Reg
-    requires node { v < length config.now }
-    requires level { All (λ s. level < length s.registers) config.now }
-    ensures { result ≡ register_at level (state_of config.now v) }
-{
-    config[v as usize].reg(level)
-}
 
 /// The value of the first correct node's register at a level, or 0 where that is infinite or no
 /// node is correct.
-fn first_value(level: usize, faulty: &FaultSet, config: &[NodeState]) -> u64
-    requires nodes { length config.now ≡ faulty.now.nodes }
-    requires level { All (λ s. level < length s.registers) config.now }
-    ensures { result ≡ first_value (correct_registers level faulty.now.nodes faulty.now.ids config.now) }
+fn first_value(level: usize, faulty: &FaultSet, config: &Packed) -> u64
+    requires nodes { length config.now.current ≡ faulty.now.nodes }
+    requires level { level < length config.now.shape.moduli }
+    ensures { result ≡ first_value (correct_registers level faulty.now.nodes faulty.now.ids
+        config.now.current) }
 {
     for v in 0..faulty.nodes() {
         if !faulty.contains(v) {
-            return register_in(config, v, level).a.unwrap_or(0);
+            return config.reg(v, level).a.unwrap_or(0);
         }
     }
     0
@@ -41,14 +32,14 @@ fn is_locked_at(value: u64, register: Reg) -> bool
 }
 
 /// Whether the registers of all correct nodes at a level are marked and have this value.
-fn all_locked_at(level: usize, value: u64, faulty: &FaultSet, config: &[NodeState]) -> bool
-    requires nodes { length config.now ≡ faulty.now.nodes }
-    requires level { All (λ s. level < length s.registers) config.now }
+fn all_locked_at(level: usize, value: u64, faulty: &FaultSet, config: &Packed) -> bool
+    requires nodes { length config.now.current ≡ faulty.now.nodes }
+    requires level { level < length config.now.shape.moduli }
     ensures { result ≡ list_all (is_locked_at value)
-        (correct_registers level faulty.now.nodes faulty.now.ids config.now) }
+        (correct_registers level faulty.now.nodes faulty.now.ids config.now.current) }
 {
     for v in 0..faulty.nodes() {
-        if !faulty.contains(v) && !is_locked_at(value, register_in(config, v, level)) {
+        if !faulty.contains(v) && !is_locked_at(value, config.reg(v, level)) {
             return false;
         }
     }
@@ -56,10 +47,11 @@ fn all_locked_at(level: usize, value: u64, faulty: &FaultSet, config: &[NodeStat
 }
 
 /// Whether the registers of all correct nodes at a level are one, finite and marked.
-fn are_locked(level: usize, faulty: &FaultSet, config: &[NodeState]) -> bool
-    requires nodes { length config.now ≡ faulty.now.nodes }
-    requires level { All (λ s. level < length s.registers) config.now }
-    ensures { result ≡ are_locked (correct_registers level faulty.now.nodes faulty.now.ids config.now) }
+fn are_locked(level: usize, faulty: &FaultSet, config: &Packed) -> bool
+    requires nodes { length config.now.current ≡ faulty.now.nodes }
+    requires level { level < length config.now.shape.moduli }
+    ensures { result ≡ are_locked (correct_registers level faulty.now.nodes faulty.now.ids
+        config.now.current) }
 {
     let value = first_value(level, faulty, config);
     all_locked_at(level, value, faulty, config)
@@ -67,11 +59,11 @@ fn are_locked(level: usize, faulty: &FaultSet, config: &[NodeState]) -> bool
 
 /// Whether a configuration of a plan is locked: the top registers of all correct nodes are one,
 /// finite and marked.
-pub fn is_locked(tower: &Tower, faulty: &FaultSet, config: &[NodeState]) -> bool
+pub fn is_locked(tower: &Tower, faulty: &FaultSet, config: &Packed) -> bool
     requires nodes { faulty.now.nodes ≡ plan_nodes tower.now }
-    requires size { length config.now ≡ faulty.now.nodes }
-    requires deep { All (λ s. length s.registers ≡ plan_depth tower.now) config.now }
-    ensures { result ≡ is_locked tower.now faulty.now.ids config.now }
+    requires size { length config.now.current ≡ faulty.now.nodes }
+    requires deep { length config.now.shape.moduli ≡ plan_depth tower.now }
+    ensures { result ≡ is_locked tower.now faulty.now.ids config.now.current }
 {
     match tower.depth() {
         0 => true,

@@ -1,10 +1,12 @@
-ghost use Rattle.std.specs.Prelude.{◌≡◌, ◌≤◌, ◌<◌, ◌&&◌, length, All};
+ghost use Rattle.std.specs.Prelude.{◌≡◌, ◌≤◌, ◌<◌, ◌&&◌, length};
 ghost use Rattle.run_certificates.specs.Items.{value_said, values_said};
 ghost use Rattle.construction.specs.Shown.{shown};
+ghost use Rattle.construction.specs.Steps.{state_of};
 ghost use Rattle.run_checker.specs.Rows.{shown_at, value_compared, row_compared};
 
 use edge_io::{Words, number};
-use sync_types::{FaultSet, NodeState};
+use state_codec::Packed;
+use sync_types::FaultSet;
 
 /// What a word of a row says: None within for a star.
 fn read_value(word: &[u8]) -> Option<Option<u64>>
@@ -17,27 +19,29 @@ fn read_value(word: &[u8]) -> Option<Option<u64>>
     Some(Some(value))
 }
 
-/// What a state shows, of which a plan of this depth uses so many registers.
-fn shown_in(depth: usize, state: &NodeState) -> u64
-    requires { depth ≤ length state.now.registers }
-    ensures { result ≡ shown depth state.now }
+/// What node `v` shows, where states have so many registers: the value of the top one, or 0 where
+/// that is infinite; without registers its number.
+fn shown_in(config: &Packed, depth: usize, v: u32) -> u64
+    requires node { v < length config.now.current }
+    requires depth { depth ≤ length config.now.shape.moduli }
+    ensures { result ≡ shown depth (state_of config.now.current v) }
 {
-    if depth == 0 {
-        return state.x();
+    match depth {
+        0 => config.x(v),
+        depth => config.reg(v, depth - 1).a.unwrap_or(0),
     }
-    state.reg(depth - 1).a.unwrap_or(0)
 }
 
 /// What a node's word in a row has to be.
-fn shown_at(faulty: &FaultSet, depth: usize, config: &[NodeState], v: u32) -> Option<u64>
-    requires size { v < length config.now }
-    requires deep { All (λ s. depth ≤ length s.registers) config.now }
-    ensures { result ≡ shown_at depth faulty.now.ids config.now v }
+fn shown_at(faulty: &FaultSet, depth: usize, config: &Packed, v: u32) -> Option<u64>
+    requires size { v < length config.now.current }
+    requires deep { depth ≤ length config.now.shape.moduli }
+    ensures { result ≡ shown_at depth faulty.now.ids config.now.current v }
 {
     if faulty.contains(v) {
         return None;
     }
-    Some(shown_in(depth, &config[v as usize]))
+    Some(shown_in(config, depth, v))
 }
 
 /// Whether a word says what its node shows; None where just one of both has a number.
@@ -66,11 +70,12 @@ pub fn compare_row(
     words: Words<'_>,
     faulty: &FaultSet,
     depth: usize,
-    config: &[NodeState],
+    config: &Packed,
 ) -> Option<bool>
-    requires size { length config.now ≡ faulty.now.nodes }
-    requires deep { All (λ s. depth ≤ length s.registers) config.now }
-    ensures { result ≡ row_compared depth faulty.now.ids config.now faulty.now.nodes (values_said words.entry) }
+    requires size { length config.now.current ≡ faulty.now.nodes }
+    requires deep { depth ≤ length config.now.shape.moduli }
+    ensures { result ≡ row_compared depth faulty.now.ids config.now.current faulty.now.nodes
+        (values_said words.entry) }
 {
     let mut v: u32 = 0;
     let mut same = true;

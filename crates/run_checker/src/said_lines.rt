@@ -1,15 +1,13 @@
 ghost use Rattle.std.specs.Prelude.{◌≡◌, ◌∷◌};
-ghost use Rattle.std.specs.List.{list_all};
 ghost use Rattle.std.specs.Option.{option_map};
-ghost use Rattle.state_codec.specs.Texts.{is_lower_digit};
 ghost use Rattle.run_certificates.specs.Items.{one_said, run_item, base_item, level_said, start_said, lie_said, row_said, era_said, end_said, item_of, said};
 ghost use Rattle.texts.specs.Lines.{words_of};
-ghost use Rattle.run_checker.specs.SaidLines.{item_or_none, only_number, spares_in, digits_in};
+ghost use Rattle.run_checker.specs.SaidLines.{item_or_none, only_number, spares_in, only_word};
 
 use edge_io::{LONGEST_LINE, Words, number};
 
 /// What a line of a certificate says, as its first word has it. Lists of numbers are still to be
-/// read.
+/// read, and so is whether the word of a state is of digits.
 #[derive(Drop)]
 pub enum Said<'a> {
     /// `run V`
@@ -84,31 +82,22 @@ fn level_said<'a>(mut words: Words<'a>) -> Option<Said<'a>>
     Some(Said::Level(blocks, faults, modulus, spares))
 }
 
-/// Whether each is a digit of `0-9a-f`.
-fn are_lower(digits: &[u8]) -> bool
-    ensures { result ≡ list_all is_lower_digit digits.now }
+/// The one word that is left. Whether it is of digits is seen when a state is read from it.
+fn one_word<'a>(mut words: Words<'a>) -> Option<&'a [u8]>
+    ensures { option_map (λ word. word.now) result ≡ only_word words.entry }
 {
-    digits
-        .iter()
-        .all(|digit| matches!(*digit, b'0'..=b'9' | b'a'..=b'f'))
-}
-
-/// The one word that is left, where it is of digits.
-fn digits_said<'a>(mut words: Words<'a>) -> Option<&'a [u8]>
-    ensures { option_map (λ digits. digits.now) result ≡ digits_in words.entry }
-{
-    let digits = words.next()?;
-    if words.next().is_some() || !are_lower(digits) {
-        return None;
+    let word = words.next()?;
+    match words.next() {
+        Some(_) => None,
+        None => Some(word),
     }
-    Some(digits)
 }
 
 fn start_said<'a>(mut words: Words<'a>) -> Option<Said<'a>>
     ensures { item_or_none result ≡ start_said words.entry }
 {
     let node = number(words.next()?)?;
-    let digits = digits_said(words)?;
+    let digits = one_word(words)?;
     Some(Said::Start(node, digits))
 }
 
@@ -117,7 +106,7 @@ fn lie_said<'a>(mut words: Words<'a>) -> Option<Said<'a>>
 {
     let sender = number(words.next()?)?;
     let receiver = number(words.next()?)?;
-    let digits = digits_said(words)?;
+    let digits = one_word(words)?;
     Some(Said::Lie(sender, receiver, digits))
 }
 
@@ -148,11 +137,11 @@ fn end_said<'a>(mut words: Words<'a>) -> Option<Said<'a>>
 fn said_behind<'a>(key: &[u8], words: Words<'a>) -> Option<Said<'a>>
     ensures { item_or_none result ≡ item_of (key.now ∷ words.entry) }
 {
-    if key == b"row".as_slice() {
-        return row_said(words);
-    }
     if key == b"lie".as_slice() {
         return lie_said(words);
+    }
+    if key == b"row".as_slice() {
+        return row_said(words);
     }
     if key == b"start".as_slice() {
         return start_said(words);

@@ -1,14 +1,15 @@
 ghost use Rattle.sync_types.specs.FaultSets.{is_in};
-ghost use Rattle.std.specs.Prelude.{if◌then◌else◌, [], ◌∷◌, ◌≡◌, ◌≤◌, ◌<◌, ◌++◌, length, take, drop, map, All, IfOk, nat_eq, ◌==◌};
-ghost use Rattle.std.specs.List.{flat_map, range_with_len};
+ghost use Rattle.std.specs.Prelude.{if◌then◌else◌, [], ◌∷◌, ◌≡◌, ◌<◌, ◌^◌, ◌++◌, length, drop, map, All, IfOk, nat_eq, ◌==◌};
 ghost use Rattle.run_certificates.specs.Grammar.{pairs_of};
 ghost use Rattle.round_runner.specs.Locks.{correct_nodes};
 ghost use Rattle.run_certificates.specs.Checking.{is_next};
+ghost use Rattle.construction.specs.Steps.{state_of};
 ghost use Rattle.state_codec.specs.Shapes.{fields_at};
-ghost use Rattle.run_checker.specs.Tellings.{AddsState};
+ghost use Rattle.run_checker.specs.Tellings.{room_of, AddsState};
 
+use crate::digits::Digits;
 use state_codec::{NotState, StateShape};
-use std::alloc::{AllocFailed, Global};
+use std::alloc::Global;
 use std::marker::Model;
 use sync_types::{FaultSet, NoMemory, NodeState};
 
@@ -51,56 +52,77 @@ pub fn pairs_of(alloc: Global, faulty: &FaultSet) -> Result<Vec<(u32, u32)>, NoM
     Ok(pairs)
 }
 
-/// Sees that there is a state at a place behind all, or before.
-fn see_room(
+/// Room for the digits that the sender of each pair tells.
+pub fn rooms_for(
     alloc: Global,
-    depth: usize,
-    count: usize,
-    states: &mut Vec<NodeState>,
-) -> Result<(), NoMemory>
-    requires within { count ≤ length states.old.items }
-    requires deep { All (λ s. length s.registers ≡ depth) states.old.items }
-    ensures room { IfOk result (λ _. count < length states.new.items) }
-    ensures within { count ≤ length states.new.items }
-    ensures same { take count states.new.items ≡ take count states.old.items }
-    ensures deep { All (λ s. length s.registers ≡ depth) states.new.items }
+    shape: &StateShape,
+    pairs: &[(u32, u32)],
+) -> Result<Vec<Digits>, NoMemory>
+    requires { All (λ pair. pair.0 < length shape.now.lows) pairs.now }
+    ensures { IfOk result (λ rooms. map length rooms.items ≡ map (room_of shape.now) pairs.now) }
 {
-    if count < states.len() {
-        return Ok(());
+    let mut rooms = Vec::new(alloc);
+    for i in 0..pairs.len() {
+        let (sender, _) = pairs[i];
+        let room = Digits::room(alloc, 2 * shape.bytes_of(sender))?;
+        rooms.push(room).map_err(|_| NoMemory)?;
     }
-    let state = NodeState::zero(alloc, depth)?;
-    states.push(state).map_err(|_| NoMemory)
+    Ok(rooms)
 }
 
-/// What the faulty nodes of a round tell, of which so much was read.
+/// Whether pair `k` is that of these two.
+fn is_pair_at(pairs: &[(u32, u32)], k: usize, sender: u64, receiver: u64) -> bool
+    ensures { result ≡ is_next sender receiver (drop k pairs.now) }
+{
+    match pairs.get(k) {
+        Some((u, v)) => u64::from(*u) == sender && u64::from(*v) == receiver,
+        None => false,
+    }
+}
+
+/// Whether there are so many pairs.
+fn is_count(pairs: &[(u32, u32)], k: usize) -> bool
+    ensures { result ≡ nat_eq k (length pairs.now) }
+{
+    k == pairs.len()
+}
+
+/// What the faulty nodes of a round tell, of which so much was read. It is kept as digits: most of
+/// it is heeded by no node.
 #[derive(Drop)]
 pub struct Tellings {
+    shape: StateShape,
     pairs: Vec<(u32, u32)>,
-    depth: usize,
-    states: Vec<NodeState>,
+    digits: Vec<Digits>,
     count: usize,
 }
 
 impl Model for Tellings {
     ghost use Rattle.std.specs.Prelude.{take};
-    ghost use Rattle.run_checker.specs.Tellings.{Telling, IsTelling};
+    ghost use Rattle.run_checker.specs.Tellings.{Telling, IsTelling, states_read};
 
     ghost Value = { Telling };
 
-    ghost view = { λ t. record { pairs = t.pairs.items; depth = t.depth; states = take t.count t.states.items } };
+    ghost view = { λ t. record {
+      pairs = t.pairs.items;
+      shape = t.shape;
+      states = states_read t.shape t.pairs.items (take t.count t.digits.items);
+    } };
 
-    ghost invariant = { λ t. IsTelling t.pairs.items t.depth t.states.items t.count };
+    ghost invariant = { λ t. IsTelling t.shape t.pairs.items t.digits.items t.count };
 }
 
 impl Tellings {
     /// Nothing was told for these pairs.
-    pub fn new(alloc: Global, depth: usize, pairs: Vec<(u32, u32)>) -> Tellings
-        ensures { result ≡ record { pairs = pairs.items; depth = depth; states = [] } }
+    pub fn new(shape: StateShape, pairs: Vec<(u32, u32)>, digits: Vec<Digits>) -> Tellings
+        requires senders { All (λ pair. pair.0 < length shape.lows) pairs.items }
+        requires rooms { map length digits.items ≡ map (room_of shape) pairs.items }
+        ensures { result ≡ record { pairs = pairs.items; shape = shape; states = [] } }
     {
         Tellings {
+            shape,
             pairs,
-            depth,
-            states: Vec::new(alloc),
+            digits,
             count: 0,
         }
     }
@@ -113,21 +135,29 @@ impl Tellings {
     }
 
     /// Begins a round with these pairs.
-    pub fn begin(&mut self, pairs: Vec<(u32, u32)>)
+    pub fn begin(&mut self, pairs: Vec<(u32, u32)>, digits: Vec<Digits>)
+        requires senders { All (λ pair. pair.0 < length self.old.shape.lows) pairs.items }
+        requires rooms { map length digits.items ≡ map (room_of self.old.shape) pairs.items }
         ensures { self.new ≡ record self.old { pairs = pairs.items; states = [] } }
     {
         self.count = 0;
         self.pairs = pairs;
+        self.digits = digits;
     }
 
     /// Whether the next pair is that of these two.
     pub fn is_next(&self, sender: u64, receiver: u64) -> bool
         ensures { result ≡ is_next sender receiver (drop (length self.now.states) self.now.pairs) }
     {
-        match self.pairs.get(self.count) {
-            Some((u, v)) => u64::from(*u) == sender && u64::from(*v) == receiver,
-            None => false,
-        }
+        is_pair_at(&self.pairs, self.count, sender, receiver)
+    }
+
+    /// How much was told.
+    pub fn count(&self) -> usize
+        ensures value { result ≡ length self.now.states }
+        ensures most { result < 2 ^ 64 }
+    {
+        self.count
     }
 
     /// Whether nothing was told.
@@ -141,45 +171,33 @@ impl Tellings {
     pub fn is_whole(&self) -> bool
         ensures { result ≡ nat_eq (length self.now.states) (length self.now.pairs) }
     {
-        self.count == self.pairs.len()
+        is_count(&self.pairs, self.count)
     }
 
-    /// The pairs.
-    pub fn pairs(&self) -> &[(u32, u32)]
-        ensures { result.now ≡ self.now.pairs }
-    {
-        &self.pairs
-    }
-
-    /// What was told.
-    pub fn states(&self) -> &[NodeState]
-        ensures value { result.now ≡ self.now.states }
-        ensures deep { All (λ s. length s.registers ≡ self.now.depth) result.now }
-    {
-        &self.states[..self.count]
-    }
-
-    /// Reads what the sender of the next pair tells: false where the digits are not those of a state
+    /// Takes what the sender of the next pair tells: false where the digits are not those of a state
     /// of it.
-    pub fn add(
-        &mut self,
-        alloc: Global,
-        shape: &StateShape,
-        sender: u32,
-        digits: &[u8],
-    ) -> Result<bool, NoMemory>
-        requires sender { sender < length shape.now.lows }
-        requires depth { self.old.depth ≡ length shape.now.moduli }
-        requires more { length self.old.states < length self.old.pairs }
-        ensures { AddsState (fields_at shape.now sender) digits.now self.old self.new result }
+    pub fn add(&mut self, digits: &[u8]) -> bool
+        requires { length self.old.states < length self.old.pairs }
+        ensures { AddsState digits.now self.old self.new result }
     {
-        see_room(alloc, self.depth, self.count, &mut self.states)?;
-        match shape.read_hex(sender, digits, &mut self.states[self.count]) {
-            Ok(()) => {
-                self.count += 1;
-                Ok(true)
-            }
-            Err(NotState) => Ok(false),
+        if !self.digits[self.count].fit(digits) {
+            return false;
+        }
+        self.digits[self.count].copy_from(digits);
+        self.count += 1;
+        true
+    }
+
+    /// Reads what was told for pair `k` into `out`.
+    pub fn read(&self, k: usize, out: &mut NodeState)
+        requires told { k < length self.now.states }
+        requires depth { length out.old.registers ≡ length self.now.shape.moduli }
+        ensures { out.new ≡ state_of self.now.states k }
+    {
+        let (sender, _) = self.pairs[k];
+        match self.shape.read_hex(sender, self.digits[k].text(), out) {
+            Ok(()) => {}
+            Err(NotState) => unreachable!(),
         }
     }
 }

@@ -1,6 +1,6 @@
 ghost use Rattle.std.specs.Prelude.{◌<◌, ◌^◌, ◌-◌};
 
-use crate::{CheckError, check_run};
+use crate::{CertRefusal, CheckError, check_run};
 use edge_io::PlainSource;
 use run_certificates::Verdict;
 use std::alloc::Global;
@@ -86,7 +86,11 @@ fn texts_that_are_none_are_refused(rt: HostRuntime) -> Result<(), Fail> {
         ),
     ] {
         let found = answer(rt.alloc(), text, 1 << 44);
-        assert_eq!(rt; found, Err(CheckError::Refused(line)), "at {text}");
+        assert_eq!(rt;
+            found,
+            Err(CheckError::Refused(CertRefusal { line })),
+            "at {text}"
+        );
     }
     Ok(())
 }

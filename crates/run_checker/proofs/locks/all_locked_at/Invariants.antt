@@ -6,5 +6,5 @@ use Rattle.run_checker.proofs.locks.all_locked_at.Given as goal
 
 abbrev pub invariant-loop-v : goal.invariant-loop-v
 invariant-loop-v l = list_all (is_locked_at l.value)
-    (correct_from l.level l.faulty.nodes l.faulty.ids l.config l.v)
-    ≡ list_all (is_locked_at l.value) (correct_from l.level l.faulty.nodes l.faulty.ids l.config 0)
+    (correct_from l.level l.faulty.nodes l.faulty.ids l.config.current l.v)
+    ≡ list_all (is_locked_at l.value) (correct_from l.level l.faulty.nodes l.faulty.ids l.config.current 0)

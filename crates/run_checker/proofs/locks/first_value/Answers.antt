@@ -10,5 +10,5 @@ loop-v-preserved c =
     omega (arith, c.loop-v-test.true, c.nodes-v-end.ensures) in
     ap (λ (registers : List Reg). first_value registers)
     (sym (from_faulty c.args.level c.args.faulty.now.nodes c.args.faulty.now.ids
-    c.args.config.now c.loop-v.v lt (sym c.contains.ensures ∙ c.if-not-contains.false)))
+    c.args.config.now.current c.loop-v.v lt (sym c.contains.ensures ∙ c.if-not-contains.false)))
     ∙ c.loop-v.invariant

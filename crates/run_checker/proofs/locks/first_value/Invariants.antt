@@ -4,5 +4,5 @@ use Rattle.round_runner.proofs.Correct.{correct_from}
 use Rattle.run_checker.proofs.locks.first_value.Given as goal
 
 abbrev pub invariant-loop-v : goal.invariant-loop-v
-invariant-loop-v l = first_value (correct_from l.level l.faulty.nodes l.faulty.ids l.config l.v)
-    ≡ first_value (correct_from l.level l.faulty.nodes l.faulty.ids l.config 0)
+invariant-loop-v l = first_value (correct_from l.level l.faulty.nodes l.faulty.ids l.config.current l.v)
+    ≡ first_value (correct_from l.level l.faulty.nodes l.faulty.ids l.config.current 0)

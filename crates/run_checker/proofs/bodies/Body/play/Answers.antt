@@ -1,10 +1,26 @@
-use Rattle.std.proofs.Common.{◌+◌, List, ap, ap₂, ◌∙◌}
+use Rattle.std.proofs.Common.{◌+◌, List, length, All, subst, refl, sym, ap, ap₂, ◌∙◌, arith}
+use Rattle.std.proofs.lemmas.List.FromFn.{length-map-range_with_len}
 use Rattle.sync_types.specs.States.{State}
+use Rattle.construction.specs.Plans.{plan_nodes}
+use Rattle.run_certificates.specs.Checking.{all_told}
 use Rattle.run_checker.specs.Tellings.{Telling}
 use Rattle.run_checker.specs.Bodies.{BodySeen}
+use Rattle.run_checker.specs.Hearing.{IsRound}
+use Rattle.run_checker.specs.Rounds.{AreStates, stepped_all}
 use Rattle.run_checker.specs.Changes.{played_on}
 use Rattle.run_checker.proofs.Attributed.{stepped_is}
+use Rattle.run_checker.proofs.BodyKept.{Below, round_of, none_are, round_left}
 use Rattle.run_checker.proofs.bodies.Body.play.Goals as goal
+
+pub play-requires-clause-round : goal.play-requires-clause-round
+play-requires-clause-round c =
+    round_of c.self.inside.tower c.self.inside.faulty
+    c.self.inside.config c.self.inside.tellings.states c.self.invariant.faulty
+    c.self.invariant.told c.self.invariant.size c.self.invariant.shape _
+    (ap (λ (b : BodySeen). all_told b.known b.told) c.self.view_is ∙ c.requires)
+
+pub play-requires-clause-room : goal.play-requires-clause-room
+play-requires-clause-room c = c.self.invariant.room
 
 pub returns : goal.returns
 returns c =
@@ -23,7 +39,28 @@ returns c =
       from = c.self.inside.from;
       told = told;
     } in
-    let config = ap (λ v. v.items) c.swap.ensures.x_after ∙ (c.step_all.ensures.next
-    ∙ rw (c.deref.ensures.value, c.pairs.ensures, c.states.ensures.value) (stepped_is c.self.inside.tower c.self.inside.faulty.ids c.self.inside.faulty.ids
-    c.self.inside.config.items c.self.inside.tellings.pairs c.self.inside.tellings.states c.self.invariant.pairs)) in
+    let config = c.play.ensures.current
+    ∙ (stepped_is c.self.inside.tower c.self.inside.faulty.ids
+    c.self.inside.faulty.ids c.self.inside.config.current _ c.self.inside.tellings.states refl) in
     ap₂ view config (ap (λ (t : Telling). t.states) c.clear.ensures) ∙ ap played_on c.self.view_is
+
+pub invariant_of-self : goal.invariant_of-self
+invariant_of-self c =
+    let i = c.self.invariant in
+    record {
+      shape = c.play.ensures.shape ∙ i.shape;
+      faulty = i.faulty;
+      unknown = i.unknown;
+      size = ap (λ (l : List State). length l) c.play.ensures.current
+          ∙ length-map-range_with_len _ 0 (plan_nodes c.self.inside.tower);
+      pairs = ap (λ (t : Telling). t.pairs) c.clear.ensures ∙ i.pairs;
+      senders = subst (All (Below (plan_nodes c.self.inside.tower)))
+          (sym (ap (λ (t : Telling). t.pairs) c.clear.ensures)) i.senders;
+      kept = ap (λ (t : Telling). t.shape) c.clear.ensures ∙ i.kept;
+      told = subst (AreStates c.self.inside.tower)
+          (sym (ap (λ (t : Telling). t.states) c.clear.ensures)) (none_are c.self.inside.tower);
+      room = c.play.ensures.room;
+      from = i.from;
+      at = round_left c.self.inside.at _ _
+          (ap (λ (b : BodySeen). all_told b.known b.told) c.self.view_is ∙ c.requires);
+    }

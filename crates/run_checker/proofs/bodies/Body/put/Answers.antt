@@ -1,27 +1,36 @@
 use Rattle.std.proofs.Common.{◌<◌, length, sym, ap, ◌∙◌, subst, arith}
 use Rattle.std.proofs.lemmas.List.{length-set}
-use Rattle.sync_types.specs.States.{State}
 use Rattle.construction.specs.Plans.{plan_nodes}
+use Rattle.state_codec.specs.Packs.{Pack}
 use Rattle.state_codec.specs.Shapes.{Shape, shape_of, fields_at}
 use Rattle.state_codec.specs.Ranges.{InRange}
 use Rattle.plan_laws.proofs.PlanCounter.{plan_sizes}
 use Rattle.run_checker.specs.Bodies.{BodySeen}
-use Rattle.run_checker.proofs.BodyKept.{shape_nodes, shape_depth, node_range, node_deep, states_set}
+use Rattle.run_checker.proofs.BodyKept.{shape_nodes, shape_depth, node_deep}
 use Rattle.run_checker.proofs.bodies.Body.put.Goals as goal
 
 pub read_hex-requires-clause-node : goal.read_hex-requires-clause-node
 read_hex-requires-clause-node c =
     let nodes = ap (λ (b : BodySeen). plan_nodes b.known.plan) c.self.view_is in
-    let lows = shape_nodes c.self.inside.tower c.self.inside.shape c.self.invariant.shape in
+    let lows = shape_nodes c.self.inside.tower c.shape.result.now
+    (c.shape.ensures ∙ c.self.invariant.shape) in
     omega (arith, c.requires, nodes, lows)
 
 pub read_hex-requires-clause-depth : goal.read_hex-requires-clause-depth
 read_hex-requires-clause-depth c =
+    c.self.invariant.room.out
+    ∙ sym (shape_depth c.self.inside.tower c.shape.result.now
+    (c.shape.ensures ∙ c.self.invariant.shape))
+
+pub set-requires-clause-node : goal.set-requires-clause-node
+set-requires-clause-node c =
     let nodes = ap (λ (b : BodySeen). plan_nodes b.known.plan) c.self.view_is in
-    let within : c.args.v < length c.self.inside.config.items = omega (arith, c.requires, nodes, c.self.invariant.size) in
-    ap (λ (s : State). length s.registers) c.index_mut.ensures.value
-    ∙ (c.self.invariant.config.deep c.args.v c.index_mut.result.now within
-    ∙ sym (shape_depth c.self.inside.tower c.self.inside.shape c.self.invariant.shape))
+    omega (arith, c.requires, nodes, c.self.invariant.size)
+
+pub set-requires-clause-range : goal.set-requires-clause-range
+set-requires-clause-range c =
+    subst (λ (f : Shape). InRange (fields_at f c.args.v) c.read_hex.new.out) c.shape.ensures
+    c.in-Ok.ensures.range
 
 pub overflow_add-self : goal.overflow_add-self
 overflow_add-self c =
@@ -34,21 +43,26 @@ invariant_of-self c =
     let nodes = ap (λ (b : BodySeen). plan_nodes b.known.plan) c.self.view_is in
     let lt : c.args.v < plan_nodes c.self.inside.tower = omega (arith, c.requires, nodes) in
     let range : InRange (fields_at (shape_of c.self.inside.tower) c.args.v) c.read_hex.new.out =
-    subst (λ (f : Shape). InRange (fields_at f c.args.v) c.read_hex.new.out) c.self.invariant.shape c.in-Ok.ensures.range in
+    subst (λ (f : Shape). InRange (fields_at f c.args.v) c.read_hex.new.out)
+    (c.shape.ensures ∙ c.self.invariant.shape) c.in-Ok.ensures.range in
     let i = c.self.invariant in
     record {
-      shape = i.shape;
+      shape = ap (λ (p : Pack). p.shape) c.set.ensures ∙ i.shape;
       faulty = i.faulty;
       unknown = i.unknown;
-      size = length-set c.self.inside.config.items c.args.v c.read_hex.new.out ∙ i.size;
-      config = states_set c.self.inside.tower c.tell.ensures c.self.inside.config.items c.args.v c.read_hex.new.out i.config
-          (node_deep c.self.inside.tower c.tell.ensures c.args.v lt c.read_hex.new.out range)
-          (node_range c.self.inside.tower c.tell.ensures c.args.v lt c.read_hex.new.out range);
+      size = ap (λ (p : Pack). length p.current) c.set.ensures
+          ∙ length-set c.self.inside.config.current c.args.v c.read_hex.new.out ∙ i.size;
       pairs = i.pairs;
       senders = i.senders;
-      depth = i.depth;
+      kept = i.kept;
       told = i.told;
-      room = i.room;
+      room = record {
+        size = i.room.size;
+        lies = i.room.lies;
+        zero = i.room.zero;
+        shared = i.room.shared;
+        out = node_deep c.self.inside.tower c.tell.ensures c.args.v lt c.read_hex.new.out range;
+      };
       from = omega (arith, lt);
       at = i.at;
     }

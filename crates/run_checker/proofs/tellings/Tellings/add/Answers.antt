@@ -1,22 +1,74 @@
-use Rattle.std.proofs.Common.{◌≡◌, length, sym, ap, ◌∙◌, arith}
-use Rattle.std.proofs.lemmas.List.{length-set, length-take-le}
-use Rattle.std.proofs.lemmas.List.Elements.{All-set}
-use Rattle.sync_types.specs.States.{State}
-use Rattle.adversary_script.proofs.LiesInRange.{depth_of_node}
+use Rattle.std.proofs.Common.{◌<◌, length, sym, ap, ◌∙◌, arith}
 use Rattle.run_checker.specs.Tellings.{Telling}
+use Rattle.run_checker.proofs.StatesRead.{length_told, as_many, adds_none_at, fit_room, adds_kept_at, adds_one_at}
 use Rattle.run_checker.proofs.tellings.Tellings.add.Goals as goal
 
-pub invariant_of-self-in-Ok : goal.invariant_of-self-in-Ok
-invariant_of-self-in-Ok c =
-    let room = c.in_ok-see_room.ensures.room in
-    let size = length-set c.see_room.new.states.items c.self.inside.count c.read_hex.new.out in
-    let told = length-take-le c.self.inside.count c.self.inside.states.items c.self.invariant.within in
-    let view = ap (λ (t : Telling). length t.states) c.self.view_is in
+pub index-requires : goal.index-requires
+index-requires c =
+    let long = length_told c.self.inside.shape c.self.inside.pairs.items
+    c.self.inside.digits.items c.self.inside.count c.self.invariant in
+    let seen = ap (λ (t : Telling). length t.states) c.self.view_is in
     let pairs = ap (λ (t : Telling). length t.pairs) c.self.view_is in
-    record {
-      within = omega (arith, room, size);
-      fits = omega (arith, c.requires.more, told, view, pairs);
-      deep = All-set (λ (s : State). length s.registers ≡ c.self.inside.depth) c.see_room.new.states.items c.self.inside.count c.read_hex.new.out
-          (depth_of_node c.args.shape.now c.args.sender c.read_hex.new.out c.in-Ok.ensures.range ∙ sym (ap (λ (t : Telling). t.depth) c.self.view_is ∙ c.requires.depth))
-          c.in_ok-see_room.ensures.deep;
-    }
+    let more : c.self.inside.count < length c.self.inside.pairs.items =
+    omega (arith, c.requires, long, seen, pairs) in
+    let many = as_many c.self.inside.shape c.self.inside.pairs.items c.self.inside.digits.items c.self.inside.count c.self.invariant in
+    omega (arith, more, many)
+
+pub index_mut-requires : goal.index_mut-requires
+index_mut-requires c =
+    let long = length_told c.self.inside.shape c.self.inside.pairs.items
+    c.self.inside.digits.items c.self.inside.count c.self.invariant in
+    let seen = ap (λ (t : Telling). length t.states) c.self.view_is in
+    let pairs = ap (λ (t : Telling). length t.pairs) c.self.view_is in
+    let more : c.self.inside.count < length c.self.inside.pairs.items =
+    omega (arith, c.requires, long, seen, pairs) in
+    let many = as_many c.self.inside.shape c.self.inside.pairs.items c.self.inside.digits.items c.self.inside.count c.self.invariant in
+    omega (arith, more, many)
+
+pub returns-then-not-fit : goal.returns-then-not-fit
+returns-then-not-fit c =
+    let long = length_told c.self.inside.shape c.self.inside.pairs.items
+    c.self.inside.digits.items c.self.inside.count c.self.invariant in
+    let seen = ap (λ (t : Telling). length t.states) c.self.view_is in
+    let pairs = ap (λ (t : Telling). length t.pairs) c.self.view_is in
+    let more : c.self.inside.count < length c.self.inside.pairs.items =
+    omega (arith, c.requires, long, seen, pairs) in
+    adds_none_at c.self.inside.shape c.self.inside.pairs.items c.self.inside.digits.items c.self.inside.count c.self.invariant
+    c.args.digits.now c.index.result.now more c.index.ensures _ c.self.view_is
+    (sym c.fit.ensures ∙ c.if-not-fit.true)
+
+pub copy_from-requires : goal.copy_from-requires
+copy_from-requires c =
+    let long = length_told c.self.inside.shape c.self.inside.pairs.items
+    c.self.inside.digits.items c.self.inside.count c.self.invariant in
+    let seen = ap (λ (t : Telling). length t.states) c.self.view_is in
+    let pairs = ap (λ (t : Telling). length t.pairs) c.self.view_is in
+    let more : c.self.inside.count < length c.self.inside.pairs.items =
+    omega (arith, c.requires, long, seen, pairs) in
+    fit_room c.self.inside.shape c.self.inside.pairs.items c.self.inside.digits.items c.self.inside.count c.self.invariant
+    c.args.digits.now c.index.result.now more c.index.ensures _ c.self.view_is
+    (sym c.fit.ensures ∙ c.if-not-fit.false) c.index_mut.result.now c.index_mut.ensures.value
+
+pub invariant_of-self : goal.invariant_of-self
+invariant_of-self c =
+    let long = length_told c.self.inside.shape c.self.inside.pairs.items
+    c.self.inside.digits.items c.self.inside.count c.self.invariant in
+    let seen = ap (λ (t : Telling). length t.states) c.self.view_is in
+    let pairs = ap (λ (t : Telling). length t.pairs) c.self.view_is in
+    let more : c.self.inside.count < length c.self.inside.pairs.items =
+    omega (arith, c.requires, long, seen, pairs) in
+    adds_kept_at c.self.inside.shape c.self.inside.pairs.items c.self.inside.digits.items c.self.inside.count c.self.invariant
+    c.args.digits.now c.index.result.now more c.index.ensures _ c.self.view_is
+    (sym c.fit.ensures ∙ c.if-not-fit.false) c.copy_from.new.self c.copy_from.ensures
+
+pub returns : goal.returns
+returns c =
+    let long = length_told c.self.inside.shape c.self.inside.pairs.items
+    c.self.inside.digits.items c.self.inside.count c.self.invariant in
+    let seen = ap (λ (t : Telling). length t.states) c.self.view_is in
+    let pairs = ap (λ (t : Telling). length t.pairs) c.self.view_is in
+    let more : c.self.inside.count < length c.self.inside.pairs.items =
+    omega (arith, c.requires, long, seen, pairs) in
+    adds_one_at c.self.inside.shape c.self.inside.pairs.items c.self.inside.digits.items c.self.inside.count c.self.invariant
+    c.args.digits.now c.index.result.now more c.index.ensures _ c.self.view_is
+    (sym c.fit.ensures ∙ c.if-not-fit.false) c.copy_from.new.self c.copy_from.ensures

@@ -1,0 +1,237 @@
+-- The states of the digits that were told.
+use Rattle.std.proofs.Common.{◌≡◌, ℕ, zero, suc, ◌+◌, ◌*◌, ◌<◌, ◌≤◌, Bool, true, false, cond, ◌&&◌, eqb, List, [], ◌∷◌, ◌++◌, length, map, set, get_or, take, All, refl, sym, ap, ap₂, ◌∙◌, subst, arith}
+use Rattle.std.specs.List.{list_all}
+use Rattle.std.proofs.lemmas.Bool.{eq-eqb, eqb-true, and_parts}
+use Rattle.std.proofs.lemmas.List.{length-map, length-take-le, get_or-map, get_or-take, get_or_default}
+use Rattle.std.proofs.lemmas.List.Elements.{All-push}
+use Rattle.std.proofs.lemmas.Grind.{take-set_at}
+use Rattle.std.proofs.Math.Seq.{map-set_same}
+use Rattle.sync_types.specs.States.{State, zero_state}
+use Rattle.construction.specs.Steps.{state_of}
+use Rattle.state_codec.specs.Shapes.{Shape, fields_at, bytes_in}
+use Rattle.state_codec.specs.Texts.{is_lower_digit, is_state_text, read_text}
+use Rattle.run_checker.specs.Tellings.{Telling, room_of, states_read, next_fields, AddsState, IsTelling}
+
+module _ (shape : Shape) where
+  pub length_read : (pairs : List (ℕ × ℕ)) (texts : List (List ℕ)) → length texts ≤ length pairs
+      → length (states_read shape pairs texts) ≡ length texts
+  length_read [] [] le = refl
+  length_read [] (t ∷ texts) le = absurd (omega (arith, le))
+  length_read (p ∷ pairs) [] le = refl
+  length_read (p ∷ pairs) (t ∷ texts) le =
+      let rest = length_read pairs texts (omega (arith, le)) in omega (arith, rest)
+
+  -- none of no digits
+  pub none_read : (pairs : List (ℕ × ℕ)) → states_read shape pairs [] ≡ []
+  none_read [] = refl
+  none_read (p ∷ pairs) = refl
+
+  -- one more
+  pub read_more : (pairs : List (ℕ × ℕ)) (texts : List (List ℕ)) (text : List ℕ)
+      → length texts < length pairs
+      → states_read shape pairs (texts ++ text ∷ []) ≡ states_read shape pairs texts
+      ++ read_text (fields_at shape (get_or pairs (length texts) (0, 0)).0) text ∷ []
+  read_more [] texts text lt = absurd (omega (arith, lt))
+  read_more (p ∷ pairs) [] text lt =
+      ap (λ (rest : List State). read_text (fields_at shape p.0) text ∷ rest) (none_read pairs)
+  read_more (p ∷ pairs) (t ∷ texts) text lt =
+      ap (λ (rest : List State). read_text (fields_at shape p.0) t ∷ rest)
+      (read_more pairs texts text (omega (arith, lt)))
+
+  -- the one at a place
+  pub read_of : (pairs : List (ℕ × ℕ)) (texts : List (List ℕ)) (k : ℕ) → k < length texts
+      → length texts ≤ length pairs → state_of (states_read shape pairs texts) k
+      ≡ read_text (fields_at shape (get_or pairs k (0, 0)).0) (get_or texts k [])
+  read_of [] [] k lt le = absurd (omega (arith, lt))
+  read_of [] (t ∷ texts) k lt le = absurd (omega (arith, le))
+  read_of (p ∷ pairs) [] k lt le = absurd (omega (arith, lt))
+  read_of (p ∷ pairs) (t ∷ texts) zero lt le = refl
+  read_of (p ∷ pairs) (t ∷ texts) (suc k) lt le =
+      read_of pairs texts k (omega (arith, lt)) (omega (arith, le))
+
+  module _ (pairs : List (ℕ × ℕ)) (texts : List (List ℕ)) (count : ℕ)
+      (h : IsTelling shape pairs texts count) where
+    pub as_many : length texts ≡ length pairs
+    as_many =
+        sym (length-map texts (λ (t : List ℕ). length t))
+        ∙ ap (λ (l : List ℕ). length l) h.rooms ∙ length-map pairs (room_of shape)
+
+    pub length_told : length (states_read shape pairs (take count texts)) ≡ count
+    length_told =
+        let long = length-take-le count texts (omega (arith, as_many, h.fits)) in
+        length_read pairs (take count texts) (omega (arith, long, h.fits)) ∙ long
+
+    pub room_at : (k : ℕ) → k < length pairs
+        → length (get_or texts k []) ≡ room_of shape (get_or pairs k (0, 0))
+    room_at k lt =
+        sym (get_or-map (λ (t : List ℕ). length t) texts k [] 0 (omega (arith, lt, as_many)))
+        ∙ ap (λ (l : List ℕ). get_or l k 0) h.rooms
+        ∙ get_or-map (room_of shape) pairs k (0, 0) 0 lt
+
+    -- whether digits fit into the room of a pair is whether they are those of a state of its sender
+    pub fits_is : (k : ℕ) (text : List ℕ) → k < length pairs
+        → is_state_text (fields_at shape (get_or pairs k (0, 0)).0) text
+        ≡ (eqb (length text) (length (get_or texts k [])) && list_all is_lower_digit text)
+    fits_is k text lt =
+        ap (λ (n : ℕ). eqb (length text) n && list_all is_lower_digit text) (sym (room_at k lt))
+
+    pub told_is_state : (k : ℕ) → k < count
+        → is_state_text (fields_at shape (get_or pairs k (0, 0)).0) (get_or texts k []) ≡ true
+    told_is_state k lt =
+        let place : k < length (take count texts) =
+        omega (arith, length-take-le count texts (omega (arith, as_many, h.fits)), lt) in
+        let lower : list_all is_lower_digit (get_or texts k []) ≡ true =
+        ap (list_all is_lower_digit) (sym (get_or-take count texts k [] lt)) ∙ h.lower k [] place in
+        fits_is k (get_or texts k []) (omega (arith, lt, h.fits))
+        ∙ ap (λ (b : Bool). b && list_all is_lower_digit (get_or texts k []))
+        (eq-eqb (length (get_or texts k [])) (length (get_or texts k [])) refl)
+        ∙ lower
+
+    pub told_at : (k : ℕ) → k < count → state_of (states_read shape pairs (take count texts)) k
+        ≡ read_text (fields_at shape (get_or pairs k (0, 0)).0) (get_or texts k [])
+    told_at k lt =
+        let long = length-take-le count texts (omega (arith, as_many, h.fits)) in
+        read_of pairs (take count texts) k (omega (arith, long, lt)) (omega (arith, long, h.fits))
+        ∙ ap (read_text (fields_at shape (get_or pairs k (0, 0)).0)) (get_or-take count texts k [] lt)
+
+    -- what was told for a pair is read of its digits
+    module _ (k : ℕ) (pair : ℕ × ℕ) (room text : List ℕ) (lt : k < count)
+        (pair_at : pair ≡ get_or pairs k pair) (room_of_pair : room ≡ get_or texts k room)
+        (same : text ≡ room) where
+      pair_is : pair ≡ get_or pairs k (0, 0)
+      pair_is = pair_at ∙ get_or_default pairs k pair (0, 0) (omega (arith, lt, h.fits))
+
+      text_is : text ≡ get_or texts k []
+      text_is =
+          same ∙ room_of_pair
+          ∙ get_or_default texts k room [] (omega (arith, lt, h.fits, as_many))
+
+      pub is_read : is_state_text (fields_at shape pair.0) text ≡ true
+      is_read =
+          ap₂ (λ (p : ℕ × ℕ) (t : List ℕ). is_state_text (fields_at shape p.0) t) pair_is text_is
+          ∙ told_is_state k lt
+
+      pub read_is : read_text (fields_at shape pair.0) text
+          ≡ state_of (states_read shape pairs (take count texts)) k
+      read_is =
+          ap₂ (λ (p : ℕ × ℕ) (t : List ℕ). read_text (fields_at shape p.0) t) pair_is text_is
+          ∙ sym (told_at k lt)
+
+    -- the sender of a pair that was read is a node
+    pub sender_below : (k : ℕ) (pair : ℕ × ℕ) → k < length pairs → pair ≡ get_or pairs k pair
+        → pair.0 < length shape.lows
+    sender_below k pair lt at =
+        subst (λ (p : ℕ × ℕ). p.0 < length shape.lows) (sym at) (h.senders k pair lt)
+
+    -- one more
+    module _ (text : List ℕ) (more : count < length pairs)
+        (size : length text ≡ length (get_or texts count []))
+        (digits : list_all is_lower_digit text ≡ true) where
+      one_put : take (count + 1) (set texts count text) ≡ take count texts ++ text ∷ []
+      one_put = take-set_at texts count (count + 1) text refl (omega (arith, more, as_many))
+
+      pub kept_more : IsTelling shape pairs (set texts count text) (count + 1)
+      kept_more = record {
+        fits = omega (arith, more);
+        senders = h.senders;
+        rooms = map-set_same (λ (t : List ℕ). length t) texts count text [] size ∙ h.rooms;
+        lower = subst (All (λ t. list_all is_lower_digit t ≡ true)) (sym one_put)
+            (All-push (λ t. list_all is_lower_digit t ≡ true) (take count texts) text h.lower
+            digits);
+      }
+
+      pub told_more : states_read shape pairs (take (count + 1) (set texts count text))
+          ≡ states_read shape pairs (take count texts) ++ read_text (fields_at shape
+          (get_or pairs (length (states_read shape pairs (take count texts))) (0, 0)).0) text ∷ []
+      told_more =
+          let long = length-take-le count texts (omega (arith, as_many, h.fits)) in
+          ap (states_read shape pairs) one_put
+          ∙ read_more pairs (take count texts) text (omega (arith, long, more))
+          ∙ ap (λ (k : ℕ). states_read shape pairs (take count texts) ++ read_text (fields_at shape
+          (get_or pairs k (0, 0)).0) text ∷ []) (long ∙ sym length_told)
+
+    -- what is told for the pairs
+    abbrev pub told_view : Telling
+    told_view = record {
+      pairs = pairs;
+      shape = shape;
+      states = states_read shape pairs (take count texts);
+    }
+
+    -- a text is tried in the room of the next pair
+    module _ (text room : List ℕ) (more : count < length pairs)
+        (at : room ≡ get_or texts count room) where
+      room_is : room ≡ get_or texts count []
+      room_is = at ∙ get_or_default texts count room [] (omega (arith, more, as_many))
+
+      next_is : is_state_text (next_fields told_view) text
+          ≡ (eqb (length text) (length room) && list_all is_lower_digit text)
+      next_is =
+          ap (λ (k : ℕ). is_state_text (fields_at shape (get_or pairs k (0, 0)).0) text) length_told
+          ∙ fits_is count text more
+          ∙ ap (λ (r : List ℕ). eqb (length text) (length r) && list_all is_lower_digit text)
+          (sym room_is)
+
+      pub adds_none : (eqb (length text) (length room) && list_all is_lower_digit text) ≡ false
+          → is_state_text (next_fields told_view) text ≡ false
+      adds_none e = next_is ∙ e
+
+      module _ (fit : (eqb (length text) (length room) && list_all is_lower_digit text) ≡ true) where
+        pub fit_long : length text ≡ length room
+        fit_long =
+            eqb-true (length text) (length room)
+            (and_parts (eqb (length text) (length room)) (list_all is_lower_digit text) fit).0
+
+        lower_text : list_all is_lower_digit text ≡ true
+        lower_text = (and_parts (eqb (length text) (length room)) (list_all is_lower_digit text) fit).1
+
+        pub adds_kept : IsTelling shape pairs (set texts count text) (count + 1)
+        adds_kept = kept_more text more (fit_long ∙ ap (λ (r : List ℕ). length r) room_is) lower_text
+
+        pub adds_one : AddsState text told_view (record told_view {
+          states = states_read shape pairs (take (count + 1) (set texts count text));
+        }) true
+        adds_one = (
+          next_is ∙ fit,
+          ap (λ (states : List State). let t : Telling = record told_view { states = states } in t)
+              (told_more text more (fit_long ∙ ap (λ (r : List ℕ). length r) room_is) lower_text),
+        )
+
+    -- the same of what is there behind it
+    module _ (text room : List ℕ) (more : count < length pairs)
+        (at : room ≡ get_or texts count room) (old : Telling) (is : told_view ≡ old) where
+      pub adds_none_at : (eqb (length text) (length room) && list_all is_lower_digit text) ≡ false
+          → AddsState text old old false
+      adds_none_at e = (
+        subst (λ (o : Telling). is_state_text (next_fields o) text ≡ false) is
+            (adds_none text room more at e),
+        refl,
+      )
+
+      module _ (fit : (eqb (length text) (length room) && list_all is_lower_digit text) ≡ true)
+        where
+          pub fit_room : (other : List ℕ) → other ≡ get_or texts count other
+              → length text ≡ length other
+          fit_room other other_at =
+              fit_long text room more at fit
+              ∙ ap (λ (r : List ℕ). length r) (room_is text room more at
+              ∙ sym (room_is text other more other_at))
+
+          pub adds_kept_at : (put : List ℕ) → put ≡ text
+              → IsTelling shape pairs (set texts count put) (count + 1)
+          adds_kept_at put same =
+              subst (λ (t : List ℕ). IsTelling shape pairs (set texts count t) (count + 1))
+              (sym same) (adds_kept text room more at fit)
+
+          abbrev pub one_view : List ℕ → Telling
+          one_view put = record {
+            pairs = pairs;
+            shape = shape;
+            states = states_read shape pairs (take (count + 1) (set texts count put));
+          }
+
+          pub adds_one_at : (put : List ℕ) → put ≡ text → AddsState text old (one_view put) true
+          adds_one_at put same =
+              subst (λ (o : Telling). AddsState text o (one_view put) true) is
+              (subst (λ (t : List ℕ). AddsState text told_view (one_view t) true) (sym same)
+              (adds_one text room more at fit))
