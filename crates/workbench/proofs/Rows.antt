@@ -1,11 +1,12 @@
 -- The rows that are written while a runner plays.
-use Rattle.std.proofs.Common.{◌≡◌, ℕ, ◌+◌, ◌-◌, ◌<◌, ◌≤◌, ◌&&◌, cond, Bool, false, List, [], ◌++◌, drop, Result, Ok, Err, refl, sym, ap, ap₂, ◌∙◌, subst, arith}
-use Rattle.std.specs.Prelude.{nat_le, OnOk}
+use Rattle.std.proofs.Common.{◌≡◌, ℕ, ◌+◌, ◌-◌, ◌^◌, ◌<◌, ◌≤◌, ◌&&◌, cond, Bool, false, List, [], ◌++◌, drop, Result, Ok, Err, refl, sym, ap, ap₂, ◌∙◌, subst, arith}
+use Rattle.std.specs.Prelude.{nat_le, codes, decimal, OnOk}
 use Rattle.std.specs.List.{flat_map, range_with_len}
-use Rattle.std.proofs.lemmas.List.{append_assoc}
+use Rattle.std.proofs.lemmas.List.{append_assoc, append-nil}
 use Rattle.sync_types.specs.FaultSets.{FaultIds}
 use Rattle.sync_types.specs.States.{State}
 use Rattle.construction.specs.Plans.{Plan}
+use Rattle.edge_io.specs.Rising.{Labelled, labelled_text}
 use Rattle.texts.specs.Growth.{Told, Wrote, Cut, Puts}
 use Rattle.texts.proofs.Growth.{wrote_none, wrote_then, cut_then, cut_more, puts_then}
 use Rattle.counter_core.specs.declared.overlays.NoOverlay.{NoOverlay}
@@ -14,14 +15,34 @@ use Rattle.adversary_script.specs.Scripts.{Script}
 use Rattle.adversary_script.specs.Eras.{faulty_at}
 use Rattle.round_runner.specs.Runners.{Running, Advances}
 use Rattle.round_runner.proofs.Playing.{bare_is_played}
-use Rattle.workbench.specs.RunText.{configuration_row, row_text, rows_text}
-use Rattle.workbench.specs.Playing.{Plays, HasPlayed, shown_row}
+use Rattle.workbench.specs.RunText.{configuration_row, row_front, row_text, rows_text}
+use Rattle.workbench.specs.Playing.{Plays, HasPlayed, row_number, shown_row}
 use Rattle.workbench.proofs.Shown.{rows_before, row_if_shown, rows_more, rows_rest, none_before, all_before}
 
 -- what holds holds where there is a value
 pub on_ok : {T E P : Type 0} (result : Result T E) → P → OnOk result P
 on_ok (Ok value) p = p
 on_ok (Err error) p = tt
+
+-- what puts a text puts one that is the same
+pub puts_same : {T E : Type 0} (r : Result T E) (s t : Told) (a b : List ℕ) → a ≡ b → Puts r a s t → Puts r b s t
+puts_same r s t a b is puts = subst (λ (text : List ℕ). Puts r text s t) is puts
+
+-- the text of a row's number is the front of the row
+pub number_text : (text : List ℕ) (n : Labelled) (t : ℕ) → text ≡ labelled_text n → n ≡ row_number t → text ≡ row_front t
+number_text text n t is same =
+    is ∙ (ap labelled_text same ∙ ap (λ (digits : List ℕ). codes "row " ++ digits) (sym (append-nil (decimal t))))
+
+-- the number of a row rises to that of the next
+pub number_rises : (new old : Labelled) (at next : ℕ) → new ≡ record old { value = old.value + 1 } → old ≡ row_number at → next ≡ at + 1 → new ≡ row_number next
+number_rises new old at next is same step =
+    is ∙ (ap (λ (n : Labelled). record n { value = n.value + 1 }) same ∙ ap row_number (sym step))
+
+-- and fits while a round is left
+pub number_fits : (n : Labelled) (at t rounds : ℕ) → n ≡ row_number at → at ≡ t → t < rounds → rounds < 2 ^ 64 → n.value < 2 ^ 64 - 1
+number_fits n at t rounds same here left fits =
+    let value : n.value ≡ at = ap (λ (n : Labelled). n.value) same in
+    omega (arith, value, here, left, fits)
 
 -- the faulty nodes that a script lends for a configuration
 pub faulty_ids : (lent : FaultIds) (read script : Script) (t at : ℕ)

@@ -1,5 +1,6 @@
 -- A runner that plays a script without a layer, from the first configuration to the last.
-use Rattle.std.specs.Prelude.{◌≡◌, ℕ, List, [], ◌&&◌, nat_le, if◌then◌else◌}
+use Rattle.std.specs.Prelude.{◌≡◌, ℕ, List, [], ◌&&◌, nat_le, codes, if◌then◌else◌}
+use Rattle.edge_io.specs.Rising.{Labelled}
 use Rattle.construction.specs.Plans.{plan_bound}
 use Rattle.counter_core.specs.declared.overlays.NoOverlay.{NoOverlay}
 use Rattle.counter_core.specs.NoLayers.{no_layer}
@@ -31,6 +32,10 @@ pub record HasPlayed (old new : Running NoOverlay) : Type 0 where
 pub record IsToPlay (bound : ℕ) (r : Running NoOverlay) : Type 0 where
   pub bound_is : bound ≡ plan_bound r.plan
   pub start : IsAtStart r
+
+-- the number of row t, behind its label
+abbrev pub row_number : ℕ → Labelled
+row_number t = record { label = codes "row "; value = t }
 
 -- the row of its configuration
 abbrev pub own_row : Running NoOverlay → List ℕ

@@ -10,7 +10,7 @@ use crate::refusals::{Refusal, put_refusal};
 use edge_io::{Piece, Sink, Source, WriteFault, put_pieces};
 use run_certificates::Verdict;
 use run_checker::laws::limits_matter_beyond;
-use run_checker::{CheckError, check_run};
+use run_checker::{CertRefusal, CheckError, check_run};
 use std::alloc::Global;
 use sync_types::Status;
 
@@ -76,7 +76,7 @@ pub fn check<S: Source, K: Sink>(alloc: Global, source: &mut S, sink: &mut K) ->
         Err(CheckError::TooLong) => return Status::TooLong,
         Err(CheckError::ReadFault) => return Status::ReadFault,
         Err(CheckError::NoMemory) => return Status::NoMemory,
-        Err(CheckError::Refused(line)) => {
+        Err(CheckError::Refused(CertRefusal { line })) => {
             let refusal = Refusal::Certificate { line };
             match put_refusal(sink, refusal) {
                 Ok(()) => return refusal.status(),

@@ -4,12 +4,12 @@ ghost use Rattle.texts.specs.Growth.{Puts};
 ghost use Rattle.construction.specs.Plans.{plan_nodes};
 ghost use Rattle.adversary_script.specs.Eras.{faulty_at};
 ghost use Rattle.workbench.specs.RunText.{bound_line, era_line, lock_lines, locked_line};
-ghost use Rattle.workbench.specs.RunText.{node_word, node_words, rows_text};
+ghost use Rattle.workbench.specs.RunText.{node_word, node_words, row_front, rows_text};
 ghost use Rattle.workbench.specs.Playing.{HasPlayed, IsAtStart, IsAtEnd, IsToPlay};
-ghost use Rattle.workbench.specs.Playing.{own_row, shown_row, text_of};
+ghost use Rattle.workbench.specs.Playing.{own_row, row_number, shown_row, text_of};
 
 use counter_core::NoOverlay;
-use edge_io::{Gathered, Piece, Sink, TextSink, WriteFault, put_all, put_pieces};
+use edge_io::{Gathered, Piece, RisingText, Sink, TextSink, WriteFault, put_all, put_pieces};
 use round_runner::Runner;
 use sync_types::FaultSet;
 
@@ -18,10 +18,7 @@ fn put_labelled<K: TextSink>(sink: &mut K, label: &[u8], value: u64) -> Result<(
     ensures { Puts result (concat (label.now ∷ decimal value ∷ []))
         (K.Sink.told sink.old) (K.Sink.told sink.new) }
 {
-    match sink.text(label) {
-        Ok(()) => sink.number(value),
-        Err(WriteFault) => Err(WriteFault),
-    }
+    sink.labelled(label, value)
 }
 
 /// Writes a node's word in the row of the runner's configuration: what it shows, or a star where it
@@ -61,11 +58,29 @@ fn put_words<K: TextSink>(
     Ok(())
 }
 
-/// Writes the row of the runner's configuration.
-fn put_row<K: TextSink>(sink: &mut K, runner: &Runner<NoOverlay>) -> Result<(), WriteFault>
+/// Writes the front of the row of the runner's configuration, whose number is this one.
+fn put_front<K: TextSink>(
+    sink: &mut K,
+    runner: &Runner<NoOverlay>,
+    number: &RisingText,
+) -> Result<(), WriteFault>
+    requires { number.now ≡ row_number runner.now.at }
+    ensures { Puts result (row_front runner.now.at) (K.Sink.told sink.old) (K.Sink.told sink.new) }
+{
+    let front = number.text();
+    sink.text(front)
+}
+
+/// Writes the row of the runner's configuration, whose number is this one.
+fn put_row<K: TextSink>(
+    sink: &mut K,
+    runner: &Runner<NoOverlay>,
+    number: &RisingText,
+) -> Result<(), WriteFault>
+    requires { number.now ≡ row_number runner.now.at }
     ensures { Puts result (own_row runner.now) (K.Sink.told sink.old) (K.Sink.told sink.new) }
 {
-    put_labelled(sink, b"row ", runner.at())?;
+    put_front(sink, runner, number)?;
     put_words(sink, runner, runner.script().faulty_at(runner.at()))?;
     sink.text(b"\n")
 }
@@ -81,13 +96,15 @@ fn is_among(t: u64, first: u64, last: u64) -> bool
 fn put_if_shown<K: TextSink>(
     sink: &mut K,
     runner: &Runner<NoOverlay>,
+    number: &RisingText,
     first: u64,
     last: u64,
 ) -> Result<(), WriteFault>
+    requires { number.now ≡ row_number runner.now.at }
     ensures { Puts result (shown_row runner.now first last) (K.Sink.told sink.old) (K.Sink.told sink.new) }
 {
     if is_among(runner.at(), first, last) {
-        put_row(sink, runner)
+        put_row(sink, runner, number)
     } else {
         Ok(())
     }
@@ -102,14 +119,16 @@ fn put_rows<K: TextSink>(sink: &mut K, runner: &mut Runner<NoOverlay>) -> Result
 {
     let rounds = runner.script().rounds();
     let (first, last) = runner.script().shown();
+    let mut number = RisingText::new(b"row ", 0);
     for _ in 0..rounds {
-        match put_if_shown(sink, runner, first, last) {
+        match put_if_shown(sink, runner, &number, first, last) {
             Ok(()) => {}
             Err(WriteFault) => return Err(WriteFault),
         }
         runner.round();
+        number.rise();
     }
-    put_if_shown(sink, runner, first, last)
+    put_if_shown(sink, runner, &number, first, last)
 }
 
 /// Writes which configuration is the first locked one.
