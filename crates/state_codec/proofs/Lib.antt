@@ -15,3 +15,4 @@ pub mod PackedFields
 pub mod Packing
 pub mod PackFacts
 pub mod ZeroBytes
+pub mod FrontBytes

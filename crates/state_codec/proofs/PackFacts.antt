@@ -41,7 +41,7 @@ module _ (shape : Shape) (nodes : ℕ) (starts first second : List ℕ)
       omega (arith, start_after shape v nodes lt, packed.room)
 
   pub room_second : (v : ℕ) → v < nodes
-      → start shape v + bytes_in (fields_at shape v) ≤ length second
+      → start shape v + bytes_in (fields_at shape v) + 8 ≤ length second
   room_second v lt = let packed = kept.next in
       omega (arith, start_after shape v nodes lt, packed.room)
 

@@ -20,7 +20,7 @@ powers (suc n) =
     ∙ (ap (λ y. y * 256 ^ 1) (powers n) ∙ (sym (pow-add 2 (8 * n) 8) ∙ ap (λ k. 2 ^ k) (sym e))))
 
 -- so many bytes write the number that their bits write
-window : (n i : ℕ) (xs : List ℕ) → ((j : ℕ) → j < length xs → get_or xs j 0 < 256)
+pub window : (n i : ℕ) (xs : List ℕ) → ((j : ℕ) → j < length xs → get_or xs j 0 < 256)
     → i + n ≤ length xs → (bits (8 * n) (big_from i n xs)
     ≡ bits_of_bytes (take n (drop i xs))) × (big_from i n xs < 2 ^ (8 * n))
 unfolding bits

@@ -18,6 +18,7 @@ mod shapes;
 mod tests;
 mod texts;
 mod widths;
+mod words;
 mod writer;
 
 pub use packed::Packed;

@@ -53,26 +53,6 @@ fn starts(alloc: Global, shape: &StateShape, nodes: u32) -> Result<Vec<usize>, N
     Ok(starts)
 }
 
-/// Writes the bytes of a state of node `v` in the place from `from` to `to`.
-fn put_between(
-    shape: &StateShape,
-    v: u32,
-    from: usize,
-    to: usize,
-    state: &NodeState,
-    bytes: &mut [u8],
-)
-    requires node { v < length shape.now.lows }
-    requires place { to ≡ from + bytes_in (fields_at shape.now v) }
-    requires within { to ≤ length bytes.old }
-    requires range { InRange (fields_at shape.now v) state.now }
-    ensures length { length bytes.new ≡ length bytes.old }
-    ensures value { bytes.new ≡ (take from bytes.old ++ written (fields_at shape.now v) state.now)
-        ++ drop to bytes.old }
-{
-    shape.write_state(v, state, &mut bytes[from..to]);
-}
-
 impl Packed {
     /// Two configurations of `nodes` nodes, at most those of the shape, whose states are all zero.
     /// It takes all the memory that they ever need.
@@ -178,9 +158,8 @@ impl Packed {
         requires range { InRange (fields_at self.old.shape v) state.now }
         ensures { self.new ≡ record self.old { next = slice_set self.old.next v state.now } }
     {
-        let from = self.start_of(v);
-        let to = self.start_of(v + 1);
-        put_between(&self.shape, v, from, to, state, &mut self.next);
+        let start = self.start_of(v);
+        self.shape.fields(v).write_at(state, &mut self.next, start);
     }
 
     /// Makes a state the current one of node `v`.

@@ -1,7 +1,7 @@
 ghost use Rattle.std.specs.Prelude.{◌≡◌, ◌≤◌, ◌<◌, ◌+◌, ◌*◌, ◌^◌, ◌++◌, length, drop, All, IfSome};
 ghost use Rattle.sync_types.specs.States.{zero_state};
 ghost use Rattle.construction.specs.Widths.{width};
-ghost use Rattle.bit_lists.specs.Bits.{bits_of_bytes};
+ghost use Rattle.bit_lists.specs.Bits.{bits, bits_of_bytes};
 ghost use Rattle.state_codec.specs.Shapes.{register_bits, registers_bits};
 ghost use Rattle.state_codec.specs.Ranges.{IsField, AreBelow};
 ghost use Rattle.state_codec.specs.Writing.{full_bits, bits_of_register, bits_of_registers};
@@ -11,6 +11,7 @@ ghost use Rattle.state_codec.specs.Cursors.{so_far};
 use crate::field_bits::field_at;
 use crate::reader::BitReader;
 use crate::widths::bit_length;
+use crate::words::{Word, push};
 use crate::writer::{Pending, put};
 use sync_types::{NodeState, Reg};
 
@@ -19,6 +20,17 @@ pub const ZERO: Reg = Reg {
     a: Some(0),
     d: false,
 };
+
+/// The bits of a register that is there, as a number.
+fn full_value(modulus: u64, register: Reg) -> u64
+    requires modulus { modulus ≤ 2 ^ 40 }
+    requires value { IfSome register.a (λ a. a < modulus) }
+    ensures text { bits (width (modulus + 1) + 1) result ≡ full_bits modulus register }
+    ensures within { result < 2 ^ (width (modulus + 1) + 1) }
+{
+    let value = register.a.unwrap_or(modulus);
+    (value << 1) | register.d as u64
+}
 
 /// Writes a register that is there behind what was written.
 fn put_full(out: &mut [u8], pending: Pending, modulus: u64, register: Reg) -> Pending
@@ -32,13 +44,54 @@ fn put_full(out: &mut [u8], pending: Pending, modulus: u64, register: Reg) -> Pe
     ensures place { 8 * result.at + result.count
         ≡ 8 * pending.at + pending.count + (width (modulus + 1) + 1) }
 {
-    let value = register.a.unwrap_or(modulus);
-    put(
-        out,
-        pending,
-        bit_length(modulus) + 1,
-        (value << 1) | register.d as u64,
-    )
+    let value = full_value(modulus, register);
+    put(out, pending, bit_length(modulus) + 1, value)
+}
+
+/// Puts a register that is there behind the bits of a word.
+fn push_full(word: Word, modulus: u64, register: Reg) -> Word
+    requires modulus { modulus ≤ 2 ^ 40 }
+    requires value { IfSome register.a (λ a. a < modulus) }
+    requires few { word.count + (width (modulus + 1) + 1) ≤ 56 }
+    ensures text { bits result.count result.value
+        ≡ bits word.count word.value ++ full_bits modulus register }
+    ensures count { result.count ≡ word.count + (width (modulus + 1) + 1) }
+{
+    let value = full_value(modulus, register);
+    push(word, bit_length(modulus) + 1, value)
+}
+
+/// Puts a register behind the bits of a word; one that is lacking has no bits.
+fn push_register(word: Word, modulus: u64, register: Reg) -> Word
+    requires modulus { modulus ≤ 2 ^ 40 }
+    requires value { IsField modulus register }
+    requires few { word.count + register_bits modulus ≤ 56 }
+    ensures text { bits result.count result.value
+        ≡ bits word.count word.value ++ bits_of_register modulus register }
+    ensures count { result.count ≡ word.count + register_bits modulus }
+{
+    if modulus == 0 {
+        word
+    } else {
+        push_full(word, modulus, register)
+    }
+}
+
+/// Puts all registers behind the bits of a word.
+pub fn push_registers(start: Word, moduli: &[u64], state: &NodeState) -> Word
+    requires moduli { All (λ modulus. modulus ≤ 2 ^ 40) moduli.now }
+    requires depth { length state.now.registers ≡ length moduli.now }
+    requires values { AreBelow moduli.now state.now.registers }
+    requires few { start.count + registers_bits moduli.now ≤ 56 }
+    ensures text { bits result.count result.value
+        ≡ bits start.count start.value ++ bits_of_registers moduli.now state.now.registers }
+    ensures count { result.count ≡ start.count + registers_bits moduli.now }
+{
+    let mut word = start;
+    for i in 0..moduli.len() {
+        word = push_register(word, moduli[i], state.reg(i));
+    }
+    word
 }
 
 /// Writes a register behind what was written; one that is lacking has no bits.

@@ -172,3 +172,35 @@ fn packed_states_stand_in_their_places(rt: HostRuntime) -> Result<(), Fail> {
     }
     Ok(())
 }
+
+/// Twenty-eight nodes whose states have 77 bits, 10 bytes.
+fn with_long_states(alloc: Global) -> Result<Plan, Fail> {
+    let mut plan = Plan::base(alloc, 2304)?;
+    plan.push(4, 1, 56_623_104).map_err(PremiseError::Refused)?;
+    plan.push(7, 7, 123_000_000_000)
+        .map_err(PremiseError::Refused)?;
+    Ok(plan)
+}
+
+#[test]
+fn long_states_stand_in_their_places(rt: HostRuntime) -> Result<(), Fail> {
+    let shape = StateShape::of(rt.alloc(), &with_long_states(rt.alloc())?)?;
+    assert_eq!(rt; (shape.nodes(), shape.bits()), (28, 77));
+    let mut packed = Packed::new(rt.alloc(), shape, 28)?;
+    let mut state = NodeState::zero(rt.alloc(), packed.shape().depth())?;
+    let written = b"\x00\x50\x00\x00\x1e\x00\x00\x00\x00\x70".as_slice();
+    let zeros = [0; 10].as_slice();
+    packed.tell();
+    assert!(rt; packed.nodes() == 28);
+    assert!(rt; state.depth() == packed.shape().depth());
+    packed.shape().read_state(1, written, &mut state);
+    packed.put(1, &state);
+    packed.flip();
+    assert!(rt; packed.nodes() == 28);
+    assert!(rt; packed.shape().depth() == 2);
+    assert_eq!(rt; packed.bytes(0), zeros);
+    assert_eq!(rt; packed.bytes(1), written);
+    assert_eq!(rt; packed.bytes(2), zeros);
+    assert_eq!(rt; (packed.x(1), packed.reg(1, 0)), (5, MARKED));
+    Ok(())
+}

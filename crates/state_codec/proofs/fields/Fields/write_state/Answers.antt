@@ -16,7 +16,7 @@ overflow_mul-padding c =
 pub returns : goal.returns
 returns c =
     let least = c.self.invariant.fields.least in
-    let bytes : (i : ℕ) → get_or c.flush-none.new.out i 0 < 256 = λ i. (c.type_inv.out i).fits in
+    let bytes : (i : ℕ) → get_or c.put-whole.new.out i 0 < 256 = λ i. (c.type_inv.out i).fits in
     let fields : fields_with c.self.inside.base c.deref.result.now ≡ c.args.self.now =
     ap (λ (m : List ℕ). fields_with c.self.inside.base m) c.deref.ensures.value ∙ c.self.view_is in
     let sum : c.self.inside.size ≡ width c.self.inside.base + registers_bits c.deref.result.now =
@@ -27,28 +27,27 @@ returns c =
     ∙ ap width same in
     let room : bytes_in c.args.self.now ≡ div_ceil c.self.inside.size 8 =
     ap (λ (y : Fields). bytes_in y) (sym fields) ∙ ap (λ (y : ℕ). div_ceil y 8) (sym sum) in
-    let long : length c.flush-none.new.out ≡ div_ceil c.self.inside.size 8 =
-    c.flush-none.ensures.length ∙ c.put-whole.ensures.length ∙ c.put_registers-end.ensures.length ∙ c.put-front.ensures.length
+    let long : length c.put-whole.new.out ≡ div_ceil c.self.inside.size 8 =
+    c.put-whole.ensures.length ∙ c.put_registers-end.ensures.length ∙ c.put-front.ensures.length
     ∙ c.requires.length ∙ room in
     let pad : c.div_ceil.result * 8 - c.self.inside.size
     ≡ div_ceil c.self.inside.size 8 * 8 - c.self.inside.size =
     ap (λ (y : ℕ). y * 8 - c.self.inside.size) c.div_ceil.ensures in
-    let place : 8 * c.flush-none.result.at + c.flush-none.result.count
+    let place : 8 * c.put-whole.result.at + c.put-whole.result.count
     ≡ c.bit_length.result + registers_bits
     c.deref.result.now + (c.div_ceil.result * 8 - c.self.inside.size) =
     omega (
       arith,
-      c.flush-none.ensures.place,
       c.put-whole.ensures.place,
       c.put_registers-end.ensures.place,
       c.put-front.ensures.place,
     ) in
     all_written c.self.inside.base c.x.result c.deref.result.now c.args.state.now.registers
-    c.args.out.now c.flush-none.new.out c.flush-none.result.at c.flush-none.result.count
-    c.flush-none.result.held
+    c.args.out.now c.put-whole.new.out c.put-whole.result.at c.put-whole.result.count
+    c.put-whole.result.held
     c.self.inside.size (c.div_ceil.result * 8 - c.self.inside.size) c.bit_length.result bytes sum
-    first long pad c.flush-none.ensures.few place
-    (c.flush-none.ensures.text ∙ c.put-whole.ensures.text ∙ ap (λ (y : List Bool). y ++ bits
+    first long pad c.put-whole.result.few place
+    (c.put-whole.ensures.text ∙ ap (λ (y : List Bool). y ++ bits
     (c.div_ceil.result * 8 - c.self.inside.size) 0)
     (c.put_registers-end.ensures.text ∙ ap
     (λ (y : List Bool). y ++ bits_of_registers c.deref.result.now c.args.state.now.registers)

@@ -1,24 +1,15 @@
-use Rattle.std.proofs.Common.{rules, arith, ◌≡◌, ◌<◌, ◌+◌, ◌^◌, ap, sym, subst, ◌∙◌, drop, length}
+use Rattle.std.proofs.Common.{rules, arith, ◌≡◌, ◌<◌, ◌+◌, ◌^◌, ap, sym, subst, ◌∙◌, take, drop, length, ◌++◌}
 use Rattle.std.proofs.lemmas.List.{take_at}
-use Rattle.state_codec.specs.Shapes.{Shape, bytes_in, fields_at}
+use Rattle.state_codec.specs.Shapes.{Shape, Fields, bytes_in, fields_at}
 use Rattle.state_codec.specs.Ranges.{InRange}
+use Rattle.state_codec.specs.Writing.{written}
 use Rattle.state_codec.specs.Packs.{start}
 use Rattle.state_codec.proofs.Packing.{start_more}
 use Rattle.state_codec.proofs.PackFacts.{count_next, same_shape, room_second, put_kept, put_view}
 use Rattle.state_codec.proofs.packed.Packed.put.Goals as goal
 
-pub overflow_add-v : goal.overflow_add-v
-overflow_add-v c =
-    let top : c.args.v + 1 < 2 ^ 32 = omega (
-      arith,
-      c.requires.node,
-      c.self.invariant.most,
-      count_next _ _ _ _ _ c.self.invariant _ c.self.view_is,
-    ) in
-    search rules
-
-pub put_between-requires-clause-node : goal.put_between-requires-clause-node
-put_between-requires-clause-node c =
+pub fields-requires : goal.fields-requires
+fields-requires c =
     omega (
       arith,
       c.requires.node,
@@ -26,29 +17,25 @@ put_between-requires-clause-node c =
       count_next _ _ _ _ _ c.self.invariant _ c.self.view_is,
     )
 
-pub put_between-requires-clause-place : goal.put_between-requires-clause-place
-put_between-requires-clause-place c =
-    let same = same_shape _ _ _ _ _ c.self.invariant _ c.self.view_is in
-    omega (
-      arith,
-      c.start_of-from.ensures.value,
-      c.start_of-to.ensures.value,
-      start_more c.args.self.now.shape c.args.v,
-      ap (λ (s : Shape). bytes_in (fields_at s c.args.v)) same,
-    )
+pub write_at-requires-clause-range : goal.write_at-requires-clause-range
+write_at-requires-clause-range c =
+    let same : c.self.inside.shape ≡ c.args.self.now.shape =
+    same_shape _ _ _ _ _ c.self.invariant _ c.self.view_is in
+    subst (λ (f : Fields). InRange f c.args.state.now) (sym c.fields.ensures)
+    (subst (λ (s : Shape). InRange (fields_at s c.args.v) c.args.state.now) (sym same)
+    c.requires.range)
 
-pub put_between-requires-clause-within : goal.put_between-requires-clause-within
-put_between-requires-clause-within c =
+pub write_at-requires-clause-within : goal.write_at-requires-clause-within
+write_at-requires-clause-within c =
     let inside : c.args.v < c.self.inside.nodes =
     omega (arith, c.requires.node, count_next _ _ _ _ _ c.self.invariant _ c.self.view_is) in
     let same = same_shape _ _ _ _ _ c.self.invariant _ c.self.view_is in
     omega (
       arith,
-      c.start_of-to.ensures.value,
-      start_more c.args.self.now.shape c.args.v,
+      c.start_of-start.ensures.value,
       room_second _ _ _ _ _ c.self.invariant c.args.v inside,
       ap (λ (s : Shape). start s c.args.v) same,
-      ap (λ (s : Shape). bytes_in (fields_at s c.args.v)) same,
+      ap bytes_in c.fields.ensures,
       ap length c.deref_mut.ensures.value,
     )
 
@@ -61,29 +48,27 @@ invariant_of-self c =
     let range : InRange (fields_at c.self.inside.shape c.args.v) c.args.state.now =
     subst (λ (s : Shape). InRange (fields_at s c.args.v) c.args.state.now) (sym same)
     c.requires.range in
-    let begins : c.start_of-from.result ≡ start c.self.inside.shape c.args.v =
-    omega (arith, c.start_of-from.ensures.value, ap (λ (s : Shape). start s c.args.v) same) in
-    let ends : c.start_of-to.result ≡ start c.self.inside.shape c.args.v + bytes_in
-    (fields_at c.self.inside.shape c.args.v) =
+    let begins : c.start_of-start.result ≡ start c.self.inside.shape c.args.v =
+    omega (arith, c.start_of-start.ensures.value, ap (λ (s : Shape). start s c.args.v) same) in
+    let ends : c.start_of-start.result + bytes_in c.fields.result.now
+    ≡ start c.self.inside.shape c.args.v + bytes_in (fields_at c.self.inside.shape c.args.v) =
+    omega (arith, begins, ap bytes_in c.fields.ensures) in
+    let put = c.write_at.ensures.value ∙ ap (λ (f : Fields). (take c.start_of-start.result
+    c.deref_mut.result.now ++ written f c.args.state.now)
+    ++ drop (c.start_of-start.result + bytes_in c.fields.result.now) c.deref_mut.result.now)
+    c.fields.ensures in
+    let long : length c.write_at.new.bytes ≡ c.self.inside.next.len =
     omega (
       arith,
-      c.start_of-to.ensures.value,
-      start_more c.args.self.now.shape c.args.v,
-      ap (λ (s : Shape). start s c.args.v) same,
-      ap (λ (s : Shape). bytes_in (fields_at s c.args.v)) same,
-    ) in
-    let long : length c.put_between.new.bytes ≡ c.self.inside.next.len =
-    omega (
-      arith,
-      c.put_between.ensures.length,
+      c.write_at.ensures.length,
       ap length c.deref_mut.ensures.value,
       c.deref_mut.ensures.len,
     ) in
     put_kept _ _ _ _ _ c.self.invariant _ c.self.view_is c.args.v inside c.args.state.now range
-    c.deref_mut.result.now _ c.start_of-from.result c.start_of-to.result c.deref_mut.ensures.value
+    c.deref_mut.result.now _ c.start_of-start.result _ c.deref_mut.ensures.value
     begins ends
-    (take_at c.put_between.new.bytes (drop (length c.put_between.new.bytes)
-    c.self.inside.next.items) c.self.inside.next.len long ∙ c.put_between.ensures.value)
+    (take_at c.write_at.new.bytes (drop (length c.write_at.new.bytes)
+    c.self.inside.next.items) c.self.inside.next.len long ∙ put)
 
 pub returns : goal.returns
 returns c =
@@ -94,26 +79,24 @@ returns c =
     let range : InRange (fields_at c.self.inside.shape c.args.v) c.args.state.now =
     subst (λ (s : Shape). InRange (fields_at s c.args.v) c.args.state.now) (sym same)
     c.requires.range in
-    let begins : c.start_of-from.result ≡ start c.self.inside.shape c.args.v =
-    omega (arith, c.start_of-from.ensures.value, ap (λ (s : Shape). start s c.args.v) same) in
-    let ends : c.start_of-to.result ≡ start c.self.inside.shape c.args.v + bytes_in
-    (fields_at c.self.inside.shape c.args.v) =
+    let begins : c.start_of-start.result ≡ start c.self.inside.shape c.args.v =
+    omega (arith, c.start_of-start.ensures.value, ap (λ (s : Shape). start s c.args.v) same) in
+    let ends : c.start_of-start.result + bytes_in c.fields.result.now
+    ≡ start c.self.inside.shape c.args.v + bytes_in (fields_at c.self.inside.shape c.args.v) =
+    omega (arith, begins, ap bytes_in c.fields.ensures) in
+    let put = c.write_at.ensures.value ∙ ap (λ (f : Fields). (take c.start_of-start.result
+    c.deref_mut.result.now ++ written f c.args.state.now)
+    ++ drop (c.start_of-start.result + bytes_in c.fields.result.now) c.deref_mut.result.now)
+    c.fields.ensures in
+    let long : length c.write_at.new.bytes ≡ c.self.inside.next.len =
     omega (
       arith,
-      c.start_of-to.ensures.value,
-      start_more c.args.self.now.shape c.args.v,
-      ap (λ (s : Shape). start s c.args.v) same,
-      ap (λ (s : Shape). bytes_in (fields_at s c.args.v)) same,
-    ) in
-    let long : length c.put_between.new.bytes ≡ c.self.inside.next.len =
-    omega (
-      arith,
-      c.put_between.ensures.length,
+      c.write_at.ensures.length,
       ap length c.deref_mut.ensures.value,
       c.deref_mut.ensures.len,
     ) in
     put_view _ _ _ _ _ c.self.invariant _ c.self.view_is c.args.v inside c.args.state.now range
-    c.deref_mut.result.now _ c.start_of-from.result c.start_of-to.result c.deref_mut.ensures.value
+    c.deref_mut.result.now _ c.start_of-start.result _ c.deref_mut.ensures.value
     begins ends
-    (take_at c.put_between.new.bytes (drop (length c.put_between.new.bytes)
-    c.self.inside.next.items) c.self.inside.next.len long ∙ c.put_between.ensures.value)
+    (take_at c.write_at.new.bytes (drop (length c.write_at.new.bytes)
+    c.self.inside.next.items) c.self.inside.next.len long ∙ put)
