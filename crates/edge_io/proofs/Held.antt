@@ -1,6 +1,6 @@
 -- What a gathering sink holds back.
-use Rattle.std.proofs.Common.{◌≡◌, ℕ, ◌+◌, ◌-◌, ◌≤◌, List, [], ◌++◌, length, take, drop, sym, ap, ◌∙◌, arith}
-use Rattle.std.proofs.lemmas.List.{drop-take, drop-drop, length-take-le, drop-append-le}
+use Rattle.std.proofs.Common.{◌≡◌, ℕ, ◌+◌, ◌-◌, ◌≤◌, List, [], ◌++◌, length, take, drop, sym, ap, ◌∙◌, append_assoc, arith}
+use Rattle.std.proofs.lemmas.List.{drop-take, drop-drop, length-take-le, drop-append-le, take-append-drop}
 use Rattle.std.proofs.Math.Seq.{take-append-add, take-append_seam}
 use Rattle.std.specs.Io.KnownBytes.{Appends}
 use Rattle.texts.specs.Growth.{Told, gathering, Follows, Wrote}
@@ -42,3 +42,11 @@ held_grown name at end n buffer after bytes rest s le within most is =
     let held : drop at (take (end + n) after) ≡ drop at (take end buffer) ++ take n bytes =
     ap (λ (l : List ℕ). drop at (take (end + n) l)) is ∙ ap (λ (k : ℕ). drop at (take (end + k) (take end buffer ++ (take n bytes ++ rest)))) (sym size) ∙ held_placed at end buffer (take n bytes) rest le within in
     rw held (held_more name (drop at (take end buffer)) (take n bytes) s)
+
+-- bytes are held up to a place
+pub held_to : (name at end to : ℕ) (buffer after bytes : List ℕ) (s : Told) → at ≤ end → end ≤ length buffer → to ≡ end + length bytes → take to after ≡ take end buffer ++ bytes
+    → Wrote bytes (gathering name (drop at (take end buffer)) s) (gathering name (drop at (take to after)) s)
+held_to name at end to buffer after bytes s le within ends is =
+    let whole : after ≡ take end buffer ++ (bytes ++ drop to after) =
+    sym (take-append-drop to after) ∙ ap (λ (l : List ℕ). l ++ drop to after) is ∙ append_assoc (take end buffer) bytes (drop to after) in
+    rw ends (held_all name at end buffer after bytes (drop to after) s le within whole)

@@ -1,8 +1,8 @@
 -- A number that is kept as text rises.
 use Rattle.std.proofs.Common.{◌≡◌, ℕ, ◌+◌, ◌-◌, ◌*◌, ◌/◌, ◌%◌, ◌^◌, ◌<◌, ◌≤◌, List, [], ◌∷◌, ◌++◌, length, take, get_or, set, inl, inr, sym, ap, ap₂, ◌∙◌, append_assoc, length-append, length-set, take-take, decimal, arith, eq-zero-or-pos}
-use Rattle.std.proofs.lemmas.List.{length-take-le, take_more_set, take-set-le, get_or-take}
+use Rattle.std.proofs.lemmas.List.{length-take-le, take_more_set, take-set-le, take-append-le, get_or-take}
 use Rattle.std.proofs.lemmas.Fmt.{decimal_digit, decimal_step}
-use Rattle.std.proofs.Math.Seq.{take-append_seam, get_or-append_seam}
+use Rattle.std.proofs.Math.Seq.{take-append_seam, take-append-add, get_or-append_seam}
 use Rattle.edge_io.specs.Rising.{IsText}
 
 -- A number's text ends in its last digit, and where that is no nine, the next number's text is the
@@ -147,3 +147,23 @@ module _ (bytes : List ℕ) (label end n : ℕ) (t : IsText bytes label end n) (
   label_kept x =
       take-set-le label (set bytes (end - 1 - 1) x) (end - 1) 48 (omega (arith, two_digits))
       ∙ take-set-le label bytes (end - 1 - 1) x (omega (arith, two_digits))
+
+-- how long the text is
+pub text_length : (bytes : List ℕ) (label end n : ℕ) → IsText bytes label end n
+    → end ≡ length (take label bytes ++ decimal n)
+text_length bytes label end n t =
+    sym (length-take-le end bytes (omega (arith, t.size, t.room))) ∙ ap length t.text
+
+-- the text stands where all bytes were placed
+pub text_placed : (bytes : List ℕ) (label end n : ℕ) → IsText bytes label end n
+    → (at : ℕ) (buffer after rest : List ℕ) → at ≤ length buffer
+    → after ≡ take at buffer ++ (bytes ++ rest)
+    → take (at + end) after ≡ take at buffer ++ (take label bytes ++ decimal n)
+text_placed bytes label end n t at buffer after rest within is =
+    let front = take at buffer in
+    let size : length front ≡ at = length-take-le at buffer within in
+    ap (take (at + end)) is
+    ∙ (ap (λ (k : ℕ). take (k + end) (front ++ (bytes ++ rest))) (sym size)
+    ∙ (take-append-add front (bytes ++ rest) end
+    ∙ ap (λ (l : List ℕ). front ++ l)
+    (take-append-le end bytes rest (omega (arith, t.size, t.room)) ∙ t.text)))

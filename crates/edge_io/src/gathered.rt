@@ -1,7 +1,7 @@
 ghost use Rattle.std.specs.Prelude.{◌≡◌, ◌≤◌, length};
 
 use crate::places::place;
-use crate::{Failed, Piece, Sink, TextSink, WriteFault, put_all, put_pieces};
+use crate::{Failed, Piece, RisingText, Sink, TextSink, WriteFault, put_all, put_pieces};
 use itoa::Buffer;
 
 /// How many bytes are held back at most.
@@ -9,6 +9,9 @@ const ROOM: usize = 8192;
 
 /// The digits of the longest number.
 const MOST_DIGITS: usize = 20;
+
+/// The bytes that a rising number takes up while it is copied.
+const MOST_RISING: usize = 32;
 
 /// A sink that gathers bytes in a buffer of 8192 bytes of its own, and passes them on to the sink that it was lent only when that is full and at `flush` or `finish`. It takes no memory.
 ///
@@ -28,6 +31,7 @@ impl<'a, K: Sink> Gathered<'a, K> {
     ghost use Rattle.std.specs.Prelude.{◌≡◌, ◌+◌, [], ◌∷◌, ◌<◌, ◌≤◌, List, ℕ, length, take, decimal, OnOk};
     ghost use Rattle.texts.specs.Growth.{Told, Wrote, Puts, gathering};
     ghost use Rattle.edge_io.specs.Gathering.{gathered_told, held};
+    ghost use Rattle.edge_io.specs.Rising.{labelled_text};
 
     /// A gathering sink that holds nothing back.
     pub fn new(sink: &'a mut K) -> Gathered<'a, K>
@@ -124,6 +128,15 @@ impl<'a, K: Sink> Gathered<'a, K> {
         }
     }
 
+    /// Holds a number that rises, with its label.
+    fn hold_rising(&mut self, number: &RisingText)
+        requires room { self.old.end + 32 ≤ length self.old.buffer }
+        ensures same_reference { self.new.sink.ghost_name ≡ self.old.sink.ghost_name }
+        ensures wrote { Wrote (labelled_text number.now) (gathered_told K.told self.old) (gathered_told K.told self.new) }
+    {
+        self.end = number.place_in(&mut self.buffer, self.end);
+    }
+
     /// Holds as many of the bytes as there is room for.
     fn hold(&mut self, bytes: &[u8]) -> usize
         requires some { 0 < length bytes.now }
@@ -190,6 +203,24 @@ impl<'a, K: Sink> TextSink for Gathered<'a, K> {
         }
         self.hold_all(label);
         self.hold_number(value);
+        Ok(())
+    }
+
+    fn byte(&mut self, byte: u8) -> Result<(), WriteFault> {
+        match self.make_room(1) {
+            Ok(()) => {}
+            Err(WriteFault) => return Err(WriteFault),
+        }
+        self.hold_byte(byte);
+        Ok(())
+    }
+
+    fn rising(&mut self, number: &RisingText) -> Result<(), WriteFault> {
+        match self.make_room(MOST_RISING) {
+            Ok(()) => {}
+            Err(WriteFault) => return Err(WriteFault),
+        }
+        self.hold_rising(number);
         Ok(())
     }
 }

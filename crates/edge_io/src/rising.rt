@@ -27,10 +27,10 @@ impl Model for RisingText {
 }
 
 impl RisingText {
-    ghost use Rattle.std.specs.Prelude.{◌≡◌, ◌+◌, ◌-◌, ◌^◌, ◌<◌, ◌≤◌, length};
+    ghost use Rattle.std.specs.Prelude.{◌≡◌, ◌+◌, ◌-◌, ◌^◌, ◌<◌, ◌≤◌, ◌++◌, length, take};
     ghost use Rattle.edge_io.specs.Rising.{labelled_text};
 
-    /// That number behind that label.
+    /// That number behind that label, which has at most 12 bytes.
     pub fn new(label: &[u8], value: u64) -> RisingText
         requires { length label.now ≤ 12 }
         ensures { result ≡ record { label = label.now; value = value } }
@@ -46,7 +46,7 @@ impl RisingText {
         }
     }
 
-    /// Makes the number one more.
+    /// Makes the number one more. It is below 2^64 - 1.
     pub fn rise(&mut self)
         requires { self.old.value < 2 ^ 64 - 1 }
         ensures { self.new ≡ record self.old { value = self.old.value + 1 } }
@@ -70,10 +70,16 @@ impl RisingText {
         &self.bytes[..self.end]
     }
 
-    /// The number.
-    pub fn value(&self) -> u64
-        ensures { result ≡ self.now.value }
+    /// Copies the text into the buffer, from that place on, and answers the place behind it. Up to
+    /// 32 bytes from that place on are written over.
+    pub(crate) fn place_in(&self, buffer: &mut [u8], at: usize) -> usize
+        requires { at + 32 ≤ length buffer.old }
+        ensures length { length buffer.new ≡ length buffer.old }
+        ensures end { result ≡ at + length (labelled_text self.now) }
+        ensures within { result ≤ at + 32 }
+        ensures text { take result buffer.new ≡ take at buffer.old ++ labelled_text self.now }
     {
-        self.value
+        place(buffer, at, &self.bytes);
+        at + self.end
     }
 }

@@ -217,12 +217,14 @@ fn a_number_rises_behind_its_label(rt: HostRuntime) {
 #[test]
 fn a_label_is_gathered_before_its_number(rt: HostRuntime) -> Result<(), Fail> {
     let alloc = rt.alloc();
-    let mut sink = MemSink::new(alloc, 20, vec![in alloc]?, vec![in alloc; 3]?)?;
+    let mut sink = MemSink::new(alloc, 28, vec![in alloc]?, vec![in alloc; 3]?)?;
     let mut gathered = Gathered::new(&mut sink);
     assert_eq!(rt; gathered.labelled(b"a ", 7), Ok(()));
+    assert_eq!(rt; gathered.rising(&RisingText::new(b" r ", 41)), Ok(()));
+    assert_eq!(rt; gathered.byte(b'\n'), Ok(()));
     assert_eq!(rt; gathered.labelled(b" ", 18_446_744_073_709_551_615), Ok(()));
     assert_eq!(rt; gathered.finish(Ok(())), Err(WriteFault));
-    assert_eq!(rt; sink.taken(), b"a 7 1844674407370955".as_slice());
+    assert_eq!(rt; sink.taken(), b"a 7 r 41\n 184467440737095516".as_slice());
     Ok(())
 }
 

@@ -1,11 +1,12 @@
-ghost use Rattle.std.specs.Prelude.{◌<◌, ◌≤◌, ◌++◌, List, ℕ, length, decimal, IfOk};
+ghost use Rattle.std.specs.Prelude.{◌<◌, ◌≤◌, [], ◌∷◌, ◌++◌, List, ℕ, length, decimal, IfOk};
 ghost use Rattle.std.specs.declared.option.Option.{Option};
 ghost use Rattle.std.specs.Io.{ReadsAtMost};
 ghost use Rattle.std.specs.Io.KnownBytes.{ReadConsumes, WriteAppends};
 ghost use Rattle.texts.specs.Causes.{HasCause};
 ghost use Rattle.texts.specs.Growth.{Told, Follows, UsesUp, Puts};
+ghost use Rattle.edge_io.specs.Rising.{labelled_text};
 
-use crate::WriteFault;
+use crate::{RisingText, WriteFault};
 use thiserror::Error;
 
 /// A read or a write that failed. The source or the sink has counted it.
@@ -68,4 +69,16 @@ pub trait TextSink: Sink {
     /// `WriteFault` comes only where a fault was counted; a front of them was then taken.
     fn labelled(&mut self, label: &[u8], value: u64) -> Result<(), WriteFault>
         ensures { Puts result (label.now ++ decimal value) (Self.Sink.told self.old) (Self.Sink.told self.new) };
+
+    /// Takes one byte.
+    ///
+    /// `WriteFault` comes only where a fault was counted.
+    fn byte(&mut self, byte: u8) -> Result<(), WriteFault>
+        ensures { Puts result (byte ∷ []) (Self.Sink.told self.old) (Self.Sink.told self.new) };
+
+    /// Takes a number that rises, with its label.
+    ///
+    /// `WriteFault` comes only where a fault was counted; a front of the text was then taken.
+    fn rising(&mut self, number: &RisingText) -> Result<(), WriteFault>
+        ensures { Puts result (labelled_text number.now) (Self.Sink.told self.old) (Self.Sink.told self.new) };
 }
