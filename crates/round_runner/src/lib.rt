@@ -1,7 +1,8 @@
 //! Plays a script on the counter of a plan, round by round, with a layer above the counter.
 //!
 //! A [`Runner`] is always at the configuration that the script's run has at that round. A round
-//! takes no memory and cannot fail. [`laws`] says what holds of all that it plays.
+//! takes no memory and cannot fail. [`laws`] says what holds of all that it plays. What a
+//! configuration shows, and whether it is locked, can be asked of any.
 #![tactic(auto)]
 
 pub mod laws;
@@ -13,4 +14,8 @@ mod telling;
 #[cfg(test)]
 mod tests;
 
-pub use runners::Runner;
+pub use locks::is_locked;
+pub use rounds::beginning_at;
+pub use runners::{Runner, zero_states};
+pub use stepping::shown_at;
+pub use telling::place_of;

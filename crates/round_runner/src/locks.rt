@@ -1,9 +1,12 @@
-ghost use Rattle.std.specs.Prelude.{◌≡◌, ◌<◌, length};
-ghost use Rattle.round_runner.specs.Locks.{are_locked, correct_registers, first_value, is_locked_at};
+ghost use Rattle.std.specs.Prelude.{◌≡◌, ◌<◌, ◌≤◌, length};
+ghost use Rattle.construction.specs.Plans.{plan_nodes, plan_depth};
+ghost use Rattle.round_runner.specs.Locks.{are_locked, correct_registers, first_value, is_locked, is_locked_at};
 ghost use Rattle.std.specs.List.{list_all};
 
+use counter_core::Counter;
 use state_codec::Packed;
 use sync_types::{FaultSet, Reg};
+use tower::Tower;
 
 /// The value of the first correct node's register at a level, or 0 where that is infinite or no
 /// node is correct.
@@ -44,7 +47,7 @@ fn all_locked_at(level: usize, value: u64, faulty: &FaultSet, config: &Packed) -
 }
 
 /// Whether the registers of all correct nodes at a level are one, finite and marked.
-pub fn are_locked(level: usize, faulty: &FaultSet, config: &Packed) -> bool
+fn are_locked(level: usize, faulty: &FaultSet, config: &Packed) -> bool
     requires nodes { length config.now.current ≡ faulty.now.nodes }
     requires level { level < length config.now.shape.moduli }
     ensures { result ≡ are_locked (correct_registers level faulty.now.nodes faulty.now.ids
@@ -52,4 +55,18 @@ pub fn are_locked(level: usize, faulty: &FaultSet, config: &Packed) -> bool
 {
     let value = first_value(level, faulty, config);
     all_locked_at(level, value, faulty, config)
+}
+
+/// Whether a configuration of a plan is locked: the top registers of all correct nodes are one,
+/// finite and marked.
+pub fn is_locked(tower: &Tower, faulty: &FaultSet, config: &Packed) -> bool
+    requires nodes { faulty.now.nodes ≡ plan_nodes tower.now }
+    requires size { length config.now.current ≡ faulty.now.nodes }
+    requires deep { plan_depth tower.now ≤ length config.now.shape.moduli }
+    ensures { result ≡ is_locked tower.now faulty.now.ids config.now.current }
+{
+    match tower.depth() {
+        0 => true,
+        depth => are_locked(depth - 1, faulty, config),
+    }
 }

@@ -18,7 +18,7 @@ ghost use Rattle.round_runner.specs.Played.{heard_at};
 ghost use Rattle.round_runner.specs.Rooms.{IsReady};
 ghost use Rattle.round_runner.specs.Scenes.{layer_step, state_behind, kept_at};
 
-use crate::stepping::{Room, step_with};
+use crate::stepping::{Room, step_node};
 use adversary_script::Script;
 use counter_core::Overlay;
 use majority_votes::Steps;
@@ -54,7 +54,7 @@ fn lay_where(hears: bool, script: &Script, t: u64, states: &Packed, heard: &mut 
 }
 
 /// The further era that begins with configuration `t`, where one does.
-fn beginning_at(script: &Script, t: u64) -> Option<usize>
+pub fn beginning_at(script: &Script, t: u64) -> Option<usize>
     requires { IsScript script.now }
     ensures { BeginsAt script.now t result }
 {
@@ -128,7 +128,7 @@ fn step_one<O: Overlay, G: Ledger>(
         + 3 * plan_depth tower.now * length (faulty_at script.now t) }
 {
     states.tell();
-    step_with(tower, overlay, script, faulty, t, v, room, states, steps);
+    step_node(tower, overlay, script, faulty, t, v, room, states, steps);
     put_at(script, t + 1, begins, v, &mut room.out);
     states.put(v, &room.out);
 }

@@ -1,4 +1,4 @@
-ghost use Rattle.std.specs.Prelude.{◌≡◌, ◌<◌, ◌≤◌, length, replicate, IfOk};
+ghost use Rattle.std.specs.Prelude.{◌≡◌, ◌<◌, ◌≤◌, None, length, replicate, IfOk};
 ghost use Rattle.sync_types.specs.States.{zero_state};
 ghost use Rattle.construction.specs.Plans.{plan_depth, plan_nodes};
 ghost use Rattle.adversary_script.specs.Scripts.{IsScript};
@@ -9,7 +9,7 @@ ghost use Rattle.round_runner.specs.Played.{starts};
 ghost use Rattle.round_runner.specs.Rooms.{IsReady};
 ghost use Rattle.round_runner.specs.Runners.{begun_locks};
 
-use crate::locks::are_locked;
+use crate::locks::is_locked;
 use crate::rounds::step_all;
 use crate::stepping::{Room, shown_at};
 use adversary_script::{Noise, Script};
@@ -54,17 +54,17 @@ impl<O: Overlay> Model for Runner<O> {
         (O.layer r.overlay) r.room r.states r.locks.items r.at };
 }
 
-/// Whether a configuration of a plan is locked: the top registers of all correct nodes are one,
-/// finite and marked.
-fn is_locked(tower: &Tower, faulty: &FaultSet, config: &Packed) -> bool
+/// The number of this configuration, if it is locked.
+fn lock_of(tower: &Tower, faulty: &FaultSet, config: &Packed, at: u64) -> Option<u64>
     requires nodes { faulty.now.nodes ≡ plan_nodes tower.now }
     requires size { length config.now.current ≡ faulty.now.nodes }
     requires deep { plan_depth tower.now ≤ length config.now.shape.moduli }
-    ensures { result ≡ is_locked tower.now faulty.now.ids config.now.current }
+    ensures { result ≡ first_of None (is_locked tower.now faulty.now.ids config.now.current) at }
 {
-    match tower.depth() {
-        0 => true,
-        depth => are_locked(depth - 1, faulty, config),
+    if is_locked(tower, faulty, config) {
+        Some(at)
+    } else {
+        None
     }
 }
 
@@ -82,13 +82,9 @@ fn locked_so_far(
     requires deep { plan_depth tower.now ≤ length config.now.shape.moduli }
     ensures { result ≡ first_of known (is_locked tower.now faulty.now.ids config.now.current) at }
 {
-    if known.is_some() {
-        return known;
-    }
-    if is_locked(tower, faulty, config) {
-        Some(at)
-    } else {
-        None
+    match known {
+        Some(_) => known,
+        None => lock_of(tower, faulty, config, at),
     }
 }
 
@@ -105,12 +101,12 @@ fn first_locks(
     ensures { IfOk result (λ locks. locks.items ≡ begun_locks tower.now script.now config.now.current) }
 {
     let mut locks = vec![in alloc; None; script.eras()]?;
-    locks[0] = locked_so_far(None, tower, script.faulty(), config, 0);
+    locks[0] = lock_of(tower, script.faulty(), config, 0);
     Ok(locks)
 }
 
-/// Zero states of that depth, one for each node.
-fn zero_states(alloc: Global, nodes: u32, depth: usize) -> Result<Vec<NodeState>, NoMemory>
+/// Zero states of that depth, one for each node. The only error is want of memory.
+pub fn zero_states(alloc: Global, nodes: u32, depth: usize) -> Result<Vec<NodeState>, NoMemory>
     ensures { IfOk result (λ states. states.items ≡ replicate nodes (zero_state depth)) }
 {
     let mut states = Vec::with_capacity(alloc, nodes as usize)?;

@@ -138,58 +138,6 @@ fn step_number(tower: &Tower, v: u32, states: &Packed, out: &mut NodeState)
     out.set_x(tower.next_number(states.x(v)));
 }
 
-/// The counter's step of node `v` in round `t`. Where states have registers, something is shared.
-fn step_counter<G: Ledger>(
-    tower: &Tower,
-    script: &Script,
-    faulty: &FaultSet,
-    t: u64,
-    v: u32,
-    all: bool,
-    states: &Packed,
-    noise: &mut Noise,
-    lies: &mut [NodeState],
-    shared: &mut Shared,
-    out: &mut NodeState,
-    steps: &mut Steps<G>,
-)
-    requires faulty { faulty.now ≡ record { nodes = script.now.nodes; ids = faulty_at script.now t } }
-    requires noise { noise.old ≡ script.now.key }
-    requires nodes { script.now.nodes ≡ plan_nodes tower.now }
-    requires round { t < script.now.rounds }
-    requires node { v < script.now.nodes }
-    requires shape { states.now.shape ≡ script.now.shape }
-    requires size { length states.now.current ≡ script.now.nodes }
-    requires deep { plan_depth tower.now ≤ length script.now.shape.moduli }
-    requires counts { (u : ℕ) → u < script.now.nodes → (s : State)
-        → InRange (fields_at script.now.shape u) s → IsInRange tower.now s }
-    requires told { length lies.old ≡ script.now.nodes }
-    requires lies { AreOfNodes script.now lies.old }
-    requires registers { all ≡ true → 0 < length script.now.shape.moduli }
-    requires stands { 0 < length script.now.shape.moduli → shared.old
-        ≡ stands_for tower.now states.now.current (faulty_at script.now t) }
-    requires out { length out.old.registers ≡ length script.now.shape.moduli }
-    ensures out { out.new ≡ written (plan_depth tower.now)
-        (step_of tower.now v (heard_at script.now t states.now.current v)) out.old }
-    ensures told { all ≡ true → (j : ℕ) → j < length (faulty_at script.now t)
-        → state_of lies.new j
-        ≡ heard_from script.now t v states.now.current (slice_index (faulty_at script.now t) j) }
-    ensures lies { AreOfNodes script.now lies.new }
-    ensures noise { noise.new ≡ noise.old }
-    ensures shared { shared.new ≡ shared.old }
-    ensures cost { steps.new ≤ steps.old
-        + 3 * plan_depth tower.now * length (faulty_at script.now t) }
-{
-    states.tell();
-    if states.shape().depth() == 0 {
-        step_number(tower, v, states, out);
-        return;
-    }
-    step_shared(
-        tower, script, faulty, t, v, all, states, noise, lies, shared, out, steps,
-    );
-}
-
 /// Lays what the faulty nodes tell into their places among what is heard, where a layer hears it.
 fn lay_lies(
     hears: bool,
@@ -257,8 +205,132 @@ fn step_layer<O: Overlay>(
     overlay.advance(v, output, &Heard::of(heard), work, out);
 }
 
-/// The step of node `v` in round `t`, and behind it that of the layer above.
-pub fn step_with<O: Overlay, G: Ledger>(
+/// The step of node `v` in round `t` where states have registers, and behind it that of the layer
+/// above.
+fn step_with<O: Overlay, G: Ledger>(
+    tower: &Tower,
+    overlay: &mut O,
+    script: &Script,
+    faulty: &FaultSet,
+    t: u64,
+    v: u32,
+    room: &mut Room,
+    states: &Packed,
+    steps: &mut Steps<G>,
+)
+    requires script { IsScript script.now }
+    requires faulty { faulty.now ≡ record { nodes = script.now.nodes; ids = faulty_at script.now t } }
+    requires fits { Fits script.now.shape (plan_meaning tower.now) (IsInRange tower.now)
+        (O.layer overlay.old) }
+    requires over { StandsOver (O.layer overlay.old) (plan_meaning tower.now) }
+    requires deaf { IsDeaf (O.layer overlay.old) }
+    requires nodes { script.now.nodes ≡ plan_nodes tower.now }
+    requires round { t < script.now.rounds }
+    requires node { v < script.now.nodes }
+    requires shape { states.now.shape ≡ script.now.shape }
+    requires size { length states.now.current ≡ script.now.nodes }
+    requires room { IsReady tower.now script.now room.old }
+    requires stands { room.old.shared
+        ≡ stands_for tower.now states.now.current (faulty_at script.now t) }
+    requires honest { 0 < (O.layer overlay.old).extra
+        → AreHonest script.now t states.now.current room.old.heard.items }
+    ensures out { room.new.out ≡ new_state (plan_meaning tower.now) (O.layer overlay.old)
+        (O.kept overlay.old) v (heard_at script.now t states.now.current v) }
+    ensures range { InRange (fields_at script.now.shape v) room.new.out }
+    ensures layer { O.layer overlay.new ≡ O.layer overlay.old }
+    ensures kept { O.kept overlay.new ≡ slice_set (O.kept overlay.old) v
+        (layer_step (plan_meaning tower.now) (O.layer overlay.old) (O.kept overlay.old) v
+        (heard_at script.now t states.now.current v)).kept }
+    ensures room { IsReady tower.now script.now room.new }
+    ensures stands { room.new.shared ≡ room.old.shared }
+    ensures honest { 0 < (O.layer overlay.old).extra
+        → AreHonest script.now t states.now.current room.new.heard.items }
+    ensures cost { steps.new ≤ steps.old
+        + 3 * plan_depth tower.now * length (faulty_at script.now t) }
+{
+    states.tell();
+    tower.tell();
+    let hears = overlay.extra() > 0;
+    step_shared(
+        tower,
+        script,
+        faulty,
+        t,
+        v,
+        hears,
+        states,
+        &mut room.noise,
+        &mut room.lies,
+        &mut room.shared,
+        &mut room.out,
+        steps,
+    );
+    lay_lies(hears, script, faulty, &room.lies, &mut room.heard);
+    step_layer(
+        tower,
+        overlay,
+        script,
+        t,
+        v,
+        states,
+        &room.heard,
+        &mut room.work,
+        &mut room.out,
+    );
+}
+
+/// The step of node `v` in round `t` where states are numbers alone, and behind it that of the layer
+/// above, which has no registers.
+fn step_alone<O: Overlay>(
+    tower: &Tower,
+    overlay: &mut O,
+    script: &Script,
+    t: u64,
+    v: u32,
+    room: &mut Room,
+    states: &Packed,
+)
+    requires script { IsScript script.now }
+    requires fits { Fits script.now.shape (plan_meaning tower.now) (IsInRange tower.now)
+        (O.layer overlay.old) }
+    requires over { StandsOver (O.layer overlay.old) (plan_meaning tower.now) }
+    requires deaf { IsDeaf (O.layer overlay.old) }
+    requires nodes { script.now.nodes ≡ plan_nodes tower.now }
+    requires node { v < script.now.nodes }
+    requires shape { states.now.shape ≡ script.now.shape }
+    requires size { length states.now.current ≡ script.now.nodes }
+    requires alone { length script.now.shape.moduli ≡ 0 }
+    requires room { IsReady tower.now script.now room.old }
+    ensures out { room.new.out ≡ new_state (plan_meaning tower.now) (O.layer overlay.old)
+        (O.kept overlay.old) v (heard_at script.now t states.now.current v) }
+    ensures range { InRange (fields_at script.now.shape v) room.new.out }
+    ensures layer { O.layer overlay.new ≡ O.layer overlay.old }
+    ensures kept { O.kept overlay.new ≡ slice_set (O.kept overlay.old) v
+        (layer_step (plan_meaning tower.now) (O.layer overlay.old) (O.kept overlay.old) v
+        (heard_at script.now t states.now.current v)).kept }
+    ensures room { IsReady tower.now script.now room.new }
+    ensures stands { room.new.shared ≡ room.old.shared }
+    ensures heard { room.new.heard ≡ room.old.heard }
+{
+    states.tell();
+    tower.tell();
+    step_number(tower, v, states, &mut room.out);
+    step_layer(
+        tower,
+        overlay,
+        script,
+        t,
+        v,
+        states,
+        &room.heard,
+        &mut room.work,
+        &mut room.out,
+    );
+}
+
+/// The step of node `v` in round `t`, and behind it that of the layer above. Where states have
+/// registers, something is shared.
+pub fn step_node<O: Overlay, G: Ledger>(
     tower: &Tower,
     overlay: &mut O,
     script: &Script,
@@ -300,32 +372,9 @@ pub fn step_with<O: Overlay, G: Ledger>(
         + 3 * plan_depth tower.now * length (faulty_at script.now t) }
 {
     states.tell();
-    tower.tell();
-    let hears = overlay.extra() > 0;
-    step_counter(
-        tower,
-        script,
-        faulty,
-        t,
-        v,
-        hears,
-        states,
-        &mut room.noise,
-        &mut room.lies,
-        &mut room.shared,
-        &mut room.out,
-        steps,
-    );
-    lay_lies(hears, script, faulty, &room.lies, &mut room.heard);
-    step_layer(
-        tower,
-        overlay,
-        script,
-        t,
-        v,
-        states,
-        &room.heard,
-        &mut room.work,
-        &mut room.out,
-    );
+    if states.shape().depth() == 0 {
+        step_alone(tower, overlay, script, t, v, room, states);
+    } else {
+        step_with(tower, overlay, script, faulty, t, v, room, states, steps);
+    }
 }

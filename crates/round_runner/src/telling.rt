@@ -10,7 +10,7 @@ use state_codec::Packed;
 use sync_types::{FaultSet, NodeState};
 
 /// Where the faulty node `v` stands in the order of the faulty ones.
-fn place_of(faulty: &FaultSet, v: u32) -> usize
+pub fn place_of(faulty: &FaultSet, v: u32) -> usize
     requires { is_in faulty.now.ids v ≡ true }
     ensures within { result < length faulty.now.ids }
     ensures id { slice_index faulty.now.ids result ≡ v }

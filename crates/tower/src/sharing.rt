@@ -57,7 +57,7 @@ impl Tower {
         })
     }
 
-    /// The number that follows one at a node that has a number.
+    /// The number that follows `x` at a node that has a number. `x` is below the base.
     pub fn next_number(&self, x: u64) -> u64
         requires { x < self.now.base }
         ensures { result ≡ up self.now.base x }

@@ -13,22 +13,22 @@ use Rattle.round_runner.proofs.Layering.{laid_is}
 use Rattle.round_runner.proofs.LayerSteps.{range_of, counted_room, new_in_range, out_is}
 use Rattle.round_runner.proofs.stepping.step_with.Goals as goal
 
-pub step_counter-requires-clause-counts : goal.step_counter-requires-clause-counts
-step_counter-requires-clause-counts g c = λ u lt.
+pub step_shared-requires-clause-counts : goal.step_shared-requires-clause-counts
+step_shared-requires-clause-counts g c = λ u lt.
     c.requires.fits.counts u (omega (arith, lt, c.requires.nodes))
 
 pub lay_lies-requires-clause-lies : goal.lay_lies-requires-clause-lies
 lay_lies-requires-clause-lies g c =
-    let same = c.step_counter.auto.lies ∙ c.deref_mut.ensures.len in
+    let same = c.step_shared.auto.lies ∙ c.deref_mut.ensures.len in
     subst (AreOfNodes c.args.script.now) (sym (c.deref.ensures.value
-    ∙ with_items_is c.args.room.now.lies c.step_counter.new.lies same)) c.step_counter.ensures.lies
+    ∙ with_items_is c.args.room.now.lies c.step_shared.new.lies same)) c.step_shared.ensures.lies
 
 pub lay_lies-requires-clause-told : goal.lay_lies-requires-clause-told
 lay_lies-requires-clause-told g c =
-    let same = c.step_counter.auto.lies ∙ c.deref_mut.ensures.len in
+    let same = c.step_shared.auto.lies ∙ c.deref_mut.ensures.len in
     ap (λ (xs : List State). length xs) (c.deref.ensures.value
-    ∙ with_items_is c.args.room.now.lies c.step_counter.new.lies same)
-    ∙ c.step_counter.auto.lies
+    ∙ with_items_is c.args.room.now.lies c.step_shared.new.lies same)
+    ∙ c.step_shared.auto.lies
     ∙ ap (λ (xs : List State). length xs) c.deref_mut.ensures.value ∙ c.requires.room.told
 
 pub lay_lies-requires-clause-room : goal.lay_lies-requires-clause-room
@@ -38,16 +38,16 @@ lay_lies-requires-clause-room g c =
 -- where the layer hears, all that the faulty nodes tell is laid
 pub step_layer-requires-clause-hears : goal.step_layer-requires-clause-hears
 step_layer-requires-clause-hears g c = λ some.
-    let same = c.step_counter.auto.lies ∙ c.deref_mut.ensures.len in
-    let lies : c.deref.result.now ≡ c.step_counter.new.lies = c.deref.ensures.value
-    ∙ with_items_is c.args.room.now.lies c.step_counter.new.lies same in
+    let same = c.step_shared.auto.lies ∙ c.deref_mut.ensures.len in
+    let lies : c.deref.result.now ≡ c.step_shared.new.lies = c.deref.ensures.value
+    ∙ with_items_is c.args.room.now.lies c.step_shared.new.lies same in
     let long = c.lay_lies.auto.heard ∙ c.deref_mut-2.ensures.len in
     let yes = lt-ltb 0 c.extra-hears.result (omega (arith, some, c.extra-hears.ensures)) in
     c.deref-2.ensures.value
     ∙ (with_items_is c.args.room.now.heard c.lay_lies.new.heard long
     ∙ laid_is c.args.script.now c.args.t c.args.v c.args.states.now.current
-    c.step_counter.new.lies c.args.room.now.heard.items c.lay_lies.new.heard c.requires.node
-    c.lay_lies.ensures.room.size (c.requires.honest some) (c.step_counter.ensures.told yes)
+    c.step_shared.new.lies c.args.room.now.heard.items c.lay_lies.new.heard c.requires.node
+    c.lay_lies.ensures.room.size (c.requires.honest some) (c.step_shared.ensures.told yes)
     c.args.faulty.now.ids (ap (λ (s : FaultIds). s.ids) c.requires.faulty)
     (λ u correct. c.lay_lies.ensures.rest u correct
     ∙ ap (λ (xs : List State). state_of xs u) c.deref_mut-2.ensures.value)
@@ -64,7 +64,7 @@ step_layer-requires-clause-out g c =
     c.requires.deaf c.requires.nodes c.requires.node
     (range_of c.args.states.now.shape script.shape script.nodes config c.requires.shape
     c.requires.size c.tell.ensures.current)
-    c.args.room.now.out c.step_counter.new.out c.requires.room.out c.step_counter.ensures.out
+    c.args.room.now.out c.step_shared.new.out c.requires.room.out c.step_shared.ensures.out
 
 pub returns-clause-out : goal.returns-clause-out
 returns-clause-out g c =
@@ -77,8 +77,8 @@ returns-clause-out g c =
     c.requires.deaf c.requires.nodes c.requires.node
     (range_of c.args.states.now.shape script.shape script.nodes config c.requires.shape
     c.requires.size c.tell.ensures.current)
-    c.args.room.now.out c.step_counter.new.out c.step_layer.new.out c.requires.room.out
-    c.step_counter.ensures.out c.step_layer.ensures.out
+    c.args.room.now.out c.step_shared.new.out c.step_layer.new.out c.requires.room.out
+    c.step_shared.ensures.out c.step_layer.ensures.out
 
 pub returns-clause-range : goal.returns-clause-range
 returns-clause-range g c =
@@ -97,17 +97,17 @@ pub returns-clause-room : goal.returns-clause-room
 returns-clause-room g c =
     let script = c.args.script.now in
     let room = c.requires.room in
-    let same = c.step_counter.auto.lies ∙ c.deref_mut.ensures.len in
-    let lies = with_items_is c.args.room.now.lies c.step_counter.new.lies same in
+    let same = c.step_shared.auto.lies ∙ c.deref_mut.ensures.len in
+    let lies = with_items_is c.args.room.now.lies c.step_shared.new.lies same in
     let long = c.lay_lies.auto.heard ∙ c.deref_mut-2.ensures.len in
     let heard = with_items_is c.args.room.now.heard c.lay_lies.new.heard long in
     record {
-      noise = c.step_counter.ensures.noise ∙ room.noise;
+      noise = c.step_shared.ensures.noise ∙ room.noise;
       heard = subst (HasRoom script) (sym heard) c.lay_lies.ensures.room;
-      told = ap (λ (xs : List State). length xs) lies ∙ c.step_counter.auto.lies
+      told = ap (λ (xs : List State). length xs) lies ∙ c.step_shared.auto.lies
           ∙ ap (λ (xs : List State). length xs) c.deref_mut.ensures.value ∙ room.told;
-      lies = subst (AreOfNodes script) (sym lies) c.step_counter.ensures.lies;
-      shared = ap (λ (s : Shares). s.plan) c.step_counter.ensures.shared ∙ room.shared;
+      lies = subst (AreOfNodes script) (sym lies) c.step_shared.ensures.lies;
+      shared = ap (λ (s : Shares). s.plan) c.step_shared.ensures.shared ∙ room.shared;
       work = c.step_layer.ensures.work;
       out = depth_of_node script.shape c.args.v _ (returns-clause-range g c);
     }
