@@ -1,5 +1,5 @@
 -- What is kept of a certificate's configuration holds behind each line.
-use Rattle.std.proofs.Common.{◌≡◌, ℕ, zero, suc, ◌+◌, ◌<◌, ◌≤◌, Bool, true, false, cond, ◌&&◌, List, [], ◌∷◌, ◌++◌, length, map, replicate, All, drop, eqb, get_or, refl, sym, ap, ◌∙◌, subst, arith}
+use Rattle.std.proofs.Common.{◌≡◌, ℕ, zero, suc, ◌+◌, ◌-◌, ◌<◌, ◌≤◌, Bool, true, false, cond, not, ◌&&◌, List, [], ◌∷◌, ◌++◌, length, map, replicate, All, drop, eqb, get_or, refl, sym, ap, ◌∙◌, subst, arith}
 use Rattle.std.specs.List.{range_with_len}
 use Rattle.std.proofs.lemmas.List.{length-replicate}
 use Rattle.std.proofs.lemmas.List.Elements.{All-push, All-nil, All-cons, All-head, All-tail}
@@ -27,7 +27,7 @@ use Rattle.run_checker.specs.Tellings.{Telling, AddsState}
 use Rattle.std.proofs.lemmas.List.FromFn.{length-map-range_with_len}
 use Rattle.construction.specs.Plans.{plan_low}
 use Rattle.std.specs.List.{flat_map}
-use Rattle.std.proofs.lemmas.Bool.{and_parts, eqb-true, ltb-true}
+use Rattle.std.proofs.lemmas.Bool.{and_parts, eqb-true, ltb-true, lt-ltb, le-ltb, ne_eqb}
 use Rattle.run_checker.specs.Rounds.{AreStates}
 
 module _ (plan : Plan) (accepted : IsAccepted plan) where
@@ -65,12 +65,14 @@ module _ (plan : Plan) (accepted : IsAccepted plan) where
   pub record IsKeptTold (old new : Telling) : Type 0 where
     pub pairs : new.pairs ≡ old.pairs
     pub kept : new.shape ≡ old.shape
+    pub room : new.room ≡ old.room
     pub states : AreStates plan new.states
 
   same_told : (old new : Telling) → new ≡ old → AreStates plan old.states → IsKeptTold old new
   same_told old new e h = record {
     pairs = ap (λ (t : Telling). t.pairs) e;
     kept = ap (λ (t : Telling). t.shape) e;
+    room = ap (λ (t : Telling). t.room) e;
     states = subst (λ (t : Telling). AreStates plan t.states) (sym e) h;
   }
 
@@ -90,6 +92,7 @@ module _ (plan : Plan) (accepted : IsAccepted plan) where
       record {
         pairs = ap (λ (t : Telling). t.pairs) h.1;
         kept = ap (λ (t : Telling). t.shape) h.1;
+        room = ap (λ (t : Telling). t.room) h.1;
         states = subst (λ (t : Telling). AreStates plan t.states) (sym h.1)
             (subst (λ (f : Shape). AreStates plan (old.states ++ read_text (fields_at f v) digits ∷ []))
             (sym is) more);
@@ -187,3 +190,12 @@ next_below n u v (suc k) [] h e = absurd cc
 next_below n u v (suc k) (p ∷ pairs) h e =
     let r = next_below n u v k pairs (All-tail (Below n) p pairs h) e in
     (r.0, omega (arith, r.1), r.2)
+
+-- ---- eras
+
+-- an era more may begin where an empty set is left
+pub some_left : (most left : ℕ) → left ≤ most → not (eqb left 0) ≡ nat_lt (most - left) most
+some_left most zero le = sym (le-ltb (most - 0) most (omega arith))
+some_left most (suc left) le =
+    ap not (ne_eqb (suc left) 0 (λ (none : suc left ≡ 0). omega (arith, none)))
+    ∙ sym (lt-ltb (most - suc left) most (omega (arith, le)))

@@ -13,7 +13,7 @@ use Rattle.run_checker.specs.Sets.{borne_ids}
 use Rattle.run_checker.specs.Rows.{row_compared}
 use Rattle.run_checker.specs.declared.check_lines.Phase.{Phase}
 use Rattle.run_checker.specs.Phases.{phase_seen, Enters}
-use Rattle.run_checker.specs.Changes.{may_begin, renewed_with, marked_by, IsMarked, Marks, may_row, at_row}
+use Rattle.run_checker.specs.Changes.{may_begin, era_more, played_into, marked_by, IsMarked, Marks, may_row, at_row}
 
 -- ---- what an answer says
 
@@ -76,7 +76,7 @@ module _ (b : BodySeen) (t : ℕ) where
   is_borne_one false ids found e = absurd cc
 
   pub era_taken : (said : Option (List ℕ)) (ids : List ℕ) (new : BodySeen) → b.is_putting ≡ false → may_begin b t ≡ true
-      → borne_ids (plan_nodes b.known.plan) (plan_faults b.known.plan) said ≡ Some ids → new ≡ renewed_with b ids
+      → borne_ids (plan_nodes b.known.plan) (plan_faults b.known.plan) said ≡ Some ids → new ≡ played_into (era_more b) ids
       → Takes (step_by (stage_of b) (era_by (Some t) said)) (stage_of new) (Ok None)
   era_taken None ids new e may borne is = absurd cc
   era_taken (Some said) ids new e may borne is =

@@ -6,9 +6,11 @@ mod HeardLaid
 mod HeardSteps
 mod LevelLines
 mod LineTexts
+mod NextIds
 mod Ranges
 mod RecordTexts
 mod Recording
+mod Rooms
 mod RoundSteps
 mod RowWords
 mod RunnerTexts

@@ -1,12 +1,11 @@
 -- The states of the digits that were told.
-use Rattle.std.proofs.Common.{◌≡◌, ℕ, zero, suc, ◌+◌, ◌*◌, ◌<◌, ◌≤◌, Bool, true, false, cond, ◌&&◌, eqb, List, [], ◌∷◌, ◌++◌, length, map, set, get_or, take, All, refl, sym, ap, ap₂, ◌∙◌, subst, arith}
+use Rattle.std.proofs.Common.{◌≡◌, ℕ, zero, suc, ◌+◌, ◌<◌, ◌≤◌, inl, inr, Bool, true, false, ◌&&◌, eqb, List, [], ◌∷◌, ◌++◌, length, set, get_or, take, All, refl, sym, ap, ap₂, ◌∙◌, subst, arith}
 use Rattle.std.specs.List.{list_all}
-use Rattle.std.proofs.lemmas.Bool.{eq-eqb, eqb-true, and_parts}
-use Rattle.std.proofs.lemmas.List.{length-map, length-take-le, get_or-map, get_or-take, get_or_default}
-use Rattle.std.proofs.lemmas.List.Elements.{All-push}
-use Rattle.std.proofs.lemmas.Grind.{take-set_at}
-use Rattle.std.proofs.Math.Seq.{map-set_same}
-use Rattle.sync_types.specs.States.{State, zero_state}
+use Rattle.std.proofs.lemmas.Bool.{cases_eq, eq-eqb, eqb-true, and_parts}
+use Rattle.std.proofs.lemmas.List.{length-set, length-take-le, get_or-set_other, get_or-take, get_or_default}
+use Rattle.std.proofs.lemmas.List.Elements.{All-nil, All-push}
+use Rattle.std.proofs.lemmas.Grind.{get_or-set_at, take-set_at}
+use Rattle.sync_types.specs.States.{State}
 use Rattle.construction.specs.Steps.{state_of}
 use Rattle.state_codec.specs.Shapes.{Shape, fields_at, bytes_in}
 use Rattle.state_codec.specs.Texts.{is_lower_digit, is_state_text, read_text}
@@ -49,37 +48,51 @@ module _ (shape : Shape) where
   read_of (p ∷ pairs) (t ∷ texts) (suc k) lt le =
       read_of pairs texts k (omega (arith, lt)) (omega (arith, le))
 
-  module _ (pairs : List (ℕ × ℕ)) (texts : List (List ℕ)) (count : ℕ)
-      (h : IsTelling shape pairs texts count) where
-    pub as_many : length texts ≡ length pairs
-    as_many =
-        sym (length-map texts (λ (t : List ℕ). length t))
-        ∙ ap (λ (l : List ℕ). length l) h.rooms ∙ length-map pairs (room_of shape)
+  -- the number of digits was set for one pair more
+  pub counted_more : (pairs : List (ℕ × ℕ)) (texts : List (List ℕ)) (k : ℕ) (text : List ℕ)
+      → k < length texts → length text ≡ room_of shape (get_or pairs k (0, 0))
+      → ((j : ℕ) → j < k → length (get_or texts j []) ≡ room_of shape (get_or pairs j (0, 0)))
+      → (j : ℕ) → j < k + 1
+      → length (get_or (set texts k text) j []) ≡ room_of shape (get_or pairs j (0, 0))
+  counted_more pairs texts k text inside size before j lt = elim (cases_eq j k) [
+    | inl at ↦ ap (λ (t : List ℕ). length t) (get_or-set_at texts k j text [] at inside)
+        ∙ size ∙ ap (λ (i : ℕ). room_of shape (get_or pairs i (0, 0))) (sym at)
+    | inr ne ↦ ap (λ (t : List ℕ). length t) (get_or-set_other texts k j text [] ne)
+        ∙ before j (omega (arith, lt, ne))
+  ]
 
+  -- nothing was told for no pairs
+  pub none_told : (texts : List (List ℕ)) (capacity : ℕ) → length texts ≤ capacity
+      → ((v : ℕ) → bytes_in (fields_at shape v) ≤ 32) → IsTelling shape [] texts 0 capacity
+  none_told texts capacity room short = record {
+    fits = omega arith;
+    many = omega arith;
+    room = room;
+    senders = All-nil (λ pair. pair.0 < length shape.lows);
+    short = short;
+    rooms = λ k lt. absurd (omega (arith, lt));
+    lower = All-nil (λ text. list_all is_lower_digit text ≡ true);
+  }
+
+  module _ (pairs : List (ℕ × ℕ)) (texts : List (List ℕ)) (count : ℕ) {capacity : ℕ}
+      (h : IsTelling shape pairs texts count capacity) where
     pub length_told : length (states_read shape pairs (take count texts)) ≡ count
     length_told =
-        let long = length-take-le count texts (omega (arith, as_many, h.fits)) in
+        let long = length-take-le count texts (omega (arith, h.many, h.fits)) in
         length_read pairs (take count texts) (omega (arith, long, h.fits)) ∙ long
-
-    pub room_at : (k : ℕ) → k < length pairs
-        → length (get_or texts k []) ≡ room_of shape (get_or pairs k (0, 0))
-    room_at k lt =
-        sym (get_or-map (λ (t : List ℕ). length t) texts k [] 0 (omega (arith, lt, as_many)))
-        ∙ ap (λ (l : List ℕ). get_or l k 0) h.rooms
-        ∙ get_or-map (room_of shape) pairs k (0, 0) 0 lt
 
     -- whether digits fit into the room of a pair is whether they are those of a state of its sender
     pub fits_is : (k : ℕ) (text : List ℕ) → k < length pairs
         → is_state_text (fields_at shape (get_or pairs k (0, 0)).0) text
         ≡ (eqb (length text) (length (get_or texts k [])) && list_all is_lower_digit text)
     fits_is k text lt =
-        ap (λ (n : ℕ). eqb (length text) n && list_all is_lower_digit text) (sym (room_at k lt))
+        ap (λ (n : ℕ). eqb (length text) n && list_all is_lower_digit text) (sym (h.rooms k lt))
 
     pub told_is_state : (k : ℕ) → k < count
         → is_state_text (fields_at shape (get_or pairs k (0, 0)).0) (get_or texts k []) ≡ true
     told_is_state k lt =
         let place : k < length (take count texts) =
-        omega (arith, length-take-le count texts (omega (arith, as_many, h.fits)), lt) in
+        omega (arith, length-take-le count texts (omega (arith, h.many, h.fits)), lt) in
         let lower : list_all is_lower_digit (get_or texts k []) ≡ true =
         ap (list_all is_lower_digit) (sym (get_or-take count texts k [] lt)) ∙ h.lower k [] place in
         fits_is k (get_or texts k []) (omega (arith, lt, h.fits))
@@ -90,7 +103,7 @@ module _ (shape : Shape) where
     pub told_at : (k : ℕ) → k < count → state_of (states_read shape pairs (take count texts)) k
         ≡ read_text (fields_at shape (get_or pairs k (0, 0)).0) (get_or texts k [])
     told_at k lt =
-        let long = length-take-le count texts (omega (arith, as_many, h.fits)) in
+        let long = length-take-le count texts (omega (arith, h.many, h.fits)) in
         read_of pairs (take count texts) k (omega (arith, long, lt)) (omega (arith, long, h.fits))
         ∙ ap (read_text (fields_at shape (get_or pairs k (0, 0)).0)) (get_or-take count texts k [] lt)
 
@@ -104,7 +117,7 @@ module _ (shape : Shape) where
       text_is : text ≡ get_or texts k []
       text_is =
           same ∙ room_of_pair
-          ∙ get_or_default texts k room [] (omega (arith, lt, h.fits, as_many))
+          ∙ get_or_default texts k room [] (omega (arith, lt, h.fits, h.many))
 
       pub is_read : is_state_text (fields_at shape pair.0) text ≡ true
       is_read =
@@ -128,23 +141,38 @@ module _ (shape : Shape) where
         (size : length text ≡ length (get_or texts count []))
         (digits : list_all is_lower_digit text ≡ true) where
       one_put : take (count + 1) (set texts count text) ≡ take count texts ++ text ∷ []
-      one_put = take-set_at texts count (count + 1) text refl (omega (arith, more, as_many))
+      one_put = take-set_at texts count (count + 1) text refl (omega (arith, more, h.many))
 
-      pub kept_more : IsTelling shape pairs (set texts count text) (count + 1)
-      kept_more = record {
-        fits = omega (arith, more);
-        senders = h.senders;
-        rooms = map-set_same (λ (t : List ℕ). length t) texts count text [] size ∙ h.rooms;
-        lower = subst (All (λ t. list_all is_lower_digit t ≡ true)) (sym one_put)
-            (All-push (λ t. list_all is_lower_digit t ≡ true) (take count texts) text h.lower
-            digits);
-      }
+      room_put : (k : ℕ) → k < length pairs
+          → length (get_or (set texts count text) k []) ≡ room_of shape (get_or pairs k (0, 0))
+      room_put k lt = elim (cases_eq k count) [
+        | inl at ↦ ap (λ (t : List ℕ). length t)
+            (get_or-set_at texts count k text [] at (omega (arith, more, h.many)))
+            ∙ size ∙ ap (λ (i : ℕ). length (get_or texts i [])) (sym at) ∙ h.rooms k lt
+        | inr ne ↦ ap (λ (t : List ℕ). length t) (get_or-set_other texts count k text [] ne)
+            ∙ h.rooms k lt
+      ]
+
+      pub kept_more : IsTelling shape pairs (set texts count text) (count + 1) capacity
+      kept_more =
+          let long = length-set texts count text in
+          record {
+            fits = omega (arith, more);
+            many = omega (arith, long, h.many);
+            room = omega (arith, long, h.room);
+            senders = h.senders;
+            short = h.short;
+            rooms = room_put;
+            lower = subst (All (λ t. list_all is_lower_digit t ≡ true)) (sym one_put)
+                (All-push (λ t. list_all is_lower_digit t ≡ true) (take count texts) text h.lower
+                digits);
+          }
 
       pub told_more : states_read shape pairs (take (count + 1) (set texts count text))
           ≡ states_read shape pairs (take count texts) ++ read_text (fields_at shape
           (get_or pairs (length (states_read shape pairs (take count texts))) (0, 0)).0) text ∷ []
       told_more =
-          let long = length-take-le count texts (omega (arith, as_many, h.fits)) in
+          let long = length-take-le count texts (omega (arith, h.many, h.fits)) in
           ap (states_read shape pairs) one_put
           ∙ read_more pairs (take count texts) text (omega (arith, long, more))
           ∙ ap (λ (k : ℕ). states_read shape pairs (take count texts) ++ read_text (fields_at shape
@@ -156,13 +184,14 @@ module _ (shape : Shape) where
       pairs = pairs;
       shape = shape;
       states = states_read shape pairs (take count texts);
+      room = length texts;
     }
 
     -- a text is tried in the room of the next pair
     module _ (text room : List ℕ) (more : count < length pairs)
         (at : room ≡ get_or texts count room) where
       room_is : room ≡ get_or texts count []
-      room_is = at ∙ get_or_default texts count room [] (omega (arith, more, as_many))
+      room_is = at ∙ get_or_default texts count room [] (omega (arith, more, h.many))
 
       next_is : is_state_text (next_fields told_view) text
           ≡ (eqb (length text) (length room) && list_all is_lower_digit text)
@@ -185,7 +214,7 @@ module _ (shape : Shape) where
         lower_text : list_all is_lower_digit text ≡ true
         lower_text = (and_parts (eqb (length text) (length room)) (list_all is_lower_digit text) fit).1
 
-        pub adds_kept : IsTelling shape pairs (set texts count text) (count + 1)
+        pub adds_kept : IsTelling shape pairs (set texts count text) (count + 1) capacity
         adds_kept = kept_more text more (fit_long ∙ ap (λ (r : List ℕ). length r) room_is) lower_text
 
         pub adds_one : AddsState text told_view (record told_view {
@@ -218,20 +247,26 @@ module _ (shape : Shape) where
               ∙ sym (room_is text other more other_at))
 
           pub adds_kept_at : (put : List ℕ) → put ≡ text
-              → IsTelling shape pairs (set texts count put) (count + 1)
+              → IsTelling shape pairs (set texts count put) (count + 1) capacity
           adds_kept_at put same =
-              subst (λ (t : List ℕ). IsTelling shape pairs (set texts count t) (count + 1))
+              subst (λ (t : List ℕ). IsTelling shape pairs (set texts count t) (count + 1) capacity)
               (sym same) (adds_kept text room more at fit)
 
-          abbrev pub one_view : List ℕ → Telling
-          one_view put = record {
+          abbrev view_of : List ℕ → (room : ℕ) → Telling
+          view_of put room = record {
             pairs = pairs;
             shape = shape;
             states = states_read shape pairs (take (count + 1) (set texts count put));
+            room = room;
           }
+
+          abbrev pub one_view : List ℕ → Telling
+          one_view put = view_of put (length (set texts count put))
 
           pub adds_one_at : (put : List ℕ) → put ≡ text → AddsState text old (one_view put) true
           adds_one_at put same =
               subst (λ (o : Telling). AddsState text o (one_view put) true) is
-              (subst (λ (t : List ℕ). AddsState text told_view (one_view t) true) (sym same)
-              (adds_one text room more at fit))
+              (subst (λ (n : ℕ). AddsState text told_view (view_of put n) true)
+              (sym (length-set texts count put))
+              (subst (λ (t : List ℕ). AddsState text told_view (view_of t (length texts)) true)
+              (sym same) (adds_one text room more at fit)))

@@ -184,7 +184,7 @@ pub none_told : (depth n v : ℕ) (faulty : List ℕ) → is_in faulty v ≡ tru
 none_told depth n v faulty is told u = none_in depth n v faulty is faulty told u
 
 -- how many pairs there are
-abbrev row_of : (vs : List ℕ) → ℕ → List (ℕ × ℕ)
+abbrev pub row_of : (vs : List ℕ) → ℕ → List (ℕ × ℕ)
 row_of vs u = map (λ w. (u, w)) vs
 
 length-rows : (vs ids : List ℕ) → length (flat_map (row_of vs) ids) ≡ length ids * length vs

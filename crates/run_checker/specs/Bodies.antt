@@ -5,11 +5,12 @@ use Rattle.sync_types.specs.FaultSets.{FaultIds}
 use Rattle.construction.specs.Plans.{Plan, plan_nodes}
 use Rattle.state_codec.specs.Shapes.{shape_of}
 use Rattle.state_codec.specs.Packs.{Pack}
-use Rattle.run_certificates.specs.Grammar.{pairs_of}
+use Rattle.run_certificates.specs.Grammar.{pairs_of, most_eras}
 use Rattle.run_certificates.specs.Checking.{Known, Stage, putting, telling}
 use Rattle.run_checker.specs.declared.rounds.Room.{Room}
 use Rattle.run_checker.specs.Rounds.{AreStates, IsReady}
-use Rattle.run_checker.specs.Tellings.{Telling}
+use Rattle.run_checker.specs.Sets.{no_ids}
+use Rattle.run_checker.specs.Tellings.{Telling, most_pairs}
 
 -- What is known, and whether states are put; if so, of which nodes none is known, and from which on
 -- they may follow. What was told stands there too.
@@ -24,9 +25,9 @@ abbrev pub stage_of : BodySeen → Stage
 stage_of b = if b.is_putting then putting b.known b.unknown b.from else telling b.known b.told
 
 -- the configuration is one of the plan, the pairs are those of its faulty nodes, and there is room
--- for a round
-pub record IsBody (plan : Plan) (bad none_known : FaultIds) (pack : Pack) (tellings : Telling)
-    (needed : Room) (behind number : ℕ) : Type 0 where
+-- for the rounds of any era, with an empty set for each that may still begin
+pub record IsBody (version : ℕ) (plan : Plan) (bad none_known : FaultIds) (pack : Pack)
+    (tellings : Telling) (needed : Room) (spare : List FaultIds) (behind number : ℕ) : Type 0 where
   pub shape : pack.shape ≡ shape_of plan
   pub faulty : bad.nodes ≡ plan_nodes plan
   pub unknown : none_known.nodes ≡ plan_nodes plan
@@ -35,6 +36,9 @@ pub record IsBody (plan : Plan) (bad none_known : FaultIds) (pack : Pack) (telli
   pub senders : All (λ pair. pair.0 < plan_nodes plan) tellings.pairs
   pub kept : tellings.shape ≡ shape_of plan
   pub told : AreStates plan tellings.states
+  pub most : tellings.room ≡ most_pairs plan
   pub room : IsReady plan needed
+  pub sets : All (λ set. set ≡ no_ids (plan_nodes plan)) spare
+  pub eras : length spare ≤ most_eras version
   pub from : behind ≤ plan_nodes plan
   pub at : number ≤ 1000000

@@ -7,7 +7,7 @@ use Rattle.state_codec.specs.Texts.{is_state_text, read_text}
 use Rattle.round_runner.specs.Locks.{is_locked, first_of}
 use Rattle.run_certificates.specs.NodeFields.{fields_of}
 use Rattle.run_certificates.specs.Grammar.{pairs_of, most_eras}
-use Rattle.run_certificates.specs.Checking.{nothing_known, needs_state, put_state, has_round, is_next, all_told, moved, renewed, is_row, compared}
+use Rattle.run_certificates.specs.Checking.{nothing_known, needs_state, put_state, has_round, is_next, all_told, moved, is_row, compared}
 use Rattle.run_checker.specs.Bodies.{BodySeen}
 
 -- behind the head
@@ -58,10 +58,14 @@ abbrev pub may_begin : BodySeen → (t : ℕ) → Bool
 may_begin b t =
     all_told b.known b.told && nat_eq t (b.known.at + 1) && nat_lt b.known.eras (most_eras b.known.version)
 
--- the round that was told was played, and an era begins behind it
-abbrev pub renewed_with : BodySeen → (faulty : List ℕ) → BodySeen
-renewed_with b faulty = record {
-  known = renewed b.known faulty b.told;
+-- an era more was counted
+abbrev pub era_more : BodySeen → BodySeen
+era_more b = record b { known = record b.known { eras = b.known.eras + 1 } }
+
+-- the round that was told was played, and an era begins behind it that was counted
+abbrev pub played_into : BodySeen → (faulty : List ℕ) → BodySeen
+played_into b faulty = record {
+  known = record (moved b.known faulty b.told) { locked = None };
   is_putting = true;
   unknown = b.known.stand.faulty;
   from = 0;

@@ -1,15 +1,8 @@
--- What reading ids, and making a set of them, gives. Want of memory says nothing.
-use Rattle.std.specs.Prelude.{◌≡◌, ℕ, List, length, Bool, nat_le, ◌&&◌, Option, Some, None, Result, Ok, Err, if◌then◌else◌}
-use Rattle.std.specs.Option.{option_map}
+-- What reading ids into a set, and making sets, gives. Want of memory says nothing.
+use Rattle.std.specs.Prelude.{◌≡◌, ℕ, ◌-◌, List, [], length, slice_index, Bool, true, false, nat_le, nat_lt, ◌==◌, ◌&&◌, ◌||◌, Option, Some, None, Result, Ok, Err, if◌then◌else◌}
 use Rattle.sync_types.specs.FaultSets.{FaultIds}
 use Rattle.sync_types.specs.declared.answers.NoMemory.{NoMemory}
 use Rattle.adversary_script.specs.WordTests.{are_below, is_rising}
-
--- the numbers that are given are those of words
-abbrev pub GivesNumbers : {X : Type 0} → (X → List ℕ) → Option (List ℕ)
-    → Result (Option X) NoMemory → Type 0
-GivesNumbers seen defined (Err e) = Unit {0}
-GivesNumbers seen defined (Ok found) = option_map seen found ≡ defined
 
 -- the set that is given is that of these ids
 abbrev pub GivesSet : (nodes : ℕ) → List ℕ → Result FaultIds NoMemory → Type 0
@@ -25,8 +18,20 @@ abbrev pub borne_ids : (nodes faults : ℕ) → Option (List ℕ) → Option (Li
 borne_ids nodes faults None = None
 borne_ids nodes faults (Some ids) = if is_borne_by nodes faults ids then Some ids else None
 
--- the set that is given is that of such ids, and there is none where there are none
-abbrev pub GivesBorne : (nodes faults : ℕ) → Option (List ℕ) → Result (Option FaultIds) NoMemory → Type 0
-GivesBorne nodes faults said (Err e) = Unit {0}
-GivesBorne nodes faults said (Ok None) = borne_ids nodes faults said ≡ None
-GivesBorne nodes faults said (Ok (Some set)) = (borne_ids nodes faults said ≡ Some set.ids) × (set.nodes ≡ nodes)
+-- a set with no faulty node
+abbrev pub no_ids : (nodes : ℕ) → FaultIds
+no_ids nodes = record { nodes = nodes; ids = [] }
+
+-- whether an id is above all of these
+abbrev pub is_above : List ℕ → (id : ℕ) → Bool
+is_above ids id = length ids == 0 || nat_lt (slice_index ids (length ids - 1)) id
+
+-- whether it may follow them in such a set
+abbrev pub may_follow : (nodes faults : ℕ) → List ℕ → (id : ℕ) → Bool
+may_follow nodes faults ids id =
+    nat_lt id nodes && nat_lt (length ids) faults && is_above ids id
+
+-- the ids that were read are those of such a set, or there are none
+abbrev pub ReadsBorne : (nodes faults : ℕ) → Option (List ℕ) → (ids : List ℕ) → Bool → Type 0
+ReadsBorne nodes faults said ids true = borne_ids nodes faults said ≡ Some ids
+ReadsBorne nodes faults said ids false = borne_ids nodes faults said ≡ None

@@ -1,15 +1,15 @@
-ghost use Rattle.std.specs.Prelude.{◌≡◌, ◌<◌, length};
-ghost use Rattle.round_runner.specs.Locks.{first_of};
+ghost use Rattle.std.specs.Prelude.{◌≡◌, ◌<◌, ◌≤◌, length};
 ghost use Rattle.run_certificates.specs.Grammar.{most_eras};
 
-use crate::id_lists::{all_nodes, borne_set, needs_state};
-use crate::locks::is_locked;
+use crate::firsts::first_of;
+use crate::id_lists::{all_nodes, empty_sets, most_eras, needs_state, read_ids};
 use crate::rounds::{Room, play, room_for};
 use crate::rows::compare_row;
-use crate::tellings::{Tellings, pairs_of, rooms_for};
+use crate::tellings::Tellings;
 use counter_core::Counter;
 use edge_io::{TakeError, Words};
 use plan_numbers::Plan;
+use round_runner::is_locked;
 use run_certificates::Verdict;
 use state_codec::{NotState, Packed, StateShape};
 use std::alloc::Global;
@@ -21,17 +21,10 @@ use tower::{Tower, build};
 /// The most rounds that a certificate has.
 const MOST_ROUNDS: u64 = 1_000_000;
 
-/// How many eras may begin behind rounds in a certificate of a version.
-fn most_eras(version: u32) -> u32
-    ensures { result ≡ most_eras version }
-{
-    if version == 1 { 0 } else { 16 }
-}
-
 /// What was read behind the head of a certificate: the configuration that its lines have come to.
+/// It has all the memory that it ever needs.
 #[derive(Drop)]
 pub struct Body {
-    alloc: Global,
     version: u32,
     tower: Tower,
     faulty: FaultSet,
@@ -41,13 +34,16 @@ pub struct Body {
     room: Room,
     is_putting: bool,
     from: u32,
-    eras: u32,
+    // An empty set for each era that may still begin.
+    sets: Vec<FaultSet>,
     at: u64,
     differs: Option<u64>,
     locked: Option<u64>,
 }
 
 impl Model for Body {
+    ghost use Rattle.std.specs.Prelude.{◌-◌, length};
+    ghost use Rattle.run_certificates.specs.Grammar.{most_eras};
     ghost use Rattle.run_checker.specs.Bodies.{BodySeen, IsBody};
 
     ghost Value = { BodySeen };
@@ -56,7 +52,7 @@ impl Model for Body {
       known = record {
         version = b.version;
         plan = b.tower;
-        eras = b.eras;
+        eras = most_eras b.version - length b.sets.items;
         at = b.at;
         stand = record { faulty = b.faulty.ids; config = b.config.current };
         differs = b.differs;
@@ -68,48 +64,37 @@ impl Model for Body {
       told = b.tellings.states;
     } };
 
-    ghost invariant = { λ b. IsBody b.tower b.faulty b.unknown b.config b.tellings b.room
-        b.from b.at };
-}
-
-/// The first of some numbers: the one that was known before, or this one, where it is one of them.
-fn first_of(known: Option<u64>, is_one: bool, now: u64) -> Option<u64>
-    ensures { result ≡ first_of known is_one now }
-{
-    match known {
-        Some(before) => Some(before),
-        None => { if is_one { Some(now) } else { None } }
-    }
+    ghost invariant = { λ b. IsBody b.version b.tower b.faulty b.unknown b.config b.tellings b.room
+        b.sets.items b.from b.at };
 }
 
 impl Body {
-    ghost use Rattle.std.specs.Prelude.{true, Some, IfOk};
-    ghost use Rattle.construction.specs.Plans.{plan_nodes};
+    ghost use Rattle.std.specs.Prelude.{true, Some, IfOk, nat_lt};
+    ghost use Rattle.construction.specs.Plans.{plan_nodes, plan_faults};
     ghost use Rattle.edge_io.specs.Taking.{Takes};
     ghost use Rattle.adversary_script.specs.WordTests.{numbers_in};
     ghost use Rattle.run_certificates.specs.Grammar.{pairs_of};
     ghost use Rattle.run_certificates.specs.Items.{start_item, lie_item, end_item, era_by, row_by, values_said};
     ghost use Rattle.run_certificates.specs.Checking.{has_round, all_told, verdict_now, step, step_by};
     ghost use Rattle.run_checker.specs.Bodies.{stage_of};
-    ghost use Rattle.run_checker.specs.Changes.{first_body, may_put, Puts, may_tell, next_sender, Tells, played_on, may_begin, renewed_with, has_states, Marks, ComesToRow, is_at_row};
+    ghost use Rattle.run_checker.specs.Sets.{no_ids};
+    ghost use Rattle.run_checker.specs.Changes.{first_body, may_put, Puts, may_tell, next_sender, Tells, played_on, may_begin, era_more, played_into, has_states, Marks, ComesToRow, is_at_row};
 
-    /// What is known behind the head: the plan and its faulty nodes. It takes all memory that the
-    /// rounds of this era need.
+    /// What is known behind the head: the plan and its faulty nodes. It takes all the memory that
+    /// the rounds of all eras need.
     pub fn new(alloc: Global, version: u32, plan: &Plan, faulty: FaultSet) -> Result<Body, NoMemory>
-        requires { faulty.nodes ≡ plan_nodes plan.now }
+        requires nodes { faulty.nodes ≡ plan_nodes plan.now }
+        requires few { length faulty.ids ≤ plan_faults plan.now }
         ensures { IfOk result (λ body. body ≡ first_body version plan.now faulty.ids) }
     {
         let tower = build(alloc, plan)?;
         let shape = StateShape::of(alloc, plan)?;
         let unknown = all_nodes(alloc, plan.nodes())?;
         let config = Packed::new(alloc, shape, plan.nodes())?;
-        let told = StateShape::of(alloc, plan)?;
-        let pairs = pairs_of(alloc, &faulty)?;
-        let rooms = rooms_for(alloc, &told, &pairs)?;
-        let tellings = Tellings::new(told, pairs, rooms);
+        let tellings = Tellings::of(alloc, plan, &faulty)?;
         let room = room_for(alloc, &tower)?;
+        let sets = empty_sets(alloc, plan.nodes(), most_eras(version))?;
         Ok(Body {
-            alloc,
             version,
             tower,
             faulty,
@@ -119,7 +104,7 @@ impl Body {
             room,
             is_putting: true,
             from: 0,
-            eras: 0,
+            sets,
             at: 0,
             differs: None,
             locked: None,
@@ -254,16 +239,16 @@ impl Body {
         self.at += 1;
     }
 
-    /// Makes the steps of the round that was told, with these faulty nodes behind it. Where memory
-    /// is wanted, nothing is known of what was read.
-    fn play_into(&mut self, faulty: FaultSet) -> Result<(), NoMemory>
+    /// Makes the steps of the round that was told, and begins an era with these faulty nodes behind
+    /// it, which was counted.
+    fn play_into(&mut self, faulty: FaultSet)
         requires told { all_told self.old.known self.old.told ≡ true }
         requires nodes { faulty.nodes ≡ plan_nodes self.old.known.plan }
-        requires eras { self.old.known.eras < 16 }
-        ensures { IfOk result (λ _. self.new ≡ renewed_with self.old faulty.ids) }
+        requires few { length faulty.ids ≤ plan_faults self.old.known.plan }
+        ensures { self.new ≡ played_into self.old faulty.ids }
     {
-        let pairs = pairs_of(self.alloc, &faulty)?;
-        let rooms = rooms_for(self.alloc, self.config.shape(), &pairs)?;
+        self.tower.tell();
+        faulty.tell();
         play(
             &self.tower,
             &self.faulty,
@@ -272,21 +257,35 @@ impl Body {
             &mut self.config,
             &mut self.room,
         );
-        self.tellings.begin(pairs, rooms);
+        self.tellings.begin(&faulty);
         self.unknown = mem::replace(&mut self.faulty, faulty);
         self.is_putting = true;
         self.from = 0;
-        self.eras += 1;
         self.at += 1;
         self.locked = None;
-        Ok(())
+    }
+
+    /// Whether another era may begin behind a round.
+    fn has_set(&self) -> bool
+        ensures { result ≡ nat_lt self.now.known.eras (most_eras self.now.known.version) }
+    {
+        !self.sets.is_empty()
+    }
+
+    /// Counts an era more, and answers an empty set for it.
+    fn next_set(&mut self) -> FaultSet
+        requires { self.old.known.eras < most_eras self.old.known.version }
+        ensures set { result ≡ no_ids (plan_nodes self.old.known.plan) }
+        ensures counted { self.new ≡ era_more self.old }
+    {
+        self.sets.pop().unwrap()
     }
 
     /// Whether another era may begin at this configuration.
     fn may_begin(&self, t: u64) -> bool
         ensures { result ≡ may_begin self.now t }
     {
-        self.is_told() && t == self.at + 1 && self.eras < most_eras(self.version)
+        self.is_told() && t == self.at + 1 && self.has_set()
     }
 
     /// Takes an era that begins behind the round that was told.
@@ -299,14 +298,12 @@ impl Body {
         if !self.may_begin(t) {
             return Err(TakeError::Refused(()));
         }
-        match borne_set(self.alloc, self.tower.nodes(), self.tower.faults(), words) {
-            Ok(Some(faulty)) => match self.play_into(faulty) {
-                Ok(()) => Ok(None),
-                Err(NoMemory) => Err(TakeError::NoMemory),
-            },
-            Ok(None) => Err(TakeError::Refused(())),
-            Err(NoMemory) => Err(TakeError::NoMemory),
+        let mut faulty = self.next_set();
+        if !read_ids(words, self.tower.faults(), &mut faulty) {
+            return Err(TakeError::Refused(()));
         }
+        self.play_into(faulty);
+        Ok(None)
     }
 
     /// Whether no correct node is left that needs a state.

@@ -10,7 +10,7 @@ ghost use Rattle.run_checker.specs.Bodies.{stage_of};
 ghost use Rattle.run_checker.specs.Phases.{phase_seen, HasVersion, is_head, Enters};
 
 use crate::bodies::Body;
-use crate::id_lists::borne_set;
+use crate::id_lists::read_ids;
 use crate::said_lines::{Said, read_said};
 use edge_io::{LineReader, TakeError, Words};
 use plan_numbers::{Plan, PremiseError};
@@ -18,7 +18,7 @@ use run_certificates::Verdict;
 use std::alloc::Global;
 use std::marker::Model;
 use std::mem;
-use sync_types::NoMemory;
+use sync_types::{FaultSet, NoMemory};
 
 /// How far a certificate was read.
 #[derive(Drop)]
@@ -107,12 +107,12 @@ fn behind_faulty(
 ) -> Result<Phase, TakeError<()>>
     ensures { Enters (step_by (planned version plan.now) (option_map faulty_item (numbers_in words.entry))) result }
 {
-    match borne_set(alloc, plan.nodes(), plan.faults(), words) {
-        Ok(Some(faulty)) => match Body::new(alloc, version, plan, faulty) {
-            Ok(body) => Ok(Phase::Inside(body)),
-            Err(NoMemory) => Err(TakeError::NoMemory),
-        },
-        Ok(None) => Err(TakeError::Refused(())),
+    let mut faulty = FaultSet::new(alloc, plan.nodes()).map_err(|_| TakeError::NoMemory)?;
+    if !read_ids(words, plan.faults(), &mut faulty) {
+        return Err(TakeError::Refused(()));
+    }
+    match Body::new(alloc, version, plan, faulty) {
+        Ok(body) => Ok(Phase::Inside(body)),
         Err(NoMemory) => Err(TakeError::NoMemory),
     }
 }

@@ -41,7 +41,9 @@ pub enum CheckError {
 /// behind the last one where the text ends before the certificate does. The source may then have
 /// been read some way behind that line. `TooLong` comes where the byte behind the limit was read,
 /// and no line that is shown before it is refused. `ReadFault` comes only where the source counted
-/// a fault. Memory is taken for the plan, its configuration and what is told in one round.
+/// a fault. Memory is taken with the line buffer and the head alone: for the plan, two
+/// configurations, and the most that the faulty nodes of any era tell in one round. No later line
+/// takes memory.
 pub fn check_run<S: Source>(
     alloc: Global,
     source: &mut S,

@@ -1,23 +1,28 @@
-ghost use Rattle.std.specs.Prelude.{◌≡◌, ◌==◌, ◌&&◌, length, IfOk};
+ghost use Rattle.std.specs.Prelude.{◌≡◌, ◌≤◌, ◌==◌, ◌&&◌, [], length};
 ghost use Rattle.std.specs.List.{list_all};
 ghost use Rattle.state_codec.specs.Texts.{is_lower_digit};
 
-use std::alloc::Global;
 use std::marker::Model;
-use sync_types::NoMemory;
 
-/// The digits of a state, of which there is a fixed number.
+/// No state of a plan has more digits.
+const MOST_DIGITS: usize = 64;
+
+/// The digits of a state, of which there is a number that is set first. There is room for those of
+/// each state of a plan.
 #[derive(Drop)]
 pub struct Digits {
-    text: Vec<u8>,
+    text: [u8; MOST_DIGITS],
+    len: usize,
 }
 
 impl Model for Digits {
-    ghost use Rattle.std.specs.Prelude.{ℕ, List};
+    ghost use Rattle.std.specs.Prelude.{ℕ, ◌≤◌, List, take};
 
     ghost Value = { List ℕ };
 
-    ghost view = { λ d. d.text.items };
+    ghost view = { λ d. take d.len d.text };
+
+    ghost invariant = { λ d. d.len ≤ 64 };
 }
 
 /// Whether each is a digit of `0-9a-f`.
@@ -30,12 +35,22 @@ fn are_lower(digits: &[u8]) -> bool
 }
 
 impl Digits {
-    /// Room for so many digits.
-    pub fn room(alloc: Global, count: usize) -> Result<Digits, NoMemory>
-        ensures { IfOk result (λ digits. length digits ≡ count) }
+    /// No digits.
+    pub fn none() -> Digits
+        ensures { result ≡ [] }
     {
-        let text = vec![in alloc; 0; count]?;
-        Ok(Digits { text })
+        Digits {
+            text: [0; MOST_DIGITS],
+            len: 0,
+        }
+    }
+
+    /// Sets how many there are. Which ones is not known.
+    pub fn set_count(&mut self, count: usize)
+        requires { count ≤ 64 }
+        ensures { length self.new ≡ count }
+    {
+        self.len = count;
     }
 
     /// Whether a text is of digits of `0-9a-f`, and of as many.
@@ -43,7 +58,7 @@ impl Digits {
         ensures { result ≡ (length text.now == length self.now
             && list_all is_lower_digit text.now) }
     {
-        text.len() == self.text.len() && are_lower(text)
+        text.len() == self.len && are_lower(text)
     }
 
     /// Takes a text of as many digits.
@@ -51,13 +66,13 @@ impl Digits {
         requires { length text.now ≡ length self.old }
         ensures { self.new ≡ text.now }
     {
-        self.text.copy_from_slice(text);
+        self.text[..self.len].copy_from_slice(text);
     }
 
     /// The digits.
     pub fn text(&self) -> &[u8]
         ensures { result.now ≡ self.now }
     {
-        &self.text
+        &self.text[..self.len]
     }
 }

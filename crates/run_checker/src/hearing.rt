@@ -12,23 +12,10 @@ ghost use Rattle.run_checker.specs.Hearing.{Lays, LaysHeard, IsRound};
 
 use crate::tellings::Tellings;
 use counter_core::Counter;
+use round_runner::place_of;
 use state_codec::Packed;
 use sync_types::{FaultSet, NodeState};
 use tower::{Shared, Tower};
-
-/// Where the faulty node `v` stands in the order of the faulty ones.
-fn place_of(faulty: &FaultSet, v: u32) -> usize
-    requires { is_in faulty.now.ids v ≡ true }
-    ensures within { result < length faulty.now.ids }
-    ensures id { slice_index faulty.now.ids result ≡ v }
-{
-    for i in 0..faulty.len() {
-        if faulty.at(i) == v {
-            return i;
-        }
-    }
-    unreachable!()
-}
 
 /// Lays the zero state into the places of a stretch.
 fn lay_zeros(stretch: (usize, usize), zero: &NodeState, lies: &mut Vec<NodeState>)

@@ -1,79 +1,69 @@
-ghost use Rattle.std.specs.Prelude.{◌≡◌, ◌&&◌, not, true};
+ghost use Rattle.std.specs.Prelude.{◌≡◌, ◌<◌, ◌≤◌, ◌^◌, ◌&&◌, not, true, [], length, All, IfOk};
 ghost use Rattle.sync_types.specs.FaultSets.{is_in};
-ghost use Rattle.adversary_script.specs.WordTests.{are_below, is_rising, numbers_in};
+ghost use Rattle.adversary_script.specs.WordTests.{numbers_in};
 ghost use Rattle.std.specs.List.{range_with_len};
+ghost use Rattle.run_certificates.specs.Grammar.{most_eras};
 ghost use Rattle.run_certificates.specs.Checking.{needs_state};
-ghost use Rattle.run_checker.specs.Sets.{GivesNumbers, GivesSet, GivesBorne};
+ghost use Rattle.run_checker.specs.Sets.{no_ids, is_above, may_follow, ReadsBorne, GivesSet};
 
 use edge_io::{Words, number};
 use std::alloc::Global;
 use sync_types::{FaultSet, NoMemory};
 
-/// The numbers of the words, or none where one of them is no number.
-fn numbers(alloc: Global, words: Words<'_>) -> Result<Option<Vec<u64>>, NoMemory>
-    ensures { GivesNumbers (λ found. found.items) (numbers_in words.entry) result }
+/// Whether an id is above all of a set.
+fn is_above(set: &FaultSet, id: u64) -> bool
+    ensures { result ≡ is_above set.now.ids id }
 {
-    let mut numbers = Vec::new(alloc);
+    let count = set.len();
+    count == 0 || u64::from(set.at(count - 1)) < id
+}
+
+/// Whether an id may follow those of a set of at most `faults`.
+fn may_follow(faults: u32, set: &FaultSet, id: u64) -> bool
+    ensures value { result ≡ may_follow set.now.nodes faults set.now.ids id }
+    ensures small { result ≡ true → id < 2 ^ 32 }
+{
+    id < u64::from(set.nodes()) && set.len() < faults as usize && is_above(set, id)
+}
+
+/// Reads the ids of words into an empty set: false where they are not those of at most `faults`
+/// nodes.
+pub fn read_ids(words: Words<'_>, faults: u32, set: &mut FaultSet) -> bool
+    requires { set.old.ids ≡ [] }
+    ensures nodes { set.new.nodes ≡ set.old.nodes }
+    ensures ids { ReadsBorne set.old.nodes faults (numbers_in words.entry) set.new.ids result }
+    ensures few { result ≡ true → length set.new.ids ≤ faults }
+{
     for word in words {
-        match number(word) {
-            Some(value) => numbers.push(value).map_err(|_| NoMemory)?,
-            None => return Ok(None),
-        }
-    }
-    Ok(Some(numbers))
-}
-
-/// Whether each id is that of a node.
-fn are_below(nodes: u32, ids: &[u64]) -> bool
-    ensures { result ≡ are_below nodes ids.now }
-{
-    ids.iter().all(|id| *id < u64::from(nodes))
-}
-
-/// Whether each id is above the one before.
-fn is_rising(ids: &[u64]) -> bool
-    ensures { result ≡ is_rising ids.now }
-{
-    let mut rest = ids;
-    while let [first, second, ..] = rest {
-        if first >= second {
+        let Some(id) = number(word) else {
+            return false;
+        };
+        if !may_follow(faults, set, id) {
             return false;
         }
-        rest = &rest[1..];
+        set.push(id as u32);
     }
     true
 }
 
-/// The set of rising ids of nodes.
-fn id_set(alloc: Global, nodes: u32, ids: &[u64]) -> Result<FaultSet, NoMemory>
-    requires below { are_below nodes ids.now ≡ true }
-    requires rising { is_rising ids.now ≡ true }
-    ensures { GivesSet nodes ids.now result }
+/// How many eras may begin behind rounds in a certificate of a version.
+pub fn most_eras(version: u32) -> u32
+    ensures { result ≡ most_eras version }
 {
-    let mut set = FaultSet::new(alloc, nodes)?;
-    for id in ids {
-        set.push(*id as u32);
-    }
-    Ok(set)
+    if version == 1 { 0 } else { 16 }
 }
 
-/// The faulty set of these words, where they are ids of one that the plan bears.
-pub fn borne_set(
-    alloc: Global,
-    nodes: u32,
-    faults: u32,
-    words: Words<'_>,
-) -> Result<Option<FaultSet>, NoMemory>
-    ensures { GivesBorne nodes faults (numbers_in words.entry) result }
+/// So many sets with no faulty node.
+pub fn empty_sets(alloc: Global, nodes: u32, count: u32) -> Result<Vec<FaultSet>, NoMemory>
+    ensures count { IfOk result (λ sets. length sets.items ≡ count) }
+    ensures empty { IfOk result (λ sets. All (λ set. set ≡ no_ids nodes) sets.items) }
 {
-    let Some(ids) = numbers(alloc, words)? else {
-        return Ok(None);
-    };
-    if !are_below(nodes, &ids) || !is_rising(&ids) || ids.len() > faults as usize {
-        return Ok(None);
+    let mut sets = Vec::with_capacity(alloc, count as usize)?;
+    for _ in 0..count {
+        let set = FaultSet::new(alloc, nodes)?;
+        sets.push(set).map_err(|_| NoMemory)?;
     }
-    let set = id_set(alloc, nodes, &ids)?;
-    Ok(Some(set))
+    Ok(sets)
 }
 
 /// All nodes.

@@ -3,19 +3,19 @@
 //!
 //! [`write_run`] writes the certificate of a script's run, line by line.
 //! [`check_run`] answers the verdict of the certificate whose text a source has, or the first line
-//! at which its lines begin none. It holds one configuration and what was told in one round.
+//! at which its lines begin none. It holds two configurations and what is told in one round.
 #![tactic(auto)]
 
 mod bodies;
 mod check_lines;
 mod checks;
 mod digits;
+mod firsts;
 mod head_lines;
 mod hearing;
 mod id_lists;
 pub mod laws;
 mod lie_lines;
-mod locks;
 #[cfg(test)]
 mod record_tests;
 mod records;

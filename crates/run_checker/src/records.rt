@@ -2,7 +2,6 @@ ghost use Rattle.std.specs.Prelude.{◌≡◌, ◌<◌, ◌+◌, length, OnOk};
 ghost use Rattle.texts.specs.Growth.{Puts};
 ghost use Rattle.construction.specs.Plans.{plan_nodes};
 ghost use Rattle.adversary_script.specs.Scripts.{IsScript};
-ghost use Rattle.round_runner.specs.Beginnings.{BeginsAt};
 ghost use Rattle.run_certificates.specs.Certificates.{certificate_text};
 ghost use Rattle.run_certificates.specs.Recorded.{certificate_of, era_at};
 ghost use Rattle.run_checker.specs.RunLines.{era_lines, turn_text, turns_text, record_text};
@@ -12,24 +11,10 @@ use crate::head_lines::put_head;
 use crate::lie_lines::put_lies;
 use crate::row_lines::{put_era, put_row};
 use crate::start_lines::{put_first_starts, put_starts};
-use adversary_script::Script;
 use counter_core::NoOverlay;
 use edge_io::{Gathered, Sink, WriteFault, put_all};
 use plan_numbers::Plan;
-use round_runner::Runner;
-
-/// The further era that begins with configuration `t`, where one does.
-fn beginning_at(script: &Script, t: u64) -> Option<usize>
-    requires { IsScript script.now }
-    ensures { BeginsAt script.now t result }
-{
-    let era = script.era_of(t);
-    if era > 0 && script.era_start(era) == t {
-        Some(era)
-    } else {
-        None
-    }
-}
+use round_runner::{Runner, beginning_at};
 
 /// Writes the era that begins with the runner's configuration, `t + 1`, where one does.
 fn put_era_lines<K: Sink>(

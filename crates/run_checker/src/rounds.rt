@@ -1,5 +1,4 @@
-ghost use Rattle.std.specs.Prelude.{◌≡◌, ◌<◌, ◌+◌, length, replicate, slice_set, IfOk};
-ghost use Rattle.sync_types.specs.States.{zero_state};
+ghost use Rattle.std.specs.Prelude.{◌≡◌, ◌<◌, ◌+◌, length, slice_set, IfOk};
 ghost use Rattle.construction.specs.Plans.{plan_nodes};
 ghost use Rattle.state_codec.specs.Shapes.{shape_of};
 ghost use Rattle.shared_laws.specs.Sharing.{stands_for};
@@ -12,6 +11,7 @@ use crate::hearing::hear;
 use crate::tellings::Tellings;
 use counter_core::Counter;
 use majority_votes::Steps;
+use round_runner::zero_states;
 use state_codec::Packed;
 use std::alloc::Global;
 use std::marker::Brand;
@@ -30,21 +30,6 @@ pub struct Room {
     pub shared: Shared,
     /// The new state of a node.
     pub out: NodeState,
-}
-
-/// So many zero states.
-fn zero_states(alloc: Global, nodes: u32, depth: usize) -> Result<Vec<NodeState>, NoMemory>
-    ensures { IfOk result (λ states. states.items ≡ replicate nodes (zero_state depth)) }
-{
-    let mut states = Vec::with_capacity(alloc, nodes as usize)?;
-    for _ in 0..nodes {
-        let state = NodeState::zero(alloc, depth)?;
-        match states.push(state) {
-            Ok(()) => {}
-            Err(_) => return Err(NoMemory),
-        }
-    }
-    Ok(states)
 }
 
 /// The room that rounds of a plan need.

@@ -1,7 +1,5 @@
 ghost use Rattle.std.specs.Prelude.{◌≡◌, ◌≤◌, ◌<◌, ◌&&◌, length};
 ghost use Rattle.run_certificates.specs.Items.{value_said, values_said};
-ghost use Rattle.construction.specs.Shown.{shown};
-ghost use Rattle.construction.specs.Steps.{state_of};
 ghost use Rattle.run_checker.specs.Rows.{shown_at, value_compared, row_compared};
 
 use edge_io::{Words, number};
@@ -19,19 +17,6 @@ fn read_value(word: &[u8]) -> Option<Option<u64>>
     Some(Some(value))
 }
 
-/// What node `v` shows, where states have so many registers: the value of the top one, or 0 where
-/// that is infinite; without registers its number.
-fn shown_in(config: &Packed, depth: usize, v: u32) -> u64
-    requires node { v < length config.now.current }
-    requires depth { depth ≤ length config.now.shape.moduli }
-    ensures { result ≡ shown depth (state_of config.now.current v) }
-{
-    match depth {
-        0 => config.x(v),
-        depth => config.reg(v, depth - 1).a.unwrap_or(0),
-    }
-}
-
 /// What a node's word in a row has to be.
 fn shown_at(faulty: &FaultSet, depth: usize, config: &Packed, v: u32) -> Option<u64>
     requires size { v < length config.now.current }
@@ -41,7 +26,7 @@ fn shown_at(faulty: &FaultSet, depth: usize, config: &Packed, v: u32) -> Option<
     if faulty.contains(v) {
         return None;
     }
-    Some(shown_in(config, depth, v))
+    Some(round_runner::shown_at(config, v, depth))
 }
 
 /// Whether a word says what its node shows; None where just one of both has a number.

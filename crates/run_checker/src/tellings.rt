@@ -1,73 +1,84 @@
 ghost use Rattle.sync_types.specs.FaultSets.{is_in};
-ghost use Rattle.std.specs.Prelude.{if◌then◌else◌, [], ◌∷◌, ◌≡◌, ◌<◌, ◌^◌, ◌++◌, length, drop, map, All, IfOk, nat_eq, ◌==◌};
+ghost use Rattle.std.specs.Prelude.{if◌then◌else◌, [], ◌∷◌, ◌≡◌, ◌<◌, ◌≤◌, ◌+◌, ◌*◌, ◌^◌, ◌++◌, ℕ, false, length, drop, map, All, IfOk, nat_eq, ◌==◌, slice_index_or, vec_capacity};
+ghost use Rattle.construction.specs.Plans.{plan_nodes, plan_faults};
 ghost use Rattle.run_certificates.specs.Grammar.{pairs_of};
 ghost use Rattle.round_runner.specs.Locks.{correct_nodes};
 ghost use Rattle.run_certificates.specs.Checking.{is_next};
 ghost use Rattle.construction.specs.Steps.{state_of};
-ghost use Rattle.state_codec.specs.Shapes.{fields_at};
-ghost use Rattle.run_checker.specs.Tellings.{room_of, AddsState};
+ghost use Rattle.state_codec.specs.Shapes.{fields_at, bytes_in, shape_of};
+ghost use Rattle.run_checker.specs.Tellings.{room_of, most_pairs, AddsState};
 
 use crate::digits::Digits;
+use plan_numbers::Plan;
 use state_codec::{NotState, StateShape};
 use std::alloc::Global;
 use std::marker::Model;
 use sync_types::{FaultSet, NoMemory, NodeState};
 
 /// Adds the pair of a faulty node and a node, where that is correct.
-fn add_pair(
-    sender: u32,
-    v: u32,
-    faulty: &FaultSet,
-    pairs: &mut Vec<(u32, u32)>,
-) -> Result<(), NoMemory>
-    ensures { IfOk result (λ _. pairs.new.items
-        ≡ pairs.old.items ++ (if is_in faulty.now.ids v then [] else (sender, v) ∷ [])) }
+fn add_pair(sender: u32, v: u32, faulty: &FaultSet, pairs: &mut Vec<(u32, u32)>)
+    requires { is_in faulty.now.ids v ≡ false → length pairs.old.items < vec_capacity pairs.old }
+    ensures pairs { pairs.new.items
+        ≡ pairs.old.items ++ (if is_in faulty.now.ids v then [] else (sender, v) ∷ []) }
+    ensures room { vec_capacity pairs.old ≤ vec_capacity pairs.new }
 {
-    if faulty.contains(v) {
-        return Ok(());
+    if !faulty.contains(v) {
+        pairs.push((sender, v)).unwrap();
     }
-    pairs.push((sender, v)).map_err(|_| NoMemory)
 }
 
 /// Adds the pairs of one faulty node with each correct one.
-fn add_pairs(sender: u32, faulty: &FaultSet, pairs: &mut Vec<(u32, u32)>) -> Result<(), NoMemory>
-    ensures { IfOk result (λ _. pairs.new.items ≡ pairs.old.items ++ map (λ v. (sender, v)) (correct_nodes faulty.now.nodes faulty.now.ids)) }
+fn add_pairs(sender: u32, faulty: &FaultSet, pairs: &mut Vec<(u32, u32)>)
+    requires { length pairs.old.items + length (correct_nodes faulty.now.nodes faulty.now.ids)
+        ≤ vec_capacity pairs.old }
+    ensures pairs { pairs.new.items ≡ pairs.old.items
+        ++ map (λ v. (sender, v)) (correct_nodes faulty.now.nodes faulty.now.ids) }
+    ensures room { vec_capacity pairs.old ≤ vec_capacity pairs.new }
 {
     for v in 0..faulty.nodes() {
-        add_pair(sender, v, faulty, pairs)?;
+        add_pair(sender, v, faulty, pairs);
     }
-    Ok(())
 }
 
-/// Each faulty node with each correct one, by sender and then by receiver.
-pub fn pairs_of(alloc: Global, faulty: &FaultSet) -> Result<Vec<(u32, u32)>, NoMemory>
-    ensures pairs { IfOk result (λ pairs. pairs.items ≡ pairs_of faulty.now.nodes faulty.now.ids) }
-    ensures senders { IfOk result (λ pairs. All (λ pair. pair.0 < faulty.now.nodes) pairs.items) }
+/// Takes each faulty node with each correct one, by sender and then by receiver, in place of the
+/// pairs before.
+fn take_pairs(faulty: &FaultSet, pairs: &mut Vec<(u32, u32)>)
+    requires { length (pairs_of faulty.now.nodes faulty.now.ids) ≤ vec_capacity pairs.old }
+    ensures pairs { pairs.new.items ≡ pairs_of faulty.now.nodes faulty.now.ids }
+    ensures senders { All (λ pair. pair.0 < faulty.now.nodes) pairs.new.items }
+    ensures room { vec_capacity pairs.old ≤ vec_capacity pairs.new }
 {
     faulty.tell();
-    let mut pairs = Vec::new(alloc);
+    pairs.clear();
     for i in 0..faulty.len() {
-        add_pairs(faulty.at(i), faulty, &mut pairs)?;
+        add_pairs(faulty.at(i), faulty, pairs);
     }
-    Ok(pairs)
 }
 
-/// Room for the digits that the sender of each pair tells.
-pub fn rooms_for(
-    alloc: Global,
-    shape: &StateShape,
-    pairs: &[(u32, u32)],
-) -> Result<Vec<Digits>, NoMemory>
-    requires { All (λ pair. pair.0 < length shape.now.lows) pairs.now }
-    ensures { IfOk result (λ rooms. map length rooms.items ≡ map (room_of shape.now) pairs.now) }
+/// Room for so many states.
+fn rooms(alloc: Global, count: usize) -> Result<Vec<Digits>, NoMemory>
+    ensures { IfOk result (λ rooms. length rooms.items ≡ count) }
 {
-    let mut rooms = Vec::new(alloc);
-    for i in 0..pairs.len() {
-        let (sender, _) = pairs[i];
-        let room = Digits::room(alloc, 2 * shape.bytes_of(sender))?;
-        rooms.push(room).map_err(|_| NoMemory)?;
+    let mut rooms = Vec::with_capacity(alloc, count)?;
+    for _ in 0..count {
+        rooms.push(Digits::none()).map_err(|_| NoMemory)?;
     }
     Ok(rooms)
+}
+
+/// Sets how many digits the sender of each pair tells.
+fn set_counts(shape: &StateShape, pairs: &[(u32, u32)], digits: &mut Vec<Digits>)
+    requires senders { All (λ pair. pair.0 < length shape.now.lows) pairs.now }
+    requires short { (v : ℕ) → bytes_in (fields_at shape.now v) ≤ 32 }
+    requires many { length pairs.now ≤ length digits.old.items }
+    ensures size { length digits.new.items ≡ length digits.old.items }
+    ensures rooms { (k : ℕ) → k < length pairs.now → length (slice_index_or digits.new.items k [])
+        ≡ room_of shape.now (slice_index_or pairs.now k (0, 0)) }
+{
+    for k in 0..pairs.len() {
+        let (sender, _) = pairs[k];
+        digits[k].set_count(2 * shape.bytes_of(sender));
+    }
 }
 
 /// Whether pair `k` is that of these two.
@@ -88,7 +99,7 @@ fn is_count(pairs: &[(u32, u32)], k: usize) -> bool
 }
 
 /// What the faulty nodes of a round tell, of which so much was read. It is kept as digits: most of
-/// it is heeded by no node.
+/// it is heeded by no node. There is room for so many pairs, whatever they are.
 #[derive(Drop)]
 pub struct Tellings {
     shape: StateShape,
@@ -98,7 +109,7 @@ pub struct Tellings {
 }
 
 impl Model for Tellings {
-    ghost use Rattle.std.specs.Prelude.{take};
+    ghost use Rattle.std.specs.Prelude.{length, take, vec_capacity};
     ghost use Rattle.run_checker.specs.Tellings.{Telling, IsTelling, states_read};
 
     ghost Value = { Telling };
@@ -107,24 +118,56 @@ impl Model for Tellings {
       pairs = t.pairs.items;
       shape = t.shape;
       states = states_read t.shape t.pairs.items (take t.count t.digits.items);
+      room = length t.digits.items;
     } };
 
-    ghost invariant = { λ t. IsTelling t.shape t.pairs.items t.digits.items t.count };
+    ghost invariant = { λ t. IsTelling t.shape t.pairs.items t.digits.items t.count
+        (vec_capacity t.pairs) };
 }
 
 impl Tellings {
-    /// Nothing was told for these pairs.
-    pub fn new(shape: StateShape, pairs: Vec<(u32, u32)>, digits: Vec<Digits>) -> Tellings
-        requires senders { All (λ pair. pair.0 < length shape.lows) pairs.items }
-        requires rooms { map length digits.items ≡ map (room_of shape) pairs.items }
-        ensures { result ≡ record { pairs = pairs.items; shape = shape; states = [] } }
+    /// No pair, and room for `most` of them. It takes all the memory that is ever needed.
+    fn new(alloc: Global, shape: StateShape, most: usize) -> Result<Tellings, NoMemory>
+        requires { (v : ℕ) → bytes_in (fields_at shape v) ≤ 32 }
+        ensures { IfOk result (λ told. told ≡ record {
+          pairs = [];
+          shape = shape;
+          states = [];
+          room = most;
+        }) }
     {
-        Tellings {
+        let pairs = Vec::with_capacity(alloc, most)?;
+        let digits = rooms(alloc, most)?;
+        Ok(Tellings {
             shape,
             pairs,
             digits,
             count: 0,
-        }
+        })
+    }
+
+    /// Nothing was told by these faulty nodes of a plan. It takes all the memory that is needed for
+    /// what those of any era tell in one round.
+    pub fn of(alloc: Global, plan: &Plan, faulty: &FaultSet) -> Result<Tellings, NoMemory>
+        requires nodes { faulty.now.nodes ≡ plan_nodes plan.now }
+        requires few { length faulty.now.ids ≤ plan_faults plan.now }
+        ensures value { IfOk result (λ told. told ≡ record {
+          pairs = pairs_of (plan_nodes plan.now) faulty.now.ids;
+          shape = shape_of plan.now;
+          states = [];
+          room = most_pairs plan.now;
+        }) }
+        ensures senders { IfOk result (λ told.
+            All (λ pair. pair.0 < plan_nodes plan.now) told.pairs) }
+    {
+        plan.tell();
+        faulty.tell();
+        let shape = StateShape::of(alloc, plan)?;
+        let faults = plan.faults() as usize;
+        let most = faults * (plan.nodes() as usize - faults);
+        let mut tellings = Tellings::new(alloc, shape, most)?;
+        tellings.begin(faulty);
+        Ok(tellings)
     }
 
     /// Forgets what was told.
@@ -134,15 +177,19 @@ impl Tellings {
         self.count = 0;
     }
 
-    /// Begins a round with these pairs.
-    pub fn begin(&mut self, pairs: Vec<(u32, u32)>, digits: Vec<Digits>)
-        requires senders { All (λ pair. pair.0 < length self.old.shape.lows) pairs.items }
-        requires rooms { map length digits.items ≡ map (room_of self.old.shape) pairs.items }
-        ensures { self.new ≡ record self.old { pairs = pairs.items; states = [] } }
+    /// Begins a round with these faulty nodes.
+    pub fn begin(&mut self, faulty: &FaultSet)
+        requires nodes { faulty.now.nodes ≡ length self.old.shape.lows }
+        requires room { length (pairs_of faulty.now.nodes faulty.now.ids) ≤ self.old.room }
+        ensures value { self.new ≡ record self.old {
+          pairs = pairs_of faulty.now.nodes faulty.now.ids;
+          states = [];
+        } }
+        ensures senders { All (λ pair. pair.0 < faulty.now.nodes) self.new.pairs }
     {
         self.count = 0;
-        self.pairs = pairs;
-        self.digits = digits;
+        take_pairs(faulty, &mut self.pairs);
+        set_counts(&self.shape, &self.pairs, &mut self.digits);
     }
 
     /// Whether the next pair is that of these two.

@@ -37,6 +37,11 @@ fn certificates_are_checked(rt: HostRuntime) -> Result<(), Fail> {
             4,
             Some(3),
         ),
+        (
+            "run 2\nbase 2304\nlevel 4 1 10\nfaulty\nstart 0 000000\nstart 1 000000\nstart 2 000000\nstart 3 000000\nrow 0 0 0 0 0\nera 1 3\nrow 1 1 1 1 *\nlie 3 0 000a00\nlie 3 1 586500\nlie 3 2 0f2180\nrow 2 2 2 2 *\nlie 3 0 000a00\nlie 3 1 000a00\nlie 3 2 6dea00\nrow 3 3 3 3 *\nend\n",
+            4,
+            Some(2),
+        ),
     ] {
         let found = answer(rt.alloc(), text, 1 << 44);
         assert_eq!(rt; found, Ok(Verdict::True { rows, locked }), "at {text}");

@@ -1,7 +1,6 @@
-use Rattle.std.proofs.Common.{◌≡◌, ◌<◌, ◌+◌, ◌*◌, length, sym, ap, ◌∙◌, subst, arith}
+use Rattle.std.proofs.Common.{◌≡◌, ◌<◌, ◌+◌, ◌*◌, length, ap, ◌∙◌, subst, arith}
 use Rattle.sync_types.specs.States.{State}
 use Rattle.construction.specs.Steps.{state_of}
-use Rattle.round_runner.proofs.Places.{read_at}
 use Rattle.run_checker.specs.Hearing.{Lays}
 use Rattle.run_checker.proofs.HeardLaid.{none_laid, one_laid, deep_at, told_within}
 use Rattle.run_checker.proofs.hearing.lay_told.Goals as goal

@@ -1,4 +1,4 @@
-use Rattle.std.proofs.Common.{ℕ, List, length, replicate, sym, ap, ap₂, ◌∙◌, subst, arith}
+use Rattle.std.proofs.Common.{ℕ, List, length, replicate, sym, ap, ap₂, ◌∙◌, subst}
 use Rattle.std.proofs.lemmas.List.{length-replicate}
 use Rattle.sync_types.specs.States.{State, zero_state, zero_register}
 use Rattle.construction.specs.Plans.{plan_nodes, plan_depth}

@@ -11,7 +11,8 @@ compare_row-requires-clause-deep c =
 
 pub is_locked-locked-requires-clause-deep : goal.is_locked-locked-requires-clause-deep
 is_locked-locked-requires-clause-deep c =
-    shape_depth c.self.inside.tower c.self.inside.config.shape c.self.invariant.shape
+    let deep = shape_depth c.self.inside.tower c.self.inside.config.shape c.self.invariant.shape in
+    omega (arith, deep)
 
 pub returns : goal.returns
 returns c =

@@ -1,34 +1,20 @@
-use Rattle.std.proofs.Common.{ℕ, List, length, map, replicate, true, None, All, sym, ap, ap₂, ◌∙◌, subst, arith}
+use Rattle.std.proofs.Common.{◌≡◌, ◌-◌, ℕ, List, length, replicate, true, None, All, sym, ap, ap₂, ◌∙◌, subst, arith}
 use Rattle.std.proofs.lemmas.List.{length-replicate}
 use Rattle.std.specs.List.{range_with_len}
 use Rattle.sync_types.specs.FaultSets.{FaultIds}
 use Rattle.sync_types.specs.States.{State, zero_state}
-use Rattle.construction.specs.Plans.{Plan, plan_nodes, plan_depth}
+use Rattle.construction.specs.Plans.{Plan, plan_nodes}
 use Rattle.plan_numbers.specs.Premises.{IsAccepted}
 use Rattle.state_codec.specs.Packs.{Pack}
 use Rattle.state_codec.specs.Shapes.{Shape, shape_of}
 use Rattle.state_codec.proofs.Plans.{length-moduli_of}
-use Rattle.run_certificates.specs.Grammar.{pairs_of}
+use Rattle.run_certificates.specs.Grammar.{pairs_of, most_eras}
 use Rattle.run_checker.specs.Bodies.{BodySeen}
 use Rattle.run_checker.specs.Rounds.{AreStates}
-use Rattle.run_checker.specs.Tellings.{Telling, room_of}
+use Rattle.run_checker.specs.Sets.{no_ids}
+use Rattle.run_checker.specs.Tellings.{Telling, most_pairs}
 use Rattle.run_checker.proofs.BodyKept.{Below, zeros_known, no_states}
 use Rattle.run_checker.proofs.bodies.Body.new.Goals as goal
-
-pub rooms_for-requires : goal.rooms_for-requires
-rooms_for-requires c =
-    subst (All (Below (length c.in_ok-told.told.lows))) (sym c.deref.ensures.value)
-    (subst (λ (n : ℕ). All (Below n) c.in_ok-pairs.pairs.items)
-    (c.requires ∙ sym c.in_ok-told.ensures.nodes) c.in_ok-pairs.ensures.senders)
-
-pub new-tellings-requires-clause-rooms : goal.new-tellings-requires-clause-rooms
-new-tellings-requires-clause-rooms c =
-    c.in_ok-rooms.ensures ∙ ap (map (room_of c.in_ok-told.told)) c.deref.ensures.value
-
-pub new-tellings-requires-clause-senders : goal.new-tellings-requires-clause-senders
-new-tellings-requires-clause-senders c =
-    subst (λ (n : ℕ). All (Below n) c.in_ok-pairs.pairs.items)
-    (c.requires ∙ sym c.in_ok-told.ensures.nodes) c.in_ok-pairs.ensures.senders
 
 pub invariant_of-result : goal.invariant_of-result
 invariant_of-result c =
@@ -37,8 +23,8 @@ invariant_of-result c =
     let nodes = ap plan_nodes plan in
     let accepted = subst IsAccepted c.tower.view_is c.tower.invariant.accepted in
     let count = c.nodes-2.ensures ∙ sym nodes in
-    let faulty = c.requires ∙ sym nodes in
-    let told = c.new-tellings.ensures in
+    let faulty = c.requires.nodes ∙ sym nodes in
+    let told = c.in_ok-tellings.ensures.value in
     record {
       shape = ap (λ (p : Pack). p.shape) c.in_ok-config.ensures
           ∙ (c.in_ok-shape.ensures.shape ∙ sym (ap shape_of plan));
@@ -46,25 +32,27 @@ invariant_of-result c =
       unknown = ap (λ (s : FaultIds). s.nodes) c.in_ok-unknown.ensures ∙ (c.nodes.ensures ∙ sym nodes);
       size = ap (λ (p : Pack). length p.current) c.in_ok-config.ensures
           ∙ (length-replicate c.nodes-2.result _ ∙ count);
-      pairs = ap (λ (t : Telling). t.pairs) told
-          ∙ (c.in_ok-pairs.ensures.pairs ∙ ap (λ (n : ℕ). pairs_of n c.args.faulty.ids) faulty);
-      senders = subst (λ (n : ℕ). All (Below n) c.new-tellings.result.pairs) faulty
-          (subst (All (Below c.args.faulty.nodes)) (sym (ap (λ (t : Telling). t.pairs) told)) c.in_ok-pairs.ensures.senders);
-      kept = ap (λ (t : Telling). t.shape) told
-          ∙ (c.in_ok-told.ensures.shape ∙ sym (ap shape_of plan));
+      pairs = ap (λ (t : Telling). t.pairs) told ∙ ap (λ (n : ℕ). pairs_of n c.args.faulty.ids) (sym nodes);
+      senders = subst (λ (n : ℕ). All (Below n) c.in_ok-tellings.tellings.pairs) (sym nodes)
+          c.in_ok-tellings.ensures.senders;
+      kept = ap (λ (t : Telling). t.shape) told ∙ sym (ap shape_of plan);
       told = subst (AreStates tower) (sym (ap (λ (t : Telling). t.states) told)) (no_states tower accepted);
+      most = ap (λ (t : Telling). t.room) told ∙ sym (ap most_pairs plan);
       room = c.in_ok-room.ensures;
+      sets = subst (λ (n : ℕ). All (λ (set : FaultIds). set ≡ no_ids n) c.in_ok-sets.sets.items)
+          (c.nodes-3.ensures ∙ sym nodes) c.in_ok-sets.ensures.empty;
+      eras = omega (arith, c.in_ok-sets.ensures.count, c.most_eras.ensures);
       from = omega arith;
       at = omega arith;
     }
 
 pub returns : goal.returns
 returns c =
-    let view : Plan → List State → List ℕ → List State → BodySeen = λ plan config unknown told. record {
+    let view : Plan → (eras : ℕ) → List State → List ℕ → List State → BodySeen = λ plan eras config unknown told. record {
       known = record {
         version = c.args.version;
         plan = plan;
-        eras = 0;
+        eras = eras;
         at = 0;
         stand = record { faulty = c.args.faulty.ids; config = config };
         differs = None;
@@ -82,6 +70,8 @@ returns c =
     ∙ (ap₂ (λ (n d : ℕ). replicate n (zero_state d)) c.nodes-2.ensures depth
     ∙ zeros_known plan c.args.faulty.ids) in
     let unknown = ap (λ (s : FaultIds). s.ids) c.in_ok-unknown.ensures ∙ ap (range_with_len 0) c.nodes.ensures in
-    ap (λ (p : Plan). view p c.in_ok-config.config.current c.in_ok-unknown.unknown.ids c.new-tellings.result.states) c.in_ok-tower.ensures.plan
-    ∙ ap₂ (λ config unknown. view plan config unknown c.new-tellings.result.states) zeros unknown
-    ∙ ap (view plan _ _) (ap (λ (t : Telling). t.states) c.new-tellings.ensures)
+    let eras : most_eras c.args.version - length c.in_ok-sets.sets.items ≡ 0 =
+    omega (arith, c.in_ok-sets.ensures.count, c.most_eras.ensures) in
+    ap₂ (λ p eras. view p eras c.in_ok-config.config.current c.in_ok-unknown.unknown.ids c.in_ok-tellings.tellings.states) c.in_ok-tower.ensures.plan eras
+    ∙ ap₂ (λ config unknown. view plan 0 config unknown c.in_ok-tellings.tellings.states) zeros unknown
+    ∙ ap (view plan 0 _ _) (ap (λ (t : Telling). t.states) c.in_ok-tellings.ensures.value)

@@ -1,12 +1,12 @@
-use Rattle.std.proofs.Common.{◌+◌, List, length, All, subst, refl, sym, ap, ap₂, ◌∙◌, arith}
+use Rattle.std.proofs.Common.{◌+◌, ◌-◌, List, length, All, subst, refl, sym, ap, ap₂, ◌∙◌}
 use Rattle.std.proofs.lemmas.List.FromFn.{length-map-range_with_len}
 use Rattle.sync_types.specs.States.{State}
 use Rattle.construction.specs.Plans.{plan_nodes}
+use Rattle.run_certificates.specs.Grammar.{most_eras}
 use Rattle.run_certificates.specs.Checking.{all_told}
 use Rattle.run_checker.specs.Tellings.{Telling}
 use Rattle.run_checker.specs.Bodies.{BodySeen}
-use Rattle.run_checker.specs.Hearing.{IsRound}
-use Rattle.run_checker.specs.Rounds.{AreStates, stepped_all}
+use Rattle.run_checker.specs.Rounds.{AreStates}
 use Rattle.run_checker.specs.Changes.{played_on}
 use Rattle.run_checker.proofs.Attributed.{stepped_is}
 use Rattle.run_checker.proofs.BodyKept.{Below, round_of, none_are, round_left}
@@ -28,7 +28,7 @@ returns c =
       known = record {
         version = c.self.inside.version;
         plan = c.self.inside.tower;
-        eras = c.self.inside.eras;
+        eras = most_eras c.self.inside.version - length c.self.inside.sets.items;
         at = c.self.inside.at + 1;
         stand = record { faulty = c.self.inside.faulty.ids; config = config };
         differs = c.self.inside.differs;
@@ -59,7 +59,10 @@ invariant_of-self c =
       kept = ap (λ (t : Telling). t.shape) c.clear.ensures ∙ i.kept;
       told = subst (AreStates c.self.inside.tower)
           (sym (ap (λ (t : Telling). t.states) c.clear.ensures)) (none_are c.self.inside.tower);
+      most = ap (λ (t : Telling). t.room) c.clear.ensures ∙ i.most;
       room = c.play.ensures.room;
+      sets = i.sets;
+      eras = i.eras;
       from = i.from;
       at = round_left c.self.inside.at _ _
           (ap (λ (b : BodySeen). all_told b.known b.told) c.self.view_is ∙ c.requires);

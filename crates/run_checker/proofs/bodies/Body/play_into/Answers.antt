@@ -1,49 +1,33 @@
-use Rattle.std.proofs.Common.{◌+◌, ℕ, List, true, None, length, map, All, subst, refl, sym, ap, ap₂, ◌∙◌, arith}
+use Rattle.std.proofs.Common.{◌+◌, ◌-◌, ℕ, List, true, None, length, All, subst, refl, sym, ap, ap₂, ◌∙◌, arith}
 use Rattle.std.proofs.lemmas.List.FromFn.{length-map-range_with_len}
 use Rattle.sync_types.specs.States.{State}
-use Rattle.construction.specs.Plans.{plan_nodes}
-use Rattle.run_certificates.specs.Grammar.{pairs_of}
+use Rattle.construction.specs.Plans.{plan_nodes, plan_faults}
+use Rattle.run_certificates.specs.Grammar.{pairs_of, most_eras}
 use Rattle.sync_types.specs.FaultSets.{FaultIds}
 use Rattle.run_certificates.specs.Checking.{all_told}
-use Rattle.state_codec.specs.Shapes.{Shape}
-use Rattle.run_checker.specs.Tellings.{Telling, room_of}
+use Rattle.run_checker.specs.Tellings.{Telling}
 use Rattle.run_checker.specs.Bodies.{BodySeen}
-use Rattle.run_checker.specs.Hearing.{IsRound}
-use Rattle.run_checker.specs.Rounds.{AreStates, stepped_all}
-use Rattle.run_checker.specs.Changes.{renewed_with}
+use Rattle.run_checker.specs.Rounds.{AreStates}
+use Rattle.run_checker.specs.Changes.{played_into}
 use Rattle.run_checker.proofs.Attributed.{stepped_is}
 use Rattle.run_checker.proofs.BodyKept.{Below, shape_nodes, round_of, none_are, round_left}
+use Rattle.run_checker.proofs.Rooms.{pairs_few}
 use Rattle.run_checker.proofs.bodies.Body.play_into.Goals as goal
 
-pub overflow_add-self : goal.overflow_add-self
-overflow_add-self c =
-    let eras = ap (λ (b : BodySeen). b.known.eras) c.self.view_is in
-    omega (arith, c.requires.eras, eras)
+pub begin-requires-clause-nodes : goal.begin-requires-clause-nodes
+begin-requires-clause-nodes c =
+    c.requires.nodes
+    ∙ sym (ap (λ (b : BodySeen). plan_nodes b.known.plan) c.self.view_is)
+    ∙ sym (shape_nodes c.self.inside.tower c.self.inside.tellings.shape c.self.invariant.kept)
 
-pub rooms_for-requires : goal.rooms_for-requires
-rooms_for-requires c =
+pub begin-requires-clause-room : goal.begin-requires-clause-room
+begin-requires-clause-room c =
     let nodes = c.requires.nodes
     ∙ sym (ap (λ (b : BodySeen). plan_nodes b.known.plan) c.self.view_is) in
-    let lows = shape_nodes c.self.inside.tower c.shape.result.now
-    (c.shape.ensures ∙ c.self.invariant.shape) in
-    subst (All (Below (length c.shape.result.now.lows))) (sym c.deref.ensures.value)
-    (subst (λ (n : ℕ). All (Below n) c.in_ok-pairs.pairs.items) (nodes ∙ sym lows)
-    c.in_ok-pairs.ensures.senders)
-
-pub begin-requires-clause-senders : goal.begin-requires-clause-senders
-begin-requires-clause-senders c =
-    let nodes = c.requires.nodes
-    ∙ sym (ap (λ (b : BodySeen). plan_nodes b.known.plan) c.self.view_is) in
-    let lows = shape_nodes c.self.inside.tower c.self.inside.tellings.shape c.self.invariant.kept in
-    subst (λ (n : ℕ). All (Below n) c.in_ok-pairs.pairs.items) (nodes ∙ sym lows)
-    c.in_ok-pairs.ensures.senders
-
-pub begin-requires-clause-rooms : goal.begin-requires-clause-rooms
-begin-requires-clause-rooms c =
-    c.in_ok-rooms.ensures
-    ∙ ap (map (room_of c.shape.result.now)) c.deref.ensures.value
-    ∙ ap (λ (f : Shape). map (room_of f) c.in_ok-pairs.pairs.items)
-    (c.shape.ensures ∙ c.self.invariant.shape ∙ sym c.self.invariant.kept)
+    let faults = ap (λ (b : BodySeen). plan_faults b.known.plan) c.self.view_is in
+    let few = pairs_few c.self.inside.tower c.tell.ensures c.args.faulty nodes c.tell-2.ensures
+    (omega (arith, c.requires.few, faults)) in
+    omega (arith, few, c.self.invariant.most)
 
 pub play-requires-clause-round : goal.play-requires-clause-round
 play-requires-clause-round c =
@@ -61,7 +45,7 @@ returns c =
       known = record {
         version = c.self.inside.version;
         plan = c.self.inside.tower;
-        eras = c.self.inside.eras + 1;
+        eras = most_eras c.self.inside.version - length c.self.inside.sets.items;
         at = c.self.inside.at + 1;
         stand = record { faulty = faulty.ids; config = config };
         differs = c.self.inside.differs;
@@ -76,31 +60,33 @@ returns c =
     ∙ (stepped_is c.self.inside.tower c.self.inside.faulty.ids
     c.args.faulty.ids c.self.inside.config.current _ c.self.inside.tellings.states refl) in
     ap₂ (λ f u. view f u c.play.new.config.current c.begin.new.self.states) c.replace.ensures.after c.replace.ensures.value
-    ∙ ap₂ (view c.args.faulty c.self.inside.faulty) config (ap (λ (t : Telling). t.states) c.begin.ensures)
-    ∙ ap (λ (b : BodySeen). renewed_with b c.args.faulty.ids) c.self.view_is
+    ∙ ap₂ (view c.args.faulty c.self.inside.faulty) config (ap (λ (t : Telling). t.states) c.begin.ensures.value)
+    ∙ ap (λ (b : BodySeen). played_into b c.args.faulty.ids) c.self.view_is
 
 pub invariant_of-self : goal.invariant_of-self
 invariant_of-self c =
     let i = c.self.invariant in
     let nodes = c.requires.nodes
     ∙ sym (ap (λ (b : BodySeen). plan_nodes b.known.plan) c.self.view_is) in
-    let pairs = ap (λ (t : Telling). t.pairs) c.begin.ensures ∙ c.in_ok-pairs.ensures.pairs in
+    let begun = c.begin.ensures.value in
     record {
       shape = c.play.ensures.shape ∙ i.shape;
       faulty = ap (λ (s : FaultIds). s.nodes) c.replace.ensures.after ∙ nodes;
       unknown = ap (λ (s : FaultIds). s.nodes) c.replace.ensures.value ∙ i.faulty;
       size = ap (λ (l : List State). length l) c.play.ensures.current
           ∙ length-map-range_with_len _ 0 (plan_nodes c.self.inside.tower);
-      pairs = pairs ∙ ap (λ (n : ℕ). pairs_of n c.args.faulty.ids) nodes
+      pairs = ap (λ (t : Telling). t.pairs) begun
+          ∙ ap (λ (n : ℕ). pairs_of n c.args.faulty.ids) nodes
           ∙ ap (λ (s : FaultIds). pairs_of (plan_nodes c.self.inside.tower) s.ids)
           (sym c.replace.ensures.after);
-      senders = subst (λ (n : ℕ). All (Below n) c.begin.new.self.pairs) nodes
-          (subst (All (Below c.args.faulty.nodes))
-          (sym (ap (λ (t : Telling). t.pairs) c.begin.ensures)) c.in_ok-pairs.ensures.senders);
-      kept = ap (λ (t : Telling). t.shape) c.begin.ensures ∙ i.kept;
+      senders = subst (λ (n : ℕ). All (Below n) c.begin.new.self.pairs) nodes c.begin.ensures.senders;
+      kept = ap (λ (t : Telling). t.shape) begun ∙ i.kept;
       told = subst (AreStates c.self.inside.tower)
-          (sym (ap (λ (t : Telling). t.states) c.begin.ensures)) (none_are c.self.inside.tower);
+          (sym (ap (λ (t : Telling). t.states) begun)) (none_are c.self.inside.tower);
+      most = ap (λ (t : Telling). t.room) begun ∙ i.most;
       room = c.play.ensures.room;
+      sets = i.sets;
+      eras = i.eras;
       from = omega arith;
       at = round_left c.self.inside.at _ _
           (ap (λ (b : BodySeen). all_told b.known b.told) c.self.view_is ∙ c.requires.told);

@@ -56,6 +56,7 @@ invariant_of-self c =
       senders = i.senders;
       kept = i.kept;
       told = i.told;
+      most = i.most;
       room = record {
         size = i.room.size;
         lies = i.room.lies;
@@ -63,6 +64,8 @@ invariant_of-self c =
         shared = i.room.shared;
         out = node_deep c.self.inside.tower c.tell.ensures c.args.v lt c.read_hex.new.out range;
       };
+      sets = i.sets;
+      eras = i.eras;
       from = omega (arith, lt);
       at = i.at;
     }

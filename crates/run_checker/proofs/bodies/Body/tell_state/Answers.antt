@@ -1,6 +1,5 @@
 use Rattle.std.proofs.Common.{◌<◌, ℕ, List, length, get_or, All, sym, ap, ◌∙◌, subst, arith}
 use Rattle.construction.specs.Plans.{plan_nodes}
-use Rattle.run_certificates.specs.Grammar.{pairs_of}
 use Rattle.run_checker.specs.Bodies.{BodySeen}
 use Rattle.run_checker.specs.Changes.{next_sender}
 use Rattle.run_checker.proofs.BodyKept.{told_kept}
@@ -25,7 +24,10 @@ invariant_of-self c =
       senders = subst (All (λ pair. pair.0 < plan_nodes c.self.inside.tower)) (sym k.pairs) i.senders;
       kept = k.kept ∙ i.kept;
       told = k.states;
+      most = k.room ∙ i.most;
       room = i.room;
+      sets = i.sets;
+      eras = i.eras;
       from = i.from;
       at = i.at;
     }

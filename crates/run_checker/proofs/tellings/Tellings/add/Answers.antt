@@ -1,6 +1,6 @@
 use Rattle.std.proofs.Common.{◌<◌, length, sym, ap, ◌∙◌, arith}
 use Rattle.run_checker.specs.Tellings.{Telling}
-use Rattle.run_checker.proofs.StatesRead.{length_told, as_many, adds_none_at, fit_room, adds_kept_at, adds_one_at}
+use Rattle.run_checker.proofs.StatesRead.{length_told, adds_none_at, fit_room, adds_kept_at, adds_one_at}
 use Rattle.run_checker.proofs.tellings.Tellings.add.Goals as goal
 
 pub index-requires : goal.index-requires
@@ -11,7 +11,7 @@ index-requires c =
     let pairs = ap (λ (t : Telling). length t.pairs) c.self.view_is in
     let more : c.self.inside.count < length c.self.inside.pairs.items =
     omega (arith, c.requires, long, seen, pairs) in
-    let many = as_many c.self.inside.shape c.self.inside.pairs.items c.self.inside.digits.items c.self.inside.count c.self.invariant in
+    let many = c.self.invariant.many in
     omega (arith, more, many)
 
 pub index_mut-requires : goal.index_mut-requires
@@ -22,7 +22,7 @@ index_mut-requires c =
     let pairs = ap (λ (t : Telling). length t.pairs) c.self.view_is in
     let more : c.self.inside.count < length c.self.inside.pairs.items =
     omega (arith, c.requires, long, seen, pairs) in
-    let many = as_many c.self.inside.shape c.self.inside.pairs.items c.self.inside.digits.items c.self.inside.count c.self.invariant in
+    let many = c.self.invariant.many in
     omega (arith, more, many)
 
 pub returns-then-not-fit : goal.returns-then-not-fit

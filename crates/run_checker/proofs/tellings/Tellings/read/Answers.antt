@@ -2,7 +2,7 @@ use Rattle.std.proofs.Common.{◌<◌, length, sym, ap, ◌∙◌, arith}
 use Rattle.std.proofs.lemmas.Bool.{true≢false}
 use Rattle.construction.specs.Steps.{state_of}
 use Rattle.run_checker.specs.Tellings.{Telling}
-use Rattle.run_checker.proofs.StatesRead.{length_told, as_many, sender_below, is_read, read_is}
+use Rattle.run_checker.proofs.StatesRead.{length_told, sender_below, is_read, read_is}
 use Rattle.run_checker.proofs.tellings.Tellings.read.Goals as goal
 
 pub index-requires : goal.index-requires
@@ -21,7 +21,7 @@ index-requires-2 c =
     let seen = ap (λ (t : Telling). length t.states) c.self.view_is in
     let lt : c.args.k < c.self.inside.count = omega (arith, c.requires.told, long, seen) in
     let fits = c.self.invariant.fits in
-    let many = as_many c.self.inside.shape c.self.inside.pairs.items c.self.inside.digits.items c.self.inside.count c.self.invariant in
+    let many = c.self.invariant.many in
     omega (arith, lt, fits, many)
 
 pub read_hex-requires-clause-node : goal.read_hex-requires-clause-node
