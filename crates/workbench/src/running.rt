@@ -67,8 +67,7 @@ fn put_front<K: TextSink>(
     requires { number.now ≡ row_number runner.now.at }
     ensures { Puts result (row_front runner.now.at) (K.Sink.told sink.old) (K.Sink.told sink.new) }
 {
-    let front = number.text();
-    sink.text(front)
+    sink.rising(number)
 }
 
 /// Writes the row of the runner's configuration, whose number is this one.
@@ -82,7 +81,7 @@ fn put_row<K: TextSink>(
 {
     put_front(sink, runner, number)?;
     put_words(sink, runner, runner.script().faulty_at(runner.at()))?;
-    sink.text(b"\n")
+    sink.byte(b'\n')
 }
 
 /// Whether a number is one of those from `first` to `last`.
