@@ -31,8 +31,11 @@ const MOST_IN_WORD: u32 = 56;
 pub struct Fields {
     base: u64,
     moduli: Vec<u64>,
-    // How many bits stand before each register, and how many all are.
+    // How many bits the number has, how many stand before each register and how many it has itself,
+    // and how many all are.
+    front: u32,
     offsets: [u32; MOST_REGISTERS],
+    sizes: [u32; MOST_REGISTERS],
     size: u32,
 }
 
@@ -44,7 +47,7 @@ impl Model for Fields {
 
     ghost view = { λ s. record { base = s.base; moduli = s.moduli.items } };
 
-    ghost invariant = { λ s. IsKept s.base s.moduli.items s.offsets s.size };
+    ghost invariant = { λ s. IsKept s.base s.moduli.items s.offsets s.sizes s.front s.size };
 }
 
 /// How many bits a register has; one that is lacking has none.
@@ -81,6 +84,19 @@ fn set_offsets(front: u32, moduli: &[u64], offsets: &mut [u32]) -> u32
     at
 }
 
+/// Puts how many bits each register has into its place.
+fn set_sizes(moduli: &[u64], sizes: &mut [u32])
+    requires moduli { All (λ modulus. modulus ≤ 2 ^ 40) moduli.now }
+    requires room { length moduli.now ≤ length sizes.old }
+    ensures sizes { (i : ℕ) → i < length moduli.now
+        → slice_index_or sizes.new i 0 ≡ register_bits (slice_index_or moduli.now i 0) }
+    ensures length { length sizes.new ≡ length sizes.old }
+{
+    for i in 0..moduli.len() {
+        sizes[i] = size_of_register(moduli[i]);
+    }
+}
+
 impl Fields {
     /// Fields of these moduli.
     pub fn new(base: u64, moduli: Vec<u64>) -> Fields
@@ -90,12 +106,17 @@ impl Fields {
         requires few { length moduli.items ≤ 16 }
         ensures { result ≡ record { base = base; moduli = moduli.items } }
     {
+        let front = bit_length(base - 1);
         let mut offsets = [0; MOST_REGISTERS];
-        let size = set_offsets(bit_length(base - 1), &moduli, &mut offsets);
+        let size = set_offsets(front, &moduli, &mut offsets);
+        let mut sizes = [0; MOST_REGISTERS];
+        set_sizes(&moduli, &mut sizes);
         Fields {
             base,
             moduli,
+            front,
             offsets,
+            sizes,
             size,
         }
     }
@@ -166,9 +187,9 @@ impl Fields {
     {
         let front = Word {
             value: state.x(),
-            count: bit_length(self.base - 1),
+            count: self.front,
         };
-        push_registers(front, &self.moduli, state)
+        push_registers(front, &self.moduli, &self.sizes, state)
     }
 
     /// Writes the bytes of a state into the place from `from` to before `to`.
@@ -232,11 +253,10 @@ impl Fields {
         requires within { start + bytes_in self.now + 8 ≤ length bytes.now }
         ensures { result ≡ (read self.now (take (bytes_in self.now) (drop start bytes.now))).x }
     {
-        let width = bit_length(self.base - 1);
-        if width == 0 {
+        if self.front == 0 {
             return 0;
         }
-        below(self.base, field_at(bytes, 8 * start, width)).unwrap_or(0)
+        below(self.base, field_at(bytes, 8 * start, self.front)).unwrap_or(0)
     }
 
     /// Register `i` of a state whose bytes begin at `start`; eight bytes more stand behind them.
@@ -251,7 +271,8 @@ impl Fields {
         if modulus == 0 {
             return ZERO;
         }
-        full_register_at(bytes, 8 * start + self.offsets[i] as usize, modulus)
+        let from = 8 * start + self.offsets[i] as usize;
+        full_register_at(bytes, from, modulus, self.sizes[i])
     }
 
     /// Reads a state whose bytes begin at `start` into `out`, which has the fields' depth; eight

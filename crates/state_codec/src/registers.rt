@@ -1,4 +1,4 @@
-ghost use Rattle.std.specs.Prelude.{◌≡◌, ◌≤◌, ◌<◌, ◌+◌, ◌*◌, ◌^◌, ◌++◌, length, drop, All, IfSome};
+ghost use Rattle.std.specs.Prelude.{◌≡◌, ◌≤◌, ◌<◌, ◌+◌, ◌*◌, ◌^◌, ◌++◌, ℕ, length, drop, All, IfSome, slice_index_or};
 ghost use Rattle.sync_types.specs.States.{zero_state};
 ghost use Rattle.construction.specs.Widths.{width};
 ghost use Rattle.bit_lists.specs.Bits.{bits, bits_of_bytes};
@@ -48,23 +48,25 @@ fn put_full(out: &mut [u8], pending: Pending, modulus: u64, register: Reg) -> Pe
     put(out, pending, bit_length(modulus) + 1, value)
 }
 
-/// Puts a register that is there behind the bits of a word.
-fn push_full(word: Word, modulus: u64, register: Reg) -> Word
+/// Puts a register that is there, of `size` bits, behind the bits of a word.
+fn push_full(word: Word, modulus: u64, size: u32, register: Reg) -> Word
     requires modulus { modulus ≤ 2 ^ 40 }
     requires value { IfSome register.a (λ a. a < modulus) }
-    requires few { word.count + (width (modulus + 1) + 1) ≤ 56 }
+    requires size { size ≡ width (modulus + 1) + 1 }
+    requires few { word.count + size ≤ 56 }
     ensures text { bits result.count result.value
         ≡ bits word.count word.value ++ full_bits modulus register }
-    ensures count { result.count ≡ word.count + (width (modulus + 1) + 1) }
+    ensures count { result.count ≡ word.count + size }
 {
     let value = full_value(modulus, register);
-    push(word, bit_length(modulus) + 1, value)
+    push(word, size, value)
 }
 
-/// Puts a register behind the bits of a word; one that is lacking has no bits.
-fn push_register(word: Word, modulus: u64, register: Reg) -> Word
+/// Puts a register of `size` bits behind the bits of a word; one that is lacking has none.
+fn push_register(word: Word, modulus: u64, size: u32, register: Reg) -> Word
     requires modulus { modulus ≤ 2 ^ 40 }
     requires value { IsField modulus register }
+    requires size { size ≡ register_bits modulus }
     requires few { word.count + register_bits modulus ≤ 56 }
     ensures text { bits result.count result.value
         ≡ bits word.count word.value ++ bits_of_register modulus register }
@@ -73,15 +75,18 @@ fn push_register(word: Word, modulus: u64, register: Reg) -> Word
     if modulus == 0 {
         word
     } else {
-        push_full(word, modulus, register)
+        push_full(word, modulus, size, register)
     }
 }
 
-/// Puts all registers behind the bits of a word.
-pub fn push_registers(start: Word, moduli: &[u64], state: &NodeState) -> Word
+/// Puts all registers, each of so many bits, behind the bits of a word.
+pub fn push_registers(start: Word, moduli: &[u64], sizes: &[u32], state: &NodeState) -> Word
     requires moduli { All (λ modulus. modulus ≤ 2 ^ 40) moduli.now }
     requires depth { length state.now.registers ≡ length moduli.now }
     requires values { AreBelow moduli.now state.now.registers }
+    requires room { length moduli.now ≤ length sizes.now }
+    requires sizes { (i : ℕ) → i < length moduli.now
+        → slice_index_or sizes.now i 0 ≡ register_bits (slice_index_or moduli.now i 0) }
     requires few { start.count + registers_bits moduli.now ≤ 56 }
     ensures text { bits result.count result.value
         ≡ bits start.count start.value ++ bits_of_registers moduli.now state.now.registers }
@@ -89,7 +94,7 @@ pub fn push_registers(start: Word, moduli: &[u64], state: &NodeState) -> Word
 {
     let mut word = start;
     for i in 0..moduli.len() {
-        word = push_register(word, moduli[i], state.reg(i));
+        word = push_register(word, moduli[i], sizes[i], state.reg(i));
     }
     word
 }
@@ -155,16 +160,17 @@ fn take_full(reader: &mut BitReader<'_>, modulus: u64) -> Reg
     }
 }
 
-/// A register that is there, whose bits begin at bit `from`; eight bytes more stand behind them.
-pub fn full_register_at(bytes: &[u8], from: usize, modulus: u64) -> Reg
+/// A register that is there, whose `size` bits begin at bit `from`; eight bytes more stand behind
+/// them.
+pub fn full_register_at(bytes: &[u8], from: usize, modulus: u64, size: u32) -> Reg
     requires least { 1 ≤ modulus }
     requires most { modulus ≤ 2 ^ 40 }
     requires small { from < 2 ^ 40 }
-    requires within { from + (width (modulus + 1) + 1) + 64 ≤ 8 * length bytes.now }
+    requires size { size ≡ width (modulus + 1) + 1 }
+    requires within { from + size + 64 ≤ 8 * length bytes.now }
     ensures { result ≡ full_register modulus (drop from (bits_of_bytes bytes.now)) }
 {
-    let width = bit_length(modulus);
-    let both = field_at(bytes, from, width + 1);
+    let both = field_at(bytes, from, size);
     Reg {
         a: below(modulus, both / 2),
         d: both % 2 == 1,

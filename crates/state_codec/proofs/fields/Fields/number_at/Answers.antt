@@ -1,16 +1,32 @@
-use Rattle.std.proofs.Common.{arith, ◌≡◌, ◌+◌, ◌-◌, ap, ◌∙◌}
+use Rattle.std.proofs.Common.{arith, ℕ, ◌≡◌, ◌+◌, ◌-◌, ◌^◌, ◌≤◌, ap, subst, ◌∙◌, take, drop}
 use Rattle.construction.specs.Widths.{width}
-use Rattle.state_codec.specs.Shapes.{Fields}
+use Rattle.state_codec.specs.Shapes.{Fields, IsFields, bytes_in}
 use Rattle.state_codec.proofs.PackedFields.{number_found}
+use Rattle.state_codec.proofs.Ranged.{read_is_in_range}
 use Rattle.state_codec.proofs.fields.Fields.number_at.Goals as goal
+
+-- a number of no bits is 0
+pub returns-then-self-eq0 : goal.returns-then-self-eq0
+returns-then-self-eq0 c =
+    let fields : Fields = c.args.self.now in
+    let range = read_is_in_range fields (take (bytes_in fields) (drop c.args.start c.args.bytes.now))
+    (subst IsFields c.self.view_is c.self.invariant.fields) in
+    omega (
+      arith,
+      range.x,
+      c.self.invariant.holds,
+      ap (λ (f : Fields). f.base) c.self.view_is,
+      ap (λ (k : ℕ). 2 ^ k) c.if-self-eq0.true,
+    )
+
+pub field_at-requires-clause-most : goal.field_at-requires-clause-most
+field_at-requires-clause-most c = omega (arith, c.self.invariant.short)
 
 pub returns : goal.returns
 returns c =
-    let least = c.self.invariant.fields.least in
     let base : c.self.inside.base ≡ c.args.self.now.base =
     ap (λ (f : Fields). f.base) c.self.view_is in
-    let same : c.self.inside.base - 1 + 1 ≡ c.args.self.now.base = omega (arith, base) in
     number_found c.args.self.now c.args.bytes.now c.args.start (omega (arith, c.requires.within))
-    c.self.inside.base c.bit_length-width.result c.field_at.result c.below.result c.unwrap_or.result
-    base (c.bit_length-width.ensures.value ∙ ap width same) c.field_at.ensures c.below.ensures
+    c.self.inside.base c.self.inside.front c.field_at.result c.below.result c.unwrap_or.result
+    base (c.self.invariant.first ∙ ap width base) c.field_at.ensures c.below.ensures
     c.unwrap_or.ensures
