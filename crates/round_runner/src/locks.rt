@@ -1,6 +1,6 @@
-ghost use Rattle.std.specs.Prelude.{◌≡◌, ◌<◌, ◌≤◌, length};
+ghost use Rattle.std.specs.Prelude.{◌≡◌, ◌<◌, ◌≤◌, None, length};
 ghost use Rattle.construction.specs.Plans.{plan_nodes, plan_depth};
-ghost use Rattle.round_runner.specs.Locks.{are_locked, correct_registers, first_value, is_locked, is_locked_at};
+ghost use Rattle.round_runner.specs.Locks.{are_locked, correct_registers, first_of, first_value, is_locked, is_locked_at};
 ghost use Rattle.std.specs.List.{list_all};
 
 use counter_core::Counter;
@@ -57,8 +57,8 @@ fn are_locked(level: usize, faulty: &FaultSet, config: &Packed) -> bool
     all_locked_at(level, value, faulty, config)
 }
 
-/// Whether a configuration of a plan is locked: the top registers of all correct nodes are one,
-/// finite and marked.
+/// Whether a configuration of a plan's nodes is locked: the top registers of all correct ones are
+/// one, finite and marked. Without levels each one is.
 pub fn is_locked(tower: &Tower, faulty: &FaultSet, config: &Packed) -> bool
     requires nodes { faulty.now.nodes ≡ plan_nodes tower.now }
     requires size { length config.now.current ≡ faulty.now.nodes }
@@ -68,5 +68,39 @@ pub fn is_locked(tower: &Tower, faulty: &FaultSet, config: &Packed) -> bool
     match tower.depth() {
         0 => true,
         depth => are_locked(depth - 1, faulty, config),
+    }
+}
+
+/// The number of this configuration, if it is locked.
+pub fn lock_of(tower: &Tower, faulty: &FaultSet, config: &Packed, at: u64) -> Option<u64>
+    requires nodes { faulty.now.nodes ≡ plan_nodes tower.now }
+    requires size { length config.now.current ≡ faulty.now.nodes }
+    requires deep { plan_depth tower.now ≤ length config.now.shape.moduli }
+    ensures { result ≡ first_of None (is_locked tower.now faulty.now.ids config.now.current) at }
+{
+    if is_locked(tower, faulty, config) {
+        Some(at)
+    } else {
+        None
+    }
+}
+
+/// The first locked configuration so far: that which was known before, or this one, of that number,
+/// if it is locked.
+pub fn locked_so_far(
+    known: Option<u64>,
+    tower: &Tower,
+    faulty: &FaultSet,
+    config: &Packed,
+    at: u64,
+) -> Option<u64>
+    requires nodes { faulty.now.nodes ≡ plan_nodes tower.now }
+    requires size { length config.now.current ≡ faulty.now.nodes }
+    requires deep { plan_depth tower.now ≤ length config.now.shape.moduli }
+    ensures { result ≡ first_of known (is_locked tower.now faulty.now.ids config.now.current) at }
+{
+    match known {
+        Some(_) => known,
+        None => lock_of(tower, faulty, config, at),
     }
 }

@@ -18,14 +18,14 @@ ghost use Rattle.round_runner.specs.Played.{heard_at};
 ghost use Rattle.round_runner.specs.Rooms.{IsReady};
 ghost use Rattle.round_runner.specs.Scenes.{layer_step, state_behind, kept_at};
 
-use crate::stepping::{Room, step_node};
+use crate::stepping::{Room, step_alone, step_with};
 use adversary_script::Script;
 use counter_core::Overlay;
 use majority_votes::Steps;
 use state_codec::Packed;
 use std::sync::ledger::Ledger;
 use sync_types::{FaultSet, NodeState};
-use tower::{Shared, Tower};
+use tower::Tower;
 
 /// Lays the current states into their places.
 fn lay(states: &Packed, heard: &mut [NodeState])
@@ -81,8 +81,72 @@ fn put_at(script: &Script, t: u64, begins: Option<usize>, v: u32, out: &mut Node
     }
 }
 
-/// The step of node `v` in round `t`, from the current states to its next one. Where an era begins
-/// behind the round, the node is put into the state that it gives it.
+/// Makes the new state of node `v` its next one, or that into which it is put at configuration `t`,
+/// with which that further era begins.
+fn put_behind(
+    script: &Script,
+    t: u64,
+    begins: Option<usize>,
+    v: u32,
+    out: &mut NodeState,
+    states: &mut Packed,
+)
+    requires script { IsScript script.now }
+    requires begins { BeginsAt script.now t begins }
+    requires node { v < length states.old.next }
+    requires shape { states.old.shape ≡ script.now.shape }
+    requires range { InRange (fields_at script.now.shape v) out.old }
+    ensures range { InRange (fields_at script.now.shape v) out.new }
+    ensures states { states.new ≡ record states.old {
+      next = slice_set states.old.next v (unwrap_or (hit_at script.now t v) out.old);
+    } }
+{
+    put_at(script, t, begins, v, out);
+    states.put(v, out);
+}
+
+/// The step of node `v` in round `t` where states are numbers alone, from the current states to its
+/// next one. Where an era begins behind the round, the node is put into the state that it gives it.
+fn step_one_alone<O: Overlay>(
+    tower: &Tower,
+    overlay: &mut O,
+    script: &Script,
+    t: u64,
+    begins: Option<usize>,
+    v: u32,
+    room: &mut Room,
+    states: &mut Packed,
+)
+    requires script { IsScript script.now }
+    requires fits { Fits script.now.shape (plan_meaning tower.now) (IsInRange tower.now)
+        (O.layer overlay.old) }
+    requires over { StandsOver (O.layer overlay.old) (plan_meaning tower.now) }
+    requires deaf { IsDeaf (O.layer overlay.old) }
+    requires nodes { script.now.nodes ≡ plan_nodes tower.now }
+    requires round { t < script.now.rounds }
+    requires begins { BeginsAt script.now (t + 1) begins }
+    requires node { v < script.now.nodes }
+    requires shape { states.old.shape ≡ script.now.shape }
+    requires size { length states.old.current ≡ script.now.nodes }
+    requires alone { length script.now.shape.moduli ≡ 0 }
+    requires room { IsReady tower.now script.now room.old }
+    ensures states { states.new ≡ record states.old {
+      next = slice_set states.old.next v (state_behind (plan_meaning tower.now) script.now
+          (O.layer overlay.old) t states.old.current (O.kept overlay.old) v);
+    } }
+    ensures layer { O.layer overlay.new ≡ O.layer overlay.old }
+    ensures kept { O.kept overlay.new ≡ slice_set (O.kept overlay.old) v
+        (layer_step (plan_meaning tower.now) (O.layer overlay.old) (O.kept overlay.old) v
+        (heard_at script.now t states.old.current v)).kept }
+    ensures room { IsReady tower.now script.now room.new }
+{
+    states.tell();
+    step_alone(tower, overlay, script, t, v, room, states);
+    put_behind(script, t + 1, begins, v, &mut room.out, states);
+}
+
+/// The step of node `v` in round `t` where states have registers, from the current states to its
+/// next one. Where an era begins behind the round, the node is put into the state that it gives it.
 fn step_one<O: Overlay, G: Ledger>(
     tower: &Tower,
     overlay: &mut O,
@@ -107,8 +171,9 @@ fn step_one<O: Overlay, G: Ledger>(
     requires node { v < script.now.nodes }
     requires shape { states.old.shape ≡ script.now.shape }
     requires size { length states.old.current ≡ script.now.nodes }
+    requires registers { 0 < length script.now.shape.moduli }
     requires room { IsReady tower.now script.now room.old }
-    requires stands { 0 < length script.now.shape.moduli → room.old.shared
+    requires stands { room.old.shared
         ≡ stands_for tower.now states.old.current (faulty_at script.now t) }
     requires honest { 0 < (O.layer overlay.old).extra
         → AreHonest script.now t states.old.current room.old.heard.items }
@@ -128,32 +193,94 @@ fn step_one<O: Overlay, G: Ledger>(
         + 3 * plan_depth tower.now * length (faulty_at script.now t) }
 {
     states.tell();
-    step_node(tower, overlay, script, faulty, t, v, room, states, steps);
-    put_at(script, t + 1, begins, v, &mut room.out);
-    states.put(v, &room.out);
+    step_with(tower, overlay, script, faulty, t, v, room, states, steps);
+    put_behind(script, t + 1, begins, v, &mut room.out, states);
 }
 
-/// Counts the correct nodes of the current states, where states have registers.
-fn gather_where<G: Ledger>(
+/// The steps of all nodes in round `t` where states are numbers alone.
+fn step_numbers<O: Overlay>(
     tower: &Tower,
-    states: &Packed,
-    faulty: &FaultSet,
-    shared: &mut Shared,
+    overlay: &mut O,
+    script: &Script,
+    t: u64,
+    begins: Option<usize>,
+    room: &mut Room,
+    states: &mut Packed,
+)
+    requires script { IsScript script.now }
+    requires fits { Fits script.now.shape (plan_meaning tower.now) (IsInRange tower.now)
+        (O.layer overlay.old) }
+    requires over { StandsOver (O.layer overlay.old) (plan_meaning tower.now) }
+    requires deaf { IsDeaf (O.layer overlay.old) }
+    requires nodes { script.now.nodes ≡ plan_nodes tower.now }
+    requires round { t < script.now.rounds }
+    requires begins { BeginsAt script.now (t + 1) begins }
+    requires alone { length script.now.shape.moduli ≡ 0 }
+    requires shape { states.old.shape ≡ script.now.shape }
+    requires size { length states.old.current ≡ script.now.nodes }
+    requires room { IsReady tower.now script.now room.old }
+    ensures states { states.new ≡ record states.old {
+      next = map (state_behind (plan_meaning tower.now) script.now (O.layer overlay.old) t
+          states.old.current (O.kept overlay.old)) (range_with_len 0 script.now.nodes);
+    } }
+    ensures layer { O.layer overlay.new ≡ O.layer overlay.old }
+    ensures kept { O.kept overlay.new ≡ map (kept_at (plan_meaning tower.now) script.now
+        (O.layer overlay.old) t states.old.current (O.kept overlay.old))
+        (range_with_len 0 (length (O.kept overlay.old))) }
+    ensures room { IsReady tower.now script.now room.new }
+{
+    states.tell();
+    for v in 0..states.nodes() {
+        step_one_alone(tower, overlay, script, t, begins, v, room, states);
+    }
+}
+
+/// The steps of all nodes in round `t` where states have registers: what all receivers share is
+/// counted once.
+fn step_sharing<O: Overlay, G: Ledger>(
+    tower: &Tower,
+    overlay: &mut O,
+    script: &Script,
+    t: u64,
+    begins: Option<usize>,
+    room: &mut Room,
+    states: &mut Packed,
     steps: &mut Steps<G>,
 )
-    requires plan { shared.old.plan ≡ tower.now }
-    requires size { length states.now.current ≡ plan_nodes tower.now }
-    requires deep { plan_depth tower.now ≤ length states.now.shape.moduli }
-    requires range { All (IsInRange tower.now) states.now.current }
-    requires ids { All (λ id. id < plan_nodes tower.now) faulty.now.ids }
-    ensures plan { shared.new.plan ≡ tower.now }
-    ensures stands { 0 < length states.now.shape.moduli
-        → shared.new ≡ stands_for tower.now states.now.current faulty.now.ids }
+    requires script { IsScript script.now }
+    requires accepted { IsAccepted tower.now }
+    requires fits { Fits script.now.shape (plan_meaning tower.now) (IsInRange tower.now)
+        (O.layer overlay.old) }
+    requires over { StandsOver (O.layer overlay.old) (plan_meaning tower.now) }
+    requires deaf { IsDeaf (O.layer overlay.old) }
+    requires nodes { script.now.nodes ≡ plan_nodes tower.now }
+    requires borne { IsBorne tower.now (faulty_at script.now t) }
+    requires round { t < script.now.rounds }
+    requires begins { BeginsAt script.now (t + 1) begins }
+    requires registers { 0 < length script.now.shape.moduli }
+    requires shape { states.old.shape ≡ script.now.shape }
+    requires size { length states.old.current ≡ script.now.nodes }
+    requires room { IsReady tower.now script.now room.old }
+    ensures states { states.new ≡ record states.old {
+      next = map (state_behind (plan_meaning tower.now) script.now (O.layer overlay.old) t
+          states.old.current (O.kept overlay.old)) (range_with_len 0 script.now.nodes);
+    } }
+    ensures layer { O.layer overlay.new ≡ O.layer overlay.old }
+    ensures kept { O.kept overlay.new ≡ map (kept_at (plan_meaning tower.now) script.now
+        (O.layer overlay.old) t states.old.current (O.kept overlay.old))
+        (range_with_len 0 (length (O.kept overlay.old))) }
+    ensures room { IsReady tower.now script.now room.new }
     ensures cost { steps.new ≤ steps.old
-        + 3 * plan_depth tower.now * (plan_nodes tower.now - length faulty.now.ids) }
+        + 3 * plan_depth tower.now * plan_nodes tower.now * (plan_faults tower.now + 1) }
 {
-    if states.shape().depth() > 0 {
-        tower.gather(states, faulty, shared, steps);
+    states.tell();
+    let faulty = script.faulty_at(t);
+    lay_where(overlay.extra() > 0, script, t, states, &mut room.heard);
+    tower.gather(states, faulty, &mut room.shared, steps);
+    for v in 0..states.nodes() {
+        step_one(
+            tower, overlay, script, faulty, t, begins, v, room, states, steps,
+        );
     }
 }
 
@@ -195,12 +322,9 @@ pub fn step_all<O: Overlay, G: Ledger>(
 {
     states.tell();
     let begins = beginning_at(script, t + 1);
-    let faulty = script.faulty_at(t);
-    lay_where(overlay.extra() > 0, script, t, states, &mut room.heard);
-    gather_where(tower, states, faulty, &mut room.shared, steps);
-    for v in 0..states.nodes() {
-        step_one(
-            tower, overlay, script, faulty, t, begins, v, room, states, steps,
-        );
+    if states.shape().depth() == 0 {
+        step_numbers(tower, overlay, script, t, begins, room, states);
+    } else {
+        step_sharing(tower, overlay, script, t, begins, room, states, steps);
     }
 }

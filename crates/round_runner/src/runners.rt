@@ -1,15 +1,14 @@
-ghost use Rattle.std.specs.Prelude.{◌≡◌, ◌<◌, ◌≤◌, None, length, replicate, IfOk};
+ghost use Rattle.std.specs.Prelude.{◌≡◌, ◌<◌, ◌≤◌, length, replicate, IfOk};
 ghost use Rattle.sync_types.specs.States.{zero_state};
 ghost use Rattle.construction.specs.Plans.{plan_depth, plan_nodes};
 ghost use Rattle.adversary_script.specs.Scripts.{IsScript};
 ghost use Rattle.state_codec.specs.Shapes.{IsShape};
 ghost use Rattle.round_runner.specs.Hearing.{AreOfNodes};
-ghost use Rattle.round_runner.specs.Locks.{is_locked, first_of};
 ghost use Rattle.round_runner.specs.Played.{starts};
 ghost use Rattle.round_runner.specs.Rooms.{IsReady};
 ghost use Rattle.round_runner.specs.Runners.{begun_locks};
 
-use crate::locks::is_locked;
+use crate::locks::{lock_of, locked_so_far};
 use crate::rounds::step_all;
 use crate::stepping::{Room, shown_at};
 use adversary_script::{Noise, Script};
@@ -52,40 +51,6 @@ impl<O: Overlay> Model for Runner<O> {
 
     ghost invariant = { λ r. IsKept r.tower r.script
         (O.layer r.overlay) r.room r.states r.locks.items r.at };
-}
-
-/// The number of this configuration, if it is locked.
-fn lock_of(tower: &Tower, faulty: &FaultSet, config: &Packed, at: u64) -> Option<u64>
-    requires nodes { faulty.now.nodes ≡ plan_nodes tower.now }
-    requires size { length config.now.current ≡ faulty.now.nodes }
-    requires deep { plan_depth tower.now ≤ length config.now.shape.moduli }
-    ensures { result ≡ first_of None (is_locked tower.now faulty.now.ids config.now.current) at }
-{
-    if is_locked(tower, faulty, config) {
-        Some(at)
-    } else {
-        None
-    }
-}
-
-/// The first locked configuration so far: that which was known before, or this one, of that number,
-/// if it is locked.
-fn locked_so_far(
-    known: Option<u64>,
-    tower: &Tower,
-    faulty: &FaultSet,
-    config: &Packed,
-    at: u64,
-) -> Option<u64>
-    requires nodes { faulty.now.nodes ≡ plan_nodes tower.now }
-    requires size { length config.now.current ≡ faulty.now.nodes }
-    requires deep { plan_depth tower.now ≤ length config.now.shape.moduli }
-    ensures { result ≡ first_of known (is_locked tower.now faulty.now.ids config.now.current) at }
-{
-    match known {
-        Some(_) => known,
-        None => lock_of(tower, faulty, config, at),
-    }
 }
 
 /// Of each era the first locked configuration so far, where configuration 0 is that one.

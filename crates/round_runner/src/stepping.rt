@@ -207,7 +207,7 @@ fn step_layer<O: Overlay>(
 
 /// The step of node `v` in round `t` where states have registers, and behind it that of the layer
 /// above.
-fn step_with<O: Overlay, G: Ledger>(
+pub fn step_with<O: Overlay, G: Ledger>(
     tower: &Tower,
     overlay: &mut O,
     script: &Script,
@@ -279,9 +279,9 @@ fn step_with<O: Overlay, G: Ledger>(
     );
 }
 
-/// The step of node `v` in round `t` where states are numbers alone, and behind it that of the layer
-/// above, which has no registers.
-fn step_alone<O: Overlay>(
+/// The step of node `v` in round `t` where states are numbers alone, and behind it that of the
+/// layer above, which has no registers.
+pub fn step_alone<O: Overlay>(
     tower: &Tower,
     overlay: &mut O,
     script: &Script,
@@ -309,8 +309,6 @@ fn step_alone<O: Overlay>(
         (layer_step (plan_meaning tower.now) (O.layer overlay.old) (O.kept overlay.old) v
         (heard_at script.now t states.now.current v)).kept }
     ensures room { IsReady tower.now script.now room.new }
-    ensures stands { room.new.shared ≡ room.old.shared }
-    ensures heard { room.new.heard ≡ room.old.heard }
 {
     states.tell();
     tower.tell();
@@ -326,55 +324,4 @@ fn step_alone<O: Overlay>(
         &mut room.work,
         &mut room.out,
     );
-}
-
-/// The step of node `v` in round `t`, and behind it that of the layer above. Where states have
-/// registers, something is shared.
-pub fn step_node<O: Overlay, G: Ledger>(
-    tower: &Tower,
-    overlay: &mut O,
-    script: &Script,
-    faulty: &FaultSet,
-    t: u64,
-    v: u32,
-    room: &mut Room,
-    states: &Packed,
-    steps: &mut Steps<G>,
-)
-    requires script { IsScript script.now }
-    requires faulty { faulty.now ≡ record { nodes = script.now.nodes; ids = faulty_at script.now t } }
-    requires fits { Fits script.now.shape (plan_meaning tower.now) (IsInRange tower.now)
-        (O.layer overlay.old) }
-    requires over { StandsOver (O.layer overlay.old) (plan_meaning tower.now) }
-    requires deaf { IsDeaf (O.layer overlay.old) }
-    requires nodes { script.now.nodes ≡ plan_nodes tower.now }
-    requires round { t < script.now.rounds }
-    requires node { v < script.now.nodes }
-    requires shape { states.now.shape ≡ script.now.shape }
-    requires size { length states.now.current ≡ script.now.nodes }
-    requires room { IsReady tower.now script.now room.old }
-    requires stands { 0 < length script.now.shape.moduli → room.old.shared
-        ≡ stands_for tower.now states.now.current (faulty_at script.now t) }
-    requires honest { 0 < (O.layer overlay.old).extra
-        → AreHonest script.now t states.now.current room.old.heard.items }
-    ensures out { room.new.out ≡ new_state (plan_meaning tower.now) (O.layer overlay.old)
-        (O.kept overlay.old) v (heard_at script.now t states.now.current v) }
-    ensures range { InRange (fields_at script.now.shape v) room.new.out }
-    ensures layer { O.layer overlay.new ≡ O.layer overlay.old }
-    ensures kept { O.kept overlay.new ≡ slice_set (O.kept overlay.old) v
-        (layer_step (plan_meaning tower.now) (O.layer overlay.old) (O.kept overlay.old) v
-        (heard_at script.now t states.now.current v)).kept }
-    ensures room { IsReady tower.now script.now room.new }
-    ensures stands { room.new.shared ≡ room.old.shared }
-    ensures honest { 0 < (O.layer overlay.old).extra
-        → AreHonest script.now t states.now.current room.new.heard.items }
-    ensures cost { steps.new ≤ steps.old
-        + 3 * plan_depth tower.now * length (faulty_at script.now t) }
-{
-    states.tell();
-    if states.shape().depth() == 0 {
-        step_alone(tower, overlay, script, t, v, room, states);
-    } else {
-        step_with(tower, overlay, script, faulty, t, v, room, states, steps);
-    }
 }

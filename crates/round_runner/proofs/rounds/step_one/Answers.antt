@@ -3,7 +3,7 @@ use Rattle.round_runner.proofs.rounds.step_one.Goals as goal
 
 pub returns-clause-room : goal.returns-clause-room
 returns-clause-room g c =
-    let room = c.step_node.ensures.room in
+    let room = c.step_with.ensures.room in
     record {
       noise = room.noise;
       heard = room.heard;
@@ -12,5 +12,5 @@ returns-clause-room g c =
       shared = room.shared;
       work = room.work;
       out = depth_of_node c.args.script.now.shape c.args.v _
-          (c.put_at.ensures.range c.step_node.ensures.range);
+          c.put_behind.ensures.range;
     }

@@ -6,7 +6,7 @@ use Rattle.adversary_script.specs.Eras.{faulty_at}
 use Rattle.round_runner.specs.Hearing.{AreHonest}
 use Rattle.round_runner.specs.Rooms.{IsReady}
 use Rattle.round_runner.proofs.Stepped.{SteppedBelow}
-use Rattle.round_runner.proofs.rounds.step_all.Given as goal
+use Rattle.round_runner.proofs.rounds.step_sharing.Given as goal
 
 abbrev pub invariant-loop-v : goal.invariant-loop-v
 invariant-loop-v g l = record {
@@ -15,8 +15,7 @@ invariant-loop-v g l = record {
       l.states.next (g.O.Overlay.layer l.overlay) (g.O.Overlay.kept l.overlay);
   fixed : l.states ≡ record l.fn.states { next = l.states.next };
   ready : IsReady l.tower l.script l.room;
-  stands : 0 < length l.script.shape.moduli
-      → l.room.shared ≡ stands_for l.tower l.fn.states.current (faulty_at l.script l.t);
+  stands : l.room.shared ≡ stands_for l.tower l.fn.states.current (faulty_at l.script l.t);
   honest : 0 < (g.O.Overlay.layer l.fn.overlay).extra
       → AreHonest l.script l.t l.fn.states.current l.room.heard.items;
   cost : l.steps ≤ l.fn.steps

@@ -16,24 +16,24 @@ use Rattle.adversary_script.specs.Eras.{faulty_at}
 use Rattle.round_runner.specs.Hearing.{HasRoom, AreHonest}
 use Rattle.round_runner.proofs.Places.{all_places}
 use Rattle.round_runner.proofs.Costs.{round_cost}
-use Rattle.round_runner.proofs.rounds.step_all.Goals as goal
+use Rattle.round_runner.proofs.rounds.step_sharing.Goals as goal
 
-pub gather_where-requires-clause-deep : goal.gather_where-requires-clause-deep
-gather_where-requires-clause-deep g c =
+pub gather-requires-clause-deep : goal.gather-requires-clause-deep
+gather-requires-clause-deep g c =
     let deep = c.requires.fits.depth in
     let same = ap (λ (s : Shape). length s.moduli) c.requires.shape in
     omega (arith, deep, same)
 
-pub gather_where-requires-clause-range : goal.gather_where-requires-clause-range
-gather_where-requires-clause-range g c =
+pub gather-requires-clause-range : goal.gather-requires-clause-range
+gather-requires-clause-range g c =
     let config = c.args.states.now.current in
     all_places (IsInRange c.args.tower.now) config (λ u lt.
     c.requires.fits.counts u (omega (arith, lt, c.requires.size, c.requires.nodes)) _
     (subst (λ (s : Shape). InRange (fields_at s u) (state_of config u)) c.requires.shape
     (c.tell.ensures.current u lt)))
 
-pub gather_where-requires-clause-ids : goal.gather_where-requires-clause-ids
-gather_where-requires-clause-ids g c =
+pub gather-requires-clause-ids : goal.gather-requires-clause-ids
+gather-requires-clause-ids g c =
     subst (λ (s : FaultIds). All (λ id. id < plan_nodes c.args.tower.now) s.ids)
     (sym c.faulty_at-faulty.ensures) c.requires.borne.ids
 
@@ -80,12 +80,11 @@ loop-v-init g c =
         heard = subst (HasRoom script) (sym is) c.lay_where.ensures.room;
         told = room.told;
         lies = room.lies;
-        shared = c.gather_where.ensures.plan;
+        shared = ap (λ (s : Shares). s.plan) c.gather.ensures.stands;
         work = room.work;
         out = room.out;
       };
-      stands = λ some. c.gather_where.ensures.stands
-          (subst (λ (s : Shape). 0 < length s.moduli) (sym c.requires.shape) some)
+      stands = c.gather.ensures.stands
           ∙ ap (λ (s : FaultIds). stands_for c.args.tower.now config s.ids)
           c.faulty_at-faulty.ensures;
       honest = λ some. subst (AreHonest script c.args.t config) (sym is)
@@ -93,7 +92,7 @@ loop-v-init g c =
           (lt-ltb 0 c.extra.result (omega (arith, some, c.extra.ensures))));
       cost =
           let ids = ap (λ (s : FaultIds). length s.ids) c.faulty_at-faulty.ensures in
-          let cost = c.gather_where.ensures.cost in
+          let cost = c.gather.ensures.cost in
           rw (sym ids) (omega (arith, cost));
     }
 
@@ -114,7 +113,7 @@ loop-v-preserved g c =
           h.stepped c.step_one.ensures.layer);
       fixed = rw (c.step_one.ensures.states, fixed) refl;
       ready = c.step_one.ensures.room;
-      stands = λ some. c.step_one.ensures.stands ∙ h.stands some;
+      stands = c.step_one.ensures.stands ∙ h.stands;
       honest = λ some. rw fixed at (c.step_one.ensures.honest (subst (λ (l : Layer _).
           0 < l.extra) (sym h.stepped.same) some));
       cost = omega (arith, c.step_one.ensures.cost, h.cost);
