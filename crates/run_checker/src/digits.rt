@@ -45,7 +45,7 @@ impl Digits {
         }
     }
 
-    /// Sets how many there are. Which ones is not known.
+    /// Sets how many there are, at most 64. They may be any digits then.
     pub fn set_count(&mut self, count: usize)
         requires { count ≤ 64 }
         ensures { length self.new ≡ count }

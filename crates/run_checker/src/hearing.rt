@@ -1,5 +1,4 @@
-ghost use Rattle.std.specs.Prelude.{◌≡◌, ◌<◌, ◌≤◌, ◌+◌, ◌*◌, true, length, take, All, slice_index};
-ghost use Rattle.sync_types.specs.FaultSets.{is_in};
+ghost use Rattle.std.specs.Prelude.{◌≡◌, ◌<◌, ◌≤◌, ◌+◌, ◌*◌, length, take, All};
 ghost use Rattle.sync_types.specs.States.{zero_state};
 ghost use Rattle.construction.specs.Plans.{plan_nodes, plan_depth};
 ghost use Rattle.construction.specs.Steps.{state_of, step_of};
