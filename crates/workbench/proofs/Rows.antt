@@ -1,6 +1,6 @@
 -- The rows that are written while a runner plays.
-use Rattle.std.proofs.Common.{◌≡◌, ℕ, ◌+◌, ◌-◌, ◌^◌, ◌<◌, ◌≤◌, ◌&&◌, cond, Bool, false, List, [], ◌++◌, drop, Result, Ok, Err, refl, sym, ap, ap₂, ◌∙◌, subst, arith}
-use Rattle.std.specs.Prelude.{nat_le, codes, decimal, OnOk}
+use Rattle.std.proofs.Common.{◌≡◌, ℕ, ◌+◌, ◌-◌, ◌≤◌, ◌&&◌, cond, Bool, false, List, [], ◌++◌, drop, Result, refl, sym, ap, ap₂, ◌∙◌, subst, arith}
+use Rattle.std.specs.Prelude.{nat_le, codes, decimal}
 use Rattle.std.specs.List.{flat_map, range_with_len}
 use Rattle.std.proofs.lemmas.List.{append_assoc, append-nil}
 use Rattle.sync_types.specs.FaultSets.{FaultIds}
@@ -8,7 +8,7 @@ use Rattle.sync_types.specs.States.{State}
 use Rattle.construction.specs.Plans.{Plan}
 use Rattle.edge_io.specs.Rising.{Labelled, labelled_text}
 use Rattle.texts.specs.Growth.{Told, Wrote, Cut, Puts}
-use Rattle.texts.proofs.Growth.{wrote_none, wrote_then, cut_then, cut_more, puts_then}
+use Rattle.texts.proofs.Growth.{wrote_none, wrote_then, cut_then, cut_more}
 use Rattle.counter_core.specs.declared.overlays.NoOverlay.{NoOverlay}
 use Rattle.counter_core.specs.NoLayers.{no_layer}
 use Rattle.adversary_script.specs.Scripts.{Script}
@@ -16,33 +16,22 @@ use Rattle.adversary_script.specs.Eras.{faulty_at}
 use Rattle.round_runner.specs.Runners.{Running, Advances}
 use Rattle.round_runner.proofs.Playing.{bare_is_played}
 use Rattle.workbench.specs.RunText.{configuration_row, row_front, row_text, rows_text}
-use Rattle.workbench.specs.Playing.{Plays, HasPlayed, row_number, shown_row}
+use Rattle.workbench.specs.Playing.{Plays, row_number, shown_row}
 use Rattle.workbench.proofs.Shown.{rows_before, row_if_shown, rows_more, rows_rest, none_before, all_before}
-
--- what holds holds where there is a value
-pub on_ok : {T E P : Type 0} (result : Result T E) → P → OnOk result P
-on_ok (Ok value) p = p
-on_ok (Err error) p = tt
 
 -- what puts a text puts one that is the same
 pub puts_same : {T E : Type 0} (r : Result T E) (s t : Told) (a b : List ℕ) → a ≡ b → Puts r a s t → Puts r b s t
 puts_same r s t a b is puts = subst (λ (text : List ℕ). Puts r text s t) is puts
 
 -- the text of a row's number is the front of the row
-pub number_text : (text : List ℕ) (n : Labelled) (t : ℕ) → text ≡ labelled_text n → n ≡ row_number t → text ≡ row_front t
-number_text text n t is same =
-    is ∙ (ap labelled_text same ∙ ap (λ (digits : List ℕ). codes "row " ++ digits) (sym (append-nil (decimal t))))
+pub number_text : (n : Labelled) (t : ℕ) → n ≡ row_number t → labelled_text n ≡ row_front t
+number_text n t same =
+    ap labelled_text same ∙ ap (λ (digits : List ℕ). codes "row " ++ digits) (sym (append-nil (decimal t)))
 
 -- the number of a row rises to that of the next
 pub number_rises : (new old : Labelled) (at next : ℕ) → new ≡ record old { value = old.value + 1 } → old ≡ row_number at → next ≡ at + 1 → new ≡ row_number next
 number_rises new old at next is same step =
     is ∙ (ap (λ (n : Labelled). record n { value = n.value + 1 }) same ∙ ap row_number (sym step))
-
--- and fits while a round is left
-pub number_fits : (n : Labelled) (at t rounds : ℕ) → n ≡ row_number at → at ≡ t → t < rounds → rounds < 2 ^ 64 → n.value < 2 ^ 64 - 1
-number_fits n at t rounds same here left fits =
-    let value : n.value ≡ at = ap (λ (n : Labelled). n.value) same in
-    omega (arith, value, here, left, fits)
 
 -- the faulty nodes that a script lends for a configuration
 pub faulty_ids : (lent : FaultIds) (read script : Script) (t at : ℕ)
@@ -106,10 +95,6 @@ module _ (plan : Plan) (script : Script) (first last : ℕ) (first_is : first �
   rows_parted = rows_rest (row_text plan script) script.first script.last (t + 1)
       ∙ (ap (λ (text : List ℕ). text ++ behind) (rows_more (row_text plan script) script.first script.last t) ∙ append_assoc (before t) here behind)
 
-  -- there is a round to play before the last configuration
-  pub has_round : (n : ℕ) → n ≡ script.rounds → t < n → r.at < r.script.rounds
-  has_round n is lt = rw (so_far.at, so_far.script_is, ← is) lt
-
   pub rows_go_on : (new : Running NoOverlay) (now : Told) → Wrote (shown_row r first last) mid now → Advances (λ o. no_layer) (λ o. []) r new → (Plays r → Plays new) → RowsSoFar plan script (t + 1) new old now
   rows_go_on new now row step played = record {
     plan_is = step.plan ∙ so_far.plan_is;
@@ -124,18 +109,8 @@ module _ (plan : Plan) (script : Script) (first last : ℕ) (first_is : first �
   rows_cut now cut = rw rows_parted (cut_then old mid now (before t) (here ++ behind) so_far.wrote (cut_more mid now here behind (rw (← row_of) cut)))
 
   -- behind the row of the last configuration nothing is left
-  pub rows_end : {T E : Type 0} (result : Result T E) (now : Told) → script.last ≤ t → Puts result (shown_row r first last) mid now → Puts result (rows_text plan script) old now
-  rows_end result now le puts =
+  pub rows_end : (now : Told) → script.last ≤ t → Wrote (shown_row r first last) mid now
+      → Wrote (rows_text plan script) old now
+  rows_end now le row =
       let all : rows_text plan script ≡ before t ++ here = sym (all_before (row_text plan script) script.first script.last (t + 1) (omega (arith, le))) ∙ rows_more (row_text plan script) script.first script.last t in
-      subst (λ (text : List ℕ). Puts result text old now) (sym all) (puts_then result old mid now (before t) here so_far.wrote (rw (← row_of) puts))
-
-  pub has_played : (start : Running NoOverlay) → start.plan ≡ plan → start.script ≡ script
-      → t ≡ script.rounds → HasPlayed start r
-  has_played start p s last = record {
-    plan = so_far.plan_is ∙ sym p;
-    script = so_far.script_is ∙ sym s;
-    end = record {
-      at = so_far.at ∙ (last ∙ ap (λ (s : Script). s.rounds) (sym so_far.script_is));
-      plays = so_far.plays;
-    };
-  }
+      subst (λ (text : List ℕ). Wrote text old now) (sym all) (wrote_then old mid now (before t) here so_far.wrote (rw (← row_of) row))

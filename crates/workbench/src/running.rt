@@ -119,15 +119,19 @@ fn put_rows<K: TextSink>(sink: &mut K, runner: &mut Runner<NoOverlay>) -> Result
     let rounds = runner.script().rounds();
     let (first, last) = runner.script().shown();
     let mut number = RisingText::new(b"row ", 0);
-    for _ in 0..rounds {
+    let mut played = 0;
+    loop {
         match put_if_shown(sink, runner, &number, first, last) {
             Ok(()) => {}
             Err(WriteFault) => return Err(WriteFault),
         }
+        if played == rounds {
+            return Ok(());
+        }
         runner.round();
         number.rise();
+        played += 1;
     }
-    put_if_shown(sink, runner, &number, first, last)
 }
 
 /// Writes which configuration is the first locked one.
