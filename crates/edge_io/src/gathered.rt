@@ -1,6 +1,7 @@
 ghost use Rattle.std.specs.Prelude.{◌≡◌, ◌≤◌, length};
 
 use crate::places::place;
+use crate::rising::MOST_RISING;
 use crate::{Failed, Piece, RisingText, Sink, TextSink, WriteFault, put_all, put_pieces};
 use itoa::Buffer;
 
@@ -9,9 +10,6 @@ const ROOM: usize = 8192;
 
 /// The digits of the longest number.
 const MOST_DIGITS: usize = 20;
-
-/// The bytes that a rising number takes up while it is copied.
-const MOST_RISING: usize = 32;
 
 /// A sink that gathers bytes in a buffer of 8192 bytes of its own, and passes them on to the sink that it was lent only when that is full and at `flush` or `finish`. It takes no memory.
 ///

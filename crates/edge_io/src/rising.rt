@@ -3,27 +3,30 @@ ghost use Rattle.std.specs.Prelude.{◌≤◌, length};
 use crate::places::{place, place_number};
 use std::marker::Model;
 
-/// The longest label and the longest number.
-const ROOM: usize = 32;
+/// The bytes that such a text takes up while it is copied: the longest label and the longest number.
+pub const MOST_RISING: usize = 32;
 
 /// A number behind a label, kept as text, that rises by one at a time.
 #[derive(Drop)]
 pub struct RisingText {
-    bytes: [u8; ROOM],
+    // The text, but for its last digit.
+    bytes: [u8; MOST_RISING],
     label: usize,
-    end: usize,
+    // The place of the last digit, and this digit.
+    last: usize,
+    digit: u8,
     value: u64,
 }
 
 impl Model for RisingText {
     ghost use Rattle.std.specs.Prelude.{take};
-    ghost use Rattle.edge_io.specs.Rising.{Labelled, IsText};
+    ghost use Rattle.edge_io.specs.Rising.{Labelled, IsRising};
 
     ghost Value = { Labelled };
 
     ghost view = { λ t. record { label = take t.label t.bytes; value = t.value } };
 
-    ghost invariant = { λ t. IsText t.bytes t.label t.end t.value };
+    ghost invariant = { λ t. IsRising t.bytes t.label t.last t.digit t.value };
 }
 
 impl RisingText {
@@ -35,13 +38,15 @@ impl RisingText {
         requires { length label.now ≤ 12 }
         ensures { result ≡ record { label = label.now; value = value } }
     {
-        let mut bytes = [0; ROOM];
+        let mut bytes = [0; MOST_RISING];
         place(&mut bytes, 0, label);
         let end = place_number(&mut bytes, label.len(), value);
+        let digit = bytes[end - 1];
         RisingText {
             bytes,
             label: label.len(),
-            end,
+            last: end - 1,
+            digit,
             value,
         }
     }
@@ -52,22 +57,16 @@ impl RisingText {
         ensures { self.new ≡ record self.old { value = self.old.value + 1 } }
     {
         self.value += 1;
-        let last = self.end - 1;
-        if self.bytes[last] < b'9' {
-            self.bytes[last] += 1;
-        } else if self.value > 10 && self.bytes[last - 1] < b'9' {
-            self.bytes[last - 1] += 1;
-            self.bytes[last] = b'0';
+        if self.digit < b'9' {
+            self.digit += 1;
+        } else if self.value > 10 && self.bytes[self.last - 1] < b'9' {
+            self.bytes[self.last - 1] += 1;
+            self.digit = b'0';
         } else {
-            self.end = place_number(&mut self.bytes, self.label, self.value);
+            let end = place_number(&mut self.bytes, self.label, self.value);
+            self.last = end - 1;
+            self.digit = self.bytes[end - 1];
         }
-    }
-
-    /// The label, and behind it the digits.
-    pub fn text(&self) -> &[u8]
-        ensures { result.now ≡ labelled_text self.now }
-    {
-        &self.bytes[..self.end]
     }
 
     /// Copies the text into the buffer, from that place on, and answers the place behind it. Up to
@@ -80,6 +79,7 @@ impl RisingText {
         ensures text { take result buffer.new ≡ take at buffer.old ++ labelled_text self.now }
     {
         place(buffer, at, &self.bytes);
-        at + self.end
+        buffer[at + self.last] = self.digit;
+        at + self.last + 1
     }
 }

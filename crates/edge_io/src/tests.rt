@@ -197,21 +197,26 @@ fn a_full_buffer_is_one_write(rt: HostRuntime) {
 }
 
 #[test]
-fn a_number_rises_behind_its_label(rt: HostRuntime) {
+fn a_number_rises_behind_its_label(rt: HostRuntime) -> Result<(), Fail> {
+    let alloc = rt.alloc();
     for (value, text) in [
         (0, "row 1"),
         (8, "row 9"),
         (9, "row 10"),
-        (10, "row 11"),
         (19, "row 20"),
         (99, "row 100"),
         (199, "row 200"),
         (999_999, "row 1000000"),
     ] {
+        let mut sink = MemSink::new(alloc, 20, vec![in alloc]?, vec![in alloc]?)?;
+        let mut gathered = Gathered::new(&mut sink);
         let mut number = RisingText::new(b"row ", value);
         number.rise();
-        assert_eq!(rt; number.text(), text.as_bytes());
+        assert_eq!(rt; gathered.rising(&number), Ok(()));
+        assert_eq!(rt; gathered.finish(Ok(())), Ok(()));
+        assert_eq!(rt; sink.taken(), text.as_bytes());
     }
+    Ok(())
 }
 
 #[test]
