@@ -172,8 +172,8 @@ impl Fields {
             held: 0,
             count: 0,
         };
-        let front = put(out, start, bit_length(self.base - 1), state.x());
-        let end = put_registers(out, front, &self.moduli, state);
+        let front = put(out, start, self.front, state.x());
+        let end = put_registers(out, front, &self.moduli, &self.sizes, state);
         let padding = self.size.div_ceil(8) * 8 - self.size;
         let _whole = put(out, end, padding, 0);
     }
@@ -299,7 +299,7 @@ impl Fields {
     {
         if bytes.len() == self.bytes() {
             let mut reader = BitReader::new(bytes);
-            let x = reader.take(bit_length(self.base - 1));
+            let x = reader.take(self.front);
             out.set_x(below(self.base, x).unwrap_or(0));
             take_registers(&mut reader, &self.moduli, out);
         } else {

@@ -32,20 +32,19 @@ fn full_value(modulus: u64, register: Reg) -> u64
     (value << 1) | register.d as u64
 }
 
-/// Writes a register that is there behind what was written.
-fn put_full(out: &mut [u8], pending: Pending, modulus: u64, register: Reg) -> Pending
+/// Writes a register that is there, of `size` bits, behind what was written.
+fn put_full(out: &mut [u8], pending: Pending, modulus: u64, size: u32, register: Reg) -> Pending
     requires modulus { modulus ≤ 2 ^ 40 }
     requires value { IfSome register.a (λ a. a < modulus) }
-    requires room { 8 * pending.at + pending.count + (width (modulus + 1) + 1)
-        ≤ 8 * length out.old }
+    requires size { size ≡ width (modulus + 1) + 1 }
+    requires room { 8 * pending.at + pending.count + size ≤ 8 * length out.old }
     ensures length { length out.new ≡ length out.old }
     ensures text { so_far out.new result.at result.count result.held
         ≡ so_far out.old pending.at pending.count pending.held ++ full_bits modulus register }
-    ensures place { 8 * result.at + result.count
-        ≡ 8 * pending.at + pending.count + (width (modulus + 1) + 1) }
+    ensures place { 8 * result.at + result.count ≡ 8 * pending.at + pending.count + size }
 {
     let value = full_value(modulus, register);
-    put(out, pending, bit_length(modulus) + 1, value)
+    put(out, pending, size, value)
 }
 
 /// Puts a register that is there, of `size` bits, behind the bits of a word.
@@ -99,10 +98,11 @@ pub fn push_registers(start: Word, moduli: &[u64], sizes: &[u32], state: &NodeSt
     word
 }
 
-/// Writes a register behind what was written; one that is lacking has no bits.
-fn put_register(out: &mut [u8], pending: Pending, modulus: u64, register: Reg) -> Pending
+/// Writes a register of `size` bits behind what was written; one that is lacking has none.
+fn put_register(out: &mut [u8], pending: Pending, modulus: u64, size: u32, register: Reg) -> Pending
     requires modulus { modulus ≤ 2 ^ 40 }
     requires value { IsField modulus register }
+    requires size { size ≡ register_bits modulus }
     requires room { 8 * pending.at + pending.count + register_bits modulus ≤ 8 * length out.old }
     ensures length { length out.new ≡ length out.old }
     ensures text { so_far out.new result.at result.count result.held
@@ -114,16 +114,25 @@ fn put_register(out: &mut [u8], pending: Pending, modulus: u64, register: Reg) -
     if modulus == 0 {
         pending
     } else {
-        put_full(out, pending, modulus, register)
+        put_full(out, pending, modulus, size, register)
     }
 }
 
-/// Writes all registers behind what was written.
-pub fn put_registers(out: &mut [u8], start: Pending, moduli: &[u64], state: &NodeState) -> Pending
+/// Writes all registers, each of so many bits, behind what was written.
+pub fn put_registers(
+    out: &mut [u8],
+    start: Pending,
+    moduli: &[u64],
+    sizes: &[u32],
+    state: &NodeState,
+) -> Pending
     requires moduli { All (λ modulus. modulus ≤ 2 ^ 40) moduli.now }
     requires depth { length state.now.registers ≡ length moduli.now }
     requires values { AreBelow moduli.now state.now.registers }
-    requires room { 8 * start.at + start.count + registers_bits moduli.now ≤ 8 * length out.old }
+    requires room { length moduli.now ≤ length sizes.now }
+    requires sizes { (i : ℕ) → i < length moduli.now
+        → slice_index_or sizes.now i 0 ≡ register_bits (slice_index_or moduli.now i 0) }
+    requires space { 8 * start.at + start.count + registers_bits moduli.now ≤ 8 * length out.old }
     ensures length { length out.new ≡ length out.old }
     ensures text { so_far out.new result.at result.count result.held
         ≡ so_far out.old start.at start.count start.held
@@ -133,7 +142,7 @@ pub fn put_registers(out: &mut [u8], start: Pending, moduli: &[u64], state: &Nod
 {
     let mut pending = start;
     for i in 0..moduli.len() {
-        pending = put_register(out, pending, moduli[i], state.reg(i));
+        pending = put_register(out, pending, moduli[i], sizes[i], state.reg(i));
     }
     pending
 }

@@ -173,34 +173,58 @@ fn packed_states_stand_in_their_places(rt: HostRuntime) -> Result<(), Fail> {
     Ok(())
 }
 
-/// Twenty-eight nodes whose states have 77 bits, 10 bytes.
-fn with_long_states(alloc: Global) -> Result<Plan, Fail> {
+/// Twenty-eight nodes that count by so many, whose states have 39 bits before the last register.
+fn with_long_states(alloc: Global, count: u64) -> Result<Plan, Fail> {
     let mut plan = Plan::base(alloc, 2304)?;
     plan.push(4, 1, 56_623_104).map_err(PremiseError::Refused)?;
-    plan.push(7, 7, 123_000_000_000)
-        .map_err(PremiseError::Refused)?;
+    plan.push(7, 7, count).map_err(PremiseError::Refused)?;
     Ok(plan)
 }
 
 #[test]
 fn long_states_stand_in_their_places(rt: HostRuntime) -> Result<(), Fail> {
-    let shape = StateShape::of(rt.alloc(), &with_long_states(rt.alloc())?)?;
-    assert_eq!(rt; (shape.nodes(), shape.bits()), (28, 77));
-    let mut packed = Packed::new(rt.alloc(), shape, 28)?;
-    let mut state = NodeState::zero(rt.alloc(), packed.shape().depth())?;
-    let written = b"\x00\x50\x00\x00\x1e\x00\x00\x00\x00\x70".as_slice();
-    let zeros = [0; 10].as_slice();
-    packed.tell();
-    assert!(rt; packed.nodes() == 28);
-    assert!(rt; state.depth() == packed.shape().depth());
-    packed.shape().read_state(1, written, &mut state);
-    packed.put(1, &state);
-    packed.flip();
-    assert!(rt; packed.nodes() == 28);
-    assert!(rt; packed.shape().depth() == 2);
-    assert_eq!(rt; packed.bytes(0), zeros);
-    assert_eq!(rt; packed.bytes(1), written);
-    assert_eq!(rt; packed.bytes(2), zeros);
-    assert_eq!(rt; (packed.x(1), packed.reg(1, 0)), (5, MARKED));
+    for (count, bits, zeros, written, last) in [
+        (
+            65_535,
+            56,
+            [0; 7].as_slice(),
+            b"\x00\x50\x00\x00\x1e\x00\x0f".as_slice(),
+            MARKED,
+        ),
+        (
+            65_536,
+            57,
+            [0; 8].as_slice(),
+            b"\x00\x50\x00\x00\x1e\x00\x07\x80".as_slice(),
+            MARKED,
+        ),
+        (
+            123_000_000_000,
+            77,
+            [0; 10].as_slice(),
+            b"\x00\x50\x00\x00\x1e\x00\x00\x00\x00\x70".as_slice(),
+            SEVEN,
+        ),
+    ] {
+        let shape = StateShape::of(rt.alloc(), &with_long_states(rt.alloc(), count)?)?;
+        assert_eq!(rt; (shape.nodes(), shape.bits()), (28, bits));
+        let mut packed = Packed::new(rt.alloc(), shape, 28)?;
+        let mut state = NodeState::zero(rt.alloc(), packed.shape().depth())?;
+        packed.tell();
+        assert!(rt; packed.nodes() == 28);
+        assert!(rt; state.depth() == packed.shape().depth());
+        packed.shape().read_state(1, written, &mut state);
+        packed.put(1, &state);
+        packed.flip();
+        assert!(rt; packed.nodes() == 28);
+        assert!(rt; packed.shape().depth() == 2);
+        assert_eq!(rt; packed.bytes(0), zeros);
+        assert_eq!(rt; packed.bytes(1), written);
+        assert_eq!(rt; packed.bytes(2), zeros);
+        assert_eq!(rt;
+            (packed.x(1), packed.reg(1, 0), packed.reg(1, 1)),
+            (5, MARKED, last)
+        );
+    }
     Ok(())
 }

@@ -1,4 +1,4 @@
-use Rattle.std.proofs.Common.{arith, ℕ, ◌≡◌, ◌≤◌, ◌<◌, ◌+◌, ◌*◌, ◌^◌, ◌%◌, bit_or, ap, ◌∙◌, ◌++◌, List, Bool, [], ◌∷◌}
+use Rattle.std.proofs.Common.{arith, ℕ, ◌≤◌, ◌<◌, ◌+◌, ◌^◌, ap, ◌∙◌, ◌++◌, [], ◌∷◌}
 use Rattle.bit_lists.specs.Bits.{bits}
 use Rattle.construction.specs.Widths.{width}
 use Rattle.state_codec.proofs.BitLengths.{bit_length_is}

@@ -1,4 +1,4 @@
-use Rattle.std.proofs.Common.{arith, ℕ, ◌≤◌, ◌+◌, ap, sym, ◌∙◌}
+use Rattle.std.proofs.Common.{arith, ◌≤◌, ◌+◌, ap, sym, ◌∙◌}
 use Rattle.bit_lists.specs.Bits.{bits}
 use Rattle.bit_lists.proofs.Numbers.{bits_push}
 use Rattle.state_codec.proofs.Steps.{shifted_in, joined_below}

@@ -1,4 +1,4 @@
-use Rattle.std.proofs.Common.{arith, ℕ, ◌≡◌, ◌+◌, ◌-◌, ◌^◌, ◌≤◌, ap, subst, ◌∙◌, take, drop}
+use Rattle.std.proofs.Common.{arith, ℕ, ◌≡◌, ◌^◌, ap, subst, ◌∙◌, take, drop}
 use Rattle.construction.specs.Widths.{width}
 use Rattle.state_codec.specs.Shapes.{Fields, IsFields, bytes_in}
 use Rattle.state_codec.proofs.PackedFields.{number_found}

@@ -1,8 +1,7 @@
-use Rattle.std.proofs.Common.{arith, ℕ, ◌≡◌, ◌+◌, ◌-◌, ◌*◌, ◌≤◌, ap, ◌∙◌, length, sym}
+use Rattle.std.proofs.Common.{arith, ℕ, ◌≡◌, ◌-◌, ◌*◌, ◌≤◌, ap, ◌∙◌, length, sym}
 use Rattle.std.specs.Int.{div_ceil}
 use Rattle.std.proofs.lemmas.List.{length-drop}
 use Rattle.bit_lists.proofs.Bytes.{length-bits_of_bytes}
-use Rattle.construction.specs.Widths.{width}
 use Rattle.state_codec.specs.Shapes.{Fields, registers_bits, bits_in}
 use Rattle.state_codec.proofs.Whole.{rounded}
 use Rattle.state_codec.proofs.fields.Fields.read_bits.Goals as goal
@@ -10,9 +9,7 @@ use Rattle.state_codec.proofs.fields.Fields.read_bits.Goals as goal
 pub take-x-requires-clause-enough : goal.take-x-requires-clause-enough
 take-x-requires-clause-enough c =
     let least = c.self.invariant.fields.least in
-    let same : c.self.inside.base - 1 + 1 ≡ c.self.inside.base = omega arith in
-    let first : c.bit_length.result ≡ width c.self.inside.base = c.bit_length.ensures.value
-    ∙ ap width same in
+    let first = c.self.invariant.first in
     let whole : bits_in c.args.self.now ≡ c.self.inside.size =
     ap (λ (y : Fields). bits_in y) (sym c.self.view_is) ∙ sym c.self.invariant.sum in
     let room : c.bytes.result ≤ length c.args.bytes.now = omega arith in
@@ -25,9 +22,7 @@ take-x-requires-clause-enough c =
 pub take_registers-requires-clause-enough : goal.take_registers-requires-clause-enough
 take_registers-requires-clause-enough c =
     let least = c.self.invariant.fields.least in
-    let same : c.self.inside.base - 1 + 1 ≡ c.self.inside.base = omega arith in
-    let first : c.bit_length.result ≡ width c.self.inside.base = c.bit_length.ensures.value
-    ∙ ap width same in
+    let first = c.self.invariant.first in
     let whole : bits_in c.args.self.now ≡ c.self.inside.size =
     ap (λ (y : Fields). bits_in y) (sym c.self.view_is) ∙ sym c.self.invariant.sum in
     let room : c.bytes.result ≤ length c.args.bytes.now = omega arith in
@@ -35,8 +30,8 @@ take_registers-requires-clause-enough c =
     ∙ ap (λ (y : ℕ). div_ceil y 8) whole in
     let all : length c.new-reader.result ≡ 8 * length c.args.bytes.now =
     ap length c.new-reader.ensures ∙ length-bits_of_bytes c.args.bytes.now in
-    let rest : length c.take-x.new.self ≡ length c.new-reader.result - c.bit_length.result =
-    ap length c.take-x.ensures.rest ∙ length-drop c.bit_length.result c.new-reader.result in
+    let rest : length c.take-x.new.self ≡ length c.new-reader.result - c.self.inside.front =
+    ap length c.take-x.ensures.rest ∙ length-drop c.self.inside.front c.new-reader.result in
     let moduli : registers_bits c.deref.result.now ≡ registers_bits c.self.inside.moduli.items =
     ap registers_bits c.deref.ensures.value in
     omega (arith, rounded c.self.inside.size, c.self.invariant.sum)

@@ -1,4 +1,4 @@
-use Rattle.std.proofs.Common.{arith, ◌≡◌, ◌+◌, ◌-◌, ◌<◌, ap}
+use Rattle.std.proofs.Common.{arith, ap}
 use Rattle.state_codec.specs.Shapes.{Fields}
 use Rattle.state_codec.proofs.fields.Fields.word.Goals as goal
 

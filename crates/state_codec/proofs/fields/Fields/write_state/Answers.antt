@@ -22,9 +22,7 @@ returns c =
     let sum : c.self.inside.size ≡ width c.self.inside.base + registers_bits c.deref.result.now =
     c.self.invariant.sum ∙ ap (λ (m : List ℕ). width c.self.inside.base + registers_bits m)
     (sym c.deref.ensures.value) in
-    let same : c.self.inside.base - 1 + 1 ≡ c.self.inside.base = omega arith in
-    let first : c.bit_length.result ≡ width c.self.inside.base = c.bit_length.ensures.value
-    ∙ ap width same in
+    let first = c.self.invariant.first in
     let room : bytes_in c.args.self.now ≡ div_ceil c.self.inside.size 8 =
     ap (λ (y : Fields). bytes_in y) (sym fields) ∙ ap (λ (y : ℕ). div_ceil y 8) (sym sum) in
     let long : length c.put-whole.new.out ≡ div_ceil c.self.inside.size 8 =
@@ -34,7 +32,7 @@ returns c =
     ≡ div_ceil c.self.inside.size 8 * 8 - c.self.inside.size =
     ap (λ (y : ℕ). y * 8 - c.self.inside.size) c.div_ceil.ensures in
     let place : 8 * c.put-whole.result.at + c.put-whole.result.count
-    ≡ c.bit_length.result + registers_bits
+    ≡ c.self.inside.front + registers_bits
     c.deref.result.now + (c.div_ceil.result * 8 - c.self.inside.size) =
     omega (
       arith,
@@ -45,7 +43,7 @@ returns c =
     all_written c.self.inside.base c.x.result c.deref.result.now c.args.state.now.registers
     c.args.out.now c.put-whole.new.out c.put-whole.result.at c.put-whole.result.count
     c.put-whole.result.held
-    c.self.inside.size (c.div_ceil.result * 8 - c.self.inside.size) c.bit_length.result bytes sum
+    c.self.inside.size (c.div_ceil.result * 8 - c.self.inside.size) c.self.inside.front bytes sum
     first long pad c.put-whole.result.few place
     (c.put-whole.ensures.text ∙ ap (λ (y : List Bool). y ++ bits
     (c.div_ceil.result * 8 - c.self.inside.size) 0)

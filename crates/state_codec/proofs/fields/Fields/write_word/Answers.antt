@@ -1,9 +1,9 @@
-use Rattle.std.proofs.Common.{arith, ℕ, ◌≡◌, ◌+◌, ◌-◌, ◌*◌, ◌≤◌, ap, sym, ◌∙◌, take, drop, ◌++◌, List, Bool, replicate, false}
+use Rattle.std.proofs.Common.{arith, ℕ, ◌≡◌, ◌+◌, ◌-◌, ◌*◌, ap, sym, ◌∙◌, take, drop, ◌++◌, List, Bool, replicate, false}
 use Rattle.std.specs.Int.{div_ceil}
 use Rattle.bit_lists.specs.Bits.{bits, bytes_of_bits}
 use Rattle.bit_lists.proofs.Numbers.{bits_of_zero}
 use Rattle.state_codec.specs.Shapes.{Fields, bits_in, bytes_in}
-use Rattle.state_codec.specs.Writing.{bits_of_state, padding, written}
+use Rattle.state_codec.specs.Writing.{bits_of_state, padding}
 use Rattle.state_codec.proofs.Whole.{rounded}
 use Rattle.state_codec.proofs.fields.Fields.write_word.Goals as goal
 

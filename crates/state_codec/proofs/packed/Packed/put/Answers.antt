@@ -1,10 +1,9 @@
-use Rattle.std.proofs.Common.{rules, arith, ◌≡◌, ◌<◌, ◌+◌, ◌^◌, ap, sym, subst, ◌∙◌, take, drop, length, ◌++◌}
+use Rattle.std.proofs.Common.{arith, ◌≡◌, ◌<◌, ◌+◌, ap, sym, subst, ◌∙◌, take, drop, length, ◌++◌}
 use Rattle.std.proofs.lemmas.List.{take_at}
 use Rattle.state_codec.specs.Shapes.{Shape, Fields, bytes_in, fields_at}
 use Rattle.state_codec.specs.Ranges.{InRange}
 use Rattle.state_codec.specs.Writing.{written}
 use Rattle.state_codec.specs.Packs.{start}
-use Rattle.state_codec.proofs.Packing.{start_more}
 use Rattle.state_codec.proofs.PackFacts.{count_next, same_shape, room_second, put_kept, put_view}
 use Rattle.state_codec.proofs.packed.Packed.put.Goals as goal
 
