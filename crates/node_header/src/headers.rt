@@ -12,6 +12,7 @@ use plan_reader::feed_plan;
 use state_codec::StateShape;
 use std::alloc::Global;
 use sync_types::{NoMemory, Premise, Rule};
+use thiserror::Error;
 
 /// How many bytes a header may have.
 const LONGEST_HEADER: u64 = 1 << 20;
@@ -26,15 +27,19 @@ pub enum HeaderRefusal {
 }
 
 /// Why no header was read.
-#[derive(Clone, Copy, Debug, PartialEq, Eq)]
+#[derive(Clone, Copy, Debug, PartialEq, Eq, Error)]
 pub enum HeaderError {
     /// A read failed, which the source has counted.
+    #[error("a read failed")]
     ReadFault,
     /// The header is longer than 2^20 bytes.
+    #[error("the header is too long")]
     TooLong,
     /// A line was refused.
+    #[error("the header is refused: {0:?}")]
     Refused(HeaderRefusal),
     /// Memory ran out.
+    #[error("out of memory")]
     NoMemory,
 }
 
