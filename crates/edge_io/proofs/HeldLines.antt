@@ -37,6 +37,13 @@ line_of bytes end most found lt =
       one = one_from end bytes (omega (arith, at.0)) at.2;
     }
 
+-- the front of a front
+pub front_of_front : (n m : ℕ) (bytes : List ℕ) → n ≤ m → take n (take m bytes) ≡ take n bytes
+front_of_front zero m bytes le = refl
+front_of_front (suc n) zero bytes le = absurd (omega (arith, le))
+front_of_front (suc n) (suc m) [] le = refl
+front_of_front (suc n) (suc m) (b ∷ bytes) le = ap (λ bs. b ∷ bs) (front_of_front n m bytes (omega (arith, le)))
+
 -- so many bytes of the buffer were read
 pub buffer_read : (buffer : List ℕ) (left : Option (List ℕ)) (at end count : ℕ)
     → count ≤ end - at

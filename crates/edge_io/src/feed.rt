@@ -49,7 +49,7 @@ pub struct Feed<'a, S> {
 impl<'a, S: Source> Feed<'a, S> {
     ghost use Rattle.std.specs.Prelude.{◌≡◌, ◌<◌, ◌≤◌, ◌+◌, ℕ, [], true, false, length, Ok, OnErr};
     ghost use Rattle.edge_io.specs.declared.feed.Line.TheVariants as how;
-    ghost use Rattle.std.specs.Io.KnownBytes.{Keeps, IsAtEnd};
+    ghost use Rattle.std.specs.Io.KnownBytes.{Consumes, Keeps, IsAtEnd};
     ghost use Rattle.texts.specs.Causes.{HasCause};
     ghost use Rattle.texts.specs.Lines.{is_one_line};
     ghost use Rattle.edge_io.specs.Feeds.{feed_left, TakesByte, TakesLineByte, LineIs, HasLineCause};
@@ -151,6 +151,24 @@ impl<'a, S: Source> Feed<'a, S> {
             }
             None => false,
         }
+    }
+
+    /// Fills `bytes` where all of them stand in the buffer. Else nothing changes.
+    pub(crate) fn take_held_bytes(&mut self, bytes: &mut [u8]) -> bool
+        ensures taken { result ≡ true
+            → Consumes (feed_left S.left self.old) (feed_left S.left self.new) bytes.new }
+        ensures size { length bytes.new ≡ length bytes.old }
+        ensures none { result ≡ false → (self.new ≡ self.old) × (bytes.new ≡ bytes.old) }
+        ensures source { self.new.source ≡ self.old.source }
+        ensures still { self.new.line_bytes ≡ self.old.line_bytes }
+    {
+        let count = bytes.len();
+        if self.end - self.at < count {
+            return false;
+        }
+        bytes.copy_from_slice(&self.buffer[self.at..self.at + count]);
+        self.at += count;
+        true
     }
 
     /// Reads a line, without its newline, where all lines so far may have `limit` bytes, newlines

@@ -32,6 +32,9 @@ pub fn take_bytes<S: Source>(feed: &mut Feed<'_, S>, buf: &mut [u8]) -> Result<b
     ensures cause { HasCause (S.faults feed.old.source.now) (S.faults feed.new.source.now) result }
     ensures dry { OnErr result (feed.new.at ≡ feed.new.end) }
 {
+    if feed.take_held_bytes(buf) {
+        return Ok(true);
+    }
     for i in 0..buf.len() {
         match feed.byte() {
             Ok(Some(byte)) => buf[i] = byte,

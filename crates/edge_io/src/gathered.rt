@@ -17,9 +17,9 @@ const MOST_DIGITS: usize = 20;
 #[derive(Drop)]
 pub struct Gathered<'a, K> {
     sink: &'a mut K,
-    buffer: [u8; ROOM],
-    at: usize,
     end: usize,
+    at: usize,
+    buffer: [u8; ROOM],
     ghost within: { at ≤ end },
     ghost room: { end ≤ length buffer },
     ghost size: { length buffer ≡ 8192 },
@@ -97,8 +97,9 @@ impl<'a, K: Sink> Gathered<'a, K> {
         ensures same_reference { self.new.sink.ghost_name ≡ self.old.sink.ghost_name }
         ensures wrote { Wrote (byte ∷ []) (gathered_told K.told self.old) (gathered_told K.told self.new) }
     {
-        place(&mut self.buffer, self.end, &[byte]);
-        self.end += 1;
+        let at = self.end;
+        place(&mut self.buffer, at, &[byte]);
+        self.end = at + 1;
     }
 
     /// Holds all of the bytes.
@@ -108,8 +109,9 @@ impl<'a, K: Sink> Gathered<'a, K> {
         ensures wrote { Wrote bytes.now (gathered_told K.told self.old) (gathered_told K.told self.new) }
         ensures end { self.new.end ≡ self.old.end + length bytes.now }
     {
-        place(&mut self.buffer, self.end, bytes);
-        self.end += bytes.len();
+        let at = self.end;
+        place(&mut self.buffer, at, bytes);
+        self.end = at + bytes.len();
     }
 
     /// Holds the digits of a number.
