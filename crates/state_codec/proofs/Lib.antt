@@ -16,3 +16,4 @@ pub mod Packing
 pub mod PackFacts
 pub mod ZeroBytes
 pub mod FrontBytes
+pub mod NumbersAlone

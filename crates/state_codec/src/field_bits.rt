@@ -18,6 +18,17 @@ pub fn field_at(bytes: &[u8], from: usize, width: u32) -> u64
     (word >> behind) & ((1 << width) - 1)
 }
 
+/// The number of the first `width` bits, 1 to 56, of the bytes from `start` on, by one load of
+/// eight bytes. These stand from that place on.
+pub fn front_at(bytes: &[u8], start: usize, width: u32) -> u64
+    requires least { 1 ≤ width }
+    requires most { width ≤ 56 }
+    requires within { start + 8 ≤ length bytes.now }
+    ensures { result ≡ number_of (take width (drop (8 * start) (bits_of_bytes bytes.now))) }
+{
+    word_at(bytes, start) >> (64 - width)
+}
+
 /// The number that eight bytes from a place on write, and that these are bytes.
 fn word_at(bytes: &[u8], start: usize) -> u64
     requires { start + 8 ≤ length bytes.now }

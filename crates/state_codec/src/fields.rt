@@ -1,13 +1,13 @@
 ghost use Rattle.std.specs.Prelude.{◌≡◌, ◌<◌, ◌≤◌, ◌+◌, ◌*◌, ◌^◌, ◌++◌, ℕ, length, take, drop, slice_index, slice_index_or, All};
-ghost use Rattle.bit_lists.specs.Bits.{bits};
+ghost use Rattle.bit_lists.specs.Bits.{bits, bytes_of_bits};
 ghost use Rattle.std.specs.Int.{div_ceil};
 ghost use Rattle.sync_types.specs.States.{register_at};
 ghost use Rattle.state_codec.specs.Shapes.{Fields, register_bits, registers_bits, bits_in, bytes_in, IsFields};
 ghost use Rattle.state_codec.specs.Ranges.{InRange};
-ghost use Rattle.state_codec.specs.Writing.{bits_of_state, written};
+ghost use Rattle.state_codec.specs.Writing.{bits_of_state, padding, number_alone, written};
 ghost use Rattle.state_codec.specs.Reading.{read};
 
-use crate::field_bits::{field_at, set_bytes};
+use crate::field_bits::{front_at, set_bytes};
 use crate::reader::BitReader;
 use crate::registers::{
     ZERO, below, full_register_at, push_registers, put_registers, set_zero, take_registers,
@@ -204,6 +204,40 @@ impl Fields {
         self.write_state(state, &mut bytes[from..to]);
     }
 
+    /// Writes the bits of a state, 1 to 56, as its bytes from `start` on; eight bytes more stand
+    /// behind them.
+    fn write_bits(&self, word: Word, bytes: &mut [u8], start: usize)
+        requires count { word.count ≡ bits_in self.now }
+        requires least { 1 ≤ bits_in self.now }
+        requires within { start + bytes_in self.now + 8 ≤ length bytes.old }
+        ensures length { length bytes.new ≡ length bytes.old }
+        ensures value { bytes.new ≡ (take start bytes.old ++ bytes_of_bits (bytes_in self.now)
+            (bits word.count word.value ++ padding self.now))
+            ++ drop (start + bytes_in self.now) bytes.old }
+    {
+        let count = self.size.div_ceil(8);
+        let whole = push(word, 8 * count - self.size, 0);
+        set_bytes(bytes, start, count, whole.value);
+    }
+
+    /// Writes the bytes of a state that is a number alone from `start` on; eight bytes more stand
+    /// behind them.
+    pub fn write_number(&self, x: u64, bytes: &mut [u8], start: usize)
+        requires range { InRange self.now (number_alone x) }
+        requires within { start + bytes_in self.now + 8 ≤ length bytes.old }
+        ensures length { length bytes.new ≡ length bytes.old }
+        ensures value { bytes.new ≡ (take start bytes.old ++ written self.now (number_alone x))
+            ++ drop (start + bytes_in self.now) bytes.old }
+    {
+        if self.size > 0 {
+            let word = Word {
+                value: x,
+                count: self.front,
+            };
+            self.write_bits(word, bytes, start);
+        }
+    }
+
     /// Writes the bytes of a state of 1 to 56 bits from `start` on; eight bytes more stand behind
     /// them.
     fn write_word(&self, state: &NodeState, bytes: &mut [u8], start: usize)
@@ -215,9 +249,7 @@ impl Fields {
         ensures value { bytes.new ≡ (take start bytes.old ++ written self.now state.now)
             ++ drop (start + bytes_in self.now) bytes.old }
     {
-        let count = self.size.div_ceil(8);
-        let word = push(self.word(state), 8 * count - self.size, 0);
-        set_bytes(bytes, start, count, word.value);
+        self.write_bits(self.word(state), bytes, start);
     }
 
     /// Writes the bytes of a state from `start` on; eight bytes more stand behind them.
@@ -256,7 +288,7 @@ impl Fields {
         if self.front == 0 {
             return 0;
         }
-        below(self.base, field_at(bytes, 8 * start, self.front)).unwrap_or(0)
+        below(self.base, front_at(bytes, start, self.front)).unwrap_or(0)
     }
 
     /// Register `i` of a state whose bytes begin at `start`; eight bytes more stand behind them.

@@ -4,7 +4,7 @@ ghost use Rattle.sync_types.specs.States.{register_at};
 ghost use Rattle.construction.specs.Steps.{state_of};
 ghost use Rattle.state_codec.specs.Shapes.{fields_at, IsShape};
 ghost use Rattle.state_codec.specs.Ranges.{InRange};
-ghost use Rattle.state_codec.specs.Writing.{written};
+ghost use Rattle.state_codec.specs.Writing.{number_alone, written};
 ghost use Rattle.state_codec.specs.Packs.{zeros, start};
 
 use crate::shapes::StateShape;
@@ -160,6 +160,17 @@ impl Packed {
     {
         let start = self.start_of(v);
         self.shape.fields(v).write_at(state, &mut self.next, start);
+    }
+
+    /// Makes a number alone the next state of node `v`, where states have no registers.
+    pub fn put_number(&mut self, v: u32, x: u64)
+        requires node { v < length self.old.next }
+        requires range { InRange (fields_at self.old.shape v) (number_alone x) }
+        ensures { self.new
+            ≡ record self.old { next = slice_set self.old.next v (number_alone x) } }
+    {
+        let start = self.start_of(v);
+        self.shape.fields(v).write_number(x, &mut self.next, start);
     }
 
     /// Makes a state the current one of node `v`.

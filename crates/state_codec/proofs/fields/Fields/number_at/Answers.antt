@@ -19,14 +19,14 @@ returns-then-self-eq0 c =
       ap (λ (k : ℕ). 2 ^ k) c.if-self-eq0.true,
     )
 
-pub field_at-requires-clause-most : goal.field_at-requires-clause-most
-field_at-requires-clause-most c = omega (arith, c.self.invariant.short)
+pub front_at-requires-clause-most : goal.front_at-requires-clause-most
+front_at-requires-clause-most c = omega (arith, c.self.invariant.short)
 
 pub returns : goal.returns
 returns c =
     let base : c.self.inside.base ≡ c.args.self.now.base =
     ap (λ (f : Fields). f.base) c.self.view_is in
     number_found c.args.self.now c.args.bytes.now c.args.start (omega (arith, c.requires.within))
-    c.self.inside.base c.self.inside.front c.field_at.result c.below.result c.unwrap_or.result
-    base (c.self.invariant.first ∙ ap width base) c.field_at.ensures c.below.ensures
+    c.self.inside.base c.self.inside.front c.front_at.result c.below.result c.unwrap_or.result
+    base (c.self.invariant.first ∙ ap width base) c.front_at.ensures c.below.ensures
     c.unwrap_or.ensures

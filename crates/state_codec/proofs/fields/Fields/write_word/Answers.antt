@@ -1,41 +1,14 @@
-use Rattle.std.proofs.Common.{arith, ℕ, ◌≡◌, ◌+◌, ◌-◌, ◌*◌, ap, sym, ◌∙◌, take, drop, ◌++◌, List, Bool, replicate, false}
-use Rattle.std.specs.Int.{div_ceil}
-use Rattle.bit_lists.specs.Bits.{bits, bytes_of_bits}
-use Rattle.bit_lists.proofs.Numbers.{bits_of_zero}
-use Rattle.state_codec.specs.Shapes.{Fields, bits_in, bytes_in}
-use Rattle.state_codec.specs.Writing.{bits_of_state, padding}
-use Rattle.state_codec.proofs.Whole.{rounded}
+use Rattle.std.proofs.Common.{◌+◌, ap, ◌∙◌, take, drop, ◌++◌}
+use Rattle.bit_lists.specs.Bits.{bytes_of_bits}
+use Rattle.state_codec.specs.Shapes.{Fields, bytes_in}
+use Rattle.state_codec.specs.Writing.{padding}
 use Rattle.state_codec.proofs.fields.Fields.write_word.Goals as goal
 
 pub returns-clause-value : goal.returns-clause-value
 returns-clause-value c =
     let fields : Fields = c.args.self.now in
-    let count : ℕ = c.div_ceil-count.result in
-    let size : c.self.inside.size ≡ bits_in fields =
-    c.self.invariant.sum ∙ ap (λ (f : Fields). bits_in f) c.self.view_is in
-    let bytes : count ≡ bytes_in fields =
-    c.div_ceil-count.ensures ∙ ap (λ (n : ℕ). div_ceil n 8) size in
-    let whole : c.push-word.result.count ≡ 8 * count =
-    omega (
-      arith,
-      c.push-word.ensures.count,
-      c.word.ensures.count,
-      size,
-      bytes,
-      rounded (bits_in fields),
-    ) in
-    let pad : 8 * count - c.self.inside.size ≡ 8 * bytes_in fields - bits_in fields =
-    omega (arith, size, bytes) in
-    let text : bits (8 * count) c.push-word.result.value
-    ≡ bits_of_state fields c.args.state.now ++ padding fields =
-    ap (λ k. bits k c.push-word.result.value) (sym whole) ∙ (c.push-word.ensures.text
-    ∙ (ap (λ (ys : List Bool). ys ++ bits (8 * count - c.self.inside.size) 0) c.word.ensures.text
-    ∙ ap (λ (ys : List Bool). bits_of_state fields c.args.state.now ++ ys)
-    (bits_of_zero (8 * count - c.self.inside.size)
-    ∙ ap (λ k. replicate k false) pad))) in
     let old = c.args.bytes.now in
     let start = c.args.start in
-    c.set_bytes.ensures.value
-    ∙ (ap (λ ys. (take start old ++ bytes_of_bits count ys) ++ drop (start + count) old) text
-    ∙ ap (λ k. (take start old ++ bytes_of_bits k (bits_of_state fields c.args.state.now
-    ++ padding fields)) ++ drop (start + k) old) bytes)
+    c.write_bits.ensures.value
+    ∙ ap (λ ys. (take start old ++ bytes_of_bits (bytes_in fields) (ys ++ padding fields))
+    ++ drop (start + bytes_in fields) old) c.word.ensures.text
