@@ -56,7 +56,7 @@ fn zero_states(alloc: Global, nodes: u32, depth: usize) -> Result<Vec<NodeState>
 }
 
 impl NodeEngine {
-    ghost use Rattle.std.specs.Prelude.{◌≡◌, ◌<◌, ◌≤◌, length, IfOk};
+    ghost use Rattle.std.specs.Prelude.{◌≡◌, ◌+◌, ◌<◌, ◌≤◌, length, take, IfOk};
     ghost use Rattle.construction.specs.Plans.{plan_nodes};
     ghost use Rattle.construction.specs.Runs.{IsState};
     ghost use Rattle.state_codec.specs.Shapes.{shape_of, bytes_in};
@@ -127,6 +127,22 @@ impl NodeEngine {
         }
         let state = &mut self.states[sender as usize];
         self.shape.read_state(sender, bytes, state);
+        self.since[sender as usize] = true;
+    }
+
+    /// Hears a cell that has just so many bytes as a state of its node, by `bytes` at whose front
+    /// they stand. Eight bytes more stand behind them.
+    pub(crate) fn hear_front(&mut self, sender: u32, bytes: &[u8])
+        requires sender { sender < plan_nodes self.old.plan }
+        requires within { bytes_in (fields_of self.old.plan sender) + 8 ≤ length bytes.now }
+        ensures { self.new ≡ hearing self.old sender
+            (take (bytes_in (fields_of self.old.plan sender)) bytes.now) }
+    {
+        if self.id == sender {
+            return;
+        }
+        let state = &mut self.states[sender as usize];
+        self.shape.read_front(sender, bytes, state);
         self.since[sender as usize] = true;
     }
 

@@ -14,7 +14,7 @@ impl NodeEngine {
     ghost use Rattle.node_stepper.specs.Nodes.{IsOther, fields_of};
     ghost use Rattle.state_codec.specs.Shapes.{bytes_in};
 
-    /// Hears a cell of so many bytes, which is read as a state.
+    /// Hears a cell of so many bytes, as many as a state has.
     fn hear_state<S: Source>(
         &mut self,
         feed: &mut Feed<'_, S>,
@@ -22,20 +22,20 @@ impl NodeEngine {
         length: usize,
     ) -> Result<bool, ReadFault>
         requires sender { sender < plan_nodes self.old.plan }
-        requires length { length ≤ 128 }
+        requires length { length ≡ bytes_in (fields_of self.old.plan sender) }
+        requires most { length ≤ 128 }
         ensures same_reference { feed.new.source.ghost_name ≡ feed.old.source.ghost_name }
         ensures body { BodyFed length sender self.old self.new (feed_left S.left feed.old) (feed_left S.left feed.new) result }
         ensures cause { HasCause (S.faults feed.old.source.now) (S.faults feed.new.source.now) result }
         ensures dry { OnErr result (feed.new.at ≡ feed.new.end) }
     {
-        let mut room = [0; MOST_BYTES];
-        let cell = &mut room[..length];
-        match take_bytes(feed, cell) {
+        let mut room = [0; MOST_BYTES + 8];
+        match take_bytes(feed, &mut room[..length]) {
             Ok(true) => {}
             Ok(false) => return Ok(false),
             Err(ReadFault) => return Err(ReadFault),
         }
-        self.hear(sender, cell);
+        self.hear_front(sender, &room);
         Ok(true)
     }
 
