@@ -105,6 +105,32 @@ fn put_behind(
     states.put(v, out);
 }
 
+/// Makes the new state of node `v`, which is a number alone, its next one, or that into which it is
+/// put at configuration `t`, with which that further era begins.
+#[inline(always)]
+fn put_alone_behind(
+    script: &Script,
+    t: u64,
+    begins: Option<usize>,
+    v: u32,
+    out: &mut NodeState,
+    states: &mut Packed,
+)
+    requires script { IsScript script.now }
+    requires begins { BeginsAt script.now t begins }
+    requires node { v < length states.old.next }
+    requires shape { states.old.shape ≡ script.now.shape }
+    requires alone { length script.now.shape.moduli ≡ 0 }
+    requires range { InRange (fields_at script.now.shape v) out.old }
+    ensures range { InRange (fields_at script.now.shape v) out.new }
+    ensures states { states.new ≡ record states.old {
+      next = slice_set states.old.next v (unwrap_or (hit_at script.now t v) out.old);
+    } }
+{
+    put_at(script, t, begins, v, out);
+    states.put_number(v, out.x());
+}
+
 /// The step of node `v` in round `t` where states are numbers alone, from the current states to its
 /// next one. Where an era begins behind the round, the node is put into the state that it gives it.
 fn step_one_alone<O: Overlay>(
@@ -142,7 +168,7 @@ fn step_one_alone<O: Overlay>(
 {
     states.tell();
     step_alone(tower, overlay, script, t, v, room, states);
-    put_behind(script, t + 1, begins, v, &mut room.out, states);
+    put_alone_behind(script, t + 1, begins, v, &mut room.out, states);
 }
 
 /// The step of node `v` in round `t` where states have registers, from the current states to its

@@ -12,5 +12,5 @@ returns-clause-room g c =
       shared = room.shared;
       work = room.work;
       out = depth_of_node c.args.script.now.shape c.args.v _
-          c.put_behind.ensures.range;
+          c.put_alone_behind.ensures.range;
     }
