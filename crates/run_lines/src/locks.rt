@@ -48,11 +48,12 @@ fn put_era<K: Sink, O: Overlay>(
     put_locked(sink, runner.locked_in(era))
 }
 
-/// Writes the first locked configuration of each era, of a runner at the end.
-pub(crate) fn put_locks<K: Sink, O: Overlay>(
-    sink: &mut K,
-    runner: &Runner<O>,
-) -> Result<(), WriteFault>
+/// Writes the first locked configuration of each era, of a runner at the end: for a script of
+/// version 1 one line, else one for each era, with the configuration that it begins with.
+///
+/// The runner has played all rounds of its script, with any layer. `WriteFault` comes where the
+/// sink counted one; a front of the lines was then taken.
+pub fn put_locks<K: Sink, O: Overlay>(sink: &mut K, runner: &Runner<O>) -> Result<(), WriteFault>
     requires { runner.now.at ≡ runner.now.script.rounds }
     ensures { (began : List O.Kept) → IsPlaying O.layer O.kept began runner.now
         → Puts result (lock_lines runner.now.plan runner.now.script

@@ -36,8 +36,9 @@ fn put_lines<K: Sink, O: Overlay, L: Lines<O>>(
     put_if_shown(sink, bound, runner, lines)
 }
 
-/// Writes the bound.
-fn put_bound<K: Sink>(sink: &mut K, bound: u64) -> Result<(), WriteFault>
+/// Writes the line of a plan's bound. `WriteFault` comes where the sink counted one; a front of the
+/// line was then taken.
+pub fn put_bound<K: Sink>(sink: &mut K, bound: u64) -> Result<(), WriteFault>
     ensures { Puts result (bound_line bound) (K.told sink.old) (K.told sink.new) }
 {
     put_pieces(

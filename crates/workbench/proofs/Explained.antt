@@ -6,23 +6,24 @@ use Rattle.construction.specs.Plans.{Level, Plan, plan_depth}
 use Rattle.counter_core.specs.declared.overlays.NoOverlay.{NoOverlay}
 use Rattle.counter_core.specs.NoLayers.{no_layer}
 use Rattle.adversary_script.specs.Scripts.{Script}
+use Rattle.round_runner.specs.Played.{played_at}
 use Rattle.round_runner.specs.Runners.{Running, Advances}
 use Rattle.run_explanations.specs.declared.explanations.Explanation.{Explanation}
 use Rattle.run_explanations.specs.Explanations.{explanation_of}
 use Rattle.run_explanations.specs.Playing as explained
+use Rattle.run_lines.specs.RunTexts.{lock_lines}
 use Rattle.workbench.specs.ExplainText.{explanation_lines, lines_over, why_lines}
-use Rattle.workbench.specs.RunText.{lock_lines}
 use Rattle.workbench.specs.Playing.{Plays, HasPlayed}
-use Rattle.workbench.proofs.Locks.{puts_after}
+use Rattle.workbench.proofs.Locks.{OwnLocks, puts_after}
 
 -- the lock lines of the plan, at the end of all lines
 pub puts_after_why : {T E : Type 0} (result : Result T E) (plan : Plan) (old new : Running NoOverlay)
     (s t : Told) → old.plan ≡ plan → HasPlayed old new
-    → Puts result (lock_lines new.plan new.script) s t
-    → Puts result (lock_lines plan old.script ++ []) s t
+    → (Plays new → OwnLocks result new s t)
+    → Puts result (lock_lines plan old.script (played_at plan old.script) ++ []) s t
 puts_after_why result plan old new s t is played puts =
-    subst (λ (p : Plan). Puts result (lock_lines p old.script ++ []) s t) is
-    (puts_after result old new s t played puts)
+    let text : Plan → List ℕ = λ plan. lock_lines plan old.script (played_at plan old.script) in
+    subst (λ (p : Plan). Puts result (text p ++ []) s t) is (puts_after result old new s t played puts)
 
 -- The runner has played t rounds.
 pub record IsAfter (begun : Running NoOverlay) (t : ℕ) (r : Running NoOverlay) : Type 0 where

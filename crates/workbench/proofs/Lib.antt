@@ -1,14 +1,12 @@
 pub mod Settled
 pub mod Shown
 pub mod Rows
-pub mod Words
 pub mod Locks
 pub mod Promise
 pub mod ReadRun
 pub mod ReadExplained
 pub mod Explained
 pub mod ExplainLaws
-pub mod FirstListed
 pub mod Whole
 pub mod Unread
 pub mod NodeReturns

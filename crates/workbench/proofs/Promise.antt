@@ -22,10 +22,11 @@ use Rattle.round_runner.specs.Played.{played_at}
 use Rattle.round_runner.specs.Laws.{IsUpTo, IsReadFor, EraCountsFrom, EachIsOfOneEra, ErasAreRuns, ErasLock, ErasCount, ErasStayLocked}
 use Rattle.round_runner.proofs.FirstLocked.{first_is_locked}
 use Rattle.run_explanations.specs.Laws.{ExplainedErasLock, LongErasAreExplained, FoundIsFirst}
+use Rattle.run_lines.specs.RunTexts.{number_word}
+use Rattle.run_lines.proofs.FirstListed.{first_listed}
 use Rattle.workbench.proofs.ExplainLaws.{why_is_true}
-use Rattle.workbench.proofs.FirstListed.{first_listed}
 use Rattle.workbench.specs.declared.refusals.Refusal.{Refusal}
-use Rattle.workbench.specs.RunText.{number_word, lock_of_era}
+use Rattle.workbench.specs.RunText.{lock_of_era}
 use Rattle.workbench.specs.Answers.{Scripted, with_script, behind_plan, scripted_of}
 use Rattle.workbench.specs.Laws.{RowsCountFrom, EraKeepsPromise, KeepsPromise, PromiseIsKept}
 

@@ -19,12 +19,12 @@ use Rattle.round_runner.specs.Played.{played_at}
 use Rattle.round_runner.specs.Laws.{IsReadFor}
 use Rattle.run_certificates.specs.declared.Verdict.TheVariants as verdict
 use Rattle.run_certificates.specs.Recorded.{certificate_of, HasItsEras, RecordsAreTrue}
+use Rattle.run_lines.proofs.FirstListed.{first_listed}
 use Rattle.workbench.specs.declared.refusals.Refusal.{Refusal}
 use Rattle.workbench.specs.Answers.{Scripted, with_script, behind_plan, scripted_of}
 use Rattle.workbench.specs.CheckAnswers.{verdict_outcome}
 use Rattle.workbench.specs.CheckLaws.{CheckIsExact}
 use Rattle.workbench.specs.RecordLaws.{IsRecorded, RecordsAreChecked}
-use Rattle.workbench.proofs.FirstListed.{first_listed}
 
 -- the script is one that was read for the plan
 record IsRead (scripted : Scripted) : Type 0 where

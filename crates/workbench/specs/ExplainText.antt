@@ -6,8 +6,9 @@ use Rattle.construction.specs.Plans.{Level, Plan, plan_bound}
 use Rattle.adversary_script.specs.Scripts.{Script}
 use Rattle.run_explanations.specs.declared.explanations.Explanation.{Explanation}
 use Rattle.run_explanations.specs.Explanations.{explanation_of}
+use Rattle.round_runner.specs.Played.{played_at}
+use Rattle.run_lines.specs.RunTexts.{bound_line, lock_lines}
 use Rattle.workbench.specs.declared.refusals.Refusal.{Refusal}
-use Rattle.workbench.specs.RunText.{bound_line, lock_lines}
 use Rattle.workbench.specs.Answers.{Scripted, scripted_of}
 
 -- the window with its leader, and the phase with its king
@@ -27,7 +28,8 @@ why_lines plan script = lines_over plan.levels plan script
 
 abbrev pub explain_text : Plan → Script → List ℕ
 explain_text plan script =
-    concat (bound_line (plan_bound plan) ∷ why_lines plan script ∷ lock_lines plan script ∷ [])
+    concat (bound_line (plan_bound plan) ∷ why_lines plan script
+    ∷ lock_lines plan script (played_at plan script) ∷ [])
 
 abbrev pub explained_text : Result Scripted Refusal → Result (List ℕ) Refusal
 explained_text (Err refusal) = Err refusal

@@ -8,7 +8,8 @@ use Rattle.adversary_script.specs.Eras.{first_of_era, end_of_era, faulty_of_era,
 use Rattle.round_runner.specs.Laws.{IsUpTo, IsOfOneEra, EraIsRun}
 use Rattle.round_runner.specs.Locks.{IsFirstLocked}
 use Rattle.round_runner.specs.Played.{played_at}
-use Rattle.workbench.specs.RunText.{number_word, node_word, lock_of_era}
+use Rattle.run_lines.specs.RunTexts.{number_word}
+use Rattle.workbench.specs.RunText.{node_word, lock_of_era}
 use Rattle.workbench.specs.Answers.{scripted_of}
 use Rattle.workbench.specs.ExplainLaws.{WhyIsTrue}
 

@@ -1,33 +1,31 @@
 -- What the word `run` writes: the bound, the rows that are shown, and which configuration is the first
 -- locked one.
-use Rattle.std.specs.Prelude.{ℕ, ◌+◌, ◌-◌, List, [], ◌∷◌, length, Option, Some, None, position}
-use Rattle.std.specs.Prelude.{codes, decimal, ◌==◌, if◌then◌else◌}
+use Rattle.std.specs.Prelude.{ℕ, ◌+◌, ◌-◌, List, [], ◌∷◌, Option, codes, decimal}
 use Rattle.std.specs.List.{concat, flat_map, range_with_len}
 use Rattle.sync_types.specs.States.{State}
-use Rattle.construction.specs.Plans.{Plan, plan_nodes, plan_bound, plan_depth}
+use Rattle.construction.specs.Plans.{Plan, plan_bound, plan_depth}
 use Rattle.construction.specs.Shown.{shown}
 use Rattle.construction.specs.Steps.{state_of}
-use Rattle.construction.specs.Runs.{is_in}
 use Rattle.adversary_script.specs.Scripts.{Script}
-use Rattle.adversary_script.specs.Eras.{first_of_era, faulty_at}
-use Rattle.round_runner.specs.Locks.{era_locked}
+use Rattle.adversary_script.specs.Eras.{faulty_at}
 use Rattle.round_runner.specs.Played.{played_at}
+use Rattle.run_lines.specs.RunTexts.{bound_line, number_word, word_or_star, words_of_nodes}
+use Rattle.run_lines.specs.RunTexts.{lock_lines}
+use Rattle.run_lines.specs.RunTexts as lines
 
 -- ---- rows
 
--- a word that is a number
-abbrev pub number_word : ℕ → List ℕ
-number_word n = concat (codes " " ∷ decimal n ∷ [])
+-- what a node shows
+abbrev pub shown_word : Plan → List State → (v : ℕ) → List ℕ
+shown_word plan config v = number_word (shown (plan_depth plan) (state_of config v))
 
 -- a node's word: what it shows, or a star where it is faulty
 abbrev pub node_word : Plan → (faulty : List ℕ) → List State → ℕ → List ℕ
-node_word plan faulty config v =
-    if is_in faulty v then codes " *" else number_word (shown (plan_depth plan) (state_of config v))
+node_word plan faulty config v = word_or_star (shown_word plan config) faulty v
 
 -- the words of all nodes
 abbrev pub node_words : Plan → (faulty : List ℕ) → List State → List ℕ
-node_words plan faulty config =
-    flat_map (node_word plan faulty config) (range_with_len 0 (plan_nodes plan))
+node_words plan faulty config = words_of_nodes plan (shown_word plan config) faulty
 
 -- the front of row t
 abbrev pub row_front : ℕ → List ℕ
@@ -49,34 +47,13 @@ rows_text plan script =
 
 -- ---- locked configurations
 
-abbrev pub locked_line : Option ℕ → List ℕ
-locked_line (Some t) = concat (codes "locked " ∷ decimal t ∷ codes "\n" ∷ [])
-locked_line None = codes "locked none\n"
-
--- the first locked configuration of era j, which stands at its own place among the numbers from 0 on
+-- the first locked configuration of era j of what is played
 abbrev pub lock_of_era : Plan → Script → (j : ℕ) → Option ℕ
-lock_of_era plan script j =
-    position (era_locked plan script (played_at plan script) j) (range_with_len 0 (script.rounds + 1))
-
--- the front of the line of era j
-abbrev pub era_front : Script → (j : ℕ) → List ℕ
-era_front script j = concat (codes "era " ∷ decimal (first_of_era script j) ∷ codes " " ∷ [])
-
-abbrev pub era_line : Plan → Script → (j : ℕ) → List ℕ
-era_line plan script j =
-    concat (era_front script j ∷ locked_line (lock_of_era plan script j) ∷ [])
-
--- for a script of version 1 one line, else one for each era
-abbrev pub lock_lines : Plan → Script → List ℕ
-lock_lines plan script =
-    if script.version == 1 then locked_line (lock_of_era plan script 0)
-    else flat_map (era_line plan script) (range_with_len 0 (length script.eras + 1))
+lock_of_era plan script j = lines.lock_of_era plan script (played_at plan script) j
 
 -- ---- all lines
 
-abbrev pub bound_line : ℕ → List ℕ
-bound_line bound = concat (codes "bound " ∷ decimal bound ∷ codes "\n" ∷ [])
-
 abbrev pub run_text : Plan → Script → List ℕ
 run_text plan script =
-    concat (bound_line (plan_bound plan) ∷ rows_text plan script ∷ lock_lines plan script ∷ [])
+    concat (bound_line (plan_bound plan) ∷ rows_text plan script
+    ∷ lock_lines plan script (played_at plan script) ∷ [])

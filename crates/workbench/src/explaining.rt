@@ -3,12 +3,12 @@ ghost use Rattle.workbench.specs.ExplainRuns.{IsRunnerOf};
 ghost use Rattle.workbench.specs.ExplainText.{explain_text, explanation_lines, why_lines};
 ghost use Rattle.workbench.specs.Playing.{HasPlayed, IsAtStart};
 
-use crate::running::{put_bound, put_locks};
 use counter_core::NoOverlay;
 use edge_io::{Gathered, Piece, Sink, WriteFault, put_all, put_pieces};
 use plan_numbers::Plan;
 use round_runner::Runner;
 use run_explanations::{Explanation, explain};
+use run_lines::{put_bound, put_locks};
 
 /// Writes an explanation, or that there is none.
 fn put_explanation<K: Sink>(

@@ -1,16 +1,16 @@
-ghost use Rattle.std.specs.Prelude.{◌≡◌, ◌<◌, ◌≤◌, ◌&&◌, [], ◌∷◌, nat_le, decimal, length, OnOk};
+ghost use Rattle.std.specs.Prelude.{◌≡◌, ◌<◌, ◌&&◌, [], ◌∷◌, nat_le, decimal, OnOk};
 ghost use Rattle.std.specs.List.{concat};
 ghost use Rattle.texts.specs.Growth.{Puts};
 ghost use Rattle.construction.specs.Plans.{plan_nodes};
 ghost use Rattle.adversary_script.specs.Eras.{faulty_at};
-ghost use Rattle.workbench.specs.RunText.{bound_line, era_line, lock_lines, locked_line};
 ghost use Rattle.workbench.specs.RunText.{node_word, node_words, row_front, rows_text};
-ghost use Rattle.workbench.specs.Playing.{HasPlayed, IsAtStart, IsAtEnd, IsToPlay};
+ghost use Rattle.workbench.specs.Playing.{HasPlayed, IsAtStart, IsToPlay};
 ghost use Rattle.workbench.specs.Playing.{own_row, row_number, shown_row, text_of};
 
 use counter_core::NoOverlay;
-use edge_io::{Gathered, Piece, RisingText, Sink, TextSink, WriteFault, put_all, put_pieces};
+use edge_io::{Gathered, RisingText, Sink, TextSink, WriteFault};
 use round_runner::Runner;
+use run_lines::{put_bound, put_locks};
 use sync_types::FaultSet;
 
 /// Writes a text and behind it a number.
@@ -132,73 +132,6 @@ fn put_rows<K: TextSink>(sink: &mut K, runner: &mut Runner<NoOverlay>) -> Result
         number.rise();
         played += 1;
     }
-}
-
-/// Writes which configuration is the first locked one.
-fn put_locked<K: Sink>(sink: &mut K, locked: Option<u64>) -> Result<(), WriteFault>
-    ensures { Puts result (locked_line locked) (K.told sink.old) (K.told sink.new) }
-{
-    match locked {
-        Some(t) => put_pieces(
-            sink,
-            &[
-                Piece::Text(b"locked "),
-                Piece::Number(t),
-                Piece::Text(b"\n"),
-            ],
-        ),
-        None => put_all(sink, b"locked none\n"),
-    }
-}
-
-/// Writes the line of an era, of a runner at the end.
-fn put_era<K: Sink>(sink: &mut K, runner: &Runner<NoOverlay>, era: usize) -> Result<(), WriteFault>
-    requires end { IsAtEnd runner.now }
-    requires among { era ≤ length runner.now.script.eras }
-    ensures { Puts result (era_line runner.now.plan runner.now.script era)
-        (K.told sink.old) (K.told sink.new) }
-{
-    put_pieces(
-        sink,
-        &[
-            Piece::Text(b"era "),
-            Piece::Number(runner.script().era_start(era)),
-            Piece::Text(b" "),
-        ],
-    )?;
-    put_locked(sink, runner.locked_in(era))
-}
-
-/// Writes the first locked configuration of each era, of a runner at the end.
-pub fn put_locks<K: Sink>(sink: &mut K, runner: &Runner<NoOverlay>) -> Result<(), WriteFault>
-    requires { IsAtEnd runner.now }
-    ensures { Puts result (lock_lines runner.now.plan runner.now.script)
-        (K.told sink.old) (K.told sink.new) }
-{
-    if runner.script().version() == 1 {
-        return put_locked(sink, runner.locked_in(0));
-    }
-    for era in 0..runner.script().eras() {
-        match put_era(sink, runner, era) {
-            Ok(()) => {}
-            Err(WriteFault) => return Err(WriteFault),
-        }
-    }
-    Ok(())
-}
-
-/// Writes the bound.
-pub fn put_bound<K: Sink>(sink: &mut K, bound: u64) -> Result<(), WriteFault>
-    ensures { Puts result (bound_line bound) (K.told sink.old) (K.told sink.new) }
-{
-    put_pieces(
-        sink,
-        &[
-            Piece::Text(b"bound "),
-            Piece::Number(bound),
-            Piece::Text(b"\n"),
-        ],
-    )
 }
 
 /// Writes the lines of a run.

@@ -1,7 +1,7 @@
 use Rattle.texts.specs.Growth.{Wrote}
 use Rattle.construction.specs.Plans.{plan_nodes}
+use Rattle.run_lines.proofs.WordsSoFar.{words_before}
 use Rattle.workbench.specs.RunText.{node_word}
-use Rattle.workbench.proofs.Words.{words_before}
 use Rattle.workbench.proofs.running.put_words.Given as goal
 
 abbrev pub invariant-loop-v : goal.invariant-loop-v
