@@ -33,7 +33,7 @@ pub meets_none : (below : Below) (level : Level) → MeetsPremises below level
 meets_none below level met = grind arith
 
 -- a divisor of a number that is not zero is at most that number
-divisor_most : (big s : ℕ) → 0 < big → big % s ≡ 0 → s ≤ big
+pub divisor_most : (big s : ℕ) → 0 < big → big % s ≡ 0 → s ≤ big
 divisor_most big s some whole = elim (cases_lt big s) [
   | inl lt ↦ let same = mod-eq_of_lt lt in absurd (omega (arith, same, whole))
   | inr le ↦ le
