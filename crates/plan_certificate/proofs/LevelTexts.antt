@@ -1,4 +1,5 @@
--- The lines that state the levels, one after the other.
+-- The texts of the levels of a plan, one after the other, the lowest first. What the text of one level
+-- is does not matter.
 use Rattle.std.proofs.Common.{◌≡◌, ℕ, ◌+◌, ◌<◌, ◌≤◌, List, [], ◌∷◌, ◌++◌, length, take, map, reverse, get_or, Some, refl, sym, ap, ◌∙◌, arith}
 use Rattle.std.specs.List.{slice_get, flat_map}
 use Rattle.std.proofs.lemmas.List.{take_all, map-append, length-map, length-reverse, get_or-map}
@@ -9,7 +10,6 @@ use Rattle.texts.proofs.Growth.{wrote_at, cut_at}
 use Rattle.construction.specs.Plans.{Level, Plan, plan_depth}
 use Rattle.plan_numbers.specs.declared.numbers.LevelNums.{LevelNums}
 use Rattle.plan_numbers.specs.Numbers.{level_of, numbers_of, numbers_over, below_of, level_numbers}
-use Rattle.plan_certificate.specs.PlanTexts.{level_text, level_texts}
 
 -- the levels that have the numbers of these, the lowest first
 levels_are : (base : ℕ) (levels : List Level) → map level_of (numbers_of base levels) ≡ reverse levels
@@ -20,11 +20,11 @@ levels_are base (level ∷ below) =
     ∙ ap (λ ls. ls ++ level ∷ []) (levels_are base below)
     ∙ sym (reverse_onto below level [])
 
--- the lines of the first i levels
-abbrev pub first_texts : (version : ℕ) → Plan → ℕ → List ℕ
-first_texts version plan i = flat_map (level_text version) (take i (reverse plan.levels))
+-- the texts of the first i levels
+abbrev pub first_texts : (text : Level → List ℕ) → Plan → ℕ → List ℕ
+first_texts text plan i = flat_map text (take i (reverse plan.levels))
 
-module _ (plan : Plan) (version i : ℕ) (nums : LevelNums)
+module _ (text : Level → List ℕ) (plan : Plan) (i : ℕ) (nums : LevelNums)
     (at : slice_get (level_numbers plan) i ≡ Some nums) where
   inside : i < length (level_numbers plan)
   inside = slice_get_within (level_numbers plan) i nums at
@@ -40,23 +40,21 @@ module _ (plan : Plan) (version i : ℕ) (nums : LevelNums)
       ∙ get_or-map level_of (level_numbers plan) i nums (level_of nums) inside
       ∙ ap level_of (get_or_from_slice_get (level_numbers plan) i nums nums at)
 
-  -- one more line is written
-  pub wrote_level : (s t u : Told) → Wrote (first_texts version plan i) s t
-      → Wrote (level_text version (level_of nums)) t u → Wrote (first_texts version plan (i + 1)) s u
-  wrote_level s t u before line =
-      wrote_at (level_text version) (reverse plan.levels) i (level_of nums) s t u within before
-      (rw here line)
+  -- one more is written
+  pub wrote_level : (s t u : Told) → Wrote (first_texts text plan i) s t
+      → Wrote (text (level_of nums)) t u → Wrote (first_texts text plan (i + 1)) s u
+  wrote_level s t u before one =
+      wrote_at text (reverse plan.levels) i (level_of nums) s t u within before (rw here one)
 
-  -- a line is cut
-  pub cut_level : (s t u : Told) → Wrote (first_texts version plan i) s t
-      → Cut (level_text version (level_of nums)) t u → Cut (level_texts version plan) s u
-  cut_level s t u before line =
-      cut_at (level_text version) (reverse plan.levels) i (level_of nums) s t u within before
-      (rw here line)
+  -- one is cut
+  pub cut_level : (s t u : Told) → Wrote (first_texts text plan i) s t
+      → Cut (text (level_of nums)) t u → Cut (flat_map text (reverse plan.levels)) s u
+  cut_level s t u before one =
+      cut_at text (reverse plan.levels) i (level_of nums) s t u within before (rw here one)
 
--- all lines are written
-pub wrote_levels : (plan : Plan) (version i : ℕ) (s t : Told) → plan_depth plan ≤ i
-    → Wrote (first_texts version plan i) s t → Wrote (level_texts version plan) s t
-wrote_levels plan version i s t all wrote =
+-- all are written
+pub wrote_levels : (text : Level → List ℕ) (plan : Plan) (i : ℕ) (s t : Told) → plan_depth plan ≤ i
+    → Wrote (first_texts text plan i) s t → Wrote (flat_map text (reverse plan.levels)) s t
+wrote_levels text plan i s t all wrote =
     let most : length (reverse plan.levels) ≤ i = omega (arith, length-reverse plan.levels) in
     rw (← take_all i (reverse plan.levels) most) wrote

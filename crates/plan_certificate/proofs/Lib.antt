@@ -1,5 +1,5 @@
 mod LevelLines
-mod LevelTexts
+pub mod LevelTexts
 mod NamedNumbers
 pub mod ReadBack
 mod StatedLines
