@@ -11,7 +11,7 @@ use Rattle.plan_finder.proofs.Bests.{levels_by_push}
 use Rattle.construction.specs.Plans.{Level, nodes_of, faults_of, bound_of, span_of, modulus_of}
 use Rattle.plan_numbers.specs.Numbers.{below_of, numbers_below, line, with_level}
 use Rattle.plan_numbers.specs.Premises.{base_premise, first_premise, LevelsAccepted, IsAccepted}
-use Rattle.plan_numbers.proofs.Accepted.{meets, meets_none, accepted_sized}
+use Rattle.plan_numbers.proofs.Accepted.{divisor_most, meets, meets_none, accepted_sized}
 use Rattle.plan_numbers.proofs.Spans.{turns_some}
 use Rattle.std.specs.Int.{div_ceil}
 use Rattle.std.proofs.lemmas.Nat.{mul-le}
@@ -21,7 +21,7 @@ use Rattle.plan_finder.specs.Orders.{IsLess, steps_of, moduli_of, rank_of}
 use Rattle.plan_finder.specs.Building.{base_under, counting_by, plan_with, modulus_under, IsUsable}
 use Rattle.plan_finder.specs.Wanted.{MeetsWants, IsLeastPlan}
 use Rattle.plan_finder.proofs.Orders.{less_split, AreAtMost, at_most_push, at_most_not_less}
-use Rattle.plan_finder.proofs.Paths.{divisor_most, plan_path, length-steps_of}
+use Rattle.plan_finder.proofs.Paths.{plan_path, length-steps_of}
 
 -- ---- moduli matter to no other number
 
@@ -172,8 +172,9 @@ path_usable most steps path =
 
 -- ---- each push is accepted
 
-divided : (n : ℕ) → 0 < n → n % n ≡ 0
-divided n some = ap (λ m. m % n) (sym (mul-one n)) ∙ mul-mod_right n 1
+-- a number divides itself
+pub divided : (n : ℕ) → n % n ≡ 0
+divided n = ap (λ m. m % n) (sym (mul-one n)) ∙ mul-mod_right n 1
 
 module _ (most : ℕ) (limit : most ≤ 256) (c : ℕ) (least_c : 2 ≤ c) (most_c : c ≤ 2 ^ 40) (level : Level) (below : List Level)
     (path : IsPath most (level ∷ below)) where
@@ -185,7 +186,6 @@ module _ (most : ℕ) (limit : most ≤ 256) (c : ℕ) (least_c : 2 ≤ c) (most
       let nodes = nodes_counting span below in
       let faults = faults_counting span below in
       let counts = modulus_counting span below in
-      let some : 1 ≤ span = mul-le 1 1 (3 * (level.faults + 2)) ((2 * div_ceil level.blocks 2) ^ level.blocks) (omega arith) (turns_some level.blocks step.least_blocks) in
       let size : level.blocks * nodes_of (counting_by span below) ≡ level.blocks * nodes_of below = ap (λ n. level.blocks * n) nodes in
       meets_none (below_of (base_under span below) (counting_by span below)) (line level.blocks level.faults c 0)
       (record {
@@ -197,7 +197,7 @@ module _ (most : ℕ) (limit : most ≤ 256) (c : ℕ) (least_c : 2 ≤ c) (most
         modulus = least_c;
         quorum = omega (arith, size, step.quorum);
         share = subst (λ f. level.faults < (f + 1) * div_ceil level.blocks 2) (sym faults) step.share;
-        multiple = ap (λ m. m % span) counts ∙ divided span (omega (arith, some));
+        multiple = ap (λ m. m % span) counts ∙ divided span;
       })
 
 -- levels below others of a path are a path
@@ -213,14 +213,20 @@ path_front most n steps path =
     ∙ map-append level_by (reverse (drop n steps)) (reverse (take n steps))) in
     path_below most (map level_by (reverse (drop n steps))) (levels_by (take n steps)) (subst (IsPath most) parts path)
 
+-- a cost is six at least
+pub cost_some : (k g : ℕ) → 3 ≤ k → 6 ≤ cost_of k g
+cost_some k g some =
+    let least : 6 * 1 ≤ 3 * (g + 2) * (2 * div_ceil k 2) ^ k =
+    mul-le 6 1 (3 * (g + 2)) ((2 * div_ceil k 2) ^ k) (omega arith) (turns_some k some) in
+    omega (arith, least)
+
 -- the moduli below steps fit
 pub modulus_fits : (c : ℕ) (steps : List Step) → All IsUsable steps → 2 ≤ c → c ≤ 2 ^ 40
     → (2 ≤ modulus_under c steps) × (modulus_under c steps ≤ 2 ^ 40)
 modulus_fits c [] all least most = (least, most)
 modulus_fits c (step ∷ steps) all least most =
     let usable = All-head IsUsable step steps all in
-    let some : 6 * 1 ≤ 3 * (step.faults + 2) * (2 * div_ceil step.blocks 2) ^ step.blocks =
-    mul-le 6 1 (3 * (step.faults + 2)) ((2 * div_ceil step.blocks 2) ^ step.blocks) (omega arith) (turns_some step.blocks usable.least_blocks) in
+    let some = cost_some step.blocks step.faults usable.least_blocks in
     (omega (arith, some), usable.most_cost)
 
 module _ (most : ℕ) (limit : most ≤ 256) (c : ℕ) (least_c : 2 ≤ c) (most_c : c ≤ 2 ^ 40) (steps : List Step)
@@ -252,6 +258,7 @@ module _ (most : ℕ) (limit : most ≤ 256) (c : ℕ) (least_c : 2 ≤ c) (most
 abbrev pub level_with : Step → ℕ → Level
 level_with step modulus = line step.blocks step.faults modulus 0
 
+-- what is refused for its first premise that fails, where none fails, is Ok
 pub ok_by : {X : Type 0} (r : Result X Premise) (fails : Option Premise) → IfErr r (λ premise. fails ≡ Some premise)
     → fails ≡ None → IsOk r
 ok_by (Ok x) fails refused none = refl

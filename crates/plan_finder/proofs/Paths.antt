@@ -1,23 +1,15 @@
 -- The levels of an accepted plan of version 1 are a path.
-use Rattle.std.proofs.Common.{◌≡◌, ℕ, ◌*◌, ◌%◌, ◌<◌, ◌≤◌, List, [], ◌∷◌, length, refl, subst, inl, inr, arith}
+use Rattle.std.proofs.Common.{◌≡◌, ℕ, ◌*◌, ◌≤◌, List, [], ◌∷◌, length, refl, subst, arith}
 use Rattle.std.specs.List.{All}
-use Rattle.std.proofs.lemmas.Bool.{cases_lt}
 use Rattle.std.proofs.lemmas.List.{length-append}
 use Rattle.std.proofs.lemmas.List.Elements.{All-head, All-tail}
-use Rattle.std.proofs.Math.Nat.{mod-eq_of_lt, mul-le-mul_right}
-use Rattle.construction.specs.Plans.{Level, Plan, nodes_of, span_of, modulus_of}
+use Rattle.std.proofs.Math.Nat.{mul-le-mul_right}
+use Rattle.construction.specs.Plans.{Level, Plan, nodes_of}
 use Rattle.plan_numbers.specs.Numbers.{below_of}
 use Rattle.plan_numbers.specs.Premises.{LevelsAccepted, IsAccepted, FitsVersion, MeetsPremises}
-use Rattle.plan_numbers.proofs.Accepted.{meets, accepted_sized}
+use Rattle.plan_numbers.proofs.Accepted.{meets, level_sized, accepted_sized}
 use Rattle.plan_finder.specs.Steps.{IsPath}
 use Rattle.plan_finder.specs.Orders.{steps_of}
-
--- a divisor of a number that is not zero is at most that number
-pub divisor_most : (big s : ℕ) → 0 < big → big % s ≡ 0 → s ≤ big
-divisor_most big s some whole = elim (cases_lt big s) [
-  | inl lt ↦ let same = mod-eq_of_lt lt in absurd (omega (arith, same, whole))
-  | inr le ↦ le
-]
 
 pub accepted_path : (most base : ℕ) (levels : List Level) → LevelsAccepted base levels
     → All (FitsVersion 1) levels → nodes_of levels ≤ most → IsPath most levels
@@ -37,7 +29,7 @@ accepted_path most base (level ∷ below) (accepted, none) fits few =
         most_faults = met.most_faults;
         quorum = omega (arith, met.quorum, spares);
         share = met.share;
-        most_cost = omega (arith, divisor_most (modulus_of base below) (span_of level) (omega (arith, sized.least_modulus)) met.multiple, sized.most_modulus);
+        most_cost = (level_sized (below_of base below) level sized met).most_span;
       },
     )
 

@@ -24,6 +24,7 @@ mod want_lines;
 mod wants;
 mod writing;
 
+pub use costs::step_cost;
 pub use finding::{Found, find};
 pub use lookups::check_potentials;
 pub use pots::{Pot, Pots};
