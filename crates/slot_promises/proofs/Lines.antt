@@ -21,8 +21,8 @@ use Rattle.replicated_log.specs.Logs.{log_layer, log_of}
 use Rattle.replicated_log.proofs.SlotEntries.{every_slot_puts_one}
 use Rattle.run_lines.specs.RunTexts.{number_word}
 use Rattle.log_lines.specs.FireTexts.{fired_word}
-use Rattle.log_lines.specs.EntryTexts.{newest_value, output_at}
-use Rattle.slot_promises.specs.Promises.{LinesDecide, LinesFireTogether, LinesPutOne}
+use Rattle.log_lines.specs.EntryTexts.{newest_value, output_at, log_scene}
+use Rattle.slot_promises.specs.Promises.{HasNewest, LinesDecide, LinesFireTogether, LinesPutOne}
 use Rattle.slot_promises.proofs.Counted.{borne, is_run, past, ends, scene_is, all_are, correct_there, past_bound, leads, shows_lead}
 
 at_most : (q : ℕ) → q ≤ q
@@ -88,10 +88,16 @@ lines_fire_together plan script requests for is t begins =
           subst (λ u. requests_in requests v u ≡ common) before (all v lt correct));
     }
 
+-- what is put into a log that keeps some is its newest entry
 newest_kept : (keep : ℕ) (entry : Entry) (log : List Entry) → 1 ≤ keep
-    → newest_value (take keep (entry ∷ log)) ≡ entry.value
+    → HasNewest (take keep (entry ∷ log)) entry
 newest_kept zero entry log some = absurd (omega arith)
-newest_kept (suc keep) entry log some = refl
+newest_kept (suc keep) entry log some = record { older = take keep log; is = refl }
+
+-- and its value is the newest one
+newest_value_is : (log : List Entry) (entry : Entry) → HasNewest log entry
+    → newest_value log ≡ entry.value
+newest_value_is log entry newest = ap newest_value newest.is
 
 pub lines_put_one : LinesPutOne
 lines_put_one plan script said for is t begins =
@@ -115,15 +121,22 @@ lines_put_one plan script said for is t begins =
     let slot : output_at plan script said t ≡ puts.entry.slot =
     sym (shows_lead plan script layer keeps is began enough q t begins _ lead.0 lead.1)
     ∙ puts.is.slot _ lead.0 lead.1 in
+    let scene_there : Scene (List Entry) = log_scene plan script said (t + q) in
+    let newest : (v : ℕ) → v < n → is_in (faulty_at script (t + q)) v ≡ false
+        → HasNewest (log_of scene_there v) puts.entry =
+    λ v lt correct. subst (λ log. HasNewest log puts.entry)
+        (sym (ap (λ (s : Scene (List Entry)). log_of s v)
+        (sym (scene_is plan script layer keeps is began enough q t begins q (at_most q)))
+        ∙ puts.is.puts v lt
+        (correct_there plan script layer keeps is began enough q t begins v correct)))
+        (newest_kept said.keep puts.entry _ for.some) in
     record {
       entry = puts.entry;
       slot = sym slot;
+      logs = newest;
       words = λ v lt correct.
-          ap (λ (s : Scene (List Entry)). number_word (newest_value (log_of s v)))
-          (sym (scene_is plan script layer keeps is began enough q t begins q (at_most q)))
-          ∙ ap (λ log. number_word (newest_value log)) (puts.is.puts v lt
-          (correct_there plan script layer keeps is began enough q t begins v correct))
-          ∙ ap number_word (newest_kept said.keep puts.entry _ for.some);
+          ap number_word
+          (newest_value_is (log_of scene_there v) puts.entry (newest v lt correct));
       owner = ap (owner_at n f) slot;
       commanded = subst (λ o. is_in (faulty_at script t) (owner_at n f o) ≡ false → puts.entry.value
           ≡ command_at n f said.commands (owner_at n f o) puts.entry.slot) (sym slot)

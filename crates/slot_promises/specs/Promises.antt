@@ -1,5 +1,5 @@
 -- What the words in lines of slots are.
-use Rattle.std.specs.Prelude.{◌≡◌, ℕ, ◌+◌, ◌-◌, ◌<◌, List, Bool, true, false, slice_index}
+use Rattle.std.specs.Prelude.{◌≡◌, ℕ, ◌+◌, ◌-◌, ◌<◌, List, ◌∷◌, Bool, true, false, slice_index}
 use Rattle.construction.specs.Plans.{Plan, plan_nodes, plan_faults}
 use Rattle.construction.specs.Runs.{is_in}
 use Rattle.adversary_script.specs.Scripts.{Script}
@@ -16,7 +16,7 @@ use Rattle.replicated_log.specs.declared.entries.Entry.{Entry}
 use Rattle.replicated_log.specs.EntryLength.{entry_length, owner_at, command_at}
 use Rattle.replicated_log.specs.LogSaid.{LogSaid}
 use Rattle.replicated_log.specs.LogPart as log
-use Rattle.replicated_log.specs.Logs.{log_layer}
+use Rattle.replicated_log.specs.Logs.{log_layer, log_of}
 use Rattle.run_lines.specs.RunTexts.{number_word}
 use Rattle.run_lines.specs.SlotTexts.{begins_at}
 use Rattle.layer_lines.specs.DecisionTexts.{slot_of, agree_scene, decision_word}
@@ -64,11 +64,20 @@ LinesFireTogether = (plan : Plan) (script : Script) (requests : List Request)
 
 -- ---- the log
 
--- The line of a slot that begins in configuration t: one value, that of the slot's own entry. Where
--- the owner that the line names is correct, it is what the owner commands at the slot's output.
+-- the newest entry of a log
+pub record HasNewest (log : List Entry) (entry : Entry) : Type 0 where
+  pub older : List Entry
+  pub is : log ≡ entry ∷ older
+
+-- The line of a slot that begins in configuration t: its entry stands newest in the log of each
+-- correct node, and the words are the entry's value. Where the owner that the line names is correct,
+-- this is what the owner commands at the slot's output.
 pub record LinePuts (plan : Plan) (script : Script) (said : LogSaid) (t : ℕ) : Type 0 where
   pub entry : Entry
   pub slot : entry.slot ≡ output_at plan script said t
+  pub logs : let c = t + entry_length (plan_faults plan) in
+      (v : ℕ) → v < plan_nodes plan → is_in (faulty_at script c) v ≡ false
+      → HasNewest (log_of (log_scene plan script said c) v) entry
   pub words : let c = t + entry_length (plan_faults plan) in
       AllSay plan script c (entry_word (log_scene plan script said c)) (number_word entry.value)
   pub owner : slot_owner plan script said t

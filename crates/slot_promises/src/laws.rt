@@ -15,8 +15,8 @@ pub fn lines_fire_together()
 {}
 
 /// In each line of a slot of the log the words of all correct nodes are one number, the value of the
-/// slot's own entry. Where the owner that the line names is correct, it is what the owner commands at
-/// the output with which the slot begins.
+/// slot's own entry, which stands newest in the log of each of them. Where the owner that the line
+/// names is correct, it is what the owner commands at the output with which the slot begins.
 pub fn lines_put_one()
     ensures { LinesPutOne }
 {}

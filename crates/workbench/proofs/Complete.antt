@@ -32,10 +32,14 @@ wrote_if true text old new h = h
 wrote_if false text old new h = rw (h.none, h.same) (wrote_none old)
 
 module _ (c : Option Command) (input : List ℕ) (left : Option (List ℕ)) (before now : ℕ) (old new : Told) where
-  as_defined : (s : Status) → Answered (manner c) (defined c) s (Some input) left before now old new → HasDefined c input s old new
-  as_defined s h =
+  -- what was answered is the outcome of the input
+  pub answered_outcome : (s : Status) → Answered (manner c) (defined c) s (Some input) left before now old new → HasOutcome (defined c input) s old new
+  answered_outcome s h =
       let is = told (manner c) s input left h.input h.read in
-      inl (record { status = rw is h.status; wrote = rw is (wrote_if (comes_to_write (manner c) s) (defined c h.input).text old new h.wrote) })
+      record { status = rw is h.status; wrote = rw is (wrote_if (comes_to_write (manner c) s) (defined c h.input).text old new h.wrote) }
+
+  as_defined : (s : Status) → Answered (manner c) (defined c) s (Some input) left before now old new → HasDefined c input s old new
+  as_defined s h = inl (answered_outcome s h)
 
   no_reads : (m : Manner) (P : Type 0) → IfReads m P → P
   no_reads nothing P h = absurd h

@@ -5,22 +5,26 @@ use Rattle.texts.specs.Parts.{At}
 use Rattle.sync_types.specs.declared.answers.Rule.{Rule}
 use Rattle.plan_finder.specs.declared.wants.Want.{Want}
 use Rattle.plan_finder.specs.FindPart.{want_of}
+use Rattle.plan_finder.specs.Potentials.{bound_in, PotentialsBound}
 use Rattle.plan_finder.specs.FindLaws.{IsAnswerFor, FindsLeast}
 use Rattle.plan_finder.specs.Least.{find_plan, costs_of}
 use Rattle.workbench.specs.Answers.{wants_or_refusal, answer_to}
 use Rattle.workbench.specs.FindPromises.{IsFound, LeastIsFound}
 
-found_by : (read : Result Want (At Rule))
+found_by : PotentialsBound → (read : Result Want (At Rule))
     → IfOk read (λ want. IsAnswerFor want (find_plan want.faults want.modulus want.most)
     (costs_of want.most))
     → IfOk (wants_or_refusal read) (IsFound (answer_to (wants_or_refusal read)))
-found_by (Ok want) is = record {
-  plan = find_plan want.faults want.modulus want.most;
-  pots = costs_of want.most;
-  text = refl;
-  is = is;
-}
-found_by (Err at) is = tt
+found_by bound (Ok want) is =
+    let plan = find_plan want.faults want.modulus want.most in
+    record {
+      plan = plan;
+      pots = costs_of want.most;
+      text = refl;
+      is = is;
+      bounds = bound want.faults want.most (bound_in plan) (costs_of want.most) is.passes;
+    }
+found_by bound (Err at) is = tt
 
-pub least_found : FindsLeast → LeastIsFound
-least_found law input = found_by (want_of input) (law input)
+pub least_found : FindsLeast → PotentialsBound → LeastIsFound
+least_found law bound input = found_by bound (want_of input) (law input)

@@ -27,5 +27,7 @@ pub mod ReadLog
 pub mod LayerPromises
 pub mod LockPromises
 pub mod FindPromises
+pub mod PlanPromises
+pub mod Printed
 pub mod WriteEnds
 pub mod DemoTexts

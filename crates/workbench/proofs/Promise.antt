@@ -19,7 +19,7 @@ use Rattle.adversary_script.specs.ScriptPart.{script_of, IsFor}
 use Rattle.adversary_script.proofs.ReadScripts.{script_is_for, script_is_script}
 use Rattle.round_runner.specs.Locks.{first_locked, era_locked, IsFirstLocked}
 use Rattle.round_runner.specs.Played.{played_at}
-use Rattle.round_runner.specs.Laws.{IsUpTo, IsReadFor, EraCountsFrom, EachIsOfOneEra, ErasAreRuns, ErasLock, ErasCount, ErasStayLocked}
+use Rattle.round_runner.specs.Laws.{IsUpTo, IsReadFor, EraCountsFrom, EraStaysLocked, EachIsOfOneEra, ErasAreRuns, ErasLock, ErasCount, ErasStayLocked}
 use Rattle.round_runner.proofs.FirstLocked.{first_is_locked}
 use Rattle.run_explanations.specs.Laws.{ExplainedErasLock, LongErasAreExplained, FoundIsFirst}
 use Rattle.run_lines.specs.RunTexts.{number_word}
@@ -76,16 +76,16 @@ module _ (plan : Plan) (script : Script) (read : IsReadFor plan script) (j : ℕ
   locked_first = subst (IsFirstLocked plan script (played_at plan script) j script.rounds) same_lock
       (first_is_locked plan script (played_at plan script) read.whole j script.rounds among (omega arith))
 
-  -- it is locked, so the outputs count from it on
+  -- it is locked, so from it on it stays locked, and the outputs count
   from_locked : EachIsOfOneEra → ErasStayLocked → (w : ℕ) → lock_of_era plan script j ≡ Some w
-      → RowsCountFrom plan script j w
+      → EraStaysLocked plan script j w
   from_locked each stays w is =
       let first = subst (IsFirstLocked plan script (played_at plan script) j script.rounds) is locked_first in
       let within = first.0 in
       let here : j ≡ era_of script w = (each script read.whole w (omega (arith, within))).only j among first.1.from first.1.before in
       let locked : IsLocked plan (faulty_at script w) (played_at plan script w) =
       subst (λ (era : ℕ). IsLocked plan (faulty_of_era script era) (played_at plan script w)) here first.1.locked in
-      rows_count w (stays plan script read j among w first.1.from first.1.before locked).counts
+      stays plan script read j among w first.1.from first.1.before locked
 
 module _ (each : EachIsOfOneEra) (runs : ErasAreRuns) (locks : ErasLock) (counts : ErasCount)
     (stays : ErasStayLocked) (explained : ExplainedErasLock) (long : LongErasAreExplained)
@@ -100,7 +100,10 @@ module _ (each : EachIsOfOneEra) (runs : ErasAreRuns) (locks : ErasLock) (counts
     locked = locked_first plan script read j among;
     locks = λ reaches. subst (IsUpTo (first_of_era script j + plan_bound plan))
         (same_lock plan script read j among) (locks plan script read j among reaches);
-    locked_rows = from_locked plan script read j among each stays;
+    stays = λ w t is late early.
+        (from_locked plan script read j among each stays w is).locked t late early;
+    locked_rows = λ w is. rows_count plan script read j among w
+        (from_locked plan script read j among each stays w is).counts;
   }
 
   whichever : (scripted : Result Scripted Refusal) → IfOk scripted IsRead

@@ -1,7 +1,11 @@
 -- What holds of every input, whatever becomes of it.
 use Rattle.std.specs.Prelude.{◌≡◌, ℕ, ◌+◌, ◌%◌, ◌<◌, ◌≤◌, List, length, Some, false, IfOk}
+use Rattle.sync_types.specs.States.{State}
 use Rattle.construction.specs.Plans.{Plan, plan_nodes, plan_bound, plan_modulus, plan_depth}
-use Rattle.construction.specs.Runs.{is_in, IsBorne, Settles}
+use Rattle.construction.specs.Runs.{is_in, configuration, IsConfiguration, IsTable, Run, IsBorne, Settles, IsLocked}
+use Rattle.plan_numbers.specs.Premises.{IsAccepted}
+use Rattle.plan_laws.specs.Laws.{HasOneNext, StaysLockedFrom}
+use Rattle.plan_laws.specs.VersionLaws.{in_version, AreSame}
 use Rattle.plan_reader.specs.PlanPart.{plan_of}
 use Rattle.adversary_script.specs.Scripts.{Script}
 use Rattle.adversary_script.specs.Eras.{first_of_era, end_of_era, faulty_of_era, faulty_at}
@@ -13,9 +17,33 @@ use Rattle.workbench.specs.RunText.{node_word, lock_of_era}
 use Rattle.workbench.specs.Answers.{scripted_of}
 use Rattle.workbench.specs.ExplainLaws.{WhyIsTrue}
 
+-- All that is known of an accepted plan, in each of its runs and with each faulty set that it bears.
+pub record IsSelfStabilising (plan : Plan) : Type 0 where
+  pub accepted : IsAccepted plan
+  -- from the bound on all correct nodes show one number, which grows by one modulo C
+  pub settles : Settles plan
+  -- no run can come to an end: each configuration and table of lies has one next configuration, up
+  -- to the states of faulty nodes, and its states are in range
+  pub next : (faulty : List ℕ) (old : List State) (lies : List (List State))
+      → IsConfiguration plan old → IsTable plan lies → HasOneNext plan faulty old lies
+  -- where a run reaches the bound, the configuration there is locked
+  pub locks : (faulty : List ℕ) (run : List (List State)) → IsBorne plan faulty
+      → Run plan faulty run → plan_bound plan < length run
+      → IsLocked plan faulty (configuration run (plan_bound plan))
+  -- from any locked configuration on it stays locked, and counts
+  pub stays : (faulty : List ℕ) (run : List (List State)) → IsBorne plan faulty
+      → Run plan faulty run → (from : ℕ) → from < length run
+      → IsLocked plan faulty (configuration run from) → StaysLockedFrom plan faulty run from
+  -- and its text of another version is that of the same counter
+  pub versions : (version : ℕ) → AreSame plan (in_version version plan)
+
+abbrev pub AcceptedStabilise : Type 0
+AcceptedStabilise = (plan : Plan) → IsAccepted plan → IsSelfStabilising plan
+
 -- where the plan part of an input is accepted the plan settles
 abbrev pub AcceptedPlansSettle : Type 0
-AcceptedPlansSettle = (input : List ℕ) → IfOk (plan_of input) (λ found. Settles found.value)
+AcceptedPlansSettle = (input : List ℕ)
+    → IfOk (plan_of input) (λ found. IsSelfStabilising found.value)
 
 -- From a configuration to the end of era j, the words of all nodes that are correct in it are one
 -- number in each played row, which grows by one modulo C from row to row.
@@ -29,7 +57,8 @@ pub record RowsCountFrom (plan : Plan) (script : Script) (j from : ℕ) : Type 0
 
 -- What is played of era j is a run of the plan, with few faulty nodes. Its rows count from the bound
 -- on, which is counted from its first configuration. The W of its line `locked W` is its first locked
--- configuration, at the bound or before where the era reaches the bound, and the rows count from W on.
+-- configuration, at the bound or before where the era reaches the bound. From W to the era's end each
+-- configuration is locked, and the rows count.
 pub record EraKeepsPromise (plan : Plan) (script : Script) (j : ℕ) : Type 0 where
   pub borne : IsBorne plan (faulty_of_era script j)
   pub run : EraIsRun plan script j
@@ -38,6 +67,8 @@ pub record EraKeepsPromise (plan : Plan) (script : Script) (j : ℕ) : Type 0 wh
       (lock_of_era plan script j)
   pub locks : first_of_era script j + plan_bound plan < end_of_era script j
       → IsUpTo (first_of_era script j + plan_bound plan) (lock_of_era plan script j)
+  pub stays : (w t : ℕ) → lock_of_era plan script j ≡ Some w → w ≤ t → t < end_of_era script j
+      → IsLocked plan (faulty_at script t) (played_at plan script t)
   pub locked_rows : (w : ℕ) → lock_of_era plan script j ≡ Some w → RowsCountFrom plan script j w
 
 -- All rows that are shown are of configurations that are played, each of these is of one era, and

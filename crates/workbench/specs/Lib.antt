@@ -17,6 +17,8 @@ pub mod Ends
 pub mod Readings
 pub mod Completeness
 pub mod Laws
+pub mod PlanPromises
+pub mod EveryRun
 pub mod Layered
 pub mod FireAnswers
 pub mod FireRuns
@@ -34,3 +36,4 @@ pub mod LayerPromises
 pub mod DemoLaws
 pub mod LockPromises
 pub mod FindPromises
+pub mod Printed

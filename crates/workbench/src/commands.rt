@@ -8,11 +8,15 @@ ghost use Rattle.workbench.specs.RecordLaws.{RecordsAreChecked};
 ghost use Rattle.workbench.specs.LayerPromises.{HoldsAreKept, DecisionsAreKept, FiresAreKept, EntriesAreKept};
 ghost use Rattle.workbench.specs.LockPromises.{LocksAreKept};
 ghost use Rattle.workbench.specs.FindPromises.{LeastIsFound};
+ghost use Rattle.workbench.specs.PlanPromises.{TextsAreKept};
+ghost use Rattle.workbench.specs.EveryRun.{EveryRunKeeps};
+ghost use Rattle.workbench.specs.Printed.{Prints};
 
 use crate::certificate_laws::{check_is_exact, records_are_checked};
 use crate::check_word::check;
 use crate::consensus_word::consensus;
 use crate::demo_word::demo;
+use crate::every_run::every_run_keeps;
 use crate::explain_word::explain;
 use crate::find_promises::least_is_found;
 use crate::find_word::find_least;
@@ -22,7 +26,9 @@ use crate::layer_promises::{decisions_are_kept, entries_are_kept, fires_are_kept
 use crate::lock_promises::locks_are_kept;
 use crate::log_word::log;
 use crate::node_word::node;
+use crate::plan_promises::texts_are_kept;
 use crate::plan_word::plan;
+use crate::printed::promises_are_printed;
 use crate::record_word::record;
 use crate::refusals::{Refusal, put_refusal};
 use crate::run_word::run;
@@ -224,8 +230,17 @@ pub fn counterlab<S: Source, K: Sink>(
     ensures unread { LeavesUnread (manner (command_of (map string_bytes words.now)))
         (S.left source.old) (S.left source.new) }
 
-    // Whatever becomes of the input: where its plan part is accepted, the plan settles.
+    // Where it ended well, and the source tells its bytes: what was read from them, that the text of
+    // this was written, and that the word's promise is kept of it.
+    ensures prints { Prints (command_of (map string_bytes words.now)) result
+        (S.left source.old) (K.told sink.old) (K.told sink.new) }
+
+    // Whatever becomes of the input: where its plan part is accepted, the plan settles, no run of it
+    // can come to an end, and what is locked stays locked.
     ensures settles { AcceptedPlansSettle }
+
+    // What `plan` and `upgrade` write of a plan is read back, and what `table` calls true is a table.
+    ensures texts { TextsAreKept }
 
     // Where it is a plan and a script, what is played is a run of the plan, what is written of it
     // counts, and what `explain` writes is why it locks.
@@ -245,13 +260,19 @@ pub fn counterlab<S: Source, K: Sink>(
     ensures fires { FiresAreKept }
     ensures entries { EntriesAreKept }
 
+    // And what holds of every run with such a layer, whatever its start and its lies.
+    ensures every_run { EveryRunKeeps }
+
     // And what their lines of first locked configurations say.
     ensures locks { LocksAreKept }
 
-    // What `find` answers, where its wants are read: the least plan, and the least costs.
+    // What `find` answers, where its wants are read: the least plan, and the least costs, which bound
+    // how soon any plan settles.
     ensures found { LeastIsFound }
 {
+    promises_are_printed();
     accepted_plans_settle();
+    texts_are_kept();
     promise_is_kept();
     check_is_exact();
     records_are_checked();
@@ -259,6 +280,7 @@ pub fn counterlab<S: Source, K: Sink>(
     decisions_are_kept();
     fires_are_kept();
     entries_are_kept();
+    every_run_keeps();
     locks_are_kept();
     least_is_found();
     answer(alloc, words, source, sink)

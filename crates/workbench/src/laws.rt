@@ -2,26 +2,42 @@
 //! law.
 
 ghost use Rattle.workbench.specs.Completeness.{UndisturbedIsDefined, PlainIsDefined, RoomIsDefined, CutsAreUnseen};
-ghost use Rattle.workbench.specs.Laws.{AcceptedPlansSettle, PromiseIsKept};
+ghost use Rattle.workbench.specs.Laws.{AcceptedStabilise, AcceptedPlansSettle, PromiseIsKept};
 ghost use Rattle.workbench.specs.DemoLaws.{DemoIsAccepted, DemoIsAnswered};
 
-use plan_laws::laws::every_plan_settles;
+use plan_laws::laws::{
+    each_has_one_next, every_plan_settles, locked_runs_count, locks_at_bound, versions_agree,
+};
 use round_runner::laws::{
     each_is_of_one_era, eras_are_runs, eras_count, eras_lock, eras_stay_locked,
 };
 use run_explanations::laws::{explained_eras_lock, found_is_first, long_eras_are_explained};
 
-/// Where the plan part of an input is accepted the plan settles.
+/// Every accepted plan settles. No run of it can come to an end, each is locked at the bound, and
+/// from any locked configuration on it stays so and counts. Its texts of both versions are of one
+/// counter.
+pub fn accepted_stabilise()
+    ensures { AcceptedStabilise }
+{
+    every_plan_settles();
+    each_has_one_next();
+    locks_at_bound();
+    locked_runs_count();
+    versions_agree();
+}
+
+/// Where the plan part of an input is accepted, the plan does so.
 pub fn accepted_plans_settle()
     ensures { AcceptedPlansSettle }
 {
-    every_plan_settles();
+    accepted_stabilise();
 }
 
 /// Where an input is a plan and a script, all rows that are shown are played ones. What is played of
 /// each era is a run of the plan with few faulty nodes; what is written of it counts from the bound
-/// on, and from its first locked configuration on, to the era's end. What is written of why the last
-/// one locks is its first explanation, and it is locked from the end of that phase on.
+/// on, and from its first locked configuration on, to the era's end, and is locked from there to it.
+/// What is written of why the last one locks is its first explanation, and it is locked from the end
+/// of that phase on.
 pub fn promise_is_kept()
     ensures { PromiseIsKept }
 {

@@ -1,0 +1,44 @@
+-- The texts of plans and of tables are read back.
+use Rattle.std.proofs.Common.{◌≡◌, ℕ, ◌≤◌, List, Result, Ok, Err, refl, ap, arith}
+use Rattle.std.specs.Prelude.{IfOk}
+use Rattle.texts.specs.Parts.{At}
+use Rattle.sync_types.specs.declared.answers.Premise.{Premise}
+use Rattle.sync_types.specs.declared.answers.Cause.{Cause}
+use Rattle.construction.specs.Plans.{Plan}
+use Rattle.plan_numbers.specs.Premises.{IsAccepted}
+use Rattle.plan_laws.specs.VersionLaws.{VersionsAgree}
+use Rattle.plan_reader.specs.PlanPart.{whole_plan_of}
+use Rattle.plan_reader.proofs.AcceptedPlans.{whole_plan_accepted}
+use Rattle.plan_certificate.specs.Tables.{table_text}
+use Rattle.plan_certificate.specs.TableLines.{table_of}
+use Rattle.plan_certificate.specs.TableLaws.{TablesAreRead, OnlyTablesAreRead}
+use Rattle.plan_certificate.specs.PlanTexts.{plan_text, PlanTextIsWhole}
+use Rattle.workbench.specs.Answers.{plan_or_refusal, text_by, tabled}
+use Rattle.workbench.specs.PlanPromises.{AreTextsOf, IsTableOf, TextsAreKept}
+
+module _ (whole : PlanTextIsWhole) (read : TablesAreRead) (only : OnlyTablesAreRead)
+    (versions : VersionsAgree) where
+  texts_of : (r : Result Plan (At Premise)) → IfOk r IsAccepted
+      → IfOk (plan_or_refusal r) (AreTextsOf (text_by table_text (plan_or_refusal r))
+      (text_by (plan_text 2) (plan_or_refusal r)))
+  texts_of (Err at) accepted = tt
+  texts_of (Ok plan) accepted = record {
+    table = refl;
+    tabled = ap tabled (read plan accepted);
+    upgrade = refl;
+    upgraded = ap plan_or_refusal (whole plan 2 accepted accepted.newest (omega arith));
+    same = versions plan 2;
+  }
+
+  table_is : (input : List ℕ) (r : Result Plan (At Cause)) → table_of input ≡ r
+      → IfOk (tabled r) (IsTableOf input)
+  table_is input (Err at) same = tt
+  table_is input (Ok plan) same =
+      let held = only input plan same in
+      record { accepted = held.0; is = held.1 }
+
+  pub texts_kept : TextsAreKept
+  texts_kept = record {
+    plans = λ input. texts_of (whole_plan_of input) (whole_plan_accepted input);
+    tables = λ input. table_is input (table_of input) refl;
+  }

@@ -1,0 +1,30 @@
+-- What the texts of plans and of tables that are written promise, whatever the input.
+use Rattle.std.specs.Prelude.{◌≡◌, ℕ, List, Result, Ok, IfOk}
+use Rattle.construction.specs.Plans.{Plan}
+use Rattle.plan_numbers.specs.Premises.{IsAccepted}
+use Rattle.plan_laws.specs.VersionLaws.{in_version, AreSame}
+use Rattle.plan_certificate.specs.Tables.{table_text}
+use Rattle.plan_certificate.specs.PlanTexts.{plan_text}
+use Rattle.workbench.specs.declared.refusals.Refusal.{Refusal}
+use Rattle.workbench.specs.Answers.{plan_alone, plan_answer, upgrade_answer, tabled_of}
+
+-- These answers are the plan's table, which is read back as the plan, and its text in version 2,
+-- which is read back as a plan of the same counter.
+pub record AreTextsOf (table upgrade : Result (List ℕ) Refusal) (plan : Plan) : Type 0 where
+  pub table : table ≡ Ok (table_text plan)
+  pub tabled : tabled_of (table_text plan) ≡ Ok plan
+  pub upgrade : upgrade ≡ Ok (plan_text 2 plan)
+  pub upgraded : plan_alone (plan_text 2 plan) ≡ Ok (in_version 2 plan)
+  pub same : AreSame plan (in_version 2 plan)
+
+-- it is the table of an accepted plan
+pub record IsTableOf (text : List ℕ) (plan : Plan) : Type 0 where
+  pub accepted : IsAccepted plan
+  pub is : text ≡ table_text plan
+
+-- Where an input is a plan, `plan` answers its table and `upgrade` its text in version 2. Where
+-- `table` answers that an input is the table of a plan, it is.
+pub record TextsAreKept : Type 0 where
+  pub plans : (input : List ℕ)
+      → IfOk (plan_alone input) (AreTextsOf (plan_answer input) (upgrade_answer input))
+  pub tables : (input : List ℕ) → IfOk (tabled_of input) (IsTableOf input)
