@@ -1,6 +1,6 @@
 -- A call that ends well has read a value and written its text, of which the promise is kept.
 use Rattle.std.proofs.Common.{◌≡◌, ℕ, ◌^◌, ◌<◌, ◌≤◌, Bool, true, false, cond, ltb, List, length, Option, Some, None, Result, Ok, Err, refl, sym, ap, ◌∙◌, subst}
-use Rattle.std.specs.Prelude.{IfOk}
+use Rattle.std.specs.Prelude.{IfOk, codes}
 use Rattle.sync_types.specs.declared.answers.Premise.{Premise}
 use Rattle.sync_types.specs.declared.status.Status.{Status}
 use Rattle.sync_types.specs.declared.status.Status.TheVariants as status
