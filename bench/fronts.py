@@ -1,0 +1,166 @@
+#!/usr/bin/env python3
+"""The fronts of nodes and bound that `choose` writes, by a plain search of another kind.
+
+It goes forward over exact pairs of nodes and faults. From each pair that some levels reach, in rising
+order of nodes, it tries every level that may stand on it: every number of blocks, of faults and of
+spare nodes. Least bounds over "at most so many nodes" and "at least so many faults" are taken only
+at the end. `choose` goes the other way: it never looks at exact pairs, and at no spare nodes but the
+fewest.
+
+  fronts.py rows [MOST]         a line `F N T` for each line of the front of each F from 0 to 40
+  fronts.py check MOST < LIST   LIST has lines `F C FILE`: tests that FILE is what `choose F C MOST`
+                                writes, line by line, and that each plan in it is accepted and has the
+                                numbers of its line
+  fronts.py numbers < PLAN      the table that `plan` answers to a plan text of version 2
+  fronts.py table BINARY [F]    the table of docs/CHOOSE.md for 1 to F faults (7), from what the built
+                                `choose` writes at modulus 10
+
+It takes a few seconds and no package. `fronts.sh` runs it against the built program.
+"""
+
+import subprocess
+import sys
+
+LARGEST = 1 << 40
+
+
+def leaders(blocks):
+    return (blocks + 1) // 2
+
+
+def span(blocks, faults):
+    return 3 * (faults + 2) * (2 * leaders(blocks)) ** blocks
+
+
+def width(values):
+    """The bits of a number below `values`."""
+    bits = 0
+    while (1 << bits) < values:
+        bits += 1
+    return bits
+
+
+SPANS = {(k, f): span(k, f) for k in range(3, 17) for f in range(86) if span(k, f) <= LARGEST}
+
+
+def least_bounds(most):
+    """rows[n][f]: the least sum of spans of levels with just n nodes that bear just f faults."""
+    rows = [dict() for _ in range(most + 1)]
+    rows[1][0] = 0
+    for n in range(1, most + 1):
+        for below, bound in sorted(rows[n].items()):
+            for k in range(3, 17):
+                if k * n > most:
+                    break
+                for f in range(min(86, (below + 1) * leaders(k))):
+                    if (k, f) not in SPANS:
+                        continue
+                    total = bound + SPANS[k, f]
+                    for size in range(max(k * n, 3 * f + 1), most + 1):
+                        if total < rows[size].get(f, total + 1):
+                            rows[size][f] = total
+    return rows
+
+
+def front(rows, faults):
+    """The pairs of nodes and bound that no other pair is at most in both."""
+    found = []
+    for n, row in enumerate(rows):
+        bounds = [bound for f, bound in row.items() if f >= faults]
+        if bounds and (not found or min(bounds) < found[-1][1]):
+            found.append((n, min(bounds)))
+    return found
+
+
+def table_of(lines):
+    """The table of a plan of version 2, whose lines these are. It fails where the plan is refused."""
+    assert lines[0] == 'plan 2' and lines[-1] == 'end', lines
+    word, base = lines[1].split(' ')
+    base = int(base)
+    assert word == 'base' and 2 <= base <= LARGEST, lines
+    nodes, faults, modulus, bound, bits = 1, 0, base, 0, width(base)
+    table = ['table 2', f'base {base}']
+    for index, line in enumerate(lines[2:-1], 1):
+        word, k, f, c, spare, s = line.split(' ')
+        k, f, c, s = int(k), int(f), int(c), int(s)
+        size, m = k * nodes + s, leaders(k)
+        assert (word, spare) == ('level', 'spare'), line
+        assert 3 <= k <= 16 and f <= 85 and 2 <= c <= LARGEST and size <= 256, line
+        assert size > 3 * f, line
+        assert f < (faults + 1) * m, line
+        assert modulus % span(k, f) == 0, line
+        nodes, faults, modulus = size, f, c
+        bound, bits = bound + span(k, f), bits + width(c + 1) + 1
+        table.append(f'level {index} blocks {k} leaders {m} nodes {nodes} faults {f} beat {3 * (f + 2)} '
+                     f'span {span(k, f)} modulus {c} bound {bound} bits {bits} spare {s}')
+    table.append(f'plan nodes {nodes} faults {faults} modulus {modulus} bound {bound} bits {bits} '
+                 f'bytes {-(-bits // 8)}')
+    return table + ['end']
+
+
+def check(rows, faults, modulus, text):
+    """Fails where the text is not the front of these rows, in plans that have its numbers."""
+    want = front(rows, faults)
+    lines = text.splitlines(keepends=True)
+    if not want:
+        assert lines == ['none\n'], lines
+    else:
+        assert len(lines) == len(want), (faults, modulus, lines, want)
+        for line, (nodes, bound) in zip(lines, want):
+            numbers, plan = line.split(' plan ')
+            words = table_of(('plan ' + plan).rstrip('\n').split(';'))[-2].split(' ')
+            had = dict(zip(words[1::2], map(int, words[2::2])))
+            levels = plan.count('level')
+            assert (had['nodes'], had['bound']) == (nodes, bound), (faults, line, nodes, bound)
+            assert had['faults'] >= faults and had['modulus'] == modulus, (faults, modulus, line)
+            assert numbers == f'nodes {nodes} bound {bound} bytes {had["bytes"]} levels {levels}', line
+    return len(want)
+
+
+def time_of(rounds):
+    """How long rounds of one millisecond take."""
+    seconds = rounds / 1000
+    for unit, size, upto in (('s', 1, 120), ('min', 60, 120), ('h', 3600, 48), ('days', 86400, 730)):
+        if seconds < upto * size:
+            value = seconds / size
+            return f'{value:.1f} {unit}' if value < 100 or unit == 's' else f'{value:.0f} {unit}'
+    return f'{seconds / 86400 / 365.25:.1f} years'
+
+
+def print_table(binary, most_faults):
+    print('| F | plan | nodes N | bound T | bytes | T at 1 ms | a run comes to T |')
+    print('|---|---|---|---|---|---|---|')
+    for faults in range(1, most_faults + 1):
+        said = subprocess.run([binary, str(faults), '10'], capture_output=True, text=True, check=True)
+        for line in said.stdout.splitlines():
+            words = line.split(' ', 8)
+            nodes, bound, size, plan = int(words[1]), int(words[3]), int(words[5]), words[8]
+            run = 'yes' if bound <= 1000000 else 'no'
+            print(f'| {faults} | `{plan}` | {nodes} | {bound:,} | {size} | {time_of(bound)} | {run} |')
+
+
+def main(words):
+    if words[:1] == ['rows'] and len(words) <= 2:
+        rows = least_bounds(int(words[1]) if len(words) > 1 else 256)
+        for faults in range(41):
+            for nodes, bound in front(rows, faults):
+                print(faults, nodes, bound)
+    elif words[:1] == ['check'] and len(words) == 2:
+        rows = least_bounds(int(words[1]))
+        fronts = lines = 0
+        for entry in sys.stdin.read().splitlines():
+            faults, modulus, file = entry.split(' ', 2)
+            with open(file) as said:
+                lines += check(rows, int(faults), int(modulus), said.read())
+            fronts += 1
+        print(f'{fronts} fronts with at most {words[1]} nodes are as searched, {lines} lines')
+    elif words == ['numbers']:
+        print('\n'.join(table_of(sys.stdin.read().rstrip('\n').split('\n'))))
+    elif words[:1] == ['table'] and 2 <= len(words) <= 3:
+        print_table(words[1], int(words[2]) if len(words) > 2 else 7)
+    else:
+        sys.exit(__doc__)
+
+
+if __name__ == '__main__':
+    main(sys.argv[1:])

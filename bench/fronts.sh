@@ -1,0 +1,31 @@
+#!/bin/sh
+# Compares what the built program `choose` writes with the search of fronts.py. From the top of the
+# repository:
+#
+#   sh bench/fronts.sh [BINARY]          BINARY: crates/choose/out/choose where it is left out
+#
+# For each F from 0 to 85, five moduli, and 256 nodes at most; and for eight F, three moduli and ten
+# numbers of nodes at most. It stops at the first front that differs, and then ends with a status that
+# is not 0. It takes about half a minute.
+set -e
+binary=${1:-crates/choose/out/choose}
+here=$(dirname "$0")
+room=$(mktemp -d)
+trap 'rm -rf "$room"' EXIT
+
+# compare MOST "FAULTS .." "MODULI .."
+compare() {
+  : > "$room/list"
+  for faults in $2; do
+    for modulus in $3; do
+      "$binary" "$faults" "$modulus" "$1" > "$room/$faults.$modulus"
+      echo "$faults $modulus $room/$faults.$modulus" >> "$room/list"
+    done
+  done
+  python3 "$here/fronts.py" check "$1" < "$room/list"
+}
+
+compare 256 "$(seq -s ' ' 0 85)" "2 10 1000 1048576 1099511627776"
+for most in 1 3 4 9 13 14 36 81 100 255; do
+  compare "$most" "0 1 2 3 5 8 17 33" "2 1000 1099511627776"
+done

@@ -1,0 +1,5 @@
+pub mod Lower
+pub mod Topped
+pub mod Least
+pub mod Grown
+pub mod Texts

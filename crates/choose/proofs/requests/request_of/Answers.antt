@@ -1,0 +1,27 @@
+use Rattle.std.proofs.Common.{◌≡◌, ℕ, ◌<◌, ◌≤◌, List, [], ◌∷◌, length, map, refl, arith}
+use Rattle.std.specs.Prelude.{None, string_bytes}
+use Rattle.std.proofs.lemmas.List.{length-map}
+use Rattle.choose.specs.Requests.{request_of}
+use Rattle.choose.proofs.requests.request_of.Goals as goal
+
+none_short : (words : List (List ℕ)) → length words < 1 → None ≡ request_of words
+none_short [] few = refl
+none_short (word ∷ words) few = absurd (omega (arith, few))
+
+none_long : (words : List (List ℕ)) → 5 ≤ length words → None ≡ request_of words
+none_long [] many = refl
+none_long (f ∷ []) many = absurd (omega (arith, many))
+none_long (f ∷ c ∷ []) many = absurd (omega (arith, many))
+none_long (f ∷ c ∷ most ∷ []) many = absurd (omega (arith, many))
+none_long (f ∷ c ∷ most ∷ last ∷ []) many = absurd (omega (arith, many))
+none_long (f ∷ c ∷ most ∷ last ∷ more ∷ words) many = refl
+
+pub returns-in_default-clause-value : goal.returns-in_default-clause-value
+returns-in_default-clause-value c =
+    none_short (map string_bytes c.args.words.now)
+    (omega (arith, length-map c.args.words.now string_bytes, c.in_default.len_below))
+
+pub returns-in_default-2-clause-value : goal.returns-in_default-2-clause-value
+returns-in_default-2-clause-value c =
+    none_long (map string_bytes c.args.words.now)
+    (omega (arith, length-map c.args.words.now string_bytes, c.in_default.len_at_least))

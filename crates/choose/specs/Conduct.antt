@@ -1,0 +1,49 @@
+-- What `choose` did to its sink, and how the program ends.
+use Rattle.std.specs.Prelude.{◌≡◌, ℕ, List, Option, None}
+use Rattle.std.specs.Option.{IsSomeAnd}
+use Rattle.texts.specs.Growth.{Told, Wrote, Cut}
+use Rattle.construction.specs.Plans.{Plan}
+use Rattle.sync_types.specs.declared.status.Status.{Status}
+use Rattle.sync_types.specs.declared.status.Status.TheVariants as status
+use Rattle.plan_finder.specs.declared.wants.Want.{Want}
+use Rattle.choose.specs.declared.choosing.ChooseError.{ChooseError}
+use Rattle.choose.specs.declared.choosing.ChooseError.TheVariants as error
+use Rattle.choose.specs.declared.requests.Request.{Request}
+use Rattle.choose.specs.declared.requests.Request.TheVariants as request
+use Rattle.choose.specs.Fronts.{IsFront}
+use Rattle.choose.specs.FrontText.{front_text, last_plan_text}
+use Rattle.choose.specs.HelpText.{help_text, version_text}
+
+-- a front for the wants has this
+abbrev pub OfFront : (List Plan → Type 0) → Want → Type 0
+OfFront holds want =
+    (plans : List Plan) × IsFront want.faults want.modulus want.most plans × holds plans
+
+-- a text that answers the request has this
+abbrev pub OfAnswer : (List ℕ → Type 0) → Request → Type 0
+OfAnswer holds request.Help = holds help_text
+OfAnswer holds request.Version = holds version_text
+OfAnswer holds (request.Front want) = OfFront (λ plans. holds (front_text plans)) want
+OfAnswer holds (request.LastPlan want) = OfFront (λ plans. holds (last_plan_text plans)) want
+
+-- a front is to be searched
+abbrev pub IsSearch : Request → Type 0
+IsSearch request.Help = ⊥
+IsSearch request.Version = ⊥
+IsSearch (request.Front want) = Unit {0}
+IsSearch (request.LastPlan want) = Unit {0}
+
+-- the answer was written, all of it
+abbrev pub Answers : Option Request → (old new : Told) → Type 0
+Answers asked old new = IsSomeAnd asked (OfAnswer (λ text. Wrote text old new))
+
+abbrev pub Fails : Option Request → (old new : Told) → ChooseError → Type 0
+Fails asked old new error.Usage = (asked ≡ None) × (new ≡ old)
+Fails asked old new error.NoMemory = IsSomeAnd asked IsSearch × (new ≡ old)
+Fails asked old new error.WriteFault = IsSomeAnd asked (OfAnswer (λ text. Cut text old new))
+
+-- how the program ends where this is the error
+abbrev pub status_of : ChooseError → Status
+status_of error.Usage = status.Usage
+status_of error.NoMemory = status.NoMemory
+status_of error.WriteFault = status.WriteFault

@@ -1,0 +1,51 @@
+-- What the words ask for: `FAULTS MODULUS [MOST_NODES] [plan]`, `--help` or `--version`.
+use Rattle.std.specs.Prelude.{ℕ, ◌^◌, List, [], ◌∷◌, ◌||◌, nat_lt, Bool, Option, Some, None, codes}
+use Rattle.std.specs.Prelude.{if◌then◌else◌}
+use Rattle.std.specs.Option.{option_map}
+use Rattle.std.specs.Str.{bytes_eq}
+use Rattle.texts.specs.Numbers.{number_of}
+use Rattle.plan_finder.specs.declared.wants.Want.{Want}
+use Rattle.plan_finder.specs.FindPart.{IsFit}
+use Rattle.choose.specs.declared.requests.Request.{Request}
+use Rattle.choose.specs.declared.requests.Request.TheVariants as request
+
+-- the wants with these numbers, if they keep the limits
+abbrev pub want_with : (f c most : ℕ) → Option Want
+want_with f c most =
+    if nat_lt 85 f || nat_lt c 2 || nat_lt (2 ^ 40) c || nat_lt most 1 || nat_lt 256 most then None
+    else Some (record { faults = f; modulus = c; most = most })
+
+-- the same, where each of them is a number
+abbrev pub want_by : (f c most : Option ℕ) → Option Want
+want_by (Some f) (Some c) (Some most) = want_with f c most
+want_by f c most = None
+
+-- what a single word asks for
+abbrev pub asked_alone : List ℕ → Option Request
+asked_alone word =
+    if bytes_eq word (codes "--help") then Some request.Help
+    else if bytes_eq word (codes "--version") then Some request.Version
+    else None
+
+-- The most nodes are 256 where they are left out.
+abbrev pub request_of : List (List ℕ) → Option Request
+request_of [] = None
+request_of (word ∷ []) = asked_alone word
+request_of (f ∷ c ∷ []) =
+    option_map request.Front (want_by (number_of f) (number_of c) (Some 256))
+request_of (f ∷ c ∷ last ∷ []) =
+    if bytes_eq last (codes "plan") then
+    option_map request.LastPlan (want_by (number_of f) (number_of c) (Some 256))
+    else option_map request.Front (want_by (number_of f) (number_of c) (number_of last))
+request_of (f ∷ c ∷ most ∷ last ∷ []) =
+    if bytes_eq last (codes "plan") then
+    option_map request.LastPlan (want_by (number_of f) (number_of c) (number_of most))
+    else None
+request_of (f ∷ c ∷ most ∷ last ∷ more ∷ words) = None
+
+-- the wants of a request keep the limits
+abbrev pub HasFitWant : Request → Type 0
+HasFitWant request.Help = Unit {0}
+HasFitWant request.Version = Unit {0}
+HasFitWant (request.Front want) = IsFit want
+HasFitWant (request.LastPlan want) = IsFit want

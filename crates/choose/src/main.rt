@@ -1,0 +1,62 @@
+//! Writes which plans are worth choosing between. `choose FAULTS MODULUS [MOST_NODES]` writes, of all
+//! accepted plans of either version that bear at least so many faults with at most so many nodes (256
+//! where they are left out), the front of nodes and bound: each line is a plan with its numbers, and
+//! the next one has more nodes and a lesser bound. No accepted plan is better than all lines: each
+//! has at least the nodes and the bound of one of them. With the word `plan` behind, it writes the
+//! plan of the last line alone, in lines. `none` stands where there is no such plan.
+//!
+//! `--help` and `--version` write what they say. Other words are answered by one line of usage on
+//! standard error. The exit codes are those of `counterlab`.
+//!
+//! All that is proved, of [`choosing::choose`]; the line on standard error is not.
+#![tactic(auto)]
+
+mod choosing;
+mod fronts;
+mod laws;
+mod requests;
+mod searching;
+mod writing;
+
+use crate::choosing::{ChooseError, choose};
+use edge_io::StdSink;
+use std::alloc::{AllocError, Global};
+use std::io::ErrorKind;
+use std::process::ExitCode;
+use std::{env, io};
+
+/// The words behind the program's own name. Arguments that are no text are no words.
+fn words(rt: &HostRuntime, alloc: Global) -> Result<Vec<String>, AllocError> {
+    let mut words = Vec::new(alloc);
+    match env::args(rt) {
+        Ok(args) => {
+            for word in args.skip(1) {
+                words.push(word)?;
+            }
+        }
+        Err(error) => {
+            if error.kind() == ErrorKind::OutOfMemory {
+                return Err(AllocError);
+            }
+        }
+    }
+    Ok(words)
+}
+
+/// Does what the words ask for.
+fn run(rt: &HostRuntime) -> Result<(), ChooseError> {
+    let words = words(rt, rt.alloc())?;
+    let mut sink = StdSink::new(io::writer(rt));
+    choose(rt.alloc(), &words, &mut sink)
+}
+
+fn main(rt: HostRuntime) -> ExitCode {
+    match run(&rt) {
+        Ok(()) => ExitCode::SUCCESS,
+        Err(error) => {
+            // Where standard error is closed, the code alone says it.
+            let _ = eprintln!(rt; "{error}");
+            ExitCode::from(error.status().code())
+        }
+    }
+}

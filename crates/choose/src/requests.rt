@@ -1,0 +1,105 @@
+//! What the words ask for.
+
+ghost use Rattle.std.specs.Prelude.{◌≡◌, map, string_bytes, IfSome};
+ghost use Rattle.texts.specs.Numbers.{number_of};
+ghost use Rattle.plan_finder.specs.FindPart.{IsFit};
+ghost use Rattle.choose.specs.Requests.{want_with, want_by, asked_alone, request_of, HasFitWant};
+
+use edge_io::number;
+use plan_finder::Want;
+
+/// What is asked for.
+#[derive(Clone, Copy, Debug, PartialEq, Eq)]
+pub enum Request {
+    /// How the program is used.
+    Help,
+    /// Its name and version.
+    Version,
+    /// The lines of a front for these wants.
+    Front(Want),
+    /// The text of the last plan of a front for these wants.
+    LastPlan(Want),
+}
+
+/// The most nodes, where they are left out.
+const MOST_NODES: Option<u64> = Some(256);
+
+/// The wants with these numbers, if they keep the limits.
+fn want_with(faults: u64, modulus: u64, most: u64) -> Option<Want>
+    ensures value { result ≡ want_with faults modulus most }
+    ensures fits { IfSome result IsFit }
+{
+    if faults > 85 || modulus < 2 || modulus > 1 << 40 || most < 1 || most > 256 {
+        return None;
+    }
+    Some(Want {
+        faults,
+        modulus,
+        most,
+    })
+}
+
+/// The same, where each of them is a number.
+fn want_by(faults: Option<u64>, modulus: Option<u64>, most: Option<u64>) -> Option<Want>
+    ensures value { result ≡ want_by faults modulus most }
+    ensures fits { IfSome result IsFit }
+{
+    match (faults, modulus, most) {
+        (Some(faults), Some(modulus), Some(most)) => want_with(faults, modulus, most),
+        _ => None,
+    }
+}
+
+/// The wants of two words and of how many nodes there may be.
+fn wanted(faults: &str, modulus: &str, most: Option<u64>) -> Option<Want>
+    ensures value { result ≡ want_by (number_of faults.now) (number_of modulus.now) most }
+    ensures fits { IfSome result IsFit }
+{
+    want_by(number(faults.as_bytes()), number(modulus.as_bytes()), most)
+}
+
+/// What a single word asks for.
+fn asked_alone(word: &str) -> Option<Request>
+    ensures value { result ≡ asked_alone word.now }
+    ensures fits { IfSome result HasFitWant }
+{
+    if word == "--help" {
+        Some(Request::Help)
+    } else if word == "--version" {
+        Some(Request::Version)
+    } else {
+        None
+    }
+}
+
+/// What these words ask for: None exactly where they ask for nothing.
+pub fn request_of(words: &[String]) -> Option<Request>
+    ensures value { result ≡ request_of (map string_bytes words.now) }
+    ensures fits { IfSome result HasFitWant }
+{
+    match words {
+        [word] => asked_alone(word.as_str()),
+        [faults, modulus] => {
+            let want = wanted(faults.as_str(), modulus.as_str(), MOST_NODES)?;
+            Some(Request::Front(want))
+        }
+        [faults, modulus, last] => {
+            if last.as_str() == "plan" {
+                let want = wanted(faults.as_str(), modulus.as_str(), MOST_NODES)?;
+                return Some(Request::LastPlan(want));
+            }
+            let most = number(last.as_bytes());
+            let want = wanted(faults.as_str(), modulus.as_str(), most)?;
+            Some(Request::Front(want))
+        }
+        [faults, modulus, most, last] => {
+            if last.as_str() != "plan" {
+                return None;
+            }
+            let most = number(most.as_bytes());
+            let want = wanted(faults.as_str(), modulus.as_str(), most)?;
+            Some(Request::LastPlan(want))
+        }
+        _ => None,
+    }
+}
