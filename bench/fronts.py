@@ -1,25 +1,29 @@
 #!/usr/bin/env python3
 """The fronts of nodes and bound that `choose` writes, by a plain search of another kind.
 
-It goes forward over exact pairs of nodes and faults. From each pair that some levels reach, in rising
-order of nodes, it tries every level that may stand on it: every number of blocks, of faults and of
-spare nodes. Least bounds over "at most so many nodes" and "at least so many faults" are taken only
-at the end. `choose` goes the other way: it never looks at exact pairs, and at no spare nodes but the
-fewest.
+It goes forward over exact pairs of nodes and faults. From each pair that some levels reach, in
+rising order of nodes, it tries every level that may stand on it: every number of blocks, of faults
+and of spare nodes. Least bounds over "at most so many nodes" and "at least so many faults" are
+taken only at the end. `choose` goes the other way: it never looks at exact pairs, and at no spare
+nodes but the fewest.
 
-  fronts.py rows [MOST]         a line `F N T` for each line of the front of each F from 0 to 40
-  fronts.py check MOST < LIST   LIST has lines `F C FILE`: tests that FILE is what `choose F C MOST`
-                                writes, line by line, and that each plan in it is accepted and has the
-                                numbers of its line
-  fronts.py numbers < PLAN      the table that `plan` answers to a plan text of version 2
-  fronts.py table BINARY [F]    the table of docs/CHOOSE.md for 1 to F faults (7), from what the built
-                                `choose` writes at modulus 10
+  fronts.py rows [MOST]       a line `F N T` for each line of the front of each F from 0 to 40
+  fronts.py check MOST < LIST
+                              LIST has lines `F C FILE`: tests that FILE is what `choose F C MOST`
+                              writes, line by line, and that each plan in it is accepted and has
+                              the numbers of its line
+  fronts.py numbers < PLAN    the table that `plan` answers to a plan text of version 2
+  fronts.py table BINARY [F]  the table of docs/CHOOSE.md for 1 to F faults (7), from what the built
+                              `choose` writes at modulus 10
+  fronts.py times BINARY      how long the built `choose` takes, for the five slowest F from 0 to
+                              85: the least of nine runs each
 
 It takes a few seconds and no package. `fronts.sh` runs it against the built program.
 """
 
 import subprocess
 import sys
+import time
 
 LARGEST = 1 << 40
 
@@ -40,7 +44,8 @@ def width(values):
     return bits
 
 
-SPANS = {(k, f): span(k, f) for k in range(3, 17) for f in range(86) if span(k, f) <= LARGEST}
+ALL = ((k, f) for k in range(3, 17) for f in range(86))
+SPANS = {(k, f): span(k, f) for k, f in ALL if span(k, f) <= LARGEST}
 
 
 def least_bounds(most):
@@ -73,7 +78,7 @@ def front(rows, faults):
 
 
 def table_of(lines):
-    """The table of a plan of version 2, whose lines these are. It fails where the plan is refused."""
+    """The table of a plan of version 2 with these lines. It fails where the plan is refused."""
     assert lines[0] == 'plan 2' and lines[-1] == 'end', lines
     word, base = lines[1].split(' ')
     base = int(base)
@@ -91,10 +96,11 @@ def table_of(lines):
         assert modulus % span(k, f) == 0, line
         nodes, faults, modulus = size, f, c
         bound, bits = bound + span(k, f), bits + width(c + 1) + 1
-        table.append(f'level {index} blocks {k} leaders {m} nodes {nodes} faults {f} beat {3 * (f + 2)} '
-                     f'span {span(k, f)} modulus {c} bound {bound} bits {bits} spare {s}')
-    table.append(f'plan nodes {nodes} faults {faults} modulus {modulus} bound {bound} bits {bits} '
-                 f'bytes {-(-bits // 8)}')
+        table.append(f'level {index} blocks {k} leaders {m} nodes {nodes} faults {f} '
+                     f'beat {3 * (f + 2)} span {span(k, f)} modulus {c} bound {bound} bits {bits} '
+                     f'spare {s}')
+    table.append(f'plan nodes {nodes} faults {faults} modulus {modulus} bound {bound} '
+                 f'bits {bits} bytes {-(-bits // 8)}')
     return table + ['end']
 
 
@@ -113,14 +119,16 @@ def check(rows, faults, modulus, text):
             levels = plan.count('level')
             assert (had['nodes'], had['bound']) == (nodes, bound), (faults, line, nodes, bound)
             assert had['faults'] >= faults and had['modulus'] == modulus, (faults, modulus, line)
-            assert numbers == f'nodes {nodes} bound {bound} bytes {had["bytes"]} levels {levels}', line
+            size = had['bytes']
+            assert numbers == f'nodes {nodes} bound {bound} bytes {size} levels {levels}', line
     return len(want)
 
 
 def time_of(rounds):
     """How long rounds of one millisecond take."""
     seconds = rounds / 1000
-    for unit, size, upto in (('s', 1, 120), ('min', 60, 120), ('h', 3600, 48), ('days', 86400, 730)):
+    units = (('s', 1, 120), ('min', 60, 120), ('h', 3600, 48), ('days', 86400, 730))
+    for unit, size, upto in units:
         if seconds < upto * size:
             value = seconds / size
             return f'{value:.1f} {unit}' if value < 100 or unit == 's' else f'{value:.0f} {unit}'
@@ -131,12 +139,26 @@ def print_table(binary, most_faults):
     print('| F | plan | nodes N | bound T | bytes | T at 1 ms | a run comes to T |')
     print('|---|---|---|---|---|---|---|')
     for faults in range(1, most_faults + 1):
-        said = subprocess.run([binary, str(faults), '10'], capture_output=True, text=True, check=True)
-        for line in said.stdout.splitlines():
+        said = subprocess.run([binary, str(faults), '10'], stdout=subprocess.PIPE, check=True)
+        for line in said.stdout.decode().splitlines():
             words = line.split(' ', 8)
             nodes, bound, size, plan = int(words[1]), int(words[3]), int(words[5]), words[8]
             run = 'yes' if bound <= 1000000 else 'no'
-            print(f'| {faults} | `{plan}` | {nodes} | {bound:,} | {size} | {time_of(bound)} | {run} |')
+            took = time_of(bound)
+            print(f'| {faults} | `{plan}` | {nodes} | {bound:,} | {size} | {took} | {run} |')
+
+
+def print_times(binary):
+    times = []
+    for faults in range(86):
+        runs = []
+        for _ in range(9):
+            begin = time.perf_counter()
+            subprocess.run([binary, str(faults), '10'], stdout=subprocess.DEVNULL, check=True)
+            runs.append(time.perf_counter() - begin)
+        times.append((min(runs), faults))
+    for seconds, faults in sorted(times, reverse=True)[:5]:
+        print(f'{faults} faults: {seconds * 1000:.1f} ms')
 
 
 def main(words):
@@ -158,6 +180,8 @@ def main(words):
         print('\n'.join(table_of(sys.stdin.read().rstrip('\n').split('\n'))))
     elif words[:1] == ['table'] and 2 <= len(words) <= 3:
         print_table(words[1], int(words[2]) if len(words) > 2 else 7)
+    elif words[:1] == ['times'] and len(words) == 2:
+        print_times(words[1])
     else:
         sys.exit(__doc__)
 

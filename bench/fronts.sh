@@ -5,8 +5,8 @@
 #   sh bench/fronts.sh [BINARY]          BINARY: crates/choose/out/choose where it is left out
 #
 # For each F from 0 to 85, five moduli, and 256 nodes at most; and for eight F, three moduli and ten
-# numbers of nodes at most. It stops at the first front that differs, and then ends with a status that
-# is not 0. It takes about half a minute.
+# numbers of nodes at most. It stops at the first front that differs, and then ends with a status
+# that is not 0. It takes about ten seconds.
 set -e
 binary=${1:-crates/choose/out/choose}
 here=$(dirname "$0")

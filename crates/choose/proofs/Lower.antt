@@ -1,10 +1,11 @@
--- What stands below the top level of a plan: fewer nodes, that bear enough faults, at a lesser bound.
+-- What stands below the top level of a plan: fewer nodes, which bear enough faults, at a lesser
+-- bound.
 use Rattle.std.proofs.Common.{◌≡◌, ℕ, ◌+◌, ◌*◌, ◌/◌, ◌<◌, ◌≤◌, ◌^◌, List, [], ◌∷◌, sym, ap, subst, arith}
 use Rattle.std.specs.Int.{div_ceil}
 use Rattle.std.proofs.lemmas.Nat.{le-div}
 use Rattle.std.proofs.lemmas.List.Elements.{All-tail}
 use Rattle.std.proofs.Math.Nat.{mul-le-mul_right, div-lt_iff_lt-mul}
-use Rattle.construction.specs.Plans.{Level, Plan, nodes_of, faults_of, bound_of, span_of, modulus_of, plan_bound}
+use Rattle.construction.specs.Plans.{Level, Plan, nodes_of, faults_of, bound_of, span_of, plan_bound}
 use Rattle.plan_numbers.specs.Numbers.{below_of}
 use Rattle.plan_numbers.specs.Premises.{FitsVersion, MeetsPremises}
 use Rattle.plan_numbers.proofs.Accepted.{meets, level_sized, accepted_sized}
@@ -93,17 +94,20 @@ module _ (n f k : ℕ) (some : 3 ≤ k) where
       → (plan : Plan) → ¬ Blocks n f k plan
   none_over none plan has = none_over_by none plan.version plan.base plan.levels has.bears has.top
 
-  bound_over_by : (t : ℕ) → ((other : Plan) → Bears (n / k) (f / div_ceil k 2) other → t ≤ plan_bound other)
+  bound_over_by : (t : ℕ)
+      → ((other : Plan) → Bears (n / k) (f / div_ceil k 2) other → t ≤ plan_bound other)
       → (version base : ℕ) (levels : List Level) → Bears n f (plan_of version base levels)
       → IsTop (λ blocks. blocks ≡ k) levels → t + cost_of k f ≤ bound_of levels
   bound_over_by t least version base [] bears top = absurd top
   bound_over_by t least version base (level ∷ below) bears top =
       let lower : t ≤ bound_of below =
-      least (plan_of version base below) (bears_below n f k version base level below some bears top) in
+      least (plan_of version base below)
+      (bears_below n f k version base level below some bears top) in
       omega (arith, lower, bound_top n f k version base level below some bears top)
 
   -- what bounds each plan that can be a block, bounds with the span each plan with such a top level
-  pub bound_over : (t : ℕ) → ((other : Plan) → Bears (n / k) (f / div_ceil k 2) other → t ≤ plan_bound other)
+  pub bound_over : (t : ℕ)
+      → ((other : Plan) → Bears (n / k) (f / div_ceil k 2) other → t ≤ plan_bound other)
       → (plan : Plan) → Blocks n f k plan → t + cost_of k f ≤ plan_bound plan
   bound_over t least plan has =
       bound_over_by t least plan.version plan.base plan.levels has.bears has.top

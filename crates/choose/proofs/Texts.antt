@@ -14,7 +14,6 @@ use Rattle.construction.specs.Plans.{Level, Plan}
 use Rattle.plan_numbers.specs.Numbers.{below_of}
 use Rattle.plan_numbers.specs.Premises.{LevelsAccepted, IsAccepted}
 use Rattle.plan_numbers.proofs.Accepted.{meets}
-use Rattle.plan_reader.specs.PlanPart.{whole_plan_of}
 use Rattle.plan_certificate.specs.Tables.{version_line, base_line}
 use Rattle.plan_certificate.specs.PlanTexts.{level_text, level_texts, plan_text, in_version}
 use Rattle.plan_certificate.proofs.ReadBack.{text_is_whole}
@@ -30,7 +29,8 @@ digits_stay (b ∷ ds) all =
     let parts = and_parts (is_ascii_digit b) (list_all is_ascii_digit ds) all in
     rw (digit_stays b parts.0, digits_stay ds parts.1) refl
 
-number_stays : (n : ℕ) (rest : List ℕ) → n < 2 ^ 64 → in_lines (decimal n ++ rest) ≡ decimal n ++ in_lines rest
+number_stays : (n : ℕ) (rest : List ℕ) → n < 2 ^ 64 → in_lines (decimal n ++ rest)
+    ≡ decimal n ++ in_lines rest
 number_stays n rest fits =
     map-append (λ byte. if byte == 59 then 10 else byte) (decimal n) rest
     ∙ ap (λ ds. ds ++ in_lines rest) (digits_stay (decimal n) (digits_decimal own n fits))
@@ -47,17 +47,26 @@ level_lines level short =
     let f = short.faults in
     let c = short.modulus in
     let s = short.spares in
-    rw (number_stays level.blocks _ b, number_stays level.faults _ f, number_stays level.modulus _ c, number_stays level.spares _ s)
+    rw (
+      number_stays level.blocks _ b,
+      number_stays level.faults _ f,
+      number_stays level.modulus _ c,
+      number_stays level.spares _ s,
+    )
     (simp (append_assoc, append-nil) refl)
 
-levels_lines : (levels : List Level) → All IsShort levels → in_lines (flat_map level_part levels) ≡ flat_map (level_text 2) levels
+levels_lines : (levels : List Level) → All IsShort levels → in_lines (flat_map level_part levels)
+    ≡ flat_map (level_text 2) levels
 levels_lines [] all = refl
 levels_lines (level ∷ levels) all =
-    map-append (λ byte. if byte == 59 then 10 else byte) (level_part level) (flat_map level_part levels)
-    ∙ (ap (λ t. t ++ in_lines (flat_map level_part levels)) (level_lines level (All-head IsShort level levels all))
+    map-append (λ byte. if byte == 59 then 10 else byte) (level_part level)
+    (flat_map level_part levels)
+    ∙ (ap (λ t. t ++ in_lines (flat_map level_part levels))
+    (level_lines level (All-head IsShort level levels all))
     ∙ ap (λ t. level_text 2 level ++ t) (levels_lines levels (All-tail IsShort level levels all)))
 
-all_short : (base : ℕ) (levels : List Level) → LevelsAccepted base levels → All IsShort (reverse levels)
+all_short : (base : ℕ) (levels : List Level) → LevelsAccepted base levels
+    → All IsShort (reverse levels)
 all_short base [] accepted = All-nil IsShort
 all_short base (level ∷ below) (accepted, none) =
     let met = meets (below_of base below) level none in

@@ -1,10 +1,9 @@
 -- A plan with a level more on top, which has the spare nodes that it needs.
-use Rattle.std.proofs.Common.{◌≡◌, ℕ, ◌+◌, ◌-◌, ◌*◌, ◌/◌, ◌%◌, ◌<◌, ◌≤◌, ◌^◌, refl, sym, ap, ◌∙◌, arith}
+use Rattle.std.proofs.Common.{◌≡◌, ℕ, ◌+◌, ◌-◌, ◌*◌, ◌/◌, ◌%◌, ◌<◌, ◌≤◌, ◌^◌, refl, ap, ◌∙◌, arith}
 use Rattle.std.specs.Prelude.{None}
 use Rattle.std.specs.Int.{div_ceil}
-use Rattle.std.proofs.lemmas.Nat.{mul-le}
 use Rattle.std.proofs.lemmas.List.Elements.{All-cons}
-use Rattle.std.proofs.Math.Nat.{mul-le-mul_left, mul-mod_right, mul-one, div-lt_iff_lt-mul, mul-div-le}
+use Rattle.std.proofs.Math.Nat.{mul-le-mul_left, div-lt_iff_lt-mul, mul-div-le}
 use Rattle.construction.specs.Plans.{Level, Plan, plan_nodes, plan_faults, plan_modulus, plan_bound}
 use Rattle.plan_numbers.specs.Numbers.{numbers_below, line, with_level}
 use Rattle.plan_numbers.specs.Premises.{first_premise, IsAccepted, FitsVersion}
@@ -19,8 +18,9 @@ use Rattle.choose.proofs.Lower.{bound_over}
 abbrev pub top_over : (below : Plan) (k f c : ℕ) → Level
 top_over below k f c = line k f c (3 * f + 1 - k * plan_nodes below)
 
-module _ (below : Plan) (k f c : ℕ) (some : 3 ≤ k) (few : k ≤ 16) (faults : f ≤ 85) (least_c : 2 ≤ c)
-    (most_c : c ≤ 2 ^ 40) (counts : plan_modulus below ≡ cost_of k f) (nodes : k * plan_nodes below ≤ 256)
+module _ (below : Plan) (k f c : ℕ) (some : 3 ≤ k) (few : k ≤ 16) (faults : f ≤ 85)
+    (least_c : 2 ≤ c) (most_c : c ≤ 2 ^ 40) (counts : plan_modulus below ≡ cost_of k f)
+    (nodes : k * plan_nodes below ≤ 256)
     (share : f < (plan_faults below + 1) * div_ceil k 2) where
   pub top_fits : first_premise (numbers_below below) (top_over below k f c) ≡ None
   top_fits = meets_none (numbers_below below) (top_over below k f c) (record {
@@ -35,9 +35,8 @@ module _ (below : Plan) (k f c : ℕ) (some : 3 ≤ k) (few : k ≤ 16) (faults 
     multiple = ap (λ m. m % cost_of k f) counts ∙ divided (cost_of k f);
   })
 
--- the best block, and a level on top of it
-module _ (n f k c : ℕ) (below : Plan) (some : 3 ≤ k) (few : k ≤ 16) (least_c : 2 ≤ c) (most_c : c ≤ 2 ^ 40)
-    (quorum : 3 * f < n) (limit : n ≤ 256)
+-- the best block
+module _ (n f k : ℕ) (below : Plan) (some : 3 ≤ k)
     (is : IsLeast (cost_of k f) (Bears (n / k) (f / div_ceil k 2)) below) where
   pub blocks_fit : k * plan_nodes below ≤ n
   blocks_fit =
@@ -49,6 +48,13 @@ module _ (n f k c : ℕ) (below : Plan) (some : 3 ≤ k) (few : k ≤ 16) (least
       let half : 0 < div_ceil k 2 = omega (arith, some) in
       let less : f / div_ceil k 2 < plan_faults below + 1 = omega (arith, is.member.faults) in
       (div-lt_iff_lt-mul half).0 less
+
+-- and a level on top of it
+module _ (n f k c : ℕ) (below : Plan) (some : 3 ≤ k) (few : k ≤ 16) (least_c : 2 ≤ c)
+    (most_c : c ≤ 2 ^ 40) (quorum : 3 * f < n) (limit : n ≤ 256)
+    (is : IsLeast (cost_of k f) (Bears (n / k) (f / div_ceil k 2)) below) where
+  size : k * plan_nodes below ≤ n
+  size = blocks_fit n f k below some is
 
   abbrev over : Plan
   over = with_level below (top_over below k f c)
@@ -65,7 +71,7 @@ module _ (n f k c : ℕ) (below : Plan) (some : 3 ≤ k) (few : k ≤ 16) (least
     levels = (
       is.member.accepted.levels,
       top_fits below k f c some few (omega (arith, quorum, limit)) least_c most_c is.modulus
-          (omega (arith, blocks_fit, limit)) share_fits,
+          (omega (arith, size, limit)) (share_fits n f k below some is),
     );
   }
 
@@ -74,7 +80,7 @@ module _ (n f k c : ℕ) (below : Plan) (some : 3 ≤ k) (few : k ≤ 16) (least
     member = record {
       bears = record {
         accepted = over_accepted;
-        nodes = omega (arith, blocks_fit, quorum);
+        nodes = omega (arith, size, quorum);
         faults = omega arith;
       };
       top = refl;

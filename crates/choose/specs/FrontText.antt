@@ -60,8 +60,8 @@ last_plan_text plans = text_if (slice_get plans (length plans - 1))
 abbrev pub in_lines : List ℕ → List ℕ
 in_lines text = map (λ byte. if byte == 59 then 10 else byte) text
 
--- The text of an accepted plan of version 2 is read as that plan. It is also what a line says of the
--- plan, with a newline in place of each semicolon.
+-- The text of an accepted plan of version 2 is read as that plan. It is also what a line says of
+-- the plan, with a newline in place of each semicolon.
 abbrev pub TextsArePlans : Type 0
 TextsArePlans =
     (plan : Plan) → IsAccepted plan → plan.version ≡ 2

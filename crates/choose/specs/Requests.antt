@@ -1,5 +1,5 @@
 -- What the words ask for: `FAULTS MODULUS [MOST_NODES] [plan]`, `--help` or `--version`.
-use Rattle.std.specs.Prelude.{ℕ, ◌^◌, List, [], ◌∷◌, ◌||◌, nat_lt, Bool, Option, Some, None, codes}
+use Rattle.std.specs.Prelude.{ℕ, ◌^◌, List, [], ◌∷◌, ◌||◌, nat_lt, Option, Some, None, codes}
 use Rattle.std.specs.Prelude.{if◌then◌else◌}
 use Rattle.std.specs.Option.{option_map}
 use Rattle.std.specs.Str.{bytes_eq}

@@ -67,14 +67,14 @@ impl From<WriteFault> for ChooseError {
     }
 }
 
-/// Writes what the words ask for. `FAULTS MODULUS [MOST_NODES]` asks for a front of nodes and bound:
-/// a line for each of its plans, or `none`. With `plan` behind these words it is the text of the last
-/// of its plans, or `none`. `--help` and `--version`, alone, ask for what they say.
+/// Writes what the words ask for. `FAULTS MODULUS [MOST_NODES]` asks for a front of nodes and
+/// bound: a line for each of its plans, or `none`. With `plan` behind these words it is the text of
+/// the last of its plans, or `none`. `--help` and `--version`, alone, ask for what they say.
 ///
 /// FAULTS is at most 85, MODULUS from 2 to 2^40, MOST_NODES from 1 to 256, and 256 where it is left
 /// out. `Usage` comes exactly where the words ask for nothing; nothing was written then. `NoMemory`
-/// comes only where a front is asked for, and nothing was written. `WriteFault` comes only where the
-/// sink counted a fault; a front of the answer was then taken.
+/// comes only where a front is asked for, and nothing was written. `WriteFault` comes only where
+/// the sink counted a fault; a front of the answer was then taken.
 pub fn choose<K: Sink>(alloc: Global, words: &[String], sink: &mut K) -> Result<(), ChooseError>
     // Which bytes were written: of a front, whose plans no accepted plan is better than, its lines
     // or the text of its last plan.

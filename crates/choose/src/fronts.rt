@@ -39,10 +39,11 @@ fn with_next(plans: Vec<Plan>, plan: Option<Plan>) -> Result<Vec<Plan>, NoMemory
 }
 
 /// The front of nodes and bound of all accepted plans, of either version, that bear `f` faults or
-/// more and have at most `most` nodes: plans of version 2 that count by `c`, each next one with more
-/// nodes and a lesser bound, so that each accepted plan that bears `f` faults with at most `most`
-/// nodes, whatever it counts by, has at least the nodes and the bound of one of these. There is none
-/// exactly where no plan is accepted. `f` is at most 85, `c` from 2 to 2^40, `most` at most 256.
+/// more and have at most `most` nodes: plans of version 2 that count by `c`, each next one with
+/// more nodes and a lesser bound. Each accepted plan that bears `f` faults with at most `most`
+/// nodes, whatever it counts by, has at least the nodes and the bound of one of these; there are
+/// none exactly where there is no such plan. `f` is at most 85, `c` from 2 to 2^40, `most` at most
+/// 256.
 pub fn front(alloc: Global, f: u64, c: u64, most: u64) -> Result<Vec<Plan>, NoMemory>
     requires faults { f ≤ 85 }
     requires modulus { (2 ≤ c) × (c ≤ 2 ^ 40) }

@@ -1,6 +1,6 @@
-//! Writes which plans are worth choosing between. `choose FAULTS MODULUS [MOST_NODES]` writes, of all
-//! accepted plans of either version that bear at least so many faults with at most so many nodes (256
-//! where they are left out), the front of nodes and bound: each line is a plan with its numbers, and
+//! Writes which plans are worth choosing between. `choose FAULTS MODULUS [MOST_NODES]` writes, of
+//! all accepted plans of either version that bear at least so many faults within so many nodes (256
+//! where they are left out), the front of nodes and bound. Each line is a plan with its numbers;
 //! the next one has more nodes and a lesser bound. No accepted plan is better than all lines: each
 //! has at least the nodes and the bound of one of them. With the word `plan` behind, it writes the
 //! plan of the last line alone, in lines. `none` stands where there is no such plan.

@@ -1,5 +1,6 @@
 //! Searches the plan of least bound. What stands below a level of `k` blocks has to bear so many
-//! faults that the blocks can share the level's: it is itself the least of such plans.
+//! faults that the blocks can share the level's, with a share of the nodes, and to count by the
+//! level's span; the least of such plans is searched in the same way.
 
 ghost use Rattle.std.specs.Prelude.{◌≡◌, ◌+◌, ◌-◌, ◌*◌, ◌<◌, ◌≤◌, ◌^◌, [], IfOk};
 ghost use Rattle.std.specs.Int.{div_ceil};
@@ -83,8 +84,8 @@ fn least_with(alloc: Global, n: u64, f: u64, c: u64, k: u64) -> Result<Option<Pl
 }
 
 /// The plan of least bound of those that bear `f` faults with at most `n` nodes, counting by `c`:
-/// None exactly where there is none. It is one of version 2, and none of version 1 has less, whatever
-/// it counts by.
+/// None exactly where there is none. It is one of version 2, and no plan has less, of either
+/// version, whatever it counts by.
 #[cycle(least)]
 pub fn least_plan(alloc: Global, n: u64, f: u64, c: u64) -> Result<Option<Plan>, NoMemory>
     requires nodes { n ≤ 256 }

@@ -112,8 +112,8 @@ fn put_front<K: Sink>(sink: &mut K, plans: &[Plan]) -> Result<(), WriteFault>
     put_lines(sink, plans)
 }
 
-/// Writes a line for each plan of a front, with its numbers, or `none` where there is none. It takes
-/// no memory, and is one write where the sink takes it whole.
+/// Writes a line for each plan of a front, with its numbers, or `none` where there is none. It
+/// takes no memory, and is one write where the sink takes it whole.
 ///
 /// `WriteFault` comes only where the sink counted a fault; a front of the text was then taken.
 pub fn write_front<K: Sink>(plans: &[Plan], sink: &mut K) -> Result<(), WriteFault>
@@ -144,15 +144,10 @@ pub fn write_help<K: Sink>(sink: &mut K) -> Result<(), WriteFault>
         sink,
         &[
             Piece::Text(b"usage: choose FAULTS MODULUS [MOST_NODES] [plan]\n"),
-            Piece::Text(
-                b"Of the plans that bear FAULTS faults or more (0 to 85), count by MODULUS (2 to 2^40)\n",
-            ),
-            Piece::Text(
-                b"and have at most MOST_NODES nodes (1 to 256; 256 where left out): a line for each that\n",
-            ),
-            Piece::Text(
-                b"has the least bound within its nodes, and a lesser one than with fewer nodes; or none.\n",
-            ),
+            Piece::Text(b"Writes the front of nodes and bound of the plans that bear FAULTS\n"),
+            Piece::Text(b"faults or more (0 to 85), count by MODULUS (2 to 2^40) and have at\n"),
+            Piece::Text(b"most MOST_NODES nodes (1 to 256; left out 256): a line for each plan,\n"),
+            Piece::Text(b"with more nodes and a lesser bound than the one before, or none.\n"),
             Piece::Text(b"plan: the plan of the last line alone, in lines.\n"),
         ],
     )
