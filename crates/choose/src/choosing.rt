@@ -18,7 +18,7 @@ use thiserror::Error;
 #[derive(Clone, Copy, Debug, PartialEq, Eq, Error)]
 pub enum ChooseError {
     /// The words ask for nothing.
-    #[error("usage: choose FAULTS MODULUS [MOST_NODES] [plan]")]
+    #[error("usage: choose FAULTS MODULUS [MOST_NODES] [plan], or choose --help")]
     Usage,
     /// Memory was refused.
     #[error("out of memory")]
