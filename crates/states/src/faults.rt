@@ -14,6 +14,8 @@ pub enum Fault {
     Hex(usize),
     #[error("has other fields than that node, or a number that is not below its modulus")]
     Fields,
+    #[error("should be `values V`, V from 2 to 65536, at most twice and with one V")]
+    Values,
     #[error("needs memory, of which there is none")]
     NoMemory,
 }

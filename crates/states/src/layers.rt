@@ -1,0 +1,85 @@
+//! Reads how many registers of a layer stand behind those of the plan, and of how many values.
+
+ghost use Rattle.std.specs.Prelude.{◌≡◌, ◌+◌, ◌<◌, ◌≤◌, ◌^◌, codes, length, IfOk, IfSome};
+ghost use Rattle.texts.specs.Lines.{words_of};
+ghost use Rattle.texts.specs.Shapes.{numbers_after};
+ghost use Rattle.states.specs.Values.{values_said, IsLayer};
+
+use crate::faults::{Fault, StateError};
+use edge_io::{Lines, Words, is_skipped, numbers_after};
+
+/// How many registers a layer has at most.
+const MOST_REGISTERS: usize = 2;
+
+/// How many values a register of a layer has, at least and at most.
+const LEAST_VALUES: u64 = 2;
+
+const MOST_VALUES: u64 = 65536;
+
+/// The registers of a layer: how many, 0 to 2, and how many values each of them has, 2 to 65536.
+#[derive(Clone, Copy, Debug, PartialEq, Eq)]
+pub struct Layer {
+    pub registers: usize,
+    pub values: u64,
+}
+
+/// Whether a line begins with the word `values`.
+fn is_of_values(line: &[u8]) -> bool {
+    Words::new(line).next() == Some(b"values".as_slice())
+}
+
+/// How many values a line `values V` says, 2 to 65536. None comes exactly where it is no such line.
+fn values_of(line: &[u8]) -> Option<u64>
+    ensures { result ≡ values_said line.now }
+{
+    let numbers = numbers_after::<1>(line, b"values")?;
+    let values = numbers[0];
+    if values > MOST_VALUES || values < LEAST_VALUES {
+        return None;
+    }
+    Some(values)
+}
+
+/// A layer with one register more, as a line says. None comes where there are two, where the line
+/// is not `values V`, and where an earlier one says another V.
+fn with_one_more(layer: Layer, line: &[u8]) -> Option<Layer>
+    requires { IsLayer layer }
+    ensures { IfSome result IsLayer }
+{
+    let values = values_of(line)?;
+    if layer.registers == MOST_REGISTERS {
+        return None;
+    }
+    if layer.registers > 0 && layer.values != values {
+        return None;
+    }
+    Some(Layer {
+        registers: layer.registers + 1,
+        values,
+    })
+}
+
+/// The layer that the lines `values V` at the front of a text say, whose first line has that number.
+/// Each of them that counts says a register.
+pub fn read_layer(text: &[u8], first: u64) -> Result<Layer, StateError>
+    requires first { first ≤ 2 ^ 32 }
+    requires length { length text.now ≤ 2 ^ 32 }
+    ensures { IfOk result IsLayer }
+{
+    let mut layer = Layer {
+        registers: 0,
+        values: LEAST_VALUES,
+    };
+    for (number, line) in Lines::new(text, first) {
+        if !is_skipped(line) {
+            if !is_of_values(line) {
+                return Ok(layer);
+            }
+            match with_one_more(layer, line) {
+                Some(more) => layer = more,
+                None => return Err(StateError::of(number, Fault::Values)),
+            }
+        }
+    }
+    Ok(layer)
+}
