@@ -1,0 +1,180 @@
+"""Draws inputs of a word, and writes beside each what on_the_counter.py answers to it.
+
+    python3 drawn_runs.py WORD COUNT FOLDER [SEED]
+
+WORD is run, slots, consensus, fire or log. FOLDER gets COUNT files NAME, each an input that the
+program accepts, and NAME.stdout. The plans have one to three levels, some with spare nodes; the
+scripts have up to three eras, and lies of every kind. They are the same each time.
+"""
+
+import os
+import sys
+
+from counter import Plan
+from on_the_counter import answer
+from vectors import Draws
+
+# levels as blocks, faults and spares, from the lowest up
+SHAPES = [
+    [(3, 0, 0)],
+    [(3, 1, 1)],
+    [(4, 1, 0)],
+    [(3, 1, 9)],
+    [(5, 2, 2)],
+    [(3, 0, 1), (3, 1, 0)],
+    [(3, 1, 1), (3, 2, 2)],
+    [(3, 1, 1), (3, 3, 1)],
+    [(4, 1, 0), (3, 3, 0)],
+    [(3, 0, 0), (3, 1, 0), (3, 2, 0)],
+    [(3, 0, 0), (3, 1, 1), (3, 3, 1)],
+]
+
+
+def span(blocks, faults):
+    return 3 * (faults + 2) * (2 * ((blocks + 1) // 2)) ** blocks
+
+
+def slot_of(word, faults):
+    """How long a slot is."""
+    return 3 * (faults + 1) + (1 if word == "log" else 0)
+
+
+def drawn_plan(draws, shape, word):
+    """A plan of a shape, whose modulus is a multiple of what the word asks for."""
+    nodes = 1
+    for blocks, faults, spares in shape:
+        nodes = nodes * blocks + spares
+    modulus = slot_of(word, faults) * (nodes if word == "log" else 1) * (1 + draws.below(3))
+    moduli = [span(blocks, faults) for blocks, faults, _ in shape] + [modulus]
+    lines = ["plan 2", f"base {moduli[0] * (1 + draws.below(2))}"]
+    for (blocks, faults, spares), count in zip(shape, moduli[1:]):
+        lines.append(f"level {blocks} {faults} {count} spare {spares}")
+    return Plan([*lines, "end"])
+
+
+def ids(draws, nodes, count):
+    return sorted(draws.shuffled(range(nodes))[:count])
+
+
+def words(numbers):
+    return "".join(f" {number}" for number in numbers)
+
+
+def input_lines(draws, plan, word, rounds):
+    """The part between plan and script, and the values of the layer's registers."""
+    if word == "consensus":
+        values = draws.one_of([2, 3, 5, 65536])
+        few = [draws.below(values) for _ in range(draws.one_of([1, 2, 2, 3]))]
+        inputs = [draws.one_of(few) for _ in range(plan.nodes)]
+        return ["agree 1", f"values {values}", f"inputs{words(inputs)}", "end"], [values]
+    if word == "fire":
+        return ["fire 1", *request_lines(draws, plan, rounds), "end"], [2]
+    if word == "log":
+        values = draws.one_of([2, 5, 1000, 65536])
+        lines = ["log 1", f"values {values}", f"keep {1 + draws.below(4)}"]
+        for v in range(plan.nodes):
+            own = [draws.below(values) for _ in range(1 + draws.below(3))]
+            lines.append(f"commands {v}{words(own)}")
+        return [*lines, "end"], [values, values]
+    if word == "slots":
+        lines = []
+        for first in range(0, plan.modulus, 2):
+            if draws.below(4) > 0:
+                last = first + draws.below(min(2, plan.modulus - first))
+                lines.append(f"slot {draws.below(plan.nodes)} {first} {last}")
+        return ["slots 1", *draws.shuffled(lines)[:256], "end"], []
+    return [], []
+
+
+def request_lines(draws, plan, rounds):
+    """Requests: a stretch in which all nodes, or some, request, now and then."""
+    lines, first = [], max(0, rounds - 60)
+    while first < rounds and len(lines) + plan.nodes <= 256:
+        last = first + draws.below(9)
+        count = draws.one_of([0, plan.nodes, plan.nodes, 1 + draws.below(plan.nodes)])
+        lines += [f"request {v} {first} {last}" for v in ids(draws, plan.nodes, count)]
+        first = last + 1
+    return lines
+
+
+def state_of(draws, plan, v):
+    return draws.data(plan.bytes(v)).hex()
+
+
+def start_lines(draws, plan):
+    some = ids(draws, plan.nodes, draws.below(3))
+    return [f"start node {v} {state_of(draws, plan, v)}" for v in some]
+
+
+def what(draws, plan, u):
+    return draws.one_of([
+        "noise",
+        "noise",
+        f"copy {draws.below(plan.nodes)}",
+        f"hex {state_of(draws, plan, u)}",
+        f"shift {draws.below(7)}",
+    ])
+
+
+def lie_lines(draws, plan, liars, groups, rounds):
+    """Lies of each liar to some groups and stretches, and to all others over all rounds."""
+    lines = []
+    for u in liars:
+        for _ in range(draws.below(4)):
+            first = draws.below(rounds)
+            p = draws.below(plan.nodes)
+            who = draws.one_of([f"{p} {p + draws.below(plan.nodes - p)}", *groups])
+            lines.append(f"lie {first} {rounds} {u} to {who} {what(draws, plan, u)}")
+        if draws.below(3) > 0:
+            lines.append(f"lie 0 {rounds} {u} to all {what(draws, plan, u)}")
+    return lines
+
+
+def drawn_times(draws, plan, slot):
+    """Where eras begin, and how many rounds there are: some slots past the bound of the last era,
+    and with a small bound of each."""
+    length = plan.bound + slot * (3 + draws.below(3))
+    firsts = [0]
+    for _ in range(draws.below(3)):
+        firsts.append(firsts[-1] + (length if plan.bound < 600 else 1 + draws.below(40)))
+    return firsts, firsts[-1] + length
+
+
+def script_lines(draws, plan, firsts, rounds):
+    """A script for a plan that has the layer's registers behind."""
+    faulty = [ids(draws, plan.nodes, draws.one_of([plan.faults, plan.faults, 0])) for _ in firsts]
+    lines = ["script 2", f"faulty{words(faulty[0])}", f"seed {draws.data(32).hex()}"]
+    lines += [f"start {draws.one_of(['zero', 'noise', 'noise'])}", *start_lines(draws, plan)]
+    for first, some in zip(firsts[1:], faulty[1:]):
+        lines += [f"era {first} faulty{words(some)}", *start_lines(draws, plan)]
+    groups = ["left", "right"]
+    for group in groups:
+        lines.append(f"group {group}{words(ids(draws, plan.nodes, 1 + draws.below(plan.nodes)))}")
+    liars = sorted({u for some in faulty for u in some})
+    lines += lie_lines(draws, plan, liars, groups, rounds)[:256]
+    return [*lines, f"rounds {rounds}", f"show {draws.below(3)} {rounds}", "end"]
+
+
+def drawn_input(draws, word, shape):
+    plan = drawn_plan(draws, shape, word)
+    firsts, rounds = drawn_times(draws, plan, slot_of(word, plan.faults))
+    between, values = input_lines(draws, plan, word, rounds)
+    script = script_lines(draws, Plan(plan.lines, values), firsts, rounds)
+    return "".join(f"{line}\n" for line in [*plan.lines, *between, *script])
+
+
+def main():
+    word, count, folder = sys.argv[1], int(sys.argv[2]), sys.argv[3]
+    draws = Draws(f"{word} {sys.argv[4] if len(sys.argv) > 4 else 1}")
+    os.makedirs(folder, exist_ok=True)
+    for place in range(count):
+        text = drawn_input(draws, word, SHAPES[place % len(SHAPES)])
+        path = os.path.join(folder, f"{word}{place:03}")
+        with open(path, "w") as out:
+            out.write(text)
+        with open(path + ".stdout", "w") as out:
+            out.writelines(f"{line}\n" for line in answer(word, text))
+
+
+if __name__ == "__main__":
+    main()
