@@ -1,3 +1,4 @@
+use crate::layers::NotValues;
 use plan_reader::PlanError;
 use std::alloc::AllocError;
 use sync_types::NoMemory;
@@ -14,8 +15,6 @@ pub enum Fault {
     Hex(usize),
     #[error("has other fields than that node, or a number that is not below its modulus")]
     Fields,
-    #[error("should be `values V`, V from 2 to 65536, at most twice and with one V")]
-    Values,
     #[error("needs memory, of which there is none")]
     NoMemory,
 }
@@ -39,6 +38,8 @@ pub enum StateError {
     Plan(PlanError),
     #[error("line {line} {fault}")]
     Line { line: u64, fault: Fault },
+    #[error("{0}")]
+    Values(NotValues),
     #[error("out of memory")]
     NoMemory,
 }
@@ -53,6 +54,12 @@ impl StateError {
 impl From<PlanError> for StateError {
     fn from(error: PlanError) -> Self {
         StateError::Plan(error)
+    }
+}
+
+impl From<NotValues> for StateError {
+    fn from(error: NotValues) -> Self {
+        StateError::Values(error)
     }
 }
 

@@ -1,12 +1,19 @@
 //! Reads how many registers of a layer stand behind those of the plan, and of how many values.
 
-ghost use Rattle.std.specs.Prelude.{◌≡◌, ◌+◌, ◌<◌, ◌≤◌, ◌^◌, codes, length, IfOk, IfSome};
-ghost use Rattle.texts.specs.Lines.{words_of};
-ghost use Rattle.texts.specs.Shapes.{numbers_after};
-ghost use Rattle.states.specs.Values.{values_said, IsLayer};
+ghost use Rattle.std.specs.Prelude.{◌≡◌, ◌≤◌, ◌^◌, length, IfOk, IfSome};
+ghost use Rattle.texts.specs.Lines.{lines_of};
+ghost use Rattle.edge_io.specs.Items.{numbered};
+ghost use Rattle.states.specs.Values.{
+  values_said,
+  with_one_more,
+  is_of_values,
+  no_layer,
+  layer_behind,
+  IsLayer,
+};
 
-use crate::faults::{Fault, StateError};
 use edge_io::{Lines, Words, is_skipped, numbers_after};
+use thiserror::Error;
 
 /// How many registers a layer has at most.
 const MOST_REGISTERS: usize = 2;
@@ -23,9 +30,21 @@ pub struct Layer {
     pub values: u64,
 }
 
+/// A line begins with the word `values`, and says no register.
+#[derive(Clone, Copy, Debug, PartialEq, Eq, Error)]
+#[error("line {line} should be `values V`, V from 2 to 65536, at most twice and with one V")]
+pub struct NotValues {
+    pub line: u64,
+}
+
 /// Whether a line begins with the word `values`.
-fn is_of_values(line: &[u8]) -> bool {
-    Words::new(line).next() == Some(b"values".as_slice())
+fn is_of_values(line: &[u8]) -> bool
+    ensures { result ≡ is_of_values line.now }
+{
+    match Words::new(line).next() {
+        Some(word) => word == b"values".as_slice(),
+        None => false,
+    }
 }
 
 /// How many values a line `values V` says, 2 to 65536. None comes exactly where it is no such line.
@@ -44,7 +63,8 @@ fn values_of(line: &[u8]) -> Option<u64>
 /// is not `values V`, and where an earlier one says another V.
 fn with_one_more(layer: Layer, line: &[u8]) -> Option<Layer>
     requires { IsLayer layer }
-    ensures { IfSome result IsLayer }
+    ensures value { result ≡ with_one_more layer line.now }
+    ensures range { IfSome result IsLayer }
 {
     let values = values_of(line)?;
     if layer.registers == MOST_REGISTERS {
@@ -60,11 +80,13 @@ fn with_one_more(layer: Layer, line: &[u8]) -> Option<Layer>
 }
 
 /// The layer that the lines `values V` at the front of a text say, whose first line has that number.
-/// Each of them that counts says a register.
-pub fn read_layer(text: &[u8], first: u64) -> Result<Layer, StateError>
+/// Each of them says a register; skipped lines may stand among them. The error comes exactly where
+/// one of them says none, and names the first such line.
+pub fn read_layer(text: &[u8], first: u64) -> Result<Layer, NotValues>
     requires first { first ≤ 2 ^ 32 }
     requires length { length text.now ≤ 2 ^ 32 }
-    ensures { IfOk result IsLayer }
+    ensures value { result ≡ layer_behind no_layer (numbered first (lines_of text.now)) }
+    ensures range { IfOk result IsLayer }
 {
     let mut layer = Layer {
         registers: 0,
@@ -77,7 +99,7 @@ pub fn read_layer(text: &[u8], first: u64) -> Result<Layer, StateError>
             }
             match with_one_more(layer, line) {
                 Some(more) => layer = more,
-                None => return Err(StateError::of(number, Fault::Values)),
+                None => return Err(NotValues { line: number }),
             }
         }
     }
