@@ -56,6 +56,12 @@ def ids(draws, nodes, count):
     return sorted(draws.shuffled(range(nodes))[:count])
 
 
+def faulty_ids(draws, plan):
+    """As many faulty nodes as are borne, or none; half of the time among the first kings."""
+    count = draws.one_of([plan.faults, plan.faults, plan.faults, 0])
+    return ids(draws, draws.one_of([plan.nodes, plan.faults + 1]), count)
+
+
 def words(numbers):
     return "".join(f" {number}" for number in numbers)
 
@@ -64,8 +70,7 @@ def input_lines(draws, plan, word, rounds):
     """The part between plan and script, and the values of the layer's registers."""
     if word == "consensus":
         values = draws.one_of([2, 3, 5, 65536])
-        few = [draws.below(values) for _ in range(draws.one_of([1, 2, 2, 3]))]
-        inputs = [draws.one_of(few) for _ in range(plan.nodes)]
+        inputs = drawn_inputs(draws, plan, values)
         return ["agree 1", f"values {values}", f"inputs{words(inputs)}", "end"], [values]
     if word == "fire":
         return ["fire 1", *request_lines(draws, plan, rounds), "end"], [2]
@@ -86,12 +91,26 @@ def input_lines(draws, plan, word, rounds):
     return [], []
 
 
+def many(draws, plan):
+    """How many nodes do alike: all, as many as are just enough for a mark, or one less, or few."""
+    n, f = plan.nodes, plan.faults
+    return draws.one_of([n, n - f, n - f - 1, max(0, n - 2 * f), f + 1])
+
+
+def drawn_inputs(draws, plan, values):
+    """Inputs of which so many are one, and the others one of two."""
+    one, *others = [draws.below(values) for _ in range(3)]
+    count = many(draws, plan)
+    inputs = [one] * count + [draws.one_of(others) for _ in range(plan.nodes - count)]
+    return draws.shuffled(inputs)
+
+
 def request_lines(draws, plan, rounds):
-    """Requests: a stretch in which all nodes, or some, request, now and then."""
+    """Requests: one stretch of rounds behind the other, in which so many nodes request."""
     lines, first = [], max(0, rounds - 60)
     while first < rounds and len(lines) + plan.nodes <= 256:
         last = first + draws.below(9)
-        count = draws.one_of([0, plan.nodes, plan.nodes, 1 + draws.below(plan.nodes)])
+        count = draws.one_of([0, many(draws, plan)])
         lines += [f"request {v} {first} {last}" for v in ids(draws, plan.nodes, count)]
         first = last + 1
     return lines
@@ -109,7 +128,7 @@ def start_lines(draws, plan):
 def what(draws, plan, u):
     return draws.one_of([
         "noise",
-        "noise",
+        f"copy {draws.below(plan.nodes)}",
         f"copy {draws.below(plan.nodes)}",
         f"hex {state_of(draws, plan, u)}",
         f"shift {draws.below(7)}",
@@ -142,7 +161,7 @@ def drawn_times(draws, plan, slot):
 
 def script_lines(draws, plan, firsts, rounds):
     """A script for a plan that has the layer's registers behind."""
-    faulty = [ids(draws, plan.nodes, draws.one_of([plan.faults, plan.faults, 0])) for _ in firsts]
+    faulty = [faulty_ids(draws, plan) for _ in firsts]
     lines = ["script 2", f"faulty{words(faulty[0])}", f"seed {draws.data(32).hex()}"]
     lines += [f"start {draws.one_of(['zero', 'noise', 'noise'])}", *start_lines(draws, plan)]
     for first, some in zip(firsts[1:], faulty[1:]):

@@ -79,7 +79,7 @@ def expect_row(plan, config, words):
 
 
 def read_certificate(lines):
-    """The plan of a certificate; its rounds, and which nodes are put into states where each ends."""
+    """The plan of a certificate, its rounds, and which nodes are put into states behind each."""
     plan, rounds, hits = plan_of(lines), [], []
     config, lies, faulty, started = {}, {}, [], {}
     for key, *words in (line.split() for line in lines):
