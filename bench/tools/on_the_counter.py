@@ -16,27 +16,26 @@ def numbers(line):
     return [int(word) for word in line.split()[1:]]
 
 
-class Consensus:
-    """One register of agreement; a node keeps its decision."""
+class Agreement:
+    """A register of agreement, the first one behind those of a plan."""
 
-    def __init__(self, plan, lines):
-        self.plan, self.inputs = plan, numbers(lines[2])
-        self.length = 3 * (plan.faults + 1)
-        self.kept = [0] * plan.nodes
+    def __init__(self, plan):
+        self.plan, self.length = plan, 3 * (plan.faults + 1)
 
     def turn(self, x, v, heard):
-        """The register of agreement of node v behind turn x of a slot."""
+        """The register of node v behind turn x of a slot."""
         place = self.plan.depth
         values = [state.registers[place][0] for state in heard]
         own = heard[v].registers[place]
         return instructed(self.plan.nodes, self.plan.faults, x, own, values)
 
-    def input(self, _t, v):
-        return self.inputs[v]
 
-    def between(self, v):
-        """What node v keeps behind a round in which no slot ends."""
-        return self.kept[v]
+class Slots(Agreement):
+    """Slots of which each decides on inputs that are loaded in the round before it."""
+
+    def __init__(self, plan):
+        super().__init__(plan)
+        self.kept = [0] * plan.nodes
 
     def step(self, t, v, heard):
         x = shown(self.plan.depth, heard[v]) % self.length
@@ -47,6 +46,20 @@ class Consensus:
         self.kept[v] = register[0]
         return [(self.input(t, v), False)]
 
+
+class Consensus(Slots):
+    """A node keeps its decision."""
+
+    def __init__(self, plan, lines):
+        super().__init__(plan)
+        self.inputs = numbers(lines[2])
+
+    def input(self, _t, v):
+        return self.inputs[v]
+
+    def between(self, v):
+        return self.kept[v]
+
     def front(self, begin, _output):
         return f"slot {begin}"
 
@@ -54,11 +67,11 @@ class Consensus:
         return str(self.kept[v])
 
 
-class Firing(Consensus):
-    """Consensus on whether all fire; what a node keeps is whether it fires, 1 or 0."""
+class Firing(Slots):
+    """A node keeps whether it fires, 1 or 0."""
 
     def __init__(self, plan, lines):
-        super().__init__(plan, ["", "", ""])
+        super().__init__(plan)
         self.requests = [numbers(line) for line in lines[1:-1]]
 
     def input(self, t, v):
@@ -74,12 +87,13 @@ class Firing(Consensus):
         return "1" if self.kept[v] == 1 else "."
 
 
-class Log(Consensus):
+class Log(Agreement):
     """A register of agreement and one of the command; a node keeps its log."""
 
     def __init__(self, plan, lines):
-        super().__init__(plan, ["", "", ""])
-        self.keep, self.length = int(lines[2].split()[1]), self.length + 1
+        super().__init__(plan)
+        self.length += 1
+        self.keep = numbers(lines[2])[0]
         self.commands = [numbers(line)[1:] for line in lines[3:-1]]
         self.kept = [[] for _ in range(plan.nodes)]
 
