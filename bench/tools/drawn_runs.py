@@ -149,10 +149,13 @@ def lie_lines(draws, plan, liars, groups, rounds):
     return lines
 
 
-def drawn_times(draws, plan, slot):
+def drawn_times(draws, plan, word):
     """Where eras begin, and how many rounds there are: some slots past the bound of the last era,
-    and with a small bound of each."""
-    length = plan.bound + slot * (3 + draws.below(3))
+    and with a small bound of each. Those of a log come to all owners, where these are few."""
+    some = 3 + draws.below(3)
+    if word == "log" and plan.nodes < 20:
+        some += plan.nodes
+    length = plan.bound + some * slot_of(word, plan.faults)
     firsts = [0]
     for _ in range(draws.below(3)):
         firsts.append(firsts[-1] + (length if plan.bound < 600 else 1 + draws.below(40)))
@@ -176,7 +179,7 @@ def script_lines(draws, plan, firsts, rounds):
 
 def drawn_input(draws, word, shape):
     plan = drawn_plan(draws, shape, word)
-    firsts, rounds = drawn_times(draws, plan, slot_of(word, plan.faults))
+    firsts, rounds = drawn_times(draws, plan, word)
     between, values = input_lines(draws, plan, word, rounds)
     script = script_lines(draws, Plan(plan.lines, values), firsts, rounds)
     return "".join(f"{line}\n" for line in [*plan.lines, *between, *script])
