@@ -1,11 +1,9 @@
 -- One part of a header behind another.
-use Rattle.std.proofs.Common.{◌≡◌, ℕ, zero, suc, ◌+◌, ◌-◌, ◌<◌, ◌≤◌, ◌^◌, Bool, true, false, cond, eqb, List, [], ◌∷◌, ◌++◌, length, Option, Some, None, Result, Ok, Err, refl, sym, ap, ◌∙◌, append_assoc, length-append, subst, arith}
-use Rattle.std.specs.Prelude.{IfOk}
-use Rattle.std.specs.Io.KnownBytes.{Consumes, IsAtEnd}
+use Rattle.std.proofs.Common.{◌≡◌, ℕ, zero, suc, ◌+◌, ◌-◌, ◌^◌, Bool, true, false, cond, eqb, List, [], ◌∷◌, ◌++◌, Option, Some, None, Err, refl, sym, ap, ◌∙◌, append_assoc, length-append, subst, arith}
 use Rattle.std.proofs.KnownBytes.{Consumes-trans}
 use Rattle.texts.specs.Lines.{lines_of, whole_lines}
-use Rattle.texts.specs.Parts.{Next, Found, At, with_skips}
-use Rattle.texts.specs.Limits.{Limited, by, beyond, room_of, behind_lines}
+use Rattle.texts.specs.Parts.{Next, with_skips}
+use Rattle.texts.specs.Limits.{by, room_of, behind_lines}
 use Rattle.edge_io.specs.declared.fed_parts.FedPart.{FedPart}
 use Rattle.edge_io.specs.FedParts.{MayFollow, limited_part, Decided, Undecided, WholePart, LostPart}
 use Rattle.sync_types.specs.declared.answers.Premise.{Premise}
@@ -20,7 +18,7 @@ use Rattle.state_codec.specs.Shapes.{Shape, shape_of}
 use Rattle.node_header.specs.declared.header_lines.NodeHeader.{NodeHeader}
 use Rattle.node_header.specs.declared.headers.HeaderRefusal.TheVariants as refusal
 use Rattle.node_header.specs.NodePart.{HeaderSoFar, header_step, nothing_read}
-use Rattle.node_header.specs.Headers.{Header, header_in, behind_plan, behind_node, plan_refused, node_refused}
+use Rattle.node_header.specs.Headers.{header_in, behind_plan, behind_node, plan_refused, node_refused}
 use Rattle.node_header.specs.FedHeaders.{HeaderDecided, HeaderWhole, HeaderTooLong, HeaderLost}
 
 -- the steps of the parts over all lines

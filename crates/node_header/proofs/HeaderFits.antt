@@ -1,19 +1,18 @@
 -- A header that was read fits the plan.
-use Rattle.std.proofs.Common.{◌≡◌, ℕ, ◌+◌, ◌-◌, ◌<◌, ◌≤◌, Bool, true, false, leb, List, [], ◌∷◌, ◌++◌, length, Option, Some, None, Result, Ok, Err, refl, sym, ap, ◌∙◌, subst, arith}
+use Rattle.std.proofs.Common.{◌≡◌, ℕ, ◌<◌, Bool, true, false, List, [], ◌∷◌, ◌++◌, length, Option, Some, None, Ok, Err, refl, sym, ap, subst, arith}
 use Rattle.std.specs.Prelude.{slice_index_or, IfOk, nat_le, if◌then◌else◌, codes}
 use Rattle.std.specs.Str.{bytes_eq}
 use Rattle.std.proofs.lemmas.Bool.{leb-false}
 use Rattle.texts.specs.Lines.{words_of, lines_of}
 use Rattle.texts.specs.Shapes.{numbers_after}
-use Rattle.texts.specs.Parts.{Next, goes, ends, refuses, with_skips, part_from}
-use Rattle.texts.specs.Limits.{Limited, by, beyond, shows, less, with_rest, with_limit}
+use Rattle.texts.specs.Parts.{Next, goes, ends, refuses, with_skips}
+use Rattle.texts.specs.Limits.{by, beyond, shows, less, with_rest, with_limit}
 use Rattle.texts.proofs.Parts.{After, after_if, skips_keep, part_keeps}
 use Rattle.edge_io.specs.declared.fed_parts.FedPart.{FedPart}
 use Rattle.edge_io.specs.FedParts.{MayFollow, limited_part, WholePart}
-use Rattle.sync_types.specs.declared.answers.Rule.{Rule}
 use Rattle.sync_types.specs.declared.answers.Rule.TheVariants as rule
 use Rattle.sync_types.specs.States.{State}
-use Rattle.state_codec.specs.Shapes.{Shape, Fields, IsShape, IsFields, fields_at}
+use Rattle.state_codec.specs.Shapes.{Shape, IsShape, fields_at}
 use Rattle.state_codec.specs.Texts.{is_state_text, read_text, decoded}
 use Rattle.state_codec.specs.Ranges.{InRange}
 use Rattle.state_codec.proofs.Lows.{fields_limited}
@@ -21,7 +20,7 @@ use Rattle.state_codec.proofs.Ranged.{read_is_in_range}
 use Rattle.node_header.specs.declared.header_lines.NodeHeader.{NodeHeader}
 use Rattle.node_header.specs.declared.header_lines.HeaderStage.{HeaderStage}
 use Rattle.node_header.specs.declared.header_lines.HeaderStage.TheVariants.{Unread, Begun, Named, Stated}
-use Rattle.node_header.specs.NodePart.{HeaderSoFar, nothing_read, header_step, stage_step, id_by, id_in, state_in, header_of, header_by, state_word, state_of_digits, goes_named, goes_stated}
+use Rattle.node_header.specs.NodePart.{HeaderSoFar, nothing_read, header_step, stage_step, id_by, state_in, header_of, header_by, state_word, goes_named, goes_stated}
 use Rattle.node_header.specs.Fits.{IsFit, StageFits}
 
 module _ {S V R : Type 0} (step : S → List ℕ → Next S V R) (P : S → Type 0) (Q : V → Type 0)
@@ -96,13 +95,21 @@ module _ (shape : Shape) (sound : IsShape shape) where
   nothing_follows true = (refl, refl)
   nothing_follows false = tt
 
+  -- the node of a part within any room
+  pub part_fits : (taken number : ℕ) (room : Option ℕ) (lines : List (List ℕ))
+      → IfOk (limited_part (with_skips header_step rule.Form) rule.Form (nothing_read shape) taken number room lines)
+      (λ found. IsFit shape (found.value.1))
+  part_fits taken number room lines =
+      let step = with_skips header_step rule.Form in
+      let keeps = limit_keeps step Kept (IsFit shape) line_keeps in
+      part_keeps (with_limit step) (by rule.Form) (P' step Kept (IsFit shape) line_keeps)
+      (Q' step Kept (IsFit shape) line_keeps) keeps lines (room, nothing_read shape) taken number
+      (refl, tt)
+
   pub header_fits : (first limit before after : ℕ) (s t : Option (List ℕ)) (x : FedPart NodeHeader)
       → WholePart (with_skips header_step rule.Form) rule.Form (nothing_read shape) first limit before after s t x
       → IsFit shape x.value
   header_fits first limit before after s t x w =
-      let step = with_skips header_step rule.Form in
-      let room = limit - before in
-      let lines = lines_of (w.decided.bytes ++ []) in
-      let all = part_keeps (with_limit step) (by rule.Form) (P' step Kept (IsFit shape) line_keeps) (Q' step Kept (IsFit shape) line_keeps)
-      (limit_keeps step Kept (IsFit shape) line_keeps) lines (None, nothing_read shape) 0 first (refl, tt) in
-      subst (λ r. IfOk r (λ found. IsFit shape (found.value.1))) (w.decided.decides false [] (nothing_follows w.decided.ended)) all
+      subst (λ r. IfOk r (λ found. IsFit shape (found.value.1)))
+      (w.decided.decides false [] (nothing_follows w.decided.ended))
+      (part_fits 0 first None (lines_of (w.decided.bytes ++ [])))

@@ -1,2 +1,4 @@
+pub mod AcceptedHeaders
 pub mod Chained
 pub mod HeaderFits
+pub mod Unlimited

@@ -1,4 +1,5 @@
 pub mod FedHeaders
 pub mod Fits
+pub mod HeaderLaws
 pub mod Headers
 pub mod NodePart

@@ -7,6 +7,7 @@
 
 mod header_lines;
 mod headers;
+pub mod laws;
 mod reading;
 #[cfg(test)]
 mod tests;
