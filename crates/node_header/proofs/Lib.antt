@@ -1,4 +1,9 @@
 pub mod AcceptedHeaders
+pub mod BehindLines
 pub mod Chained
 pub mod HeaderFits
+pub mod HeaderTexts
+pub mod HeadersRead
+pub mod Rooms
+pub mod StateDigits
 pub mod Unlimited

@@ -1,5 +1,6 @@
 pub mod FedHeaders
 pub mod Fits
 pub mod HeaderLaws
+pub mod HeaderTexts
 pub mod Headers
 pub mod NodePart
