@@ -1,0 +1,7 @@
+pub mod States
+pub mod Correct
+pub mod Runs
+pub mod Settled
+pub mod Written
+pub mod Connected
+pub mod Worked

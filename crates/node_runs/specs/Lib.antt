@@ -1,0 +1,3 @@
+pub mod NodeRuns
+pub mod Cells
+pub mod Laws

@@ -1,0 +1,52 @@
+//! The laws of nodes over packets. Each function is empty: its clause is the law.
+
+ghost use Rattle.node_runs.specs.Cells.{NodeWritesStates};
+ghost use Rattle.node_runs.specs.Laws.{AnyLiesConnect, BorneLeavesSome, NodesRun, NodesSettle, NodesLock, NodesStayLocked};
+
+use plan_laws::laws::{every_plan_settles, locked_runs_count, locks_at_bound};
+
+/// What a node writes is, cell by cell, its states: the first, and that behind each packet.
+pub fn node_writes_states()
+    ensures { NodeWritesStates }
+{}
+
+/// There are connected nodes for all states of theirs in which the correct ones begin, and for all
+/// bytes that are sent as the cells of faulty ones, and of all nodes before they are connected.
+/// Their packets are whole, and hold of each correct node what it writes.
+pub fn any_lies_connect()
+    ensures { AnyLiesConnect }
+{}
+
+/// Of an accepted plan some node is correct, whichever nodes are faulty that it bears.
+pub fn borne_leaves_some()
+    ensures { BorneLeavesSome }
+{}
+
+/// Nodes that are connected from one packet to another, so that each correct one hears the states
+/// of the other correct ones, are a run of the plan there: whatever bytes, of whatever length, they
+/// are given as the cells of faulty nodes, and whatever was before.
+pub fn nodes_run()
+    ensures { NodesRun }
+{}
+
+/// So they settle, where the plan bears the faulty nodes: T packets later all correct nodes show
+/// one number, which grows by one modulo C with each packet.
+pub fn nodes_settle()
+    ensures { NodesSettle }
+{
+    every_plan_settles();
+}
+
+/// Then they are locked.
+pub fn nodes_lock()
+    ensures { NodesLock }
+{
+    locks_at_bound();
+}
+
+/// Once they are locked, before that too, they stay locked and count.
+pub fn nodes_stay_locked()
+    ensures { NodesStayLocked }
+{
+    locked_runs_count();
+}
