@@ -34,15 +34,15 @@ accepted_by text (Ok found) is =
     subst (λ r. IfOk r (λ f. IsAccepted f.value)) is (plan_accepted text)
 
 plan_is_accepted : (room : Option ℕ) (text : List ℕ)
-    → IfOk (limited_part (with_skips plan_step premise.Form) premise.Form Unread 0 1 room (lines_of text))
-    (λ f. IsAccepted (f.value.1))
+    → IfOk (limited_part (with_skips plan_step premise.Form) premise.Form Unread 0 1 room
+    (lines_of text)) (λ f. IsAccepted (f.value.1))
 plan_is_accepted room text =
     accepted_by text
     (limited_part (with_skips plan_step premise.Form) premise.Form Unread 0 1 room (lines_of text))
     (is_found (with_skips plan_step premise.Form) premise.Form (lines_of text) room Unread 0 1)
 
-of_plan : (plan : Plan) (node : NodeHeader) (lines : ℕ) → IsAccepted plan → IsFit (shape_of plan) node
-    → IsOfPlan (record { plan = plan; node = node; lines = lines })
+of_plan : (plan : Plan) (node : NodeHeader) (lines : ℕ) → IsAccepted plan
+    → IsFit (shape_of plan) node → IsOfPlan (record { plan = plan; node = node; lines = lines })
 of_plan plan node lines accepted fit =
     let within : node.id < plan_nodes plan =
     subst (λ n. node.id < n) (nodes_of_shape plan (moduli_of plan.levels)) fit.node in
@@ -67,8 +67,10 @@ by_plan (Ok found) accepted =
     let plan = found.value.1 in
     let start = nothing_read (shape_of plan) in
     by_node plan found.taken accepted
-    (limited_part (with_skips header_step rule.Form) rule.Form start 0 (1 + found.taken) (found.value.0) found.behind)
-    (part_fits (shape_of plan) (shape_of_accepted plan accepted) 0 (1 + found.taken) (found.value.0) found.behind)
+    (limited_part (with_skips header_step rule.Form) rule.Form start 0 (1 + found.taken)
+    (found.value.0) found.behind)
+    (part_fits (shape_of plan) (shape_of_accepted plan accepted) 0 (1 + found.taken)
+    (found.value.0) found.behind)
 
 all_lines : (room : Option ℕ) (text : List ℕ) → IfOk (header_in room (lines_of text)) IsOfPlan
 all_lines room text =

@@ -59,7 +59,8 @@ ended (b ∷ front) = ended_by (eqb b 10) b front refl (ended front)
 
 -- behind all lines of such a text stands what follows it
 behind_by : (newline : Bool) (b : ℕ) (front rest : List ℕ) → eqb b 10 ≡ newline
-    → ((n : ℕ) → length (lines_of (front ++ 10 ∷ [])) ≡ n → behind_lines n (front ++ 10 ∷ rest) ≡ rest)
+    → ((n : ℕ) → length (lines_of (front ++ 10 ∷ [])) ≡ n
+    → behind_lines n (front ++ 10 ∷ rest) ≡ rest)
     → (n : ℕ) → length (lines_of (b ∷ front ++ 10 ∷ [])) ≡ suc n
     → behind_lines (suc n) (b ∷ front ++ 10 ∷ rest) ≡ rest
 behind_by true b front rest is further n count =

@@ -10,7 +10,7 @@ use Rattle.texts.specs.Lines.{lines_of, words_of, is_one_line}
 use Rattle.texts.specs.Shapes.{numbers_after}
 use Rattle.texts.specs.Parts.{Found, At, with_skips, part_from}
 use Rattle.texts.proofs.NumberWords.{printed_is_read}
-use Rattle.texts.proofs.Printed.{joined, ArePlain, decimal_is_plain, words_joined, counts, goes_behind, ends_there}
+use Rattle.texts.proofs.Printed.{joined, IsPlain, ArePlain, decimal_is_plain, words_joined, counts, goes_behind, ends_there}
 use Rattle.sync_types.specs.declared.answers.Rule.{Rule}
 use Rattle.sync_types.specs.declared.answers.Rule.TheVariants as rule
 use Rattle.sync_types.specs.States.{State}
@@ -75,7 +75,8 @@ module _ (plan : Plan) (accepted : IsAccepted plan) (v : ℕ) (lt : v < plan_nod
 
   plain_1 : ArePlain (codes "node" ∷ first_words)
   plain_1 =
-      (record { some = omega arith; above = refl }, (record { some = omega arith; above = refl }, tt))
+      let one : IsPlain (codes "1") = record { some = omega arith; above = refl } in
+      (record { some = omega arith; above = refl }, (one, tt))
 
   plain_2 : ArePlain (codes "id" ∷ id_words)
   plain_2 =
@@ -113,7 +114,8 @@ module _ (plan : Plan) (accepted : IsAccepted plan) (v : ℕ) (lt : v < plan_nod
       ap (numbers_after (codes "id") 1) (words_joined (codes "id") id_words plain_2)
       ∙ rw (printed_is_read v (omega (arith, lt, few_nodes))) refl in
       let inside : nat_le (length shape.lows) v ≡ false =
-      lt-leb (length shape.lows) v (omega (arith, lt, nodes_of_shape plan (moduli_of plan.levels))) in
+      lt-leb (length shape.lows) v
+      (omega (arith, lt, nodes_of_shape plan (moduli_of plan.levels))) in
       ap (id_by (length shape.lows)) numbers
       ∙ ap (λ (b : Bool). let r : Result ℕ Rule = if b then Err rule.Node else Ok v in r) inside
 
@@ -127,13 +129,15 @@ module _ (plan : Plan) (accepted : IsAccepted plan) (v : ℕ) (lt : v < plan_nod
       (fields_limited shape _ (shape_of_accepted plan accepted))
       (in_range_of_node plan accepted v lt s is) in
       ap (header_of shape v) word
-      ∙ ap (λ (b : Bool). header_by v (if b then Some (read_text fields (digits_of plan v s)) else None))
+      ∙ ap (λ (b : Bool).
+      header_by v (if b then Some (read_text fields (digits_of plan v s)) else None))
       (text_is_taken fields s)
       ∙ ap (λ (read : State). header_by v (Some read)) back
 
   abbrev read_on : HeaderStage → (taken number : ℕ) → List ℕ → Result (Found NodeHeader) (At Rule)
   read_on reached taken number text =
-      part_from (with_skips header_step rule.Form) rule.Form (at reached) taken number (lines_of text)
+      part_from (with_skips header_step rule.Form) rule.Form (at reached) taken number
+      (lines_of text)
 
   -- the part is read at the front of any text
   pub part_is_read : (number : ℕ) (rest : List ℕ)
@@ -141,6 +145,8 @@ module _ (plan : Plan) (accepted : IsAccepted plan) (v : ℕ) (lt : v < plan_nod
       ≡ Ok (record { value = node; taken = 4; behind = lines_of rest })
   part_is_read number rest =
       let small : v < 256 = omega (arith, lt, few_nodes) in
+      let short =
+      length-decimal-le 15 v (omega arith) (omega (arith, small)) (omega (arith, small)) in
       let behind_3 = line_4 ++ 10 ∷ rest in
       let behind_2 = line_3 ++ 10 ∷ behind_3 in
       let behind_1 = line_2 ++ 10 ∷ behind_2 in
@@ -148,12 +154,12 @@ module _ (plan : Plan) (accepted : IsAccepted plan) (v : ℕ) (lt : v < plan_nod
       ∙ goes_behind header_step rule.Form (codes "node") first_words behind_1 plain_1
       (omega arith) refl (at stage.Unread) 0 number (at stage.Begun) refl
       ∙ goes_behind header_step rule.Form (codes "id") id_words behind_2 plain_2
-      (omega (arith, length-decimal-le 15 v (omega arith) (omega (arith, small)) (omega (arith, small))))
+      (omega (arith, short))
       (counts line_2 (omega arith) refl) (at stage.Begun) 1 (number + 1) (at (stage.Named v))
       (ap (goes_named (at stage.Begun)) id_read)
       ∙ goes_behind header_step rule.Form (codes "state") state_words behind_3 plain_3
       (omega (arith, digits_few plan accepted v lt s))
-      (counts line_3 (omega arith) refl) (at (stage.Named v)) 2 (number + 1 + 1) (at (stage.Stated node))
-      (ap (goes_stated (at (stage.Named v))) state_read)
+      (counts line_3 (omega arith) refl) (at (stage.Named v)) 2 (number + 1 + 1)
+      (at (stage.Stated node)) (ap (goes_stated (at (stage.Named v))) state_read)
       ∙ ends_there header_step rule.Form (codes "end") [] rest plain_4
       (omega arith) refl (at (stage.Stated node)) 3 (number + 1 + 1 + 1) node refl

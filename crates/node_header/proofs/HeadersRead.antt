@@ -65,8 +65,8 @@ module _ (plan : Plan) (accepted : IsAccepted plan) where
       let read = ap (λ (text : List ℕ). plan_of text) (sym (plan_ends [])) ∙ plan_read [] in
       omega (
         arith,
-        are_taken (with_skips plan_step premise.Form) premise.Form (lines_of (front ++ 10 ∷ [])) Unread
-            0 1 (record { value = plan; taken = plan_depth plan + 3; behind = [] }) read,
+        are_taken (with_skips plan_step premise.Form) premise.Form (lines_of (front ++ 10 ∷ []))
+            Unread 0 1 (record { value = plan; taken = plan_depth plan + 3; behind = [] }) read,
       )
 
   behind_first : (rest : List ℕ) → behind_lines (plan_depth plan + 3) (first ++ rest) ≡ rest
@@ -117,7 +117,8 @@ module _ (plan : Plan) (accepted : IsAccepted plan) where
         let behind = second ++ rest in
         let number = 1 + (plan_depth plan + 3) in
         let a =
-        is_within (with_skips plan_step premise.Form) premise.Form (lines_of (first ++ behind)) Unread 0 1
+        is_within (with_skips plan_step premise.Form) premise.Form (lines_of (first ++ behind))
+        Unread 0 1
         (record { value = plan; taken = plan_depth plan + 3; behind = lines_of behind })
         (plan_read behind) (plan_depth plan + 3) (4097 * 4) (room_of longer (2 ^ 20)) (omega arith)
         (room longer (plan_depth plan + 3) few) in

@@ -4,7 +4,7 @@ use Rattle.std.specs.Prelude.{if◌then◌else◌}
 use Rattle.std.proofs.lemmas.Bool.{le-leb}
 use Rattle.texts.specs.Parts.{Next, goes, ends, refuses, Found, At, part_from}
 use Rattle.texts.specs.Limits.{Limited, by, beyond, line_cost, shows, less, with_rest, with_limit}
-use Rattle.edge_io.specs.FedParts.{limited_part}
+use Rattle.edge_io.specs.FedParts.{LimitedPart, limited_part}
 
 -- the rooms in which so many lines are shown, and more
 abbrev pub HasRoom : (lines more : ℕ) → Option ℕ → Type 0
@@ -26,8 +26,7 @@ one_less lines more None line has = tt
 one_less lines more (Some left) line has = omega (arith, cost_most line)
 
 -- what becomes of a part, with the room behind it
-abbrev with_left : {V R : Type 0} → Option ℕ → Result (Found V) (At R)
-    → Result (Found (Option ℕ × V)) (At (Limited R))
+abbrev with_left : {V R : Type 0} → Option ℕ → Result (Found V) (At R) → LimitedPart V R
 with_left left (Ok found) =
     Ok (record { value = (left, found.value); taken = found.taken; behind = found.behind })
 with_left left (Err at) = Err (record { line = at.line; rule = by at.rule })
@@ -73,9 +72,8 @@ module _ {S V R : Type 0} (step : S → List ℕ → Next S V R) (form : R) wher
 
   -- a line that is shown makes the step
   abbrev next_part : (lines : List (List ℕ)) (taken number : ℕ)
-      → Next (Option ℕ × S) (Option ℕ × V) (Limited R)
-      → Result (Found (Option ℕ × V)) (At (Limited R))
-  next_part lines taken number next = elim next as (λ _. Result (Found (Option ℕ × V)) (At (Limited R))) [
+      → Next (Option ℕ × S) (Option ℕ × V) (Limited R) → LimitedPart V R
+  next_part lines taken number next = elim next as (λ _. LimitedPart V R) [
     | goes t ↦ part_from (with_limit step) (by form) t (taken + 1) (number + 1) lines
     | ends v ↦ Ok (record { value = v; taken = taken + 1; behind = lines })
     | refuses r ↦ Err (record { line = number; rule = r })

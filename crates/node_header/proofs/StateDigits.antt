@@ -135,7 +135,8 @@ module _ (plan : Plan) (accepted : IsAccepted plan) (v : ℕ) (lt : v < plan_nod
     pub digits_plain : IsPlain (digits_of plan v s)
     digits_plain =
         let sound = shape_of_accepted plan accepted in
-        let some = some_bits (shape_of plan) sound (slice_index_or (shape_of plan).lows v 0) low_within in
+        let some = some_bits (shape_of plan) sound (slice_index_or (shape_of plan).lows v 0)
+        low_within in
         record {
           some = omega (arith, taken.0, some);
           above = digits_above (digits_of plan v s) taken.1;

@@ -32,8 +32,8 @@ abbrev pub header_stated : Plan → (v : ℕ) → State → Header
 header_stated plan v s =
     record { plan = plan; node = record { id = v; state = s }; lines = plan_depth plan + 7 }
 
--- The header text of an accepted plan, a node of it and a state of that node is read as that header,
--- at the front of any text, also of one that is longer than a header may be.
+-- The header text of an accepted plan, a node of it and a state of that node is read as that
+-- header, at the front of any text, also of one that is longer than a header may be.
 abbrev pub HeaderTextIsRead : Type 0
 HeaderTextIsRead = (plan : Plan) → IsAccepted plan → (v : ℕ) → v < plan_nodes plan → (s : State)
     → IsState plan v s → (longer : Bool) (rest : List ℕ)
