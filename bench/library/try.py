@@ -1,0 +1,387 @@
+#!/usr/bin/env python3
+"""Builds the static library, links it, and tries it from C, Python and Rust.
+
+    python3 bench/library/try.py              build the archive by `rt lib`
+    python3 bench/library/try.py --after-ci   build it over the libraries that `rt ci` has left
+    python3 bench/library/try.py ARCHIVE      take this archive
+
+Random steps of six plans, and calls that are refused, have to give what the plain step of model.py
+gives, and what the program's word `node` writes where the program is built; each allocation is
+refused in turn. A line says what was not tried, and why. The status is 1 where an answer is not
+what it has to be, or what was proved is not compiled or linked; a tool that is missing, or a machine
+that is too slow, is no failure.
+"""
+
+import functools
+import os
+import pathlib
+import random
+import shutil
+import subprocess
+import sys
+import tempfile
+
+import model
+
+HERE = pathlib.Path(__file__).resolve().parent
+TOP = HERE.parent.parent
+CRATES = TOP / "crates"
+ARCHIVE = CRATES / "counterlab_c" / "out" / "libcounterlab_c.a"
+PROGRAM = CRATES / "counterlab" / "out" / "counterlab"
+REFUSED = CRATES / "examples" / "data" / "refused_plans"
+PREMISES = ["form", "limit", "blocks", "modulus", "quorum", "share", "multiple"]
+STEPS = 1000
+MINUTES = 10
+
+PLANS = [
+    model.Plan(5, []),
+    model.Plan(576, [(3, 1, 10, 1)]),
+    model.Plan(2304, [(4, 1, 960, 0), (3, 3, 10, 0)]),
+    model.Plan(576, [(3, 1, 960, 1), (3, 3, 10, 0)]),
+    model.Plan(93312, [(5, 2, 10, 2)]),
+    model.Plan(576, [(3, 1, 768, 1), (3, 2, 1152, 0), (3, 4, 10, 0)]),
+]
+
+
+class Skipped(Exception):
+    """Something cannot be tried here."""
+
+
+class Failed(Exception):
+    """Something is not what it has to be."""
+
+
+def run(command, **how):
+    """What a command prints. It fails where the command does, and is skipped where that is slow."""
+    how = {"stdin": subprocess.DEVNULL, "timeout": 60 * MINUTES, **how}
+    if "input" in how:
+        del how["stdin"]
+    try:
+        ran = subprocess.run([str(it) for it in command], stdout=subprocess.PIPE,
+                             stderr=subprocess.STDOUT, **how)
+    except subprocess.TimeoutExpired:
+        raise Skipped(f"{command[0]} had not ended after {MINUTES} minutes") from None
+    except OSError as error:
+        raise Skipped(f"{command[0]} cannot be run: {error.strerror}") from None
+    if ran.returncode < 0:
+        raise Failed(f"{command[0]} was stopped by signal {-ran.returncode}")
+    if ran.returncode:
+        said = ran.stdout.decode(errors="replace").strip()[-1500:]
+        raise Failed(f"{command[0]} ended with {ran.returncode}: {said}")
+    return ran.stdout
+
+
+def needs(tool):
+    if not shutil.which(tool):
+        raise Skipped(f"there is no {tool} here")
+
+
+@functools.lru_cache(maxsize=None)
+def kit():
+    """The kit's folder: its first page is the one that `rt doc` names."""
+    needs("rt")
+    return pathlib.Path(run(["rt", "doc"]).decode().strip()).parent
+
+
+# ---- the archive
+
+
+def uses():
+    """For each crate, which it uses, as crates.txt says."""
+    rows = {}
+    for line in (TOP / "crates.txt").read_text().splitlines():
+        name, _, used = line.partition("#")[0].partition(":")
+        if name.strip():
+            rows[name.split()[0]] = used.split()
+    return rows
+
+
+def build_after_ci():
+    """Builds the archive over the libraries that `rt ci` proved and left in each crate's out/."""
+    rows, below, left = uses(), [], ["counterlab_c"]
+    while left:
+        for name in rows[left.pop()]:
+            if name in rows and name not in below:
+                below.append(name)
+                left.append(name)
+    rlib = lambda name: CRATES / name / "out" / "rlib" / f"{name}.rlib"
+    lacking = [name for name in below if not rlib(name).is_dir()]
+    if lacking:
+        raise Skipped(f"no library {lacking[0]} was left")
+    command = [kit() / "bin" / "rattle", "build", "--crate-name", "counterlab_c", "src/lib.rt"]
+    command += ["--extern", f"std={kit()}/rlibs/std.rlib", "-L", f"dependency={kit()}/rlibs"]
+    for name in rows["counterlab_c"]:
+        command += ["--extern", f"{name}={rlib(name)}"]
+    for name in below:
+        command += ["-L", f"dependency={rlib(name).parent}"]
+    command += ["--antt-project", f"{kit()}/rattle/logic/antt-project.json"]
+    command += ["--logic-built", f"{kit()}/logic_built", "--toolchain", f"{kit()}/toolchain"]
+    command += ["--links", "counterlab_c=", "--crate-type", "staticlib", "-o", ARCHIVE]
+    ARCHIVE.parent.mkdir(exist_ok=True)
+    run(command, cwd=CRATES / "counterlab_c")
+
+
+def archive(words):
+    """The archive, built where no word names one."""
+    if words == ["--after-ci"]:
+        build_after_ci()
+    elif words:
+        return pathlib.Path(words[0]).resolve()
+    else:
+        needs("rt")
+        print("library: rt lib", flush=True)
+        if subprocess.run(["rt", "lib", "--jobs", "1"], cwd=CRATES / "counterlab_c").returncode:
+            raise Failed("the archive was not built")
+    return ARCHIVE
+
+
+# ---- cases
+
+
+def cell(data):
+    return len(data).to_bytes(2, "big") + data
+
+
+def some_bytes(source, size):
+    return bytes(source.randrange(256) for _ in range(size))
+
+
+def some_state(source, plan, node, common):
+    """The bytes of a state in range, that often has the common values."""
+    x, values = common
+    number = x if source.random() < 0.8 else source.randrange(plan.base)
+    registers = []
+    for level, value in zip(plan.levels, values):
+        if source.random() < 0.25:
+            value = source.choice([None, source.randrange(level.modulus)])
+        registers.append((value, source.random() < 0.5))
+    return model.write(plan, node, (number, registers))
+
+
+def some_packet(source, plan, common):
+    """A cell of each node; a fifth of them have any bytes, half of these of another length."""
+    packet = b""
+    for node in range(plan.nodes):
+        data = some_state(source, plan, node, common)
+        if source.random() < 0.2:
+            size = source.choice([len(data), source.choice([0, 1, 2, 3, 5, 8, 300])])
+            data = some_bytes(source, size)
+        packet += cell(data)
+    return packet
+
+
+def step_cases(source):
+    """Steps of nodes: plan, node, state, packets."""
+    for i in range(STEPS):
+        plan = PLANS[i % len(PLANS)]
+        values = [source.choice([None, source.randrange(it.modulus)]) for it in plan.levels]
+        common, node = (source.randrange(plan.base), values), source.randrange(plan.nodes)
+        state = some_state(source, plan, node, common)
+        if source.random() < 0.1:
+            state = some_bytes(source, len(state))
+        count = source.choice([0, 1, 1, 1, 1, 1, 1, 2, 3])
+        yield plan, node, state, b"".join(some_packet(source, plan, common) for _ in range(count))
+
+
+def refused_cases(source):
+    """Calls that are refused for their node, their state or their packets, and more than one."""
+    for plan in PLANS:
+        common = 0, [None] * len(plan.levels)
+        size, packet = model.state_bytes(plan, 0), some_packet(source, plan, common)
+        good, cut = bytes(size), packet[:-1]
+        for node in (plan.nodes, 256, 2**32 - 1):
+            yield plan, node, good, packet
+            yield plan, node, b"", cut
+        for length in (0, size - 1, size + 1, 128):
+            if length != size:
+                yield plan, 0, bytes(length), packet
+                yield plan, 0, bytes(length), cut
+        for end in range(1, len(packet), 1 + len(packet) // 7):
+            yield plan, 0, good, packet[:end]
+            yield plan, 0, good, packet + packet[:end]
+
+
+def refused_plans():
+    """Plans that are refused, with the line and the number of the premise that each fails."""
+    for file in sorted(REFUSED.glob("*.plan.out")):
+        words = file.read_text().split()
+        text = file.with_name(file.name[: -len(".plan.out")] + ".txt").read_bytes()
+        yield text, int(words[3]), 1 + PREMISES.index(words[5])
+
+
+def written(text, node, state, packets, answer):
+    """A case as steps.c reads it."""
+    hexed = lambda data: data.hex() or "-"
+    code, detail, value, new = answer
+    given = f"{hexed(text)} {node} {hexed(state)} {hexed(packets)}"
+    return f"{given} {code} {detail} {value} {hexed(new)}"
+
+
+# ---- what is tried
+
+
+class Tried:
+    def __init__(self, room, made):
+        self.room, self.made, self.heap = room, made, kit() / "c" / "liblibc_c.a"
+        source = random.Random(7)
+        self.steps, self.refused = list(step_cases(source)), list(refused_cases(source))
+        self.answers = [model.answer(*case) for case in self.steps]
+        self.cases = [
+            (plan.text, node, state, packets, answer)
+            for (plan, node, state, packets), answer in zip(self.steps, self.answers)
+        ]
+        for plan, node, state, packets in self.refused:
+            answer = model.answer(plan, node, state, packets)
+            self.cases.append((plan.text, node, state, packets, answer))
+        for text, line, premise in refused_plans():
+            self.cases.append((text, 0, b"\0", b"", (1, premise, line, b"\0")))
+        self.count = len(self.cases)
+        self.text = "".join(written(*case) + "\n" for case in self.cases).encode()
+
+    def link(self, compiler, name, *more, heap=None, flags=()):
+        """Compiles and links a program of this folder with the archive."""
+        needs(compiler)
+        to = self.room / f"{name}.{compiler}"
+        strict = ["-std=c11", "-O2", "-Wall", "-Wextra", "-Werror", *flags]
+        sources = [HERE / f"{name}.c", *more]
+        run([compiler, *strict, "-o", to, *sources, self.made, heap or self.heap])
+        return to
+
+    def cases_by(self, program):
+        said = run([program], input=self.text).decode().strip()
+        if not said.startswith(f"{self.count} of {self.count}"):
+            raise Failed(f"{said} cases are the same")
+        return said
+
+    def c(self, compiler):
+        self.cases_by(self.link(compiler, "steps"))
+        return f"{self.count} calls are the same"
+
+    def header(self):
+        needs("g++")
+        file = self.room / "header.cc"
+        file.write_text('#include "counterlab.h"\n')
+        run(["g++", "-std=c++11", "-Wall", "-Wextra", "-pedantic", "-Werror", "-fsyntax-only",
+             "-I", HERE, file])
+        return "the header is C++ too"
+
+    def first(self):
+        """four_nodes.c against the same rounds by the plain step."""
+        plan, found = PLANS[1], run([self.link("gcc", "four_nodes")]).decode()
+        states = [b"\x3f\xff", b"\x12\x34", b"\x00\x14", b"\xff"]
+        rows = []
+        for t in range(13):
+            held = [model.shown(model.read(plan, v, states[v]), 1) for v in range(3)]
+            rows.append(" ".join(map(str, [t, *held])))
+            lies = [bytes([(97 * t + 31 * v) % 256]) for v in range(3)]
+            packets = [b"".join(map(cell, [*states[:3], lie])) for lie in lies]
+            states[:3] = [model.answer(plan, v, states[v], packets[v])[3] for v in range(3)]
+        if found.splitlines() != rows:
+            raise Failed(f"four_nodes.c printed\n{found}")
+        return f"four_nodes.c ends with {rows[-1]}"
+
+    def arena(self):
+        """Nodes without malloc: an arena of 16 KB for all plans, and 4 KB for those of 12 nodes."""
+        flags = ["-DARENA=16384"]
+        whole = self.cases_by(self.link("gcc", "steps", HERE / "arena.c", heap="-lc", flags=flags))
+        small = [case for case in self.cases if case[0] != PLANS[-1].text]
+        text = "".join(written(*case) + "\n" for case in small).encode()
+        program = self.link("gcc", "steps", HERE / "arena.c", heap="-lc")
+        said = run([program], input=text).decode().strip()
+        if not said.startswith(f"{len(small)} of {len(small)}"):
+            raise Failed(f"{said}, in 4 KB")
+        return f"{whole}; in 4 KB {said}"
+
+    def memory(self):
+        wrap = "-Wl,--wrap=malloc,--wrap=realloc,--wrap=free"
+        program, counts = self.link("gcc", "memory", flags=[wrap]), []
+        for i, plan in enumerate(PLANS):
+            text, packet = self.room / f"plan.{i}", self.room / f"packet.{i}"
+            text.write_bytes(plan.text)
+            packet.write_bytes(b"".join(cell(bytes(model.state_bytes(plan, u)))
+                                        for u in range(plan.nodes)))
+            counts.append(int(run([program, text, packet])))
+        return f"each of {sum(counts)} allocations was refused in turn"
+
+    def threads(self):
+        return run([self.link("gcc", "threads", flags=["-pthread"])]).decode().strip()
+
+    def python(self):
+        """The shared object by ctypes, in a process of its own."""
+        needs("gcc")
+        shared = self.room / "libcounterlab_c.so"
+        run(["gcc", "-shared", "-o", shared, "-Wl,--whole-archive", self.made,
+             "-Wl,--no-whole-archive", self.heap, "-Wl,-z,defs"])
+        cases = self.room / "cases.txt"
+        cases.write_bytes(self.text)
+        how = {"env": {**os.environ, "COUNTERLAB_SO": str(shared)}}
+        said = run([sys.executable, HERE / "four_nodes.py"], **how).decode().splitlines()
+        if said[-1:] != ["4 0112 0112 0112 48"]:
+            raise Failed(f"four_nodes.py ended with {said[-1:]}")
+        return run([sys.executable, HERE / "by_ctypes.py", cases], **how).decode().strip()
+
+    def rust(self):
+        needs("cargo")
+        folders = {"COUNTERLAB_ARCHIVE": self.made.parent, "KIT_ARCHIVE": self.heap.parent}
+        target = {"CARGO_TARGET_DIR": str(self.room / "cargo")}
+        env = {**os.environ, **{name: str(it) for name, it in folders.items()}, **target}
+        crate = self.room / "rust"
+        shutil.copytree(HERE / "rust", crate)
+        run(["cargo", "build", "--offline", "--quiet", "--release"], cwd=crate, env=env)
+        self.cases_by(self.room / "cargo" / "release" / "steps")
+        return f"{self.count} calls are the same"
+
+    def program(self):
+        """The word `node` of the program, run once for each step."""
+        if not PROGRAM.is_file():
+            raise Skipped("the program is not built")
+        for (plan, node, state, packets), answer in zip(self.steps, self.answers):
+            header = plan.text + b"node 1\nid %d\nstate %s\nend\n" % (node, state.hex().encode())
+            said = run([PROGRAM, "node"], input=header + packets)
+            if not said.endswith(cell(answer[3])):
+                raise Failed(f"node {node} of {plan.text}, state {state.hex()}: {said.hex()}")
+        return f"{STEPS} steps are the same"
+
+
+def main():
+    words = sys.argv[1:]
+    if len(words) > 1 or words and words[0].startswith("-") and words[0] != "--after-ci":
+        sys.exit(__doc__)
+    failed = 0
+
+    def report(name, call, *given):
+        nonlocal failed
+        try:
+            print(f"library: {name}: {call(*given)}", flush=True)
+        except Skipped as why:
+            print(f"library: {name}: not tried: {why}", flush=True)
+        except Failed as why:
+            failed += 1
+            print(f"library: {name}: FAILED: {why}", flush=True)
+
+    try:
+        made = archive(words)
+        needs("gcc")
+    except Skipped as why:
+        print(f"library: not tried: {why}")
+        return 0
+    except Failed as why:
+        print(f"library: FAILED: {why}")
+        return 1
+    with tempfile.TemporaryDirectory(prefix="counterlab-library-") as name:
+        tried = Tried(pathlib.Path(name), made)
+        report("gcc", tried.c, "gcc")
+        report("clang", tried.c, "clang")
+        report("g++", tried.header)
+        report("a first program", tried.first)
+        report("an arena", tried.arena)
+        report("memory", tried.memory)
+        report("threads", tried.threads)
+        report("python", tried.python)
+        report("rust", tried.rust)
+        report("program", tried.program)
+    return 1 if failed else 0
+
+
+if __name__ == "__main__":
+    sys.exit(main())

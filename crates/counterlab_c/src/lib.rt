@@ -1,0 +1,74 @@
+//! The calls of a node for programs that are not written in Rattle.
+//!
+//! Each function is told a plan's text, keeps nothing between calls, and gives an [`Answer`]. Any
+//! bytes and numbers may be given: no call asks more of its caller than that its pointers and
+//! lengths are true. docs/LIBRARY.md has the codes, and how to link.
+#![tactic(auto)]
+
+ghost use Rattle.node_calls.specs.Answers.{plan_answer, bytes_answer, output_answer, step_answer};
+ghost use Rattle.node_calls.specs.Counting.{NodesCount};
+ghost use Rattle.counterlab_c.specs.Codes.{numbers_of};
+ghost use Rattle.counterlab_c.specs.Exports.{Gives, GivesNumber};
+
+mod answers;
+
+use answers::{answer_of, numbers_of};
+pub use answers::{Answer, PlanNumbers};
+use node_calls::laws::nodes_count;
+use node_calls::{output, plan_in, state_bytes, step};
+use std::alloc::Global;
+
+/// Reads a plan, and puts its numbers into `numbers`; the value is 0. An error leaves `numbers` as
+/// it was.
+#[unsafe(no_mangle)]
+pub extern "C" fn counterlab_plan(alloc: Global, plan: &[u8], numbers: &mut PlanNumbers) -> Answer
+    ensures { Gives (λ _. 0) numbers_of (plan_answer plan.now) numbers.old numbers.new result }
+{
+    match plan_in(alloc, plan) {
+        Ok(read) => {
+            *numbers = numbers_of(&read);
+            answer_of(Ok(0))
+        }
+        Err(error) => answer_of(Err(error)),
+    }
+}
+
+/// The value is how many bytes a state of node `id` has.
+#[unsafe(no_mangle)]
+pub extern "C" fn counterlab_state_bytes(alloc: Global, plan: &[u8], id: u32) -> Answer
+    ensures { GivesNumber (bytes_answer plan.now id) result }
+{
+    match state_bytes(alloc, plan, id) {
+        Ok(bytes) => answer_of(Ok(bytes as u64)),
+        Err(error) => answer_of(Err(error)),
+    }
+}
+
+/// The value is what node `id` shows in a state.
+#[unsafe(no_mangle)]
+pub extern "C" fn counterlab_output(alloc: Global, plan: &[u8], id: u32, state: &[u8]) -> Answer
+    ensures { GivesNumber (output_answer plan.now id state.now) result }
+{
+    answer_of(output(alloc, plan, id, state))
+}
+
+/// Steps node `id` behind each packet, from its state and into it; the value is how many packets
+/// these were. An error leaves the state as it was.
+#[unsafe(no_mangle)]
+pub extern "C" fn counterlab_step(
+    alloc: Global,
+    plan: &[u8],
+    id: u32,
+    state: &mut [u8],
+    packets: &[u8],
+) -> Answer
+    ensures gives { Gives (λ behind. behind.0) (λ behind. behind.1)
+        (step_answer plan.now id state.old packets.now) state.old state.new result }
+
+    // Nodes that step in rounds as this call answers count from the plan's bound on, whatever bytes
+    // they begin with, and whatever the faulty ones say.
+    ensures count { NodesCount }
+{
+    nodes_count();
+    answer_of(step(alloc, plan, id, state, packets))
+}

@@ -1,0 +1,177 @@
+-- Nodes that step in rounds as the calls answer are connected nodes, which count.
+use Rattle.std.proofs.Common.{◌≡◌, ℕ, zero, suc, ◌+◌, ◌<◌, ◌≤◌, cond, Bool, true, false, List, [], ◌∷◌, length, map, take, get_or, Result, Ok, Err, add-one, refl, sym, ap, ◌∙◌, subst, arith}
+use Rattle.std.specs.Prelude.{◌==◌, IfOk}
+use Rattle.std.specs.List.{range_with_len}
+use Rattle.std.proofs.lemmas.Bool.{eq-eqb, lt-ltb}
+use Rattle.std.proofs.lemmas.List.{take_more}
+use Rattle.std.proofs.lemmas.List.FromFn.{length-map-range_with_len, get_or-map-range_with_len}
+use Rattle.texts.specs.Parts.{At}
+use Rattle.sync_types.specs.declared.answers.Premise.{Premise}
+use Rattle.sync_types.specs.States.{State, zero_state}
+use Rattle.construction.specs.Plans.{Plan, plan_nodes, plan_depth, plan_bound}
+use Rattle.construction.specs.Shown.{shown}
+use Rattle.construction.specs.Steps.{state_of}
+use Rattle.construction.specs.Runs.{IsBorne}
+use Rattle.plan_numbers.specs.Premises.{IsAccepted}
+use Rattle.plan_reader.specs.PlanPart.{whole_plan_of}
+use Rattle.plan_reader.proofs.AcceptedPlans.{whole_plan_accepted}
+use Rattle.state_codec.specs.Shapes.{Fields, bytes_in}
+use Rattle.state_codec.specs.Reading.{read}
+use Rattle.state_codec.specs.Writing.{written}
+use Rattle.node_stepper.specs.Packets.{Ending, whole, cut, beyond, Packets}
+use Rattle.node_stepper.specs.Nodes.{fields_of, state_after, state_behind}
+use Rattle.node_stepper.proofs.CellByCell.{written_size}
+use Rattle.node_runs.specs.NodeRuns.{Nodes, cell_given, IsCorrect, state_at, states_at, AreConnected}
+use Rattle.node_runs.specs.Laws.{CountThrough, NodesSettle}
+use Rattle.node_runs.proofs.States.{behind_push, read_is_state, reads_back, behind_is_state}
+use Rattle.node_calls.specs.declared.errors.CallError.{CallError}
+use Rattle.node_calls.specs.declared.errors.CallError.TheVariants as error
+use Rattle.node_calls.specs.Answers.{plan_or_refused, plan_answer, packets_for, by_ending, bytes_behind, steps_over, step_in, step_answer, output_answer}
+use Rattle.node_calls.specs.Counting.{cell_in, InRounds, CountByBytes, NodesCount}
+use Rattle.node_calls.proofs.Packets.{as_many, only_one}
+
+accepted_of : (r : Result Plan (At Premise)) (plan : Plan) → plan_or_refused r ≡ Ok plan
+    → IfOk r IsAccepted → IsAccepted plan
+accepted_of (Ok found) plan is accepted =
+    let same : found ≡ plan = cc in subst IsAccepted same accepted
+accepted_of (Err at) plan is accepted = absurd cc
+
+-- of what was answered: that the test held, and what stands behind it
+behind_test : {V : Type 0} (test : Bool) (answer : Result V CallError) (e : CallError) (v : V)
+    → cond test answer (Err e) ≡ Ok v → (test ≡ true) × (answer ≡ Ok v)
+behind_test true answer e v is = (refl, is)
+behind_test false answer e v is = absurd cc
+
+ended : (new bytes : List ℕ) (count : ℕ) (ending : Ending)
+    → by_ending new ending ≡ Ok (count, bytes) → (ending ≡ whole count) × (bytes ≡ new)
+ended new bytes count (whole n) is =
+    let both : (count, bytes) ≡ (n, new) = cc in
+    (ap (λ (p : ℕ × List ℕ). whole (p.0)) (sym both), ap (λ (p : ℕ × List ℕ). p.1) both)
+ended new bytes count (cut packet sender) is = absurd cc
+ended new bytes count beyond is = absurd cc
+
+-- what calls answer of a node of an accepted plan
+module _ (text : List ℕ) (plan : Plan) (is : plan_answer text ≡ Ok plan) (v : ℕ)
+    (node : v < plan_nodes plan) where
+  abbrev fields : Fields
+  fields = fields_of plan v
+
+  step_in_plan : (state packets : List ℕ)
+      → step_answer text v state packets ≡ step_in v state packets plan
+  step_in_plan state packets = rw (is, lt-ltb v (plan_nodes plan) node) refl
+
+  output_is : (state : List ℕ) → length state ≡ bytes_in fields
+      → output_answer text v state ≡ Ok (shown (plan_depth plan) (read fields state))
+  output_is state long =
+      rw (is, lt-ltb v (plan_nodes plan) node, eq-eqb (length state) (bytes_in fields) long) refl
+
+  -- the new bytes, behind one packet
+  new_bytes : (state packets new : List ℕ) → step_answer text v state packets ≡ Ok (1, new)
+      → new ≡ written fields
+      (state_after plan v (read fields state) (get_or (packets_for plan packets).cells 0 []))
+  new_bytes state packets new answers =
+      let all : Packets = packets_for plan packets in
+      let held = behind_test (length state == bytes_in fields) (steps_over v state plan all)
+      error.Length (1, new) (sym (step_in_plan state packets) ∙ answers) in
+      let done = ended (bytes_behind plan v state all.cells) new 1 all.ending held.1 in
+      let one : length all.cells ≡ 1 =
+      omega (arith, as_many (plan_nodes plan) 1000000 0 1 packets done.0) in
+      done.1 ∙ ap (bytes_behind plan v state) (only_one all.cells [] one)
+
+module _ (text : List ℕ) (plan : Plan) (is : plan_answer text ≡ Ok plan) (faulty : List ℕ)
+    (count : ℕ) (bytes packets : ℕ → ℕ → List ℕ)
+    (rounds : InRounds text plan faulty count bytes packets) where
+  accepted : IsAccepted plan
+  accepted = accepted_of (whole_plan_of text) plan is (whole_plan_accepted text)
+
+  -- the packet of a round, the state of its bytes, and the nodes that these make
+  abbrev packet : (v t : ℕ) → List (List ℕ)
+  packet v t = get_or (packets_for plan (packets t v)).cells 0 []
+
+  abbrev state : (t v : ℕ) → State
+  state t v = read (fields_of plan v) (bytes t v)
+
+  abbrev nodes : Nodes
+  nodes = record {
+    starts = state 0;
+    packets = λ v. map (packet v) (range_with_len 0 count);
+  }
+
+  many : (v : ℕ) → length (nodes.packets v) ≡ count
+  many v = length-map-range_with_len (packet v) 0 count
+
+  packet_is : (t v : ℕ) → t < count → get_or (nodes.packets v) t [] ≡ packet v t
+  packet_is t v early = get_or-map-range_with_len (packet v) 0 count t t [] early (omega arith)
+
+  module _ (v : ℕ) (correct : IsCorrect plan faulty v) where
+    next : (t : ℕ) → t < count
+        → bytes (t + 1) v ≡ written (fields_of plan v) (state_after plan v (state t v) (packet v t))
+    next t early =
+        new_bytes text plan is v correct.0 (bytes t v) (packets t v) (bytes (t + 1) v)
+        (rounds.steps t v early correct)
+
+    next_state : (t : ℕ) → t < count → state (t + 1) v ≡ state_after plan v (state t v) (packet v t)
+    next_state t early =
+        ap (read (fields_of plan v)) (next t early)
+        ∙ reads_back plan accepted v correct.0 (state_after plan v (state t v) (packet v t))
+        (behind_is_state plan accepted v (state t v) (packet v t ∷ [])
+        (read_is_state plan accepted v correct.0 (bytes t v)))
+
+    long : (t : ℕ) → t ≤ count → length (bytes t v) ≡ bytes_in (fields_of plan v)
+    long zero early = rounds.long v correct
+    long (suc t) early =
+        subst (λ i. length (bytes i v) ≡ bytes_in (fields_of plan v)) (add-one t)
+        (ap length (next t (omega (arith, early)))
+        ∙ written_size (fields_of plan v) (state_after plan v (state t v) (packet v t)))
+
+    -- its bytes stand for the node's state behind as many packets
+    stands_next : (t : ℕ) → t < count → state_at plan nodes t v ≡ state t v
+        → state_at plan nodes (t + 1) v ≡ state (t + 1) v
+    stands_next t early is =
+        ap (state_behind plan v (state 0 v))
+        (take_more (nodes.packets v) t [] (omega (arith, early, many v)))
+        ∙ behind_push plan v (state 0 v) (take t (nodes.packets v)) (get_or (nodes.packets v) t [])
+        ∙ ap (state_after plan v (state_at plan nodes t v)) (packet_is t v early)
+        ∙ ap (λ (s : State). state_after plan v s (packet v t)) is
+        ∙ sym (next_state t early)
+
+    stands : (t : ℕ) → t ≤ count → state_at plan nodes t v ≡ state t v
+    stands zero early = refl
+    stands (suc t) early =
+        let lt : t < count = omega (arith, early) in
+        subst (λ i. state_at plan nodes i v ≡ state i v) (add-one t)
+        (stands_next t lt (stands t (omega (arith, early))))
+
+  connected : AreConnected plan faulty nodes 0 count
+  connected = record {
+    rising = omega arith;
+    starts = λ v correct. read_is_state plan accepted v correct.0 (bytes 0 v);
+    enough = λ v correct. omega (arith, many v);
+    cells = λ t v u low early correct other apart.
+        ap (read (fields_of plan u))
+        (ap (λ (p : List (List ℕ)). get_or p u []) (packet_is t v early)
+        ∙ rounds.told t v u early correct other apart)
+        ∙ sym (stands u other t (omega (arith, early)));
+  }
+
+  counted : CountThrough plan faulty (states_at plan nodes) (0 + plan_bound plan) count
+      → CountByBytes text plan faulty count bytes
+  counted counts = record {
+    output = counts.output;
+    shows = λ t v late early correct.
+        output_is text plan is v correct.0 (bytes t v) (long v correct t early)
+        ∙ ap (λ (o : ℕ). let r : Result ℕ CallError = Ok o in r)
+        (ap (shown (plan_depth plan)) (sym (stands v correct t early))
+        ∙ ap (shown (plan_depth plan))
+        (sym (get_or-map-range_with_len (state_at plan nodes t) 0 (plan_nodes plan) v v (zero_state 0)
+        correct.0 (omega arith)))
+        ∙ counts.shows t (omega (arith, late)) early v correct.0 correct.1);
+    grows = λ t late early. counts.grows t (omega (arith, late)) early;
+  }
+
+pub nodes_count : NodesSettle → NodesCount
+nodes_count settle text plan is faulty borne count bytes packets rounds =
+    counted text plan is faulty count bytes packets rounds
+    (settle plan (accepted text plan is faulty count bytes packets rounds) faulty borne
+    (nodes text plan is faulty count bytes packets rounds) 0 count
+    (connected text plan is faulty count bytes packets rounds))

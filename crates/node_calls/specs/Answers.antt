@@ -1,0 +1,77 @@
+-- What calls of a node answer. Each test comes behind those before it.
+use Rattle.std.specs.Prelude.{ℕ, ◌==◌, nat_lt, if◌then◌else◌, List, length, Result, Ok, Err}
+use Rattle.texts.specs.Parts.{At}
+use Rattle.sync_types.specs.declared.answers.Premise.{Premise}
+use Rattle.construction.specs.Plans.{Plan, plan_nodes, plan_depth}
+use Rattle.construction.specs.Shown.{shown}
+use Rattle.plan_reader.specs.PlanPart.{whole_plan_of}
+use Rattle.state_codec.specs.Shapes.{bytes_in}
+use Rattle.state_codec.specs.Reading.{read}
+use Rattle.state_codec.specs.Writing.{written}
+use Rattle.node_stepper.specs.Packets.{Packets, Ending, whole, cut, beyond, packets_of}
+use Rattle.node_stepper.specs.Nodes.{fields_of, state_behind}
+use Rattle.node_calls.specs.declared.errors.CallError.{CallError}
+use Rattle.node_calls.specs.declared.errors.CallError.TheVariants as error
+use Rattle.node_calls.specs.Errors.{refused_at}
+
+-- what follows an answer, where it is no error
+abbrev pub and_then : {A B : Type 0} → Result A CallError → (A → Result B CallError)
+    → Result B CallError
+and_then (Ok value) next = next value
+and_then (Err e) next = Err e
+
+-- the plan of a text, or its first line that fails
+abbrev pub plan_or_refused : Result Plan (At Premise) → Result Plan CallError
+plan_or_refused (Ok plan) = Ok plan
+plan_or_refused (Err at) = Err (refused_at at)
+
+abbrev pub plan_answer : (text : List ℕ) → Result Plan CallError
+plan_answer text = plan_or_refused (whole_plan_of text)
+
+-- the plan, which has that node
+abbrev pub node_answer : (text : List ℕ) → (id : ℕ) → Result Plan CallError
+node_answer text id = and_then (plan_answer text)
+    (λ plan. if nat_lt id (plan_nodes plan) then Ok plan else Err error.Node)
+
+-- how many bytes a state of the node has
+abbrev pub bytes_answer : (text : List ℕ) → (id : ℕ) → Result ℕ CallError
+bytes_answer text id = and_then (node_answer text id) (λ plan. Ok (bytes_in (fields_of plan id)))
+
+-- what follows of bytes that are as many as a state of the node has
+abbrev pub over_state : {V : Type 0} → (id : ℕ) → (state : List ℕ) → (Plan → Result V CallError)
+    → Plan → Result V CallError
+over_state id state next plan =
+    if length state == bytes_in (fields_of plan id) then next plan else Err error.Length
+
+-- what the node shows in a state
+abbrev pub output_answer : (text : List ℕ) → (id : ℕ) → (state : List ℕ) → Result ℕ CallError
+output_answer text id state = and_then (node_answer text id)
+    (over_state id state (λ plan. Ok (shown (plan_depth plan) (read (fields_of plan id) state))))
+
+-- the packets of these bytes, at most 1,000,000
+abbrev pub packets_for : Plan → List ℕ → Packets
+packets_for plan bytes = packets_of (plan_nodes plan) 1000000 0 bytes
+
+-- how many packets there were, and the new bytes; or why there are none
+abbrev pub by_ending : (new : List ℕ) → Ending → Result (ℕ × List ℕ) CallError
+by_ending new (whole count) = Ok (count, new)
+by_ending new (cut packet sender) = Err (error.Cut packet sender)
+by_ending new beyond = Err error.TooLong
+
+-- the bytes of the node's state behind packets
+abbrev pub bytes_behind : Plan → (id : ℕ) → (state : List ℕ) → List (List (List ℕ)) → List ℕ
+bytes_behind plan id state packets =
+    written (fields_of plan id) (state_behind plan id (read (fields_of plan id) state) packets)
+
+-- the node behind each of its packets
+abbrev pub steps_over : (id : ℕ) → (state : List ℕ) → Plan → Packets → Result (ℕ × List ℕ) CallError
+steps_over id state plan packets =
+    by_ending (bytes_behind plan id state packets.cells) packets.ending
+
+abbrev pub step_in : (id : ℕ) → (state packets : List ℕ) → Plan → Result (ℕ × List ℕ) CallError
+step_in id state packets =
+    over_state id state (λ plan. steps_over id state plan (packets_for plan packets))
+
+abbrev pub step_answer : (text : List ℕ) → (id : ℕ) → (state packets : List ℕ)
+    → Result (ℕ × List ℕ) CallError
+step_answer text id state packets = and_then (node_answer text id) (step_in id state packets)

@@ -1,0 +1,62 @@
+ghost use Rattle.std.specs.Prelude.{◌≡◌, ◌<◌, MatchResult, Ok, OnErr};
+ghost use Rattle.construction.specs.Plans.{plan_nodes};
+ghost use Rattle.node_calls.specs.Errors.{FailsAs};
+ghost use Rattle.node_calls.specs.Answers.{step_in, step_answer};
+
+use crate::CallError;
+use crate::calls::plan_with_node;
+use crate::hearing::{hear, node_of};
+use plan_numbers::Plan;
+use state_codec::StateShape;
+use std::alloc::Global;
+
+/// Steps node `id` of a plan behind each packet.
+fn step_in(
+    alloc: Global,
+    plan: &Plan,
+    id: u32,
+    state: &mut [u8],
+    packets: &[u8],
+) -> Result<u64, CallError>
+    requires { id < plan_nodes plan.now }
+    ensures exact { MatchResult result
+        (λ count. step_in id state.old packets.now plan.now ≡ Ok (count, state.new))
+        (λ error. FailsAs error (step_in id state.old packets.now plan.now)) }
+    ensures unchanged { OnErr result (state.new ≡ state.old) }
+{
+    plan.tell();
+    let shape = StateShape::of(alloc, plan)?;
+    if state.len() != shape.bytes_of(id) {
+        return Err(CallError::Length);
+    }
+    let mut engine = node_of(alloc, plan, id, state)?;
+    match hear(&mut engine, packets) {
+        Ok(count) => {
+            shape.write_state(id, engine.state(), state);
+            Ok(count)
+        }
+        Err(error) => Err(error),
+    }
+}
+
+/// Steps node `id` of a plan behind each of the packets, from the state whose bytes are given, and
+/// puts the bytes of its new state in their place; answers how many packets these were. A state may
+/// have any contents; with no packet it is brought into range.
+///
+/// `Refused` comes as in [`plan_in`], then `Node`, then `Length`, then `Cut` or `TooLong`. After an
+/// error the state is as it was.
+pub fn step(
+    alloc: Global,
+    text: &[u8],
+    id: u32,
+    state: &mut [u8],
+    packets: &[u8],
+) -> Result<u64, CallError>
+    ensures exact { MatchResult result
+        (λ count. step_answer text.now id state.old packets.now ≡ Ok (count, state.new))
+        (λ error. FailsAs error (step_answer text.now id state.old packets.now)) }
+    ensures unchanged { OnErr result (state.new ≡ state.old) }
+{
+    let plan = plan_with_node(alloc, text, id)?;
+    step_in(alloc, &plan, id, state, packets)
+}
