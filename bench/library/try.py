@@ -278,7 +278,7 @@ class Tried:
             states[:3] = [model.answer(plan, v, states[v], packets[v])[3] for v in range(3)]
         if found.splitlines() != rows:
             raise Failed(f"four_nodes.c printed\n{found}")
-        return f"four_nodes.c ends with {rows[-1]}"
+        return "the rows of four_nodes.c are those of the plain step"
 
     def arena(self):
         """Nodes without malloc: an arena of 16 KB for all plans, and 4 KB for those of 12 nodes."""

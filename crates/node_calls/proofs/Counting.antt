@@ -10,8 +10,6 @@ use Rattle.sync_types.specs.declared.answers.Premise.{Premise}
 use Rattle.sync_types.specs.States.{State, zero_state}
 use Rattle.construction.specs.Plans.{Plan, plan_nodes, plan_depth, plan_bound}
 use Rattle.construction.specs.Shown.{shown}
-use Rattle.construction.specs.Steps.{state_of}
-use Rattle.construction.specs.Runs.{IsBorne}
 use Rattle.plan_numbers.specs.Premises.{IsAccepted}
 use Rattle.plan_reader.specs.PlanPart.{whole_plan_of}
 use Rattle.plan_reader.proofs.AcceptedPlans.{whole_plan_accepted}
@@ -21,13 +19,13 @@ use Rattle.state_codec.specs.Writing.{written}
 use Rattle.node_stepper.specs.Packets.{Ending, whole, cut, beyond, Packets}
 use Rattle.node_stepper.specs.Nodes.{fields_of, state_after, state_behind}
 use Rattle.node_stepper.proofs.CellByCell.{written_size}
-use Rattle.node_runs.specs.NodeRuns.{Nodes, cell_given, IsCorrect, state_at, states_at, AreConnected}
+use Rattle.node_runs.specs.NodeRuns.{Nodes, IsCorrect, state_at, states_at, AreConnected}
 use Rattle.node_runs.specs.Laws.{CountThrough, NodesSettle}
 use Rattle.node_runs.proofs.States.{behind_push, read_is_state, reads_back, behind_is_state}
 use Rattle.node_calls.specs.declared.errors.CallError.{CallError}
 use Rattle.node_calls.specs.declared.errors.CallError.TheVariants as error
 use Rattle.node_calls.specs.Answers.{plan_or_refused, plan_answer, packets_for, by_ending, bytes_behind, steps_over, step_in, step_answer, output_answer}
-use Rattle.node_calls.specs.Counting.{cell_in, InRounds, CountByBytes, NodesCount}
+use Rattle.node_calls.specs.Counting.{InRounds, CountByBytes, NodesCount}
 use Rattle.node_calls.proofs.Packets.{as_many, only_one}
 
 accepted_of : (r : Result Plan (At Premise)) (plan : Plan) → plan_or_refused r ≡ Ok plan
