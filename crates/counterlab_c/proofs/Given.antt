@@ -6,7 +6,7 @@ use Rattle.node_calls.specs.declared.errors.CallError.TheVariants as error
 use Rattle.node_calls.specs.Errors.{FailsAs, Answers}
 use Rattle.counterlab_c.specs.declared.answers.Answer.{Answer}
 use Rattle.counterlab_c.specs.Codes.{answer_of}
-use Rattle.counterlab_c.specs.Exports.{no_memory, GivesNumber, Gives}
+use Rattle.counterlab_c.specs.Exports.{GivesNumber, Gives}
 
 -- an error is the one that is defined, or want of memory
 failed : {V : Type 0} (e : CallError) (defined : Result V CallError) → FailsAs e defined
