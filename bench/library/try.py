@@ -185,24 +185,38 @@ def some_bytes(source, size):
     return bytes(source.randrange(256) for _ in range(size))
 
 
+def some_register(source, level):
+    value = None if source.random() < 0.2 else source.randrange(level.modulus)
+    return value, source.random() < 0.5
+
+
+def some_fields(source, plan):
+    """A number, and behind it a register of each level."""
+    registers = [some_register(source, level) for level in plan.levels]
+    return [source.randrange(plan.base), *registers]
+
+
+def some_common(source, plan):
+    """What nodes have in common: two states, and how many of them have the second one."""
+    return some_fields(source, plan), some_fields(source, plan), source.choice([0.05, 0.3, 0.5])
+
+
 def some_state(source, plan, node, common):
-    """The bytes of a state in range, that often has the common values."""
-    x, values = common
-    number = x if source.random() < 0.8 else source.randrange(plan.base)
-    registers = []
-    for level, value in zip(plan.levels, values):
-        if source.random() < 0.25:
-            value = source.choice([None, source.randrange(level.modulus)])
-        registers.append((value, source.random() < 0.5))
-    return model.write(plan, node, (number, registers))
+    """The bytes of a state in range; nine fields of ten are those of one of the common states."""
+    first, second, share = common
+    fields = some_fields(source, plan)
+    for i in range(len(fields)):
+        if source.random() < 0.9:
+            fields[i] = second[i] if source.random() < share else first[i]
+    return model.write(plan, node, (fields[0], fields[1:]))
 
 
 def some_packet(source, plan, common):
-    """A cell of each node; a fifth of them have any bytes, half of these of another length."""
+    """A cell of each node; a tenth of them have any bytes, half of these of another length."""
     packet = b""
     for node in range(plan.nodes):
         data = some_state(source, plan, node, common)
-        if source.random() < 0.2:
+        if source.random() < 0.1:
             size = source.choice([len(data), source.choice([0, 1, 2, 3, 5, 8, 300])])
             data = some_bytes(source, size)
         packet += cell(data)
@@ -213,8 +227,7 @@ def step_cases(source):
     """Steps of nodes: plan, node, state, packets."""
     for i in range(STEPS):
         plan = PLANS[i % len(PLANS)]
-        values = [source.choice([None, source.randrange(it.modulus)]) for it in plan.levels]
-        common, node = (source.randrange(plan.base), values), source.randrange(plan.nodes)
+        common, node = some_common(source, plan), source.randrange(plan.nodes)
         state = some_state(source, plan, node, common)
         if source.random() < 0.1:
             state = some_bytes(source, len(state))
@@ -225,8 +238,8 @@ def step_cases(source):
 def refused_cases(source):
     """Calls that are refused for their node, their state or their packets, and more than one."""
     for plan in PLANS:
-        common = 0, [None] * len(plan.levels)
-        size, packet = model.state_bytes(plan, 0), some_packet(source, plan, common)
+        packet = some_packet(source, plan, some_common(source, plan))
+        size = model.state_bytes(plan, 0)
         good, cut = bytes(size), packet[:-1]
         for node in (plan.nodes, 256, 2**32 - 1):
             yield plan, node, good, packet
