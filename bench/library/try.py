@@ -414,7 +414,7 @@ def main():
         nonlocal failed
         try:
             print(f"library: {name}: {call(*given)}", flush=True)
-        except Skipped as why:
+        except (Skipped, OSError) as why:
             print(f"library: {name}: not tried: {why}", flush=True)
         except Failed as why:
             failed += 1
@@ -424,7 +424,7 @@ def main():
     try:
         needs_compiler("gcc", "c")
         made, heap = archive(words), kit() / "c" / "liblibc_c.a"
-    except Skipped as why:
+    except (Skipped, OSError) as why:
         print(f"library: not tried: {why}")
         return 0
     except Failed as why:
