@@ -1,0 +1,174 @@
+"""Deploys `node`: correct nodes and liars, each a process of its own, and a hub whose links fail.
+
+    python3 deployed_nodes.py COUNTERLAB PLAN SEED LIAR..
+
+Each node of the plan at the front of the file PLAN is a process: COUNTERLAB with the word `node`, or
+of an id LIAR a process that sends random bytes of random lengths, other ones to each receiver in each
+round. The correct nodes begin in states of random bytes. The hub gives each node a packet of the
+cells that were sent to it. In some rounds each link between two correct nodes fails with an even
+chance, and carries random bytes or none. Says since when the correct nodes count, and ends with 1
+where that is not as promised. It is no part of the proved program.
+"""
+
+import random
+import subprocess
+import sys
+
+LONGEST = 600  # bytes of a cell that is made up
+MARGIN = 100  # packets behind a bound
+FAILING = 300  # packets while links fail
+
+
+def width(numbers):
+    """How many bits hold so many numbers."""
+    return (numbers - 1).bit_length()
+
+
+class Plan:
+    """A plan without spares, and what its nodes show."""
+
+    def __init__(self, counterlab, path):
+        with open(path) as file:
+            text = file.read()
+        self.text = text[: text.index("end\n") + 4]
+        table = subprocess.run([counterlab, "plan"], input=self.text.encode(), stdout=subprocess.PIPE)
+        last = table.stdout.decode().splitlines()[-2].split()
+        self.bound = int(last[last.index("bound") + 1])
+        self.size = int(last[last.index("bytes") + 1])
+        lines = [line.split() for line in self.text.splitlines()]
+        self.base = int(next(line[1] for line in lines if line[0] == "base"))
+        levels = [line for line in lines if line[0] == "level"]
+        self.nodes, self.moduli = 1, []
+        for level in levels:
+            self.nodes *= int(level[1])
+            self.moduli.append(int(level[3]))
+
+    def shown(self, cell):
+        """What a node shows in the state of a cell that it wrote: its top value, or 0 for infinity."""
+        bits = "".join(f"{byte:08b}" for byte in cell)
+        at = width(self.base)
+        for modulus in self.moduli[:-1]:
+            at += width(modulus + 1) + 1
+        value = int(bits[at : at + width(self.moduli[-1] + 1)], 2)
+        return value if value < self.moduli[-1] else 0
+
+
+def cell_of(data):
+    return len(data).to_bytes(2, "big") + data
+
+
+def read_cell(out):
+    head = out.read(2)
+    if len(head) < 2:
+        sys.exit("a node has ended")
+    return out.read(256 * head[0] + head[1])
+
+
+def lie(nodes, seed):
+    """The process of a liar: for each byte that it gets a cell for each node."""
+    draw = random.Random(seed)
+    while sys.stdin.buffer.read(1):
+        for _ in range(nodes):
+            sys.stdout.buffer.write(cell_of(draw.randbytes(draw.randrange(LONGEST))))
+        sys.stdout.buffer.flush()
+
+
+def start(words, text):
+    node = subprocess.Popen(words, stdin=subprocess.PIPE, stdout=subprocess.PIPE)
+    node.stdin.write(text)
+    node.stdin.flush()
+    return node
+
+
+def start_nodes(counterlab, plan, liars, seed, draw):
+    nodes = []
+    for v in range(plan.nodes):
+        if v in liars:
+            words = [sys.executable, __file__, "lie", str(plan.nodes), f"{seed}{v}"]
+            nodes.append(start(words, b""))
+        else:
+            state = draw.randbytes(plan.size).hex()
+            header = f"{plan.text}node 1\nid {v}\nstate {state}\nend\n"
+            nodes.append(start([counterlab, "node"], header.encode()))
+    return nodes
+
+
+def sent_in_round(nodes, liars):
+    """What each node sends to each one, and of the correct ones the cell that they wrote."""
+    for v in liars:
+        nodes[v].stdin.write(b".")
+        nodes[v].stdin.flush()
+    sent = []
+    for v, node in enumerate(nodes):
+        if v in liars:
+            sent.append([read_cell(node.stdout) for _ in nodes])
+        else:
+            sent.append([read_cell(node.stdout)] * len(nodes))
+    return sent
+
+
+def deliver(nodes, liars, sent, failing, draw):
+    for v, node in enumerate(nodes):
+        if v in liars:
+            continue
+        cells = [sent[u][v] for u in range(len(nodes))]
+        for u in range(len(nodes)):
+            if failing and u != v and u not in liars and draw.random() < 0.5:
+                cells[u] = draw.randbytes(draw.choice([0, len(cells[u]), draw.randrange(LONGEST)]))
+        node.stdin.write(b"".join(cell_of(cell) for cell in cells))
+        node.stdin.flush()
+
+
+def is_counted(old, new, modulus):
+    """Whether all nodes show one number, and behind it that number plus one."""
+    return len(set(old)) == 1 and set(new) == {(old[0] + 1) % modulus}
+
+
+def counts_since(rows, modulus):
+    """The first configuration from which on the rows count."""
+    since = len(rows) - 1
+    while since > 0 and is_counted(rows[since - 1], rows[since], modulus):
+        since -= 1
+    return since
+
+
+def play(counterlab, plan, liars, seed):
+    draw = random.Random(seed)
+    nodes = start_nodes(counterlab, plan, liars, seed, draw)
+    cut = plan.bound + MARGIN
+    good = cut + FAILING
+    last = good + plan.bound + MARGIN
+    rows = []
+    for t in range(last + 1):
+        sent = sent_in_round(nodes, liars)
+        rows.append([plan.shown(sent[v][v]) for v in range(plan.nodes) if v not in liars])
+        if t < last:
+            deliver(nodes, liars, sent, cut <= t < good, draw)
+    for node in nodes:
+        node.stdin.close()
+        node.wait()
+    ended = [node.returncode for v, node in enumerate(nodes) if v not in liars]
+    return rows, ended
+
+
+def main():
+    if sys.argv[1] == "lie":
+        lie(int(sys.argv[2]), sys.argv[3])
+        return
+    counterlab, seed, liars = sys.argv[1], sys.argv[3], [int(v) for v in sys.argv[4:]]
+    plan = Plan(counterlab, sys.argv[2])
+    rows, ended = play(counterlab, plan, liars, seed)
+    modulus, cut = plan.moduli[-1], plan.bound + MARGIN
+    good = cut + FAILING
+    first, second = counts_since(rows[: cut + 1], modulus), counts_since(rows, modulus)
+    broken = sum(not is_counted(rows[t], rows[t + 1], modulus) for t in range(cut, good))
+    print(f"nodes {plan.nodes} liars {' '.join(map(str, liars))} bound {plan.bound} seed {seed}")
+    print(f"links good from packet 0: they count from configuration {first}")
+    print(f"links failing from packet {cut}: {broken} of {FAILING} steps count not")
+    print(f"links good from packet {good}: they count from configuration {second} to {len(rows) - 1}")
+    promised = first <= plan.bound and second <= good + plan.bound and not any(ended)
+    print("as promised" if promised else "NOT AS PROMISED")
+    sys.exit(0 if promised else 1)
+
+
+main()
