@@ -8,6 +8,7 @@ A register is a pair of a value and a mark, and the value None is infinite.
 """
 
 from collections import namedtuple
+from functools import lru_cache
 
 ZERO = (0, False)
 
@@ -127,6 +128,7 @@ def majority(numbers):
     return 0
 
 
+@lru_cache(maxsize=256)
 def beat_heard(level, outputs):
     """The beat that a group hears, by what the nodes of its blocks show."""
     def of_block(i):
@@ -163,7 +165,7 @@ def step_in(plan, depth, v, group):
         new = step_in(plan, depth - 1, v % level.below, group[first : first + level.below])
     else:
         new = State(0, [ZERO] * (depth - 1))
-    outputs = [shown(depth - 1, state) for state in group[: level.blocks * level.below]]
+    outputs = tuple(shown(depth - 1, state) for state in group[: level.blocks * level.below])
     values = [state.registers[depth - 1][0] for state in group]
     turn = beat_heard(level, outputs)
     own = group[v].registers[depth - 1]

@@ -14,20 +14,28 @@ from counter import Plan
 from on_the_counter import answer
 from vectors import Draws
 
-# levels as blocks, faults and spares, from the lowest up
+# levels as blocks, faults and spares, from the lowest up; each tenth plan has three of them
 SHAPES = [
-    [(3, 0, 0)],
     [(3, 1, 1)],
+    [(3, 0, 1), (3, 1, 0)],
     [(4, 1, 0)],
     [(3, 1, 9)],
-    [(5, 2, 2)],
-    [(3, 0, 1), (3, 1, 0)],
     [(3, 1, 1), (3, 2, 2)],
+    [(3, 0, 0)],
+    [(4, 1, 3)],
     [(3, 1, 1), (3, 3, 1)],
-    [(4, 1, 0), (3, 3, 0)],
+    [(3, 1, 2)],
+]
+LARGE = [
     [(3, 0, 0), (3, 1, 0), (3, 2, 0)],
     [(3, 0, 0), (3, 1, 1), (3, 3, 1)],
 ]
+
+
+def shape_at(place):
+    if place % 10 == 9:
+        return LARGE[place // 10 % len(LARGE)]
+    return SHAPES[place % 10]
 
 
 def span(blocks, faults):
@@ -187,10 +195,11 @@ def drawn_input(draws, word, shape):
 
 def main():
     word, count, folder = sys.argv[1], int(sys.argv[2]), sys.argv[3]
-    draws = Draws(f"{word} {sys.argv[4] if len(sys.argv) > 4 else 1}")
+    seed = sys.argv[4] if len(sys.argv) > 4 else "1"
     os.makedirs(folder, exist_ok=True)
     for place in range(count):
-        text = drawn_input(draws, word, SHAPES[place % len(SHAPES)])
+        draws = Draws(f"{word} {seed} {place}")
+        text = drawn_input(draws, word, shape_at(place))
         path = os.path.join(folder, f"{word}{place:03}")
         with open(path, "w") as out:
             out.write(text)

@@ -79,9 +79,9 @@ fn with_one_more(layer: Layer, line: &[u8]) -> Option<Layer>
     })
 }
 
-/// The layer that the lines `values V` at the front of a text say, whose first line has that number.
-/// Each of them says a register; skipped lines may stand among them. The error comes exactly where
-/// one of them says none, and names the first such line.
+/// The layer that the lines `values V` at the front of a text say, whose first line has that
+/// number. Each of them says a register; skipped lines may stand among them. The error comes
+/// exactly where one of them says none, and names the first such line.
 pub fn read_layer(text: &[u8], first: u64) -> Result<Layer, NotValues>
     requires first { first ≤ 2 ^ 32 }
     requires length { length text.now ≤ 2 ^ 32 }

@@ -30,8 +30,8 @@ use std::process::ExitCode;
 /// How many bytes are read at most.
 const LONGEST_INPUT: usize = 1 << 20;
 
-/// Turns the lines behind a plan, from the line of this number on. So many of those that count stand
-/// before the first state.
+/// Turns the lines behind a plan, from the line of this number on. So many of those that count
+/// stand before the first state.
 fn turn_lines(
     alloc: Global,
     shape: &StateShape,

@@ -7,4 +7,5 @@ use Rattle.states.proofs.layers.read_layer.Given as goal
 abbrev pub invariant-loop-number : goal.invariant-loop-number
 invariant-loop-number l =
     IsLayer l.layer
-    × (layer_behind l.layer l.number-iterator ≡ layer_behind no_layer (numbered l.first (lines_of l.text)))
+    × (layer_behind l.layer l.number-iterator
+    ≡ layer_behind no_layer (numbered l.first (lines_of l.text)))
