@@ -29,5 +29,8 @@ pub mod LockPromises
 pub mod FindPromises
 pub mod PlanPromises
 pub mod Printed
+pub mod NodeCalls
+pub mod NodePromises
+pub mod NodeInputs
 pub mod WriteEnds
 pub mod DemoTexts

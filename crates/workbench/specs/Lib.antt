@@ -37,3 +37,5 @@ pub mod DemoLaws
 pub mod LockPromises
 pub mod FindPromises
 pub mod Printed
+pub mod NodeCalls
+pub mod NodePromises

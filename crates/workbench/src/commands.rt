@@ -11,6 +11,7 @@ ghost use Rattle.workbench.specs.FindPromises.{LeastIsFound};
 ghost use Rattle.workbench.specs.PlanPromises.{TextsAreKept};
 ghost use Rattle.workbench.specs.EveryRun.{EveryRunKeeps};
 ghost use Rattle.workbench.specs.Printed.{Prints};
+ghost use Rattle.workbench.specs.NodePromises.{NodePromiseIsKept};
 
 use crate::certificate_laws::{check_is_exact, records_are_checked};
 use crate::check_word::check;
@@ -25,6 +26,7 @@ use crate::laws::{accepted_plans_settle, promise_is_kept};
 use crate::layer_promises::{decisions_are_kept, entries_are_kept, fires_are_kept, holds_are_kept};
 use crate::lock_promises::locks_are_kept;
 use crate::log_word::log;
+use crate::node_promises::node_promise_is_kept;
 use crate::node_word::node;
 use crate::plan_promises::texts_are_kept;
 use crate::plan_word::plan;
@@ -269,6 +271,10 @@ pub fn counterlab<S: Source, K: Sink>(
     // What `find` answers, where its wants are read: the least plan, and the least costs, which bound
     // how soon any plan settles.
     ensures found { LeastIsFound }
+
+    // N calls of `node`: from where each is given the cells that the correct ones write, and any
+    // bytes as those of few faulty ones, what they write is a run of the plan, and counts.
+    ensures nodes { NodePromiseIsKept }
 {
     promises_are_printed();
     accepted_plans_settle();
@@ -283,5 +289,6 @@ pub fn counterlab<S: Source, K: Sink>(
     every_run_keeps();
     locks_are_kept();
     least_is_found();
+    node_promise_is_kept();
     answer(alloc, words, source, sink)
 }

@@ -19,6 +19,7 @@ pub mod layer_promises;
 mod layered;
 pub mod lock_promises;
 mod log_word;
+pub mod node_promises;
 mod node_word;
 pub mod plan_promises;
 mod plan_word;
