@@ -24,9 +24,9 @@ module _ (whole : PlanTextIsWhole) (read : TablesAreRead) (only : OnlyTablesAreR
   texts_of (Err at) accepted = tt
   texts_of (Ok plan) accepted = record {
     table = refl;
-    tabled = ap tabled (read plan accepted);
-    upgrade = refl;
-    upgraded = ap plan_or_refusal (whole plan 2 accepted accepted.newest (omega arith));
+    table_read = ap tabled (read plan accepted);
+    text = refl;
+    text_read = ap plan_or_refusal (whole plan 2 accepted accepted.newest (omega arith));
     same = versions plan 2;
   }
 

@@ -78,11 +78,11 @@ module _ {X : Type 0} (read : List ℕ → Result X Refusal) (text : X → List 
       → Printed read text Promise input old new
   by_reading (Ok x) is kept h =
       let written = subst (λ (a : Result (List ℕ) Refusal). HasOutcome (outcome_of a) status.Ok old new)
-          (of_value x) h in
+      (of_value x) h in
       record { value = x; is = is; wrote = written.wrote; kept = kept }
   by_reading (Err r) is kept h =
       let written = subst (λ (a : Result (List ℕ) Refusal). HasOutcome (outcome_of a) status.Ok old new)
-          (of_refusal r) h in
+      (of_refusal r) h in
       absurd (refused r written.status)
 
   printed : IfOk (read input) Promise → HasOutcome (outcome_of (answer (read input))) status.Ok old new

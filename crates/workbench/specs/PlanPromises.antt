@@ -8,13 +8,13 @@ use Rattle.plan_certificate.specs.PlanTexts.{plan_text}
 use Rattle.workbench.specs.declared.refusals.Refusal.{Refusal}
 use Rattle.workbench.specs.Answers.{plan_alone, plan_answer, upgrade_answer, tabled_of}
 
--- These answers are the plan's table, which is read back as the plan, and its text in version 2,
--- which is read back as a plan of the same counter.
-pub record AreTextsOf (table upgrade : Result (List ℕ) Refusal) (plan : Plan) : Type 0 where
-  pub table : table ≡ Ok (table_text plan)
-  pub tabled : tabled_of (table_text plan) ≡ Ok plan
-  pub upgrade : upgrade ≡ Ok (plan_text 2 plan)
-  pub upgraded : plan_alone (plan_text 2 plan) ≡ Ok (in_version 2 plan)
+-- What `plan` answers is the plan's table, which is read back as the plan, and what `upgrade` answers
+-- its text in version 2, which is read back as a plan of the same counter.
+pub record AreTextsOf (tabled upgraded : Result (List ℕ) Refusal) (plan : Plan) : Type 0 where
+  pub table : tabled ≡ Ok (table_text plan)
+  pub table_read : tabled_of (table_text plan) ≡ Ok plan
+  pub text : upgraded ≡ Ok (plan_text 2 plan)
+  pub text_read : plan_alone (plan_text 2 plan) ≡ Ok (in_version 2 plan)
   pub same : AreSame plan (in_version 2 plan)
 
 -- it is the table of an accepted plan

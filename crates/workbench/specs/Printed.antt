@@ -1,6 +1,6 @@
 -- What a call that ended well read and wrote, over a source that tells its bytes: each word with its
 -- promise.
-use Rattle.std.specs.Prelude.{◌≡◌, ℕ, ◌≤◌, ◌^◌, List, length, Option, Some, Result, Ok, codes}
+use Rattle.std.specs.Prelude.{◌≡◌, ℕ, ◌≤◌, ◌^◌, List, length, Option, Some, None, IfSome, Result, Ok, codes}
 use Rattle.sync_types.specs.declared.status.Status.{Status}
 use Rattle.sync_types.specs.declared.status.Status.TheVariants as status
 use Rattle.texts.specs.Growth.{Told, Wrote}
@@ -92,10 +92,16 @@ PrintedBy (command.Demo seed) =
     λ input. ScriptPrinted run_text KeepsPromise (demo_text seed)
 PrintedBy command.Node = λ input old new. Unit {0}
 
--- where the call ended well, and the source tells what it had left
+-- where a call ended well
+abbrev pub IfWell : Status → Type 0 → Type 0
+IfWell status.Ok P = P
+IfWell other P = Unit {0}
+
+-- where the source tells what it had left, and the call ended well
 abbrev pub Prints : Option Command → Status → (left : Option (List ℕ)) → (old new : Told) → Type 0
-Prints (Some command) status.Ok (Some input) old new = PrintedBy command input old new
-Prints command status left old new = Unit {0}
+Prints None s left old new = Unit {0}
+Prints (Some command) s left old new =
+    IfSome left (λ input. IfWell s (PrintedBy command input old new))
 
 -- Whatever a call does, it so prints.
 abbrev pub PromisesArePrinted : Type 0

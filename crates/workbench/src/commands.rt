@@ -30,7 +30,7 @@ use crate::node_promises::node_promise_is_kept;
 use crate::node_word::node;
 use crate::plan_promises::texts_are_kept;
 use crate::plan_word::plan;
-use crate::printed::promises_are_printed;
+use crate::printed_promises::promises_are_printed;
 use crate::record_word::record;
 use crate::refusals::{Refusal, put_refusal};
 use crate::run_word::run;

@@ -23,7 +23,7 @@ pub mod node_promises;
 mod node_word;
 pub mod plan_promises;
 mod plan_word;
-pub mod printed;
+pub mod printed_promises;
 mod readings;
 mod record_word;
 mod refusals;

@@ -3,7 +3,7 @@
 
 ghost use Rattle.workbench.specs.PlanPromises.{TextsAreKept};
 
-use plan_certificate::laws::{plan_texts_read_back, tables_read_back};
+use plan_certificate::{plan_texts_read_back, tables_read_back};
 use plan_laws::laws::versions_agree;
 
 /// Where an input is a plan: its table, which `plan` writes, is read back as this plan, and its text

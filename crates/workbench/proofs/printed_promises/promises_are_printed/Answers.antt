@@ -1,5 +1,5 @@
 use Rattle.workbench.proofs.Printed.{promises_printed}
-use Rattle.workbench.proofs.printed.promises_are_printed.Goals as goal
+use Rattle.workbench.proofs.printed_promises.promises_are_printed.Goals as goal
 
 pub returns : goal.returns
 returns c = promises_printed c.accepted_stabilise.ensures c.promise_is_kept.ensures
