@@ -1,24 +1,23 @@
 -- Inputs of calls of `node` that connect, whatever is sent.
-use Rattle.std.proofs.Common.{◌≡◌, ℕ, ◌+◌, ◌^◌, ◌<◌, ◌≤◌, true, ◌⊎◌, List, [], ◌∷◌, ◌++◌, length, take, get_or, Option, Some, Result, Ok, Err, refl, sym, ap, ◌∙◌, arith}
+use Rattle.std.proofs.Common.{◌≡◌, ℕ, ◌+◌, ◌^◌, ◌<◌, ◌≤◌, true, List, [], ◌++◌, length, take, get_or, Some, Ok, refl, sym, ap, ◌∙◌, arith}
 use Rattle.std.specs.Prelude.{nat_lt}
 use Rattle.std.specs.List.{flat_map}
 use Rattle.texts.specs.Limits.{behind_lines}
-use Rattle.sync_types.specs.declared.status.Status.TheVariants as status
 use Rattle.sync_types.specs.States.{State}
-use Rattle.construction.specs.Plans.{Plan, plan_nodes, plan_depth}
-use Rattle.construction.specs.Runs.{is_in, IsState}
+use Rattle.construction.specs.Plans.{Plan, plan_nodes}
+use Rattle.construction.specs.Runs.{IsState}
 use Rattle.plan_numbers.specs.Premises.{IsAccepted}
 use Rattle.state_codec.specs.Writing.{written}
 use Rattle.node_header.specs.Headers.{Header}
 use Rattle.node_header.specs.HeaderTexts.{header_text, header_stated, HeaderTextIsRead}
 use Rattle.node_stepper.specs.Packets.{Packets, packets_of, whole as all_whole}
-use Rattle.node_stepper.specs.Nodes.{fields_of, node_text, state_behind}
+use Rattle.node_stepper.specs.Nodes.{fields_of, state_behind}
 use Rattle.node_stepper.specs.Laws.{packet_text, AreFull, PacketsReadBack}
-use Rattle.node_runs.specs.NodeRuns.{Nodes, cell_given, IsCorrect, state_at}
+use Rattle.node_runs.specs.NodeRuns.{cell_given, IsCorrect, state_at}
 use Rattle.node_runs.specs.Cells.{cell_number, NodeWritesStates}
 use Rattle.node_runs.specs.Laws.{Connects, AnyLiesConnect}
 use Rattle.workbench.specs.NodeAnswers.{packets_for, served_outcome, behind_header, node_outcome}
-use Rattle.workbench.specs.NodeCalls.{Call, whole, header_of, packets_behind, packets_in, cell_heard, text_of, IsOfNode}
+use Rattle.workbench.specs.NodeCalls.{whole, header_of, packets_behind, packets_in, cell_heard}
 use Rattle.workbench.specs.NodePromises.{cell_written, CallsConnect, InputsConnect, AnyInputsConnect}
 
 -- ---- the input of one node

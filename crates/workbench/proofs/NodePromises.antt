@@ -1,11 +1,11 @@
 -- Calls of `node` that are given one another's cells are connected nodes.
-use Rattle.std.proofs.Common.{◌≡◌, ℕ, ◌^◌, ◌<◌, ◌≤◌, List, [], Option, Some, unwrap_or, take, Result, Ok, Err, refl, sym, ap, subst, ◌∙◌, arith}
+use Rattle.std.proofs.Common.{◌≡◌, ℕ, ◌^◌, ◌≤◌, List, [], Option, Some, unwrap_or, take, Result, Ok, Err, refl, sym, ap, subst, ◌∙◌, arith}
 use Rattle.std.specs.Prelude.{IfOk, IsSome}
 use Rattle.std.proofs.lemmas.List.FromFn.{get_or-map-range_with_len}
 use Rattle.texts.specs.Limits.{room_in, behind_lines}
 use Rattle.sync_types.specs.States.{State, zero_state}
 use Rattle.construction.specs.Plans.{Plan, plan_nodes}
-use Rattle.construction.specs.Runs.{IsState, IsBorne}
+use Rattle.construction.specs.Runs.{IsState}
 use Rattle.plan_numbers.specs.Premises.{IsAccepted}
 use Rattle.plan_laws.specs.Laws.{EveryPlanSettles, LocksAtBound, LockedRunsCount}
 use Rattle.state_codec.specs.Reading.{read}
@@ -20,7 +20,7 @@ use Rattle.node_runs.specs.Laws.{RunThrough, NodesRun}
 use Rattle.node_runs.proofs.States.{reads_back, behind_is_state}
 use Rattle.node_runs.proofs.Settled.{settle_through, lock_through, stay_through}
 use Rattle.workbench.specs.NodeAnswers.{packets_for, cells_for, cells_so_far, behind_header}
-use Rattle.workbench.specs.NodeCalls.{Call, whole, failed, bytes_of, header_of, packets_behind, packets_in, cell_heard, text_of, IsOfNode}
+use Rattle.workbench.specs.NodeCalls.{Call, whole, failed, bytes_of, header_of, packets_behind, packets_in, text_of, IsOfNode}
 use Rattle.workbench.specs.NodePromises.{cell_written, state_written, states_written, CallsConnect, ConnectedCallsCount}
 
 same_some : (a b : List ℕ) → Some a ≡ Some b → a ≡ b

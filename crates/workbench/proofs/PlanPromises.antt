@@ -1,5 +1,5 @@
 -- The texts of plans and of tables are read back.
-use Rattle.std.proofs.Common.{◌≡◌, ℕ, ◌≤◌, List, Result, Ok, Err, refl, ap, arith}
+use Rattle.std.proofs.Common.{◌≡◌, ℕ, List, Result, Ok, Err, refl, ap, arith}
 use Rattle.std.specs.Prelude.{IfOk}
 use Rattle.texts.specs.Parts.{At}
 use Rattle.sync_types.specs.declared.answers.Premise.{Premise}

@@ -1,11 +1,11 @@
 -- A call that ends well has read a value and written its text, of which the promise is kept.
-use Rattle.std.proofs.Common.{◌≡◌, ℕ, ◌^◌, ◌<◌, ◌≤◌, Bool, true, false, cond, ltb, List, length, Option, Some, None, Result, Ok, Err, refl, sym, ap, ◌∙◌, subst}
+use Rattle.std.proofs.Common.{◌≡◌, ℕ, ◌^◌, Bool, true, false, cond, ltb, List, length, Option, Some, None, Result, Ok, Err, refl, subst}
 use Rattle.std.specs.Prelude.{IfOk, codes}
 use Rattle.sync_types.specs.declared.answers.Premise.{Premise}
 use Rattle.sync_types.specs.declared.status.Status.{Status}
 use Rattle.sync_types.specs.declared.status.Status.TheVariants as status
 use Rattle.texts.specs.Parts.{At}
-use Rattle.texts.specs.Growth.{Told, Wrote}
+use Rattle.texts.specs.Growth.{Told}
 use Rattle.construction.specs.Plans.{Plan}
 use Rattle.adversary_script.specs.Scripts.{Script}
 use Rattle.plan_certificate.specs.Tables.{table_text}
@@ -39,8 +39,8 @@ use Rattle.workbench.specs.ConsensusAnswers.{agreed_of}
 use Rattle.workbench.specs.FireAnswers.{firing_of}
 use Rattle.workbench.specs.LogAnswers.{logging_of}
 use Rattle.workbench.specs.DemoText.{demo_text}
-use Rattle.workbench.specs.CheckAnswers.{true_line, checked_outcome}
-use Rattle.workbench.specs.CheckLaws.{Says, IsJudged, CheckIsExact}
+use Rattle.workbench.specs.CheckAnswers.{checked_outcome}
+use Rattle.workbench.specs.CheckLaws.{Says, CheckIsExact}
 use Rattle.workbench.specs.Commands.{defined}
 use Rattle.workbench.specs.Conduct.{Does}
 use Rattle.workbench.specs.Completeness.{HasOutcome}

@@ -12,8 +12,8 @@ use Rattle.workbench.specs.declared.commands.Command.TheVariants as command
 use Rattle.workbench.specs.CheckAnswers.{verdict_outcome, checked_outcome}
 use Rattle.workbench.specs.Commands.{defined}
 
--- Each stretch of rounds behind which no era begins is a run of the plan, with the faulty nodes that
--- the stretch begins with.
+-- Each stretch of rounds behind which no era begins is a run of the plan, with the faulty nodes
+-- that the stretch begins with.
 abbrev pub StretchesRun : Certificate → Type 0
 StretchesRun c = (before stretch after : List Turn)
     → c.turns ≡ before ++ (stretch ++ after) → AreQuiet stretch

@@ -1,5 +1,5 @@
--- The text that the word `demo` makes of its seed: a plan of two levels, and a script in which three
--- nodes lie at random in each round.
+-- The text that the word `demo` makes of its seed: a plan of two levels, and a script in which
+-- three nodes lie at random in each round.
 use Rattle.std.specs.Prelude.{ℕ, ◌%◌, ◌==◌, List, [], ◌∷◌, ◌++◌, if◌then◌else◌, codes, decimal}
 use Rattle.std.specs.Int.{w64, to_be_bytes}
 use Rattle.std.specs.List.{concat}

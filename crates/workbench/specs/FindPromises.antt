@@ -10,10 +10,10 @@ use Rattle.plan_finder.specs.FindLaws.{IsAnswerFor}
 use Rattle.workbench.specs.declared.refusals.Refusal.{Refusal}
 use Rattle.workbench.specs.Answers.{wants_of, find_answer}
 
--- The answer is the text of a plan, or of none, and of pairs. The plan is the least accepted one that
--- meets the wants, none exactly where no plan does; the pairs have their least costs. Every accepted
--- plan of version 1 with just so many faults and at most so many nodes, whatever it counts by, settles
--- in no less than the plan that is answered, and where none is, there is none.
+-- The answer is the text of a plan, or of none, and of pairs. The plan is the least accepted one
+-- that meets the wants, none exactly where no plan does; the pairs have their least costs. Every
+-- accepted plan of version 1 with just so many faults and at most so many nodes, whatever it counts
+-- by, settles in no less than the plan that is answered, and where none is, there is none.
 pub record IsFound (answer : Result (List ℕ) Refusal) (want : Want) : Type 0 where
   pub plan : Option Plan
   pub pots : List Pot

@@ -17,7 +17,8 @@ use Rattle.workbench.specs.RunText.{node_word, lock_of_era}
 use Rattle.workbench.specs.Answers.{scripted_of}
 use Rattle.workbench.specs.ExplainLaws.{WhyIsTrue}
 
--- All that is known of an accepted plan, in each of its runs and with each faulty set that it bears.
+-- All that is known of an accepted plan, in each of its runs and with each faulty set that it
+-- bears.
 pub record IsSelfStabilising (plan : Plan) : Type 0 where
   pub accepted : IsAccepted plan
   -- from the bound on all correct nodes show one number, which grows by one modulo C
@@ -55,10 +56,10 @@ pub record RowsCountFrom (plan : Plan) (script : Script) (j from : ℕ) : Type 0
   pub grows : (t : ℕ) → from ≤ t → t + 1 < end_of_era script j
       → output (t + 1) ≡ (output t + 1) % plan_modulus plan
 
--- What is played of era j is a run of the plan, with few faulty nodes. Its rows count from the bound
--- on, which is counted from its first configuration. The W of its line `locked W` is its first locked
--- configuration, at the bound or before where the era reaches the bound. From W to the era's end each
--- configuration is locked, and the rows count.
+-- What is played of era j is a run of the plan, with few faulty nodes. Its rows count from the
+-- bound on, which is counted from its first configuration. The W of its line `locked W` is its
+-- first locked configuration, at the bound or before where the era reaches the bound. From W to the
+-- era's end each configuration is locked, and the rows count.
 pub record EraKeepsPromise (plan : Plan) (script : Script) (j : ℕ) : Type 0 where
   pub borne : IsBorne plan (faulty_of_era script j)
   pub run : EraIsRun plan script j

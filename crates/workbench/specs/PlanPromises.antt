@@ -8,8 +8,8 @@ use Rattle.plan_certificate.specs.PlanTexts.{plan_text}
 use Rattle.workbench.specs.declared.refusals.Refusal.{Refusal}
 use Rattle.workbench.specs.Answers.{plan_alone, plan_answer, upgrade_answer, tabled_of}
 
--- What `plan` answers is the plan's table, which is read back as the plan, and what `upgrade` answers
--- its text in version 2, which is read back as a plan of the same counter.
+-- What `plan` answers is the plan's table, which is read back as the plan, and what `upgrade`
+-- answers its text in version 2, which is read back as a plan of the same counter.
 pub record AreTextsOf (tabled upgraded : Result (List ℕ) Refusal) (plan : Plan) : Type 0 where
   pub table : tabled ≡ Ok (table_text plan)
   pub table_read : tabled_of (table_text plan) ≡ Ok plan

@@ -1,5 +1,5 @@
--- What a call that ended well read and wrote, over a source that tells its bytes: each word with its
--- promise.
+-- What a call that ended well read and wrote, over a source that tells its bytes: each word with
+-- its promise.
 use Rattle.std.specs.Prelude.{◌≡◌, ℕ, ◌≤◌, ◌^◌, List, length, Option, Some, None, IfSome, Result, Ok, codes}
 use Rattle.sync_types.specs.declared.status.Status.{Status}
 use Rattle.sync_types.specs.declared.status.Status.TheVariants as status
@@ -19,7 +19,7 @@ use Rattle.log_lines.specs.EntryTexts.{log_text}
 use Rattle.workbench.specs.declared.commands.Command.{Command}
 use Rattle.workbench.specs.declared.commands.Command.TheVariants as command
 use Rattle.workbench.specs.declared.refusals.Refusal.{Refusal}
-use Rattle.workbench.specs.Answers.{Scripted, scripted_of, plan_alone, wants_of, tabled_of}
+use Rattle.workbench.specs.Answers.{scripted_of, plan_alone, wants_of, tabled_of}
 use Rattle.workbench.specs.CheckAnswers.{true_line}
 use Rattle.workbench.specs.RunText.{run_text}
 use Rattle.workbench.specs.ExplainText.{explain_text}

@@ -1,5 +1,5 @@
--- What the word `run` writes: the bound, the rows that are shown, and which configuration is the first
--- locked one.
+-- What the word `run` writes: the bound, the rows that are shown, and which configuration is the
+-- first locked one.
 use Rattle.std.specs.Prelude.{ℕ, ◌+◌, ◌-◌, List, [], ◌∷◌, Option, codes, decimal}
 use Rattle.std.specs.List.{concat, flat_map, range_with_len}
 use Rattle.sync_types.specs.States.{State}

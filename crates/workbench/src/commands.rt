@@ -197,25 +197,25 @@ fn answer<S: Source, K: Sink>(
 ///
 /// The words are the program's arguments. `node` writes while it reads: a cell when its header has
 /// been read, which has at most 2^20 bytes, and one behind each packet. `check` reads a certificate
-/// of at most 2^44 bytes line by line, to its end or a line that is refused, and then writes. `demo`
-/// with a number reads nothing: its input is the text that is made of the number. Each other command
-/// reads the whole source, at most 2^20 bytes, before it writes. The status says what became of the
-/// input:
+/// of at most 2^44 bytes line by line, to its end or a line that is refused, and then writes.
+/// `demo` with a number reads nothing: its input is the text that is made of the number. Each other
+/// command reads the whole source, at most 2^20 bytes, before it writes. The status says what
+/// became of the input:
 ///
 /// - `Ok`: it was accepted, and all was written.
 /// - `Usage`: the words are no command; nothing was read, and the line of usage was written.
 /// - `PlanRefused`, `PartRefused`, `CertRefused`, `TableRefused`: exactly where it is refused, with
 ///   the first line that fails; the refusal's line was written.
-/// - `CertFalse`: of `check` alone, exactly where it is a run certificate of which a row differs from
-///   the run that it states, with the first such row; its line was written.
-/// - `Cut`: of `node` alone, exactly where the input ends inside a packet; a cell was written at the
-///   start and for each whole packet, and no line.
+/// - `CertFalse`: of `check` alone, exactly where it is a run certificate of which a row differs
+///   from the run that it states, with the first such row; its line was written.
+/// - `Cut`: of `node` alone, exactly where the input ends inside a packet; a cell was written at
+///   the start and for each whole packet, and no line.
 /// - `ReadFault`: only where the source counted a fault in this call, so never of `demo`; nothing
 ///   was written, and by `node` the cells of the whole packets that were read.
 /// - `WriteFault`: only where the sink counted one; a front of the answer was taken.
-/// - `TooLong`: exactly where the byte behind the limit was there, and, of `check` and of the header
-///   of `node`, no line was refused before it; nothing was written. Of `node` also where there was a
-///   byte of packet 1,000,001, and then all cells were written.
+/// - `TooLong`: exactly where the byte behind the limit was there, and, of `check` and of the
+///   header of `node`, no line was refused before it; nothing was written. Of `node` also where
+///   there was a byte of packet 1,000,001, and then all cells were written.
 /// - `NoMemory`: memory was refused, before the first byte was written; never at `Usage`.
 pub fn counterlab<S: Source, K: Sink>(
     alloc: Global,
@@ -232,16 +232,17 @@ pub fn counterlab<S: Source, K: Sink>(
     ensures unread { LeavesUnread (manner (command_of (map string_bytes words.now)))
         (S.left source.old) (S.left source.new) }
 
-    // Where it ended well, and the source tells its bytes: what was read from them, that the text of
-    // this was written, and that the word's promise is kept of it.
+    // Where it ended well, and the source tells its bytes: what was read from them, that the text
+    // of this was written, and that the word's promise is kept of it.
     ensures prints { Prints (command_of (map string_bytes words.now)) result
         (S.left source.old) (K.told sink.old) (K.told sink.new) }
 
-    // Whatever becomes of the input: where its plan part is accepted, the plan settles, no run of it
-    // can come to an end, and what is locked stays locked.
+    // Whatever becomes of the input: where its plan part is accepted, the plan settles, no run of
+    // it can come to an end, and what is locked stays locked.
     ensures settles { AcceptedPlansSettle }
 
-    // What `plan` and `upgrade` write of a plan is read back, and what `table` calls true is a table.
+    // What `plan` and `upgrade` write of a plan is read back, and what `table` calls true is a
+    // table.
     ensures texts { TextsAreKept }
 
     // Where it is a plan and a script, what is played is a run of the plan, what is written of it
@@ -252,7 +253,8 @@ pub fn counterlab<S: Source, K: Sink>(
     // true count.
     ensures certificates { CheckIsExact }
 
-    // Where it is a plan and a script, what `record` writes is a true certificate, and `check` says so.
+    // Where it is a plan and a script, what `record` writes is a true certificate, and `check` says
+    // so.
     ensures records { RecordsAreChecked }
 
     // What the lines of `slots`, `consensus`, `fire` and `log` say, where it is a plan, such a part
@@ -268,8 +270,8 @@ pub fn counterlab<S: Source, K: Sink>(
     // And what their lines of first locked configurations say.
     ensures locks { LocksAreKept }
 
-    // What `find` answers, where its wants are read: the least plan, and the least costs, which bound
-    // how soon any plan settles.
+    // What `find` answers, where its wants are read: the least plan, and the least costs, which
+    // bound how soon any plan settles.
     ensures found { LeastIsFound }
 
     // N calls of `node`: from where each is given the cells that the correct ones write, and any

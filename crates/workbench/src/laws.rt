@@ -33,11 +33,11 @@ pub fn accepted_plans_settle()
     accepted_stabilise();
 }
 
-/// Where an input is a plan and a script, all rows that are shown are played ones. What is played of
-/// each era is a run of the plan with few faulty nodes; what is written of it counts from the bound
-/// on, and from its first locked configuration on, to the era's end, and is locked from there to it.
-/// What is written of why the last one locks is its first explanation, and it is locked from the end
-/// of that phase on.
+/// Where an input is a plan and a script, all rows that are shown are played ones. What is played
+/// of each era is a run of the plan with few faulty nodes; what is written of it counts from the
+/// bound on, and from its first locked configuration on, to the era's end, and is locked from there
+/// to it. What is written of why the last one locks is its first explanation, and it is locked from
+/// the end of that phase on.
 pub fn promise_is_kept()
     ensures { PromiseIsKept }
 {

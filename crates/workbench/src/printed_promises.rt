@@ -8,8 +8,8 @@ use crate::laws::{accepted_stabilise, promise_is_kept};
 use crate::layer_promises::{decisions_are_kept, entries_are_kept, fires_are_kept, holds_are_kept};
 use crate::plan_promises::texts_are_kept;
 
-/// A call that ends well, over a source that tells its bytes, has read a value from them and written
-/// the text of this value, of which the word's promise is kept.
+/// A call that ends well, over a source that tells its bytes, has read a value from them and
+/// written the text of this value, of which the word's promise is kept.
 pub fn promises_are_printed()
     ensures { PromisesArePrinted }
 {

@@ -1,5 +1,5 @@
-//! The word `record`: a plan and a script are read, the script is played, and the certificate of its
-//! run is written.
+//! The word `record`: a plan and a script are read, the script is played, and the certificate of
+//! its run is written.
 
 ghost use Rattle.std.specs.Prelude.{◌≤◌, ◌^◌, length, MatchResult, Some};
 ghost use Rattle.workbench.specs.Conduct.{Does};

@@ -1,5 +1,5 @@
-//! The word `slots`: a plan, a slot table and a script are read, the script is played, and who holds
-//! is written.
+//! The word `slots`: a plan, a slot table and a script are read, the script is played, and who
+//! holds is written.
 
 ghost use Rattle.std.specs.Prelude.{◌≡◌, ◌≤◌, ◌^◌, length, Some, MatchResult};
 ghost use Rattle.workbench.specs.SlotsAnswers.{slots_answer};
