@@ -123,13 +123,13 @@ lines_put_one plan script said for is t begins =
     ∙ puts.is.slot _ lead.0 lead.1 in
     let scene_there : Scene (List Entry) = log_scene plan script said (t + q) in
     let newest : (v : ℕ) → v < n → is_in (faulty_at script (t + q)) v ≡ false
-        → HasNewest (log_of scene_there v) puts.entry =
+    → HasNewest (log_of scene_there v) puts.entry =
     λ v lt correct. subst (λ log. HasNewest log puts.entry)
-        (sym (ap (λ (s : Scene (List Entry)). log_of s v)
-        (sym (scene_is plan script layer keeps is began enough q t begins q (at_most q)))
-        ∙ puts.is.puts v lt
-        (correct_there plan script layer keeps is began enough q t begins v correct)))
-        (newest_kept said.keep puts.entry _ for.some) in
+    (sym (ap (λ (s : Scene (List Entry)). log_of s v)
+    (sym (scene_is plan script layer keeps is began enough q t begins q (at_most q)))
+    ∙ puts.is.puts v lt
+    (correct_there plan script layer keeps is began enough q t begins v correct)))
+    (newest_kept said.keep puts.entry _ for.some) in
     record {
       entry = puts.entry;
       slot = sym slot;
