@@ -1,4 +1,4 @@
-"""A plain step of a node, by docs/DEFINITIONS.md and docs/FORMATS.md.
+"""A plain step of a node, by docs/proof/DEFINITIONS.md and docs/FORMATS.md.
 
 The library is tried against it. It shares nothing with the proved code. A state is its number and,
 for each level from the lowest up, a pair of a value (None where it is infinite) and a mark.

@@ -1,8 +1,8 @@
 /* One node that hears packets and answers each with the cell of its state, as the word `node` does:
  * a cell is written before any byte behind its packet is read.
  *
- *   gcc -O2 -o node bench/node.c
- *   python3 bench/packets.py bench/node_twelve.txt 12 4 100000 > packets.bin
+ *   gcc -O2 -o node bench/c/node.c
+ *   python3 bench/tools/packets.py bench/inputs/node_twelve.txt 12 4 100000 > packets.bin
  *   time ./node < packets.bin > /dev/null
  */
 #include "script.h"

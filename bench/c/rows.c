@@ -1,7 +1,7 @@
 /* Plays a counter of one node and prints its rows, as `run` does for a plan without levels, to measure beside the
  * program: a plain loop with its own digits and one buffer.
  *
- *   gcc -O2 -o rows bench/rows.c && time ./rows > /dev/null
+ *   gcc -O2 -o rows bench/c/rows.c && time ./rows > /dev/null
  */
 #include <stdint.h>
 #include <string.h>

@@ -1,6 +1,6 @@
 /* Plays a script and writes its rows, as the word `run` does.
  *
- *   gcc -O2 -o run bench/run.c && time ./run < bench/twelve_nodes.txt
+ *   gcc -O2 -o run bench/c/run.c && time ./run < bench/inputs/twelve_nodes.txt
  */
 #include "script.h"
 

@@ -1,6 +1,6 @@
 /* Plays a script and writes which nodes hold in each configuration, as the word `slots` does.
  *
- *   gcc -O2 -o slots bench/slots.c && time ./slots < bench/slots_twelve.txt > /dev/null
+ *   gcc -O2 -o slots bench/c/slots.c && time ./slots < bench/inputs/slots_twelve.txt > /dev/null
  */
 #include "script.h"
 

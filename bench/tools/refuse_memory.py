@@ -1,7 +1,7 @@
 #!/usr/bin/env python3
 """Refuses each allocation of each word in turn, and looks at what becomes of it.
 
-    python3 bench/refuse_memory.py [--most N] [NAME.WORDS ..]
+    python3 bench/tools/refuse_memory.py [--most N] [NAME.WORDS ..]
 
 A row is an input with its answer, NAME.txt and NAME.WORDS.out in crates/faults/data/short; without
 names all rows are taken. The program `faults` gives a row to the workbench over a source and a sink
@@ -22,7 +22,7 @@ import subprocess
 import sys
 import tempfile
 
-TOP = pathlib.Path(__file__).resolve().parent.parent
+TOP = pathlib.Path(__file__).resolve().parents[2]
 CRATE = TOP / "crates" / "faults"
 ROWS = CRATE / "data" / "short"
 REFUSED = "10 0"

@@ -1,7 +1,7 @@
 /* Reads the certificate of a run line by line, plays the run that it states and judges its rows, as
  * the word `check` does. A line that no certificate has there is refused.
  *
- *   gcc -O2 -o check bench/check.c && ./record < bench/demo_seven.txt > demo_seven.cert
+ *   gcc -O2 -o check bench/c/check.c && ./record < bench/inputs/demo_seven.txt > demo_seven.cert
  *   time ./check < demo_seven.cert
  */
 #include "counter.h"

@@ -1,6 +1,6 @@
 /* Writes the certificate of a script's run, as the word `record` does.
  *
- *   gcc -O2 -o record bench/record.c && time ./record < bench/demo_seven.txt > demo_seven.cert
+ *   gcc -O2 -o record bench/c/record.c && time ./record < bench/inputs/demo_seven.txt > demo_seven.cert
  */
 #include "script.h"
 

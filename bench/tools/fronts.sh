@@ -2,7 +2,7 @@
 # Compares what the built program `choose` writes with the search of fronts.py. From the top of the
 # repository:
 #
-#   sh bench/fronts.sh [BINARY]          BINARY: crates/choose/out/choose where it is left out
+#   sh bench/tools/fronts.sh [BINARY]          BINARY: crates/choose/out/choose where it is left out
 #
 # For each F from 0 to 85, five moduli, and 256 nodes at most; and for eight F, three moduli and ten
 # numbers of nodes at most. It stops at the first front that differs, and then ends with a status

@@ -1,7 +1,7 @@
 /* Plays a script with a register of agreement and writes what its slots decide, as the word
  * `consensus` does.
  *
- *   gcc -O2 -o consensus bench/consensus.c && time ./consensus < bench/consensus_twelve.txt
+ *   gcc -O2 -o consensus bench/c/consensus.c && time ./consensus < bench/inputs/consensus_twelve.txt
  */
 #include "script.h"
 
