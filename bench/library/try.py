@@ -5,7 +5,7 @@
     python3 bench/library/try.py --after-ci   build it over the libraries that `rt ci` has left
     python3 bench/library/try.py ARCHIVE      take this archive
 
-Random steps of six plans, and calls that are refused, have to give what the plain step of model.py
+Random steps of six plans, and calls that are refused, have to give what the plain step of calls.py
 gives, and what the program's word `node` writes where the program is built; each allocation is
 refused in turn. A line says what was not tried, and why. The status is 1 where an answer is not
 what it has to be, or what was proved is not compiled or linked. A tool that is missing or does not
@@ -22,7 +22,7 @@ import sys
 import tempfile
 import time
 
-import model
+import calls
 
 HERE = pathlib.Path(__file__).resolve().parent
 TOP = HERE.parent.parent
@@ -36,12 +36,12 @@ MINUTES = 10
 KILLED = -9  # as for want of memory
 
 PLANS = [
-    model.Plan(5, []),
-    model.Plan(576, [(3, 1, 10, 1)]),
-    model.Plan(2304, [(4, 1, 960, 0), (3, 3, 10, 0)]),
-    model.Plan(576, [(3, 1, 960, 1), (3, 3, 10, 0)]),
-    model.Plan(93312, [(5, 2, 10, 2)]),
-    model.Plan(576, [(3, 1, 768, 1), (3, 2, 1152, 0), (3, 4, 10, 0)]),
+    calls.plan_of(5, []),
+    calls.plan_of(576, [(3, 1, 10, 1)]),
+    calls.plan_of(2304, [(4, 1, 960, 0), (3, 3, 10, 0)]),
+    calls.plan_of(576, [(3, 1, 960, 1), (3, 3, 10, 0)]),
+    calls.plan_of(93312, [(5, 2, 10, 2)]),
+    calls.plan_of(576, [(3, 1, 768, 1), (3, 2, 1152, 0), (3, 4, 10, 0)]),
 ]
 
 
@@ -208,7 +208,7 @@ def some_state(source, plan, node, common):
     for i in range(len(fields)):
         if source.random() < 0.9:
             fields[i] = second[i] if source.random() < share else first[i]
-    return model.write(plan, node, (fields[0], fields[1:]))
+    return plan.write(node, calls.state_of(fields[0], fields[1:]))
 
 
 def some_packet(source, plan, common):
@@ -239,7 +239,7 @@ def refused_cases(source):
     """Calls that are refused for their node, their state or their packets, and more than one."""
     for plan in PLANS:
         packet = some_packet(source, plan, some_common(source, plan))
-        size = model.state_bytes(plan, 0)
+        size = plan.bytes(0)
         good, cut = bytes(size), packet[:-1]
         for node in (plan.nodes, 256, 2**32 - 1):
             yield plan, node, good, packet
@@ -277,14 +277,14 @@ class Tried:
         self.room, self.made, self.heap = room, made, heap
         source = random.Random(7)
         self.steps, self.refused = list(step_cases(source)), list(refused_cases(source))
-        self.answers = [model.answer(*case) for case in self.steps]
+        self.answers = [calls.answer(*case) for case in self.steps]
         self.cases = [
-            (plan.text, node, state, packets, answer)
+            (calls.text_of(plan), node, state, packets, answer)
             for (plan, node, state, packets), answer in zip(self.steps, self.answers)
         ]
         for plan, node, state, packets in self.refused:
-            answer = model.answer(plan, node, state, packets)
-            self.cases.append((plan.text, node, state, packets, answer))
+            answer = calls.answer(plan, node, state, packets)
+            self.cases.append((calls.text_of(plan), node, state, packets, answer))
         for text, line, premise in refused_plans():
             self.cases.append((text, 0, b"\0", b"", (1, premise, line, b"\0")))
         self.count = len(self.cases)
@@ -321,11 +321,11 @@ class Tried:
         states = [b"\x3f\xff", b"\x12\x34", b"\x00\x14", b"\xff"]
         rows = []
         for t in range(13):
-            held = [model.shown(model.read(plan, v, states[v]), 1) for v in range(3)]
+            held = [calls.output(plan, v, states[v]) for v in range(3)]
             rows.append(" ".join(map(str, [t, *held])))
             lies = [bytes([(97 * t + 31 * v) % 256]) for v in range(3)]
             packets = [b"".join(map(cell, [*states[:3], lie])) for lie in lies]
-            states[:3] = [model.answer(plan, v, states[v], packets[v])[3] for v in range(3)]
+            states[:3] = [calls.answer(plan, v, states[v], packets[v])[3] for v in range(3)]
         if found.splitlines() != rows:
             raise Failed(f"four_nodes.c printed\n{found}")
         return "the rows of four_nodes.c are those of the plain step"
@@ -334,7 +334,7 @@ class Tried:
         """Nodes without malloc: an arena of 16 KB for all plans, and 4 KB for those of 12 nodes."""
         flags = ["-DARENA=16384"]
         whole = self.cases_by(self.link("gcc", "steps", HERE / "arena.c", heap="-lc", flags=flags))
-        small = [case for case in self.cases if case[0] != PLANS[-1].text]
+        small = [case for case in self.cases if case[0] != calls.text_of(PLANS[-1])]
         text = "".join(written(*case) + "\n" for case in small).encode()
         program = self.link("gcc", "steps", HERE / "arena.c", heap="-lc")
         said = run([program], input=text).decode().strip()
@@ -347,8 +347,8 @@ class Tried:
         program, counts = self.link("gcc", "memory", flags=[wrap]), []
         for i, plan in enumerate(PLANS):
             text, packet = self.room / f"plan.{i}", self.room / f"packet.{i}"
-            text.write_bytes(plan.text)
-            packet.write_bytes(b"".join(cell(bytes(model.state_bytes(plan, u)))
+            text.write_bytes(calls.text_of(plan))
+            packet.write_bytes(b"".join(cell(bytes(plan.bytes(u)))
                                         for u in range(plan.nodes)))
             counts.append(int(run([program, text, packet])))
         return f"each of {sum(counts)} allocations was refused in turn"
@@ -397,10 +397,10 @@ class Tried:
         if not PROGRAM.is_file():
             raise Skipped("the program is not built")
         for (plan, node, state, packets), answer in zip(self.steps, self.answers):
-            header = plan.text + b"node 1\nid %d\nstate %s\nend\n" % (node, state.hex().encode())
+            header = calls.text_of(plan) + b"node 1\nid %d\nstate %s\nend\n" % (node, state.hex().encode())
             said = run([PROGRAM, "node"], input=header + packets)
             if not said.endswith(cell(answer[3])):
-                raise Failed(f"node {node} of {plan.text}, state {state.hex()}: {said.hex()}")
+                raise Failed(f"node {node} of {calls.text_of(plan)}, state {state.hex()}: {said.hex()}")
         return f"{STEPS} steps are the same"
 
 
