@@ -14,7 +14,7 @@ MOST_PACKETS = 1000000
 
 
 def plan_of(base, rows):
-    """The plan of a base modulus and rows `blocks faults modulus spares`, the lowest level first."""
+    """The plan of a base modulus and rows `blocks faults modulus spares`, the lowest first."""
     lines = ["level {} {} {} spare {}".format(*row) for row in rows]
     return counter.Plan(["plan 2", f"base {base}", *lines, "end"])
 

@@ -100,11 +100,11 @@ def needs(tool):
 
 @functools.lru_cache(maxsize=None)
 def needs_compiler(name, ending):
-    """A compiler that makes a program of an empty one."""
+    """A compiler that makes a program, and has the C library's headers."""
     needs(name)
     with tempfile.TemporaryDirectory(prefix="counterlab-library-") as room:
         file = pathlib.Path(room) / f"empty.{ending}"
-        file.write_text("int main(void) { return 0; }\n")
+        file.write_text("#include <inttypes.h>\n#include <stdio.h>\nint main(void) { return 0; }\n")
         if status_of([name, "-o", file.with_suffix(""), file])[0]:
             raise Skipped(f"{name} makes no program here")
 
@@ -141,6 +141,10 @@ def build_after_ci():
     lacking = [name for name in below if not rlib(name).is_dir()]
     if lacking:
         raise Skipped(f"no library {lacking[0]} was left")
+    # `rt ci` gives back what an earlier check built, which may be of an older text
+    older = [name for name in below if (rlib(name).parent / "stamp").exists()]
+    if older:
+        raise Skipped(f"the library {older[0]} is that of an earlier check: build by `rt lib`")
     command = [kit() / "bin" / "rattle", "build", "--crate-name", "counterlab_c", "src/lib.rt"]
     command += ["--extern", f"std={kit()}/rlibs/std.rlib", "-L", f"dependency={kit()}/rlibs"]
     for name in rows["counterlab_c"]:
@@ -397,10 +401,11 @@ class Tried:
         if not PROGRAM.is_file():
             raise Skipped("the program is not built")
         for (plan, node, state, packets), answer in zip(self.steps, self.answers):
-            header = calls.text_of(plan) + b"node 1\nid %d\nstate %s\nend\n" % (node, state.hex().encode())
+            text, digits = calls.text_of(plan), state.hex()
+            header = text + f"node 1\nid {node}\nstate {digits}\nend\n".encode()
             said = run([PROGRAM, "node"], input=header + packets)
             if not said.endswith(cell(answer[3])):
-                raise Failed(f"node {node} of {calls.text_of(plan)}, state {state.hex()}: {said.hex()}")
+                raise Failed(f"node {node} of {text}, state {digits}: {said.hex()}")
         return f"{STEPS} steps are the same"
 
 

@@ -1,8 +1,8 @@
 """A counter by its definitions: plans, states as bytes, and the step of a node.
 
 The other scripts of this folder use it. It counts each number anew, so it is slow; it is written
-from docs/FORMATS.md and docs/proof/DEFINITIONS.md, shares no code with the proved program and is no part
-of it. Inputs are taken as accepted ones.
+from docs/FORMATS.md and docs/proof/DEFINITIONS.md, shares no code with the proved program and is no
+part of it. Inputs are taken as accepted ones.
 
 A register is a pair of a value and a mark, and the value None is infinite.
 """

@@ -2,9 +2,9 @@
 
     python3 deployed_nodes.py COUNTERLAB PLAN SEED LIAR..
 
-Each node of the plan at the front of the file PLAN is a process: COUNTERLAB with the word `node`, or
-of an id LIAR a process that sends random bytes of random lengths, other ones to each receiver in each
-round. The correct nodes begin in states of random bytes. The hub gives each node a packet of the
+Each node of the plan at the front of the file PLAN, one without spares, is a process: COUNTERLAB
+with the word `node`, or of an id LIAR a process that sends random bytes of random lengths, other
+ones to each receiver in each round. The correct nodes begin in states of random bytes. The hub gives each node a packet of the
 cells that were sent to it. In some rounds each link between two correct nodes fails with an even
 chance, and carries random bytes or none. Says since when the correct nodes count, and ends with 1
 where that is not as promised. It is no part of the proved program.
@@ -31,7 +31,8 @@ class Plan:
         with open(path) as file:
             text = file.read()
         self.text = text[: text.index("end\n") + 4]
-        table = subprocess.run([counterlab, "plan"], input=self.text.encode(), stdout=subprocess.PIPE)
+        text = self.text.encode()
+        table = subprocess.run([counterlab, "plan"], input=text, stdout=subprocess.PIPE)
         last = table.stdout.decode().splitlines()[-2].split()
         self.bound = int(last[last.index("bound") + 1])
         self.size = int(last[last.index("bytes") + 1])
@@ -44,7 +45,7 @@ class Plan:
             self.moduli.append(int(level[3]))
 
     def shown(self, cell):
-        """What a node shows in the state of a cell that it wrote: its top value, or 0 for infinity."""
+        """What a node shows in the state of a cell that it wrote, 0 for an infinite value."""
         bits = "".join(f"{byte:08b}" for byte in cell)
         at = width(self.base)
         for modulus in self.moduli[:-1]:
@@ -165,7 +166,8 @@ def main():
     print(f"nodes {plan.nodes} liars {' '.join(map(str, liars))} bound {plan.bound} seed {seed}")
     print(f"links good from packet 0: they count from configuration {first}")
     print(f"links failing from packet {cut}: {broken} of {FAILING} steps count not")
-    print(f"links good from packet {good}: they count from configuration {second} to {len(rows) - 1}")
+    print(f"links good from packet {good}: "
+          f"they count from configuration {second} to {len(rows) - 1}")
     promised = first <= plan.bound and second <= good + plan.bound and not any(ended)
     print("as promised" if promised else "NOT AS PROMISED")
     sys.exit(0 if promised else 1)

@@ -1,8 +1,8 @@
 //! The calls of a node for programs that are not written in Rattle.
 //!
 //! Each function is told a plan's text, keeps nothing between calls, and gives an [`Answer`]. Any
-//! bytes and numbers may be given: no call asks more of its caller than that its pointers and
-//! lengths are true. docs/LIBRARY.md has the codes, and how to link.
+//! bytes and numbers may be given. docs/LIBRARY.md has the codes, how to link, and what a caller
+//! owes.
 #![tactic(auto)]
 
 ghost use Rattle.node_calls.specs.Answers.{plan_answer, bytes_answer, output_answer, step_answer};
