@@ -3,12 +3,10 @@
 //! level's span; the least of such plans is searched in the same way.
 
 ghost use Rattle.std.specs.Prelude.{◌≡◌, ◌+◌, ◌-◌, ◌*◌, ◌<◌, ◌≤◌, ◌^◌, [], IfOk};
-ghost use Rattle.std.specs.Int.{div_ceil};
-ghost use Rattle.construction.specs.Plans.{plan_nodes, plan_faults, plan_modulus};
+ghost use Rattle.construction.specs.Plans.{plan_nodes};
 ghost use Rattle.plan_numbers.specs.Numbers.{line, with_level};
 ghost use Rattle.choose.specs.Fronts.{Bears};
-ghost use Rattle.plan_finder.specs.Steps.{cost_of};
-ghost use Rattle.choose.specs.Least.{HasTop, IsLeastOf, IsLesser};
+ghost use Rattle.choose.specs.Least.{FitsBlocks, HasTop, IsLeastOf, IsLesser};
 
 use plan_finder::step_cost;
 use plan_numbers::{Plan, PremiseError};
@@ -33,10 +31,7 @@ fn topped(below: Plan, k: u64, f: u64, c: u64) -> Plan
     requires blocks { (3 ≤ k) × (k ≤ 16) }
     requires faults { f ≤ 85 }
     requires modulus { (2 ≤ c) × (c ≤ 2 ^ 40) }
-    requires version { below.version ≡ 2 }
-    requires counts { plan_modulus below ≡ cost_of k f }
-    requires nodes { k * plan_nodes below ≤ 256 }
-    requires share { f < (plan_faults below + 1) * div_ceil k 2 }
+    requires below { FitsBlocks k f below }
     ensures { result ≡ with_level below (line k f c (3 * f + 1 - k * plan_nodes below)) }
 {
     let mut plan = below;

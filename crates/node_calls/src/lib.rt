@@ -2,8 +2,8 @@
 //! nothing.
 //!
 //! [`step`] steps a node behind packets, [`output`] is what a state shows, [`state_bytes`] how many
-//! bytes a state has, and [`plan_in`] the plan. Any bytes and any ids may be given: what is wrong is
-//! answered by a [`CallError`].
+//! bytes a state has, and [`plan_in`] the plan. Any bytes and any ids may be given: what is wrong
+//! is answered by a [`CallError`].
 #![tactic(auto)]
 
 mod calls;

@@ -8,7 +8,7 @@ use Rattle.construction.specs.Plans.{Plan}
 use Rattle.choose.specs.Fronts.{Bears}
 use Rattle.choose.specs.Least.{HasTop, IsLeast, IsLeastOf}
 use Rattle.choose.proofs.Lower.{none_dear, none_over}
-use Rattle.choose.proofs.Topped.{share_fits, over_least}
+use Rattle.choose.proofs.Topped.{blocks_fit, share_fits, over_least}
 use Rattle.choose.proofs.Least.{tried_more}
 use Rattle.choose.proofs.searching.+least.Goals as goal
 
@@ -43,12 +43,22 @@ block_found n f k span half found below is cost rounded least =
     (subst (λ m. IsLeast span (Bears (n / k) (f / m)) below) rounded
     (subst (IsLeastOf span (Bears (n / k) (f / half))) is least))
 
-pub least_with-topped-requires-clause-share : goal.least_with-topped-requires-clause-share
-least_with-topped-requires-clause-share t c =
+pub least_with-topped-requires-clause-below : goal.least_with-topped-requires-clause-below
+least_with-topped-requires-clause-below t c =
     let block = block_found c.args.n c.args.f c.args.k c.in-Some.span c.div_ceil.result _
     c.in-Some-2.below c.in-Some-2.is c.in-Some.ensures.0 c.div_ceil.ensures
     c.in_ok-least_plan.ensures in
-    share_fits c.args.n c.args.f c.args.k c.in-Some-2.below c.requires.blocks.0 block
+    let some = c.requires.blocks.0 in
+    record {
+      version = block.version;
+      counts = block.modulus;
+      nodes = omega (
+        arith,
+        blocks_fit c.args.n c.args.f c.args.k c.in-Some-2.below some block,
+        c.requires.nodes,
+      );
+      share = share_fits c.args.n c.args.f c.args.k c.in-Some-2.below some block;
+    }
 
 pub least_with-returns-in-None : goal.least_with-returns-in-None
 least_with-returns-in-None t c =
