@@ -1,105 +1,24 @@
 -- One line after another of a text whose lines all end with a newline.
-use Rattle.std.proofs.Common.{◌≡◌, ◌≢◌, ◌⊎◌, inl, inr, ℕ, ◌+◌, ◌-◌, ◌<◌, ◌≤◌, Bool, true, false, eqb, not, List, [], ◌∷◌, ◌++◌, length, Option, None, Result, Ok, Err, if◌then◌else◌, refl, sym, ap, ◌∙◌, append_assoc, append-nil, length-append, arith}
-use Rattle.std.specs.Io.KnownBytes.{Consumes, Keeps, IsAtEnd}
+use Rattle.std.proofs.Common.{◌≡◌, ◌≢◌, ◌⊎◌, inl, inr, ℕ, ◌+◌, ◌-◌, ◌<◌, ◌≤◌, Bool, true, false, eqb, not, List, [], ◌∷◌, ◌++◌, length, Option, None, Result, Ok, Err, refl, sym, ap, ◌∙◌, append_assoc, append-nil, length-append, subst, arith}
+use Rattle.std.specs.Io.KnownBytes.{Consumes, IsAtEnd}
 use Rattle.std.proofs.KnownBytes.{Consumes-nil, Consumes-trans, Consumes-kept}
-use Rattle.std.proofs.lemmas.Bool.{lt-leb, le-ltb, lt-ltb, ne_eqb}
+use Rattle.std.proofs.lemmas.Bool.{le-ltb, lt-ltb, ne_eqb}
 use Rattle.std.proofs.lemmas.List.Folds.{list_all-append}
 use Rattle.texts.specs.Lines.{lines_of, whole_lines, is_one_line}
 use Rattle.texts.specs.Parts.{Next, goes, ends, refuses, Found, At, part_from}
-use Rattle.texts.specs.Limits.{Limited, by, beyond, with_limit, room_of, behind_lines}
+use Rattle.texts.specs.Limits.{Limited, by, with_limit, room_of, behind_lines}
+use Rattle.texts.specs.Pending.{AllButLast}
 use Rattle.texts.specs.EndedTexts.{with_length, ended_lines, alone, then_alone, ended_text}
-use Rattle.texts.proofs.LineByLine.{PartsLines, lines_part, whole_part, whole_open, line_first, line_last, longer_line, WholeLonger, longer_whole}
+use Rattle.texts.proofs.LineByLine.{PartsLines, lines_part, whole_part, whole_open, WholeLonger, longer_whole}
 use Rattle.edge_io.specs.declared.feed.Line.TheVariants as how
 use Rattle.edge_io.specs.declared.feed.LineFault.TheVariants as fault
-use Rattle.edge_io.specs.declared.fed_parts.FedError.{FedError}
-use Rattle.edge_io.specs.declared.fed_parts.FedError.TheVariants as fed
 use Rattle.edge_io.specs.Feeds.{LineIs}
 use Rattle.edge_io.specs.FedParts.{limited_part, fed_part}
-use Rattle.edge_io.specs.EndedReads.{WholeText, RefusedText, LongText, TextRead, FirstIs, LineBehind, LineBeyond, EndIs}
-use Rattle.edge_io.proofs.FedLines.{shown_by, Standing, stands_first, stands_more, parted, size_more, then_made, behind_more}
+use Rattle.edge_io.specs.EndedReads.{RefusedOnlyAt, TextPending, RefusedText, LongText, LostText, HaltedText}
+use Rattle.edge_io.proofs.Standing.{Standing, stands_first, open_counts, may_go_on}
+use Rattle.edge_io.proofs.FedLines.{stands_more, parted, size_more, then_made, behind_more, counts_more}
 use Rattle.edge_io.proofs.FedEnds.{RefusesLong, long_line, past_line, refused_long}
-
--- ---- the line behind the last one
-
-module _ (limit before after : ℕ) (old new : Option (List ℕ)) (line : List ℕ)
-    (one : is_one_line line ≡ true) (short : length line ≤ 4096) where
-  -- a whole line
-  pub whole_behind : LineIs limit before after old new line (Ok how.Whole) → LineBehind limit before old new
-  whole_behind (read, count, within) =
-      let size = length-append line (10 ∷ []) in
-      record {
-        bytes = line ++ 10 ∷ [];
-        ended = false;
-        read = read;
-        at_end = λ e. absurd cc;
-        within = omega (arith, size, count, within);
-        shown = λ longer rest follows. record {
-          line = line;
-          behind = lines_of rest;
-          is = ap lines_of (append_assoc line (10 ∷ []) rest) ∙ line_first line rest one;
-          seen = shown_by longer limit before line (omega (arith, count, within));
-        };
-      }
-
-  -- a line that ends the input
-  pub open_behind : LineIs limit before after old new line (Ok how.Open) → LineBehind limit before old new
-  open_behind (read, end, some, count, within) = record {
-    bytes = line;
-    ended = true;
-    read = read;
-    at_end = λ e. end;
-    within = omega (arith, count, within);
-    shown = λ longer rest follows. record {
-      line = line;
-      behind = [];
-      is = ap lines_of (ap (λ (l : List ℕ). line ++ l) (follows.0) ∙ append-nil line) ∙ line_last line some one;
-      seen = rw (follows.1) refl;
-    };
-  }
-
-  -- a line that is too long
-  pub long_behind : LineIs limit before after old new line (Ok how.Long) → LineBehind limit before old new
-  long_behind (b, other, read, size, count, within) =
-      let more = line ++ b ∷ [] in
-      let apart : eqb b 10 ≡ false = ne_eqb b 10 other in
-      let all : is_one_line more ≡ true =
-      list_all-append (λ c. not (eqb c 10)) line (b ∷ []) ∙ rw (one, apart) refl in
-      let length_is = length-append line (b ∷ []) in
-      record {
-        bytes = more;
-        ended = false;
-        read = read;
-        at_end = λ e. absurd cc;
-        within = omega (arith, length_is, count, within);
-        shown = λ longer rest follows.
-            let h = longer_line more rest (omega (arith, length_is)) all in
-            record {
-              line = more ++ h.more;
-              behind = h.lines;
-              is = h.first;
-              seen = shown_by longer limit before (more ++ h.more) (omega (arith, count, within, size));
-            };
-      }
-
-  -- a byte behind the limit
-  pub beyond_behind : before ≤ limit → LineIs limit before after old new line (Err fault.TooLong) → LineBeyond limit before old new
-  beyond_behind room (b, read, past, count) =
-      let length_is = length-append line (b ∷ []) in
-      record {
-        bytes = line ++ b ∷ [];
-        read = read;
-        past = omega (arith, length_is, past);
-        hidden = λ rest.
-            let h = longer_line line (b ∷ rest) (omega arith) one in
-            record {
-              line = line ++ h.more;
-              behind = h.lines;
-              is = ap lines_of (append_assoc line (b ∷ []) rest) ∙ h.first;
-              seen = lt-leb _ _ (omega (arith, length-append line h.more, past, room, short));
-            };
-      }
-
--- ---- the text
+use Rattle.edge_io.proofs.AloneLines.{Alone}
 
 parts_lines : (longer : Bool) → PartsLines (ended_lines longer)
 parts_lines true = lines_part
@@ -109,11 +28,13 @@ pub length_refuses_long : {S V R : Type 0} (step : S → List ℕ → Next S V R
     → RefusesLong (with_length step form) form
 length_refuses_long step form s line much = rw (lt-ltb 4096 (length line) much) refl
 
-pub short_step : {S V R : Type 0} (step : S → List ℕ → Next S V R) (form : R) (s : S) (line : List ℕ)
-    (next : Next S V R) → length line ≤ 4096 → step s line ≡ next → with_length step form s line ≡ next
+pub short_step : {S V R : Type 0} (step : S → List ℕ → Next S V R) (form : R) (s : S)
+    (line : List ℕ) (next : Next S V R) → length line ≤ 4096 → step s line ≡ next
+    → with_length step form s line ≡ next
 short_step step form s line next short is = rw (le-ltb 4096 (length line) short) is
 
-module _ {S V R : Type 0} (step : S → List ℕ → Next S V R) (form : R) (start : S) (limit : ℕ) (old : Option (List ℕ)) where
+module _ {S V R : Type 0} (step : S → List ℕ → Next S V R) (form : R)
+    (start : S) (limit : ℕ) (old : Option (List ℕ)) where
   -- the step with the test of a line's length
   abbrev full : S → List ℕ → Next S V R
   full = with_length step form
@@ -123,30 +44,25 @@ module _ {S V R : Type 0} (step : S → List ℕ → Next S V R) (form : R) (sta
       → (lines : ℕ) × Standing full form start 1 limit 0 old old start 1 lines counted
   starts counted none = (0, rw none (stands_first full form start 1 limit 0 old (omega arith)))
 
-  -- the part ended with the lines that were read
-  pub record Alone (now : Option (List ℕ)) (value : V) (number counted : ℕ) : Type 0 where
-    pub bytes : List ℕ
-    pub read : Consumes old now bytes
-    pub count : counted ≡ length bytes
-    pub within : counted ≤ limit
-    pub so_far : (longer : Bool) (rest : List ℕ)
-        → ended_text step form start limit longer (bytes ++ rest)
-        ≡ alone form number (room_of longer (limit - counted)) value (lines_of rest)
-
   module _ (now new : Option (List ℕ)) (s : S) (number lines counted after : ℕ) (line : List ℕ)
       (one : is_one_line line ≡ true) (short : length line ≤ 4096)
       (stands : Standing full form start 1 limit 0 old now s number lines counted) where
     -- the bytes so far, then this line with a byte behind it, then the rest
     line_at : (b : ℕ) (longer : Bool) (rest : List ℕ)
-        → fed_part full form start 1 limit 0 longer (ended_lines longer ((stands.bytes ++ (line ++ b ∷ [])) ++ rest))
-        ≡ limited_part full form s lines number (room_of longer (limit - counted)) (ended_lines longer (line ++ b ∷ rest))
+        → fed_part full form start 1 limit 0 longer
+        (ended_lines longer ((stands.bytes ++ (line ++ b ∷ [])) ++ rest))
+        ≡ limited_part full form s lines number (room_of longer (limit - counted))
+        (ended_lines longer (line ++ b ∷ rest))
     line_at b longer rest =
         ap (λ (l : List ℕ). fed_part full form start 1 limit 0 longer (ended_lines longer l))
-        (parted full form start 1 limit 0 old now new s number lines counted after line one short stands line b rest)
+        (parted full form start 1 limit 0 old now new s number lines counted after line one short
+        stands line b rest)
         ∙ stands.so_far (ended_lines longer) (parts_lines longer) longer (line ++ b ∷ rest)
 
-    size_is : (b : ℕ) → length (stands.bytes ++ (line ++ b ∷ [])) ≡ length stands.bytes + length line + 1
-    size_is b = size_more full form start 1 limit 0 old now new s number lines counted after line one short stands b
+    size_is : (b : ℕ) → length (stands.bytes ++ (line ++ b ∷ []))
+        ≡ length stands.bytes + length line + 1
+    size_is b = size_more full form start 1 limit 0 old now new s number lines counted after line
+        one short stands b
 
     -- what the part makes of the text
     module _ (text : List ℕ) (longer : Bool) where
@@ -155,16 +71,61 @@ module _ {S V R : Type 0} (step : S → List ℕ → Next S V R) (form : R) (sta
           → ended_text step form start limit longer text ≡ then_alone step form text part
       text_by part is =
           let all : limit - 0 ≡ limit = omega arith in
-          ap (λ n. then_alone step form text (part_from (with_limit full) (by form) (room_of longer n, start) 0 1 (ended_lines longer text))) (sym all)
+          ap (λ n. then_alone step form text
+          (part_from (with_limit full) (by form) (room_of longer n, start) 0 1
+          (ended_lines longer text))) (sym all)
           ∙ ap (then_alone step form text) is
 
+    -- the text, if it ended within the line
+    stops_by : ended_text step form start limit false (stands.bytes ++ line)
+        ≡ Err (record { line = number; rule = by form })
+    stops_by =
+        let whole : fed_part full form start 1 limit 0 false (whole_lines (stands.bytes ++ line))
+        ≡ Err (record { line = number; rule = by form }) =
+        stands.so_far whole_lines whole_part false line ∙ rw (whole_open line one) refl in
+        text_by (stands.bytes ++ line) false _ whole
+
+    -- it is not decided
+    text_pends : counted + length line ≤ limit
+        → TextPending step form start limit (stands.bytes ++ line)
+    text_pends within =
+        let next : number ≡ 1 + length (whole_lines (stands.bytes ++ line)) =
+        omega (
+          arith,
+          stands.numbered,
+          open_counts full form start 1 limit 0 old now s number lines
+              counted stands line one,
+        ) in
+        record {
+          lines = subst (λ o. RefusedOnlyAt (1 + length (whole_lines (stands.bytes ++ line))) form
+              o) (sym stops_by)
+              (ap (λ n. record { line = n; rule = by form }) next);
+          room = may_go_on full form start 1 limit 0 old now s number lines counted stands line one
+              short within;
+        }
+
+    text_but : (b : ℕ) → counted + length line ≤ limit
+        → AllButLast (λ bs. TextPending step form start limit bs) (stands.bytes ++ (line ++ b ∷ []))
+    text_but b within = record {
+      front = stands.bytes ++ line;
+      last = b;
+      parts = sym (append_assoc stands.bytes line (b ∷ []));
+      pending = text_pends within;
+    }
+
     pub ended_here : (v : V) → LineIs limit counted after now new line (Ok how.Whole)
-        → full s line ≡ ends v → Alone new v (number + 1) after
+        → full s line ≡ ends v → Alone step form start limit old new v (number + 1) after
     ended_here v read is = record {
       bytes = stands.bytes ++ (line ++ 10 ∷ []);
       read = Consumes-trans old now new stands.bytes (line ++ 10 ∷ []) stands.read read.0;
       count = omega (arith, size_is 10, read.1, stands.count);
       within = read.2;
+      lines = lines + 1;
+      numbered = omega (arith, stands.numbered);
+      counts = counts_more full form start 1 limit 0 old now new s number lines counted after line
+          one short stands;
+      behind = behind_more full form start 1 limit 0 old now new s number lines counted after line
+          one short stands;
       so_far = λ longer rest.
           let text = (stands.bytes ++ (line ++ 10 ∷ [])) ++ rest in
           let one_more : lines + 1 ≡ lines + 1 + 0 = omega arith in
@@ -172,9 +133,11 @@ module _ {S V R : Type 0} (step : S → List ℕ → Next S V R) (form : R) (sta
           let room = room_of longer (limit - after) in
           let behind : behind_lines (lines + 1) text ≡ rest =
           ap (λ n. behind_lines n text) one_more
-          ∙ behind_more full form start 1 limit 0 old now new s number lines counted after line one short stands 0 rest in
+          ∙ behind_more full form start 1 limit 0 old now new s number lines counted after line one
+          short stands 0 rest in
           text_by text longer _
-          (then_made full form start 1 limit 0 old now new s number lines counted after line one short stands (ends v) read is (ended_lines longer) (parts_lines longer) longer rest)
+          (then_made full form start 1 limit 0 old now new s number lines counted after line one
+          short stands (ends v) read is (ended_lines longer) (parts_lines longer) longer rest)
           ∙ ap (λ (l : List ℕ). alone form (lines + 1 + 1) room v (lines_of l)) behind
           ∙ ap (λ n. alone form n room v (lines_of rest)) next;
     }
@@ -188,9 +151,12 @@ module _ {S V R : Type 0} (step : S → List ℕ → Next S V R) (form : R) (sta
       read = Consumes-trans old now new stands.bytes (line ++ 10 ∷ []) stands.read read.0;
       at_end = λ e. absurd cc;
       within = omega (arith, size_is 10, read.1, read.2, stands.count);
+      at_once = text_but 10 (omega (arith, read.1, read.2));
       decides = λ longer rest follows.
           text_by ((stands.bytes ++ (line ++ 10 ∷ [])) ++ rest) longer _
-          (then_made full form start 1 limit 0 old now new s number lines counted after line one short stands (refuses e) read is (ended_lines longer) (parts_lines longer) longer rest);
+          (then_made full form start 1 limit 0 old now new s number lines counted after line one
+          short stands (refuses e) read is (ended_lines longer) (parts_lines longer) longer
+          rest);
     }
 
     -- the text ends within a line
@@ -198,49 +164,55 @@ module _ {S V R : Type 0} (step : S → List ℕ → Next S V R) (form : R) (sta
         → RefusedText step form start limit old new number form
     stops_here end read within =
         let text = stands.bytes ++ line in
-        let size = length-append stands.bytes line in
         record {
           bytes = text;
           ended = true;
           read = Consumes-trans old now new stands.bytes line stands.read read;
           at_end = λ e. end;
-          within = omega (arith, size, within, stands.count);
+          within = omega (arith, length-append stands.bytes line, within, stands.count);
+          at_once = text_pends within;
           decides = λ longer rest follows.
-              let whole : fed_part full form start 1 limit 0 false (whole_lines text) ≡ Err (record { line = number; rule = by form }) =
-              stands.so_far whole_lines whole_part false line ∙ rw (whole_open line one) refl in
               ap (λ (b : Bool). ended_text step form start limit b (text ++ rest)) (follows.1)
-              ∙ ap (λ (l : List ℕ). ended_text step form start limit false l) (ap (λ (l : List ℕ). text ++ l) (follows.0) ∙ append-nil text)
-              ∙ text_by text false _ whole;
+              ∙ ap (λ (l : List ℕ). ended_text step form start limit false l)
+              (ap (λ (l : List ℕ). text ++ l) (follows.0) ∙ append-nil text)
+              ∙ stops_by;
         }
 
-    pub open_line : LineIs limit counted after now new line (Ok how.Open)
+    pub line_open : LineIs limit counted after now new line (Ok how.Open)
         → RefusedText step form start limit old new number form
-    open_line (read, end, some, count, within) = stops_here end read (omega (arith, count, within))
+    line_open (read, end, some, count, within) = stops_here end read (omega (arith, count, within))
 
     pub no_line : LineIs limit counted after now new line (Ok how.End)
         → RefusedText step form start limit old new number form
     no_line (keeps, end, none, count) =
-        stops_here end (rw none (Consumes-kept now now new [] (Consumes-nil now) keeps)) (omega (arith, ap length none, stands.within))
+        stops_here end (rw none (Consumes-kept now now new [] (Consumes-nil now) keeps))
+        (omega (arith, ap length none, stands.within))
 
     -- a line is too long
     long_whole : (b : ℕ) (rest : List ℕ) → b ≢ 10 → length line ≡ 4096
-        → (whole_lines ((line ++ b ∷ []) ++ rest) ≡ []) ⊎ WholeLonger (line ++ b ∷ []) ((line ++ b ∷ []) ++ rest)
+        → (whole_lines ((line ++ b ∷ []) ++ rest)
+        ≡ []) ⊎ WholeLonger (line ++ b ∷ []) ((line ++ b ∷ []) ++ rest)
         → limited_part full form s lines number None (whole_lines (line ++ b ∷ rest))
         ≡ Err (record { line = number; rule = by form })
     long_whole b rest other size (inl none) =
         rw (ap whole_lines (sym (append_assoc line (b ∷ []) rest)) ∙ none) refl
     long_whole b rest other size (inr h) =
         let text = (line ++ b ∷ []) ++ h.more in
-        let much : 4096 < length text = omega (arith, size, length-append (line ++ b ∷ []) h.more, length-append line (b ∷ [])) in
+        let much : 4096 < length text =
+        omega (arith, size, length-append (line ++ b ∷ []) h.more, length-append line (b ∷ []))
+        in
         rw (ap whole_lines (sym (append_assoc line (b ∷ []) rest)) ∙ h.first)
-        (refused_long full form (length_refuses_long step form) s lines number None text h.lines refl much)
+        (refused_long full form (length_refuses_long step form) s lines number None text h.lines
+        refl much)
 
     long_by : (longer : Bool) (b : ℕ) (rest : List ℕ) → b ≢ 10 → length line ≡ 4096
         → counted + 4097 ≤ limit
-        → limited_part full form s lines number (room_of longer (limit - counted)) (ended_lines longer (line ++ b ∷ rest))
+        → limited_part full form s lines number (room_of longer (limit - counted))
+        (ended_lines longer (line ++ b ∷ rest))
         ≡ Err (record { line = number; rule = by form })
     long_by true b rest other size within =
-        long_line full form start 1 limit 0 old now new s number lines counted after line one short stands
+        long_line full form start 1 limit 0 old now new s number lines counted after line one short
+        stands
         (length_refuses_long step form) true b rest other size within
     long_by false b rest other size within =
         let apart : eqb b 10 ≡ false = ne_eqb b 10 other in
@@ -256,9 +228,11 @@ module _ {S V R : Type 0} (step : S → List ℕ → Next S V R) (form : R) (sta
       read = Consumes-trans old now new stands.bytes (line ++ b ∷ []) stands.read read;
       at_end = λ e. absurd cc;
       within = omega (arith, size_is b, count, within, stands.count);
+      at_once = text_but b (omega (arith, count, within));
       decides = λ longer rest follows.
           text_by ((stands.bytes ++ (line ++ b ∷ [])) ++ rest) longer _
-          (line_at b longer rest ∙ long_by longer b rest other size (omega (arith, count, within, size)));
+          (line_at b longer rest ∙ long_by longer b rest other size
+          (omega (arith, count, within, size)));
     }
 
     -- the limit is passed
@@ -269,70 +243,39 @@ module _ {S V R : Type 0} (step : S → List ℕ → Next S V R) (form : R) (sta
       line = number;
       read = Consumes-trans old now new stands.bytes (line ++ b ∷ []) stands.read read;
       past = omega (arith, size_is b, past, stands.count);
+      at_once = text_but b (omega (arith, past, stands.within));
       decides = λ rest.
+          let gone : limit ≤ counted + length line = omega (arith, past) in
           text_by ((stands.bytes ++ (line ++ b ∷ [])) ++ rest) true _
           (line_at b true rest
-          ∙ past_line full form start 1 limit 0 old now new s number lines counted after line one short stands b rest past);
+          ∙ past_line full form start 1 limit 0 old now new s number lines counted after line one
+          short stands b rest gone);
     }
 
     -- the part goes on
     pub goes_on : (t : S) → LineIs limit counted after now new line (Ok how.Whole)
         → full s line ≡ goes t
         → (m : ℕ) × Standing full form start 1 limit 0 old new t (number + 1) m after
-    goes_on t read is =
-        (lines + 1, stands_more full form start 1 limit 0 old now new s number lines counted after line one short stands t read is)
+    goes_on t read is = (
+      lines + 1,
+      stands_more full form start 1 limit 0 old now new s number lines counted after
+          line one short stands t read is,
+    )
 
-    pub read_so_far : (bytes : List ℕ) → Consumes now new bytes → (all : List ℕ) × Consumes old new all
-    read_so_far bytes read = (stands.bytes ++ bytes, Consumes-trans old now new stands.bytes bytes stands.read read)
-
-  -- what the end behind the last line makes of the text
-  module _ (now new : Option (List ℕ)) (value : V) (number counted : ℕ) (h : Alone now value number counted) where
-    pub end_met : Keeps now new × IsAtEnd new → WholeText step form start limit old new value
-    end_met (keeps, end) = record {
-      bytes = h.bytes;
-      read = Consumes-kept old now new h.bytes h.read keeps;
-      at_end = end;
-      within = omega (arith, h.count, h.within);
-      is = ap (λ (l : List ℕ). ended_text step form start limit false l) (sym (append-nil h.bytes)) ∙ h.so_far false [];
+    -- a read failed within the line
+    pub lost_line : LineIs limit counted after now new line (Err fault.ReadFault)
+        → LostText step form start limit old new
+    lost_line (read, count, within) = record {
+      bytes = stands.bytes ++ line;
+      read = Consumes-trans old now new stands.bytes line stands.read read;
+      lost = text_pends (omega (arith, within, stands.within));
     }
 
-    behind_by : (shown : Bool) (more rest : List ℕ) (longer : Bool)
-        → FirstIs shown (room_of longer (limit - counted)) (lines_of (more ++ rest))
-        → ended_text step form start limit longer ((h.bytes ++ more) ++ rest)
-        ≡ Err (record { line = number; rule = if shown then by form else beyond })
-    behind_by shown more rest longer first =
-        ap (λ (l : List ℕ). ended_text step form start limit longer l) (append_assoc h.bytes more rest)
-        ∙ h.so_far longer (more ++ rest)
-        ∙ ap (alone form number (room_of longer (limit - counted)) value) first.is
-        ∙ ap (λ (b : Bool). Err (record { line = number; rule = if b then by form else beyond })) first.seen
-
-    pub line_met : LineBehind limit counted now new → RefusedText step form start limit old new number form
-    line_met e = record {
-      bytes = h.bytes ++ e.bytes;
-      ended = e.ended;
-      read = Consumes-trans old now new h.bytes e.bytes h.read e.read;
-      at_end = e.at_end;
-      within = omega (arith, length-append h.bytes e.bytes, e.within, h.count);
-      decides = λ longer rest follows. behind_by true e.bytes rest longer (e.shown longer rest follows);
+    -- memory ran out behind the line
+    pub halted_line : LineIs limit counted after now new line (Ok how.Whole)
+        → HaltedText step form start limit old new
+    halted_line (read, count, within) = record {
+      bytes = stands.bytes ++ (line ++ 10 ∷ []);
+      read = Consumes-trans old now new stands.bytes (line ++ 10 ∷ []) stands.read read;
+      at_once = text_but 10 (omega (arith, count, within));
     }
-
-    pub limit_met : LineBeyond limit counted now new → LongText step form start limit old new
-    limit_met e = record {
-      bytes = h.bytes ++ e.bytes;
-      line = number;
-      read = Consumes-trans old now new h.bytes e.bytes h.read e.read;
-      past = omega (arith, length-append h.bytes e.bytes, e.past, h.count);
-      decides = λ rest. behind_by false e.bytes rest true (e.hidden rest);
-    }
-
-    pub fault_met : (bytes : List ℕ) → Consumes now new bytes → (all : List ℕ) × Consumes old new all
-    fault_met bytes read = (h.bytes ++ bytes, Consumes-trans old now new h.bytes bytes h.read read)
-
-    -- what looking for the end did to the text
-    pub end_read : (fault : FedError R) → EndIs form number limit counted now new (let r : Result Unit (FedError R) = Err fault in r)
-        → TextRead step form start limit old new (Err fault)
-    end_read (fed.Refused r) (at, rule, e) =
-        rw (at, rule) (line_met e)
-    end_read fed.TooLong e = limit_met e
-    end_read fed.ReadFault (bytes, read) = fault_met bytes read
-    end_read fed.NoMemory e = absurd e

@@ -1,12 +1,11 @@
 -- One line after another of a part that is read from a feed.
 use Rattle.std.proofs.Common.{◌≡◌, ℕ, suc, ◌+◌, ◌-◌, ◌≤◌, min, Bool, true, false, List, [], ◌∷◌, ◌++◌, length, Option, Some, None, Ok, Err, refl, sym, ap, ◌∙◌, append_assoc, length-append, arith}
-use Rattle.std.specs.Io.KnownBytes.{Consumes}
-use Rattle.std.proofs.KnownBytes.{Consumes-nil, Consumes-trans}
+use Rattle.std.proofs.KnownBytes.{Consumes-trans}
 use Rattle.std.proofs.lemmas.Bool.{le-leb}
 use Rattle.texts.specs.Lines.{lines_of, is_one_line, whole_lines}
 use Rattle.texts.specs.Parts.{Next, goes, ends, refuses, part_from}
 use Rattle.texts.specs.Limits.{by, shows, less, room_of, behind_lines}
-use Rattle.texts.proofs.LineByLine.{PartsLines, lines_part, whole_part, whole_open, behind_line}
+use Rattle.texts.proofs.LineByLine.{PartsLines, lines_part, whole_part, behind_line}
 use Rattle.edge_io.specs.declared.feed.Line.TheVariants as how
 use Rattle.edge_io.specs.declared.feed.LineFault.TheVariants as fault
 use Rattle.edge_io.specs.declared.taking.TakeError.TheVariants as take
@@ -14,6 +13,7 @@ use Rattle.edge_io.specs.declared.fed_parts.FedError.TheVariants as fed
 use Rattle.edge_io.specs.Taking.{Takes}
 use Rattle.edge_io.specs.Feeds.{LineIs}
 use Rattle.edge_io.specs.FedParts.{LimitedPart, limited_part, fed_part, Decided, refused_at, PartFed}
+use Rattle.edge_io.proofs.Standing.{Standing, pending, but_last}
 
 pub takes_goes : {S V R : Type 0} (next : Next S V R) (new : S) → Takes next new (Ok None)
     → next ≡ goes new
@@ -74,7 +74,8 @@ module _ {S V R : Type 0} (step : S → List ℕ → Next S V R) (form : R) wher
     whole_line : (next : Next S V R) (limit counted after : ℕ) (longer : Bool)
         → length line ≤ 4096 → after ≡ counted + length line + 1 → after ≤ limit
         → step s line ≡ next
-        → limited_part step form s taken number (room_of longer (limit - counted)) (split (line ++ 10 ∷ rest))
+        → limited_part step form s taken number (room_of longer (limit - counted))
+        (split (line ++ 10 ∷ rest))
         ≡ made split next taken number (room_of longer (limit - after)) rest
     whole_line next limit counted after longer short e within is =
         let shown = shown_by longer limit counted line (omega (arith, e, within)) in
@@ -82,34 +83,9 @@ module _ {S V R : Type 0} (step : S → List ℕ → Next S V R) (form : R) wher
         (less_by longer limit counted after line short e) is
 
   module _ (start : S) (first limit before : ℕ) (old : Option (List ℕ)) where
-    -- these lines were read, and the part goes on
-    pub record Standing (now : Option (List ℕ)) (s : S) (number lines counted : ℕ) : Type 0 where
-      pub bytes : List ℕ
-      pub read : Consumes old now bytes
-      pub count : counted ≡ before + length bytes
-      pub within : counted ≤ limit
-      pub numbered : number ≡ first + lines
-      pub few : lines ≤ length bytes
-      pub so_far : (split : List ℕ → List (List ℕ)) → PartsLines split → (longer : Bool) (rest : List ℕ)
-          → fed_part step form start first limit before longer (split (bytes ++ rest))
-          ≡ limited_part step form s lines number (room_of longer (limit - counted)) (split rest)
-      pub behind : (m : ℕ) (rest : List ℕ) → behind_lines (lines + m) (bytes ++ rest) ≡ behind_lines m rest
-
-    pub stands_first : before ≤ limit → Standing old start first 0 before
-    stands_first room = record {
-      bytes = [];
-      read = Consumes-nil old;
-      count = omega arith;
-      within = room;
-      numbered = omega arith;
-      few = omega arith;
-      so_far = λ split parts longer rest. refl;
-      behind = λ m rest. let e : 0 + m ≡ m = omega arith in ap (λ n. behind_lines n rest) e;
-    }
-
     module _ (now new : Option (List ℕ)) (s : S) (number lines counted after : ℕ) (line : List ℕ)
         (one : is_one_line line ≡ true) (short : length line ≤ 4096)
-        (stands : Standing now s number lines counted) where
+        (stands : Standing step form start first limit before old now s number lines counted) where
       -- the bytes so far, with bytes more behind them
       pub parted : (more : List ℕ) (b : ℕ) (rest : List ℕ)
           → (stands.bytes ++ (more ++ b ∷ [])) ++ rest ≡ stands.bytes ++ (more ++ b ∷ rest)
@@ -117,36 +93,55 @@ module _ {S V R : Type 0} (step : S → List ℕ → Next S V R) (form : R) wher
           append_assoc stands.bytes (more ++ b ∷ []) rest
           ∙ ap (λ (l : List ℕ). stands.bytes ++ l) (append_assoc more (b ∷ []) rest)
 
-      pub size_more : (b : ℕ) → length (stands.bytes ++ (line ++ b ∷ [])) ≡ length stands.bytes + length line + 1
+      pub size_more : (b : ℕ) → length (stands.bytes ++ (line ++ b ∷ []))
+          ≡ length stands.bytes + length line + 1
       size_more b =
           length-append stands.bytes (line ++ b ∷ []) ∙ omega (arith, length-append line (b ∷ []))
 
-      line_more : (split : List ℕ → List (List ℕ)) → PartsLines split → (longer : Bool) (rest : List ℕ)
-          → fed_part step form start first limit before longer (split ((stands.bytes ++ (line ++ 10 ∷ [])) ++ rest))
-          ≡ limited_part step form s lines number (room_of longer (limit - counted)) (split (line ++ 10 ∷ rest))
+      line_more : (split : List ℕ → List (List ℕ)) → PartsLines split
+          → (longer : Bool) (rest : List ℕ)
+          → fed_part step form start first limit before longer
+          (split ((stands.bytes ++ (line ++ 10 ∷ [])) ++ rest))
+          ≡ limited_part step form s lines number (room_of longer (limit - counted))
+          (split (line ++ 10 ∷ rest))
       line_more split parts longer rest =
-          ap (λ (l : List ℕ). fed_part step form start first limit before longer (split l)) (parted line 10 rest)
+          ap (λ (l : List ℕ). fed_part step form start first limit before longer (split l))
+          (parted line 10 rest)
           ∙ stands.so_far split parts longer (line ++ 10 ∷ rest)
 
       pub behind_more : (m : ℕ) (rest : List ℕ)
-          → behind_lines (lines + 1 + m) ((stands.bytes ++ (line ++ 10 ∷ [])) ++ rest) ≡ behind_lines m rest
+          → behind_lines (lines + 1 + m) ((stands.bytes ++ (line ++ 10 ∷ [])) ++ rest)
+          ≡ behind_lines m rest
       behind_more m rest =
           let count : lines + 1 + m ≡ lines + suc m = omega arith in
           ap (λ (l : List ℕ). behind_lines (lines + 1 + m) l) (parted line 10 rest)
           ∙ ap (λ n. behind_lines n (stands.bytes ++ (line ++ 10 ∷ rest))) count
           ∙ stands.behind (suc m) (line ++ 10 ∷ rest) ∙ behind_line m line rest one
 
+      pub counts_more : (rest : List ℕ)
+          → length (whole_lines ((stands.bytes ++ (line ++ 10 ∷ [])) ++ rest))
+          ≡ lines + 1 + length (whole_lines rest)
+      counts_more rest =
+          let more = ap (λ (ls : List (List ℕ)). length ls) (whole_part line rest one) in
+          let all = ap (λ (l : List ℕ). length (whole_lines l)) (parted line 10 rest)
+          ∙ stands.counts (line ++ 10 ∷ rest) in
+          omega (arith, all, more)
+
       module _ (next : Next S V R) (read : LineIs limit counted after now new line (Ok how.Whole))
           (is : step s line ≡ next) where
         -- what the line makes of the part
-        pub then_made : (split : List ℕ → List (List ℕ)) → PartsLines split → (longer : Bool) (rest : List ℕ)
-            → fed_part step form start first limit before longer (split ((stands.bytes ++ (line ++ 10 ∷ [])) ++ rest))
+        pub then_made : (split : List ℕ → List (List ℕ)) → PartsLines split
+            → (longer : Bool) (rest : List ℕ)
+            → fed_part step form start first limit before longer
+            (split ((stands.bytes ++ (line ++ 10 ∷ [])) ++ rest))
             ≡ made split next lines number (room_of longer (limit - after)) rest
         then_made split parts longer rest =
             line_more split parts longer rest
-            ∙ whole_line split parts s lines number line rest one next limit counted after longer short read.1 read.2 is
+            ∙ whole_line split parts s lines number line rest one next limit counted after longer
+            short read.1 read.2 is
 
-        decided_line : Decided step form start first limit before after old new (λ room rest. made lines_of next lines number room rest)
+        decided_line : Decided step form start first limit before after old new
+            (λ room rest. made lines_of next lines number room rest)
         decided_line = record {
           bytes = stands.bytes ++ (line ++ 10 ∷ []);
           ended = false;
@@ -154,11 +149,15 @@ module _ {S V R : Type 0} (step : S → List ℕ → Next S V R) (form : R) wher
           at_end = λ e. absurd cc;
           count = omega (arith, size_more 10, read.1, stands.count);
           within = read.2;
+          at_once = but_last step form start first limit before old now s number lines counted
+              stands
+              line 10 one short (omega (arith, read.1, read.2));
           decides = λ longer rest follows. then_made lines_of lines_part longer rest;
         }
 
       pub stands_more : (t : S) → LineIs limit counted after now new line (Ok how.Whole)
-          → step s line ≡ goes t → Standing new t (number + 1) (lines + 1) after
+          → step s line ≡ goes t
+          → Standing step form start first limit before old new t (number + 1) (lines + 1) after
       stands_more t read is = record {
         bytes = stands.bytes ++ (line ++ 10 ∷ []);
         read = Consumes-trans old now new stands.bytes (line ++ 10 ∷ []) stands.read read.0;
@@ -168,19 +167,22 @@ module _ {S V R : Type 0} (step : S → List ℕ → Next S V R) (form : R) wher
         few = omega (arith, size_more 10, stands.few);
         so_far = then_made (goes t) read is;
         behind = behind_more;
+        counts = counts_more;
       }
 
       -- the part ends with the line
       pub ends_here : (v : V) → LineIs limit counted after now new line (Ok how.Whole)
           → step s line ≡ ends v
-          → PartFed step form start first limit before after old new (Ok (record { value = v; lines = lines + 1; ended = false }))
+          → PartFed step form start first limit before after old new
+          (Ok (record { value = v; lines = lines + 1; ended = false }))
       unfolding decided_line
       ends_here v read is =
           let text : List ℕ → List ℕ = λ rest. (stands.bytes ++ (line ++ 10 ∷ [])) ++ rest in
           let count : lines + 1 ≡ lines + 1 + 0 = omega arith in
           record {
             decided = decided_line (ends v) read is;
-            behind = λ longer rest follows. ap (λ n. behind_lines n (text rest)) count ∙ behind_more 0 rest;
+            behind = λ longer rest follows. ap (λ n. behind_lines n (text rest)) count
+                ∙ behind_more 0 rest;
             whole = λ goes_on rest. then_made (ends v) read is whole_lines whole_part false rest;
             ends = refl;
           }
@@ -196,7 +198,19 @@ module _ {S V R : Type 0} (step : S → List ℕ → Next S V R) (form : R) wher
           → PartFed step form start first limit before after old new (Err fed.ReadFault)
       lost_here read = record {
         bytes = stands.bytes ++ line;
-        line = number;
         read = Consumes-trans old now new stands.bytes line stands.read read.0;
-        lost = stands.so_far whole_lines whole_part false line ∙ rw (whole_open line one) refl;
+        lost = pending step form start first limit before old now s number lines counted stands
+            line one short (omega (arith, read.2, stands.within));
+      }
+
+      -- memory ran out behind the line
+      pub halted_here : LineIs limit counted after now new line (Ok how.Whole)
+          → PartFed step form start first limit before after old new (Err fed.NoMemory)
+      halted_here read = record {
+        bytes = stands.bytes ++ (line ++ 10 ∷ []);
+        ended = false;
+        read = Consumes-trans old now new stands.bytes (line ++ 10 ∷ []) stands.read read.0;
+        at_end = λ e. absurd cc;
+        at_once = but_last step form start first limit before old now s number lines counted stands
+            line 10 one short (omega (arith, read.1, read.2));
       }

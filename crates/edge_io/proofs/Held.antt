@@ -7,46 +7,69 @@ use Rattle.texts.specs.Growth.{Told, gathering, Follows, Wrote}
 use Rattle.texts.proofs.Growth.{wrote_then, passed_more, held_more}
 
 -- what is passed on is what is held back
-pub part_is : (buffer : List ℕ) (at end : ℕ) → at ≤ end → take (end - at) (drop at buffer) ≡ drop at (take end buffer)
-part_is buffer at end le = let all : at + (end - at) ≡ end = omega arith in sym (drop-take at (end - at) buffer) ∙ ap (λ (n : ℕ). drop at (take n buffer)) all
+pub part_is : (buffer : List ℕ) (at end : ℕ) → at ≤ end
+    → take (end - at) (drop at buffer) ≡ drop at (take end buffer)
+part_is buffer at end le = let all : at + (end - at) ≡ end = omega arith in
+    sym (drop-take at (end - at) buffer) ∙ ap (λ (n : ℕ). drop at (take n buffer)) all
 
 -- some bytes more were passed on
-pub held_passed : (name at end n : ℕ) (buffer : List ℕ) (old : Told) (s t : Told) → at ≤ end → n ≤ length (take (end - at) (drop at buffer)) → Wrote [] old (gathering name (drop at (take end buffer)) s) → Appends s.taken t.taken (take n (take (end - at) (drop at buffer))) → t.faults ≡ s.faults → s.certain ≤ t.certain + n → Follows s t
+pub held_passed : (name at end n : ℕ) (buffer : List ℕ) (old : Told) (s t : Told) → at ≤ end
+    → n ≤ length (take (end - at) (drop at buffer))
+    → Wrote [] old (gathering name (drop at (take end buffer)) s)
+    → Appends s.taken t.taken (take n (take (end - at) (drop at buffer))) → t.faults ≡ s.faults
+    → s.certain ≤ t.certain + n → Follows s t
     → Wrote [] old (gathering name (drop (at + n) (take end buffer)) t)
 held_passed name at end n buffer old s t le most h bytes still lasts follows =
     let part = part_is buffer at end le in
-    rw (← drop-drop n at (take end buffer)) (wrote_then old _ _ [] [] h (passed_more name n (drop at (take end buffer)) s t (rw (← part) most) (rw (← part) bytes) still lasts follows))
+    rw (← drop-drop n at (take end buffer))
+    (wrote_then old _ _ [] [] h
+    (passed_more name n (drop at (take end buffer)) s t (rw (← part) most)
+    (rw (← part) bytes) still lasts follows))
 
 -- bytes that are placed behind the held ones are held
-pub held_placed : (at end : ℕ) (buffer bytes rest : List ℕ) → at ≤ end → end ≤ length buffer → drop at (take (end + length bytes) (take end buffer ++ (bytes ++ rest))) ≡ drop at (take end buffer) ++ bytes
+pub held_placed : (at end : ℕ) (buffer bytes rest : List ℕ) → at ≤ end → end ≤ length buffer
+    → drop at (take (end + length bytes) (take end buffer ++ (bytes ++ rest)))
+    ≡ drop at (take end buffer) ++ bytes
 held_placed at end buffer bytes rest le within =
     let front = take end buffer in
     let len : length front ≡ end = length-take-le end buffer within in
     let all : take (end + length bytes) (front ++ (bytes ++ rest)) ≡ front ++ bytes =
-    ap (λ (k : ℕ). take (k + length bytes) (front ++ (bytes ++ rest))) (sym len) ∙ take-append-add front (bytes ++ rest) (length bytes) ∙ ap (λ (l : List ℕ). front ++ l) (take-append_seam bytes rest) in
+    ap (λ (k : ℕ). take (k + length bytes) (front ++ (bytes ++ rest))) (sym len)
+    ∙ take-append-add front (bytes ++ rest) (length bytes)
+    ∙ ap (λ (l : List ℕ). front ++ l) (take-append_seam bytes rest) in
     ap (drop at) all ∙ drop-append-le at front bytes (omega (arith, len))
 
 -- some bytes are held back
-pub held_all : (name at end : ℕ) (buffer after bytes rest : List ℕ) (s : Told) → at ≤ end → end ≤ length buffer → after ≡ take end buffer ++ (bytes ++ rest)
-    → Wrote bytes (gathering name (drop at (take end buffer)) s) (gathering name (drop at (take (end + length bytes) after)) s)
+pub held_all : (name at end : ℕ) (buffer after bytes rest : List ℕ) (s : Told) → at ≤ end
+    → end ≤ length buffer → after ≡ take end buffer ++ (bytes ++ rest)
+    → Wrote bytes (gathering name (drop at (take end buffer)) s)
+    (gathering name (drop at (take (end + length bytes) after)) s)
 held_all name at end buffer after bytes rest s le within is =
     let held : drop at (take (end + length bytes) after) ≡ drop at (take end buffer) ++ bytes =
-    ap (λ (l : List ℕ). drop at (take (end + length bytes) l)) is ∙ held_placed at end buffer bytes rest le within in
+    ap (λ (l : List ℕ). drop at (take (end + length bytes) l)) is
+    ∙ held_placed at end buffer bytes rest le within in
     rw held (held_more name (drop at (take end buffer)) bytes s)
 
 -- a front of some bytes is held back
-pub held_grown : (name at end n : ℕ) (buffer after bytes rest : List ℕ) (s : Told) → at ≤ end → end ≤ length buffer → n ≤ length bytes → after ≡ take end buffer ++ (take n bytes ++ rest)
-    → Wrote (take n bytes) (gathering name (drop at (take end buffer)) s) (gathering name (drop at (take (end + n) after)) s)
+pub held_grown : (name at end n : ℕ) (buffer after bytes rest : List ℕ) (s : Told) → at ≤ end
+    → end ≤ length buffer → n ≤ length bytes → after ≡ take end buffer ++ (take n bytes ++ rest)
+    → Wrote (take n bytes) (gathering name (drop at (take end buffer)) s)
+    (gathering name (drop at (take (end + n) after)) s)
 held_grown name at end n buffer after bytes rest s le within most is =
     let size : length (take n bytes) ≡ n = length-take-le n bytes most in
     let held : drop at (take (end + n) after) ≡ drop at (take end buffer) ++ take n bytes =
-    ap (λ (l : List ℕ). drop at (take (end + n) l)) is ∙ ap (λ (k : ℕ). drop at (take (end + k) (take end buffer ++ (take n bytes ++ rest)))) (sym size) ∙ held_placed at end buffer (take n bytes) rest le within in
+    ap (λ (l : List ℕ). drop at (take (end + n) l)) is
+    ∙ ap (λ (k : ℕ). drop at (take (end + k) (take end buffer ++ (take n bytes ++ rest))))
+    (sym size) ∙ held_placed at end buffer (take n bytes) rest le within in
     rw held (held_more name (drop at (take end buffer)) (take n bytes) s)
 
 -- bytes are held up to a place
-pub held_to : (name at end to : ℕ) (buffer after bytes : List ℕ) (s : Told) → at ≤ end → end ≤ length buffer → to ≡ end + length bytes → take to after ≡ take end buffer ++ bytes
-    → Wrote bytes (gathering name (drop at (take end buffer)) s) (gathering name (drop at (take to after)) s)
+pub held_to : (name at end to : ℕ) (buffer after bytes : List ℕ) (s : Told) → at ≤ end
+    → end ≤ length buffer → to ≡ end + length bytes → take to after ≡ take end buffer ++ bytes
+    → Wrote bytes (gathering name (drop at (take end buffer)) s)
+    (gathering name (drop at (take to after)) s)
 held_to name at end to buffer after bytes s le within ends is =
     let whole : after ≡ take end buffer ++ (bytes ++ drop to after) =
-    sym (take-append-drop to after) ∙ ap (λ (l : List ℕ). l ++ drop to after) is ∙ append_assoc (take end buffer) bytes (drop to after) in
+    sym (take-append-drop to after) ∙ ap (λ (l : List ℕ). l ++ drop to after) is
+    ∙ append_assoc (take end buffer) bytes (drop to after) in
     rw ends (held_all name at end buffer after bytes (drop to after) s le within whole)

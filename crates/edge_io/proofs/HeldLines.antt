@@ -1,8 +1,8 @@
 -- A line that stands whole in the buffer of a feed.
-use Rattle.std.proofs.Common.{◌≡◌, ℕ, zero, suc, ◌+◌, ◌-◌, ◌<◌, ◌≤◌, Bool, true, false, eqb, not, List, [], ◌∷◌, ◌++◌, length, take, drop, get_or, Option, Some, None, refl, sym, ap, ◌∙◌, append_assoc, arith}
-use Rattle.std.specs.List.{position, list_all, AllPass}
+use Rattle.std.proofs.Common.{◌≡◌, ℕ, zero, suc, ◌+◌, ◌-◌, ◌<◌, ◌≤◌, true, false, eqb, List, [], ◌∷◌, ◌++◌, length, take, drop, get_or, Option, Some, None, refl, sym, ap, ◌∙◌, append_assoc, arith}
+use Rattle.std.specs.List.{position}
 use Rattle.std.specs.Io.KnownBytes.{prepend_known, Consumes}
-use Rattle.std.proofs.lemmas.List.{drop_more, drop-drop, drop-take, length-take-le, length-drop, take-append-drop, get_or-take}
+use Rattle.std.proofs.lemmas.List.{drop-drop, drop-take, length-take-le, take-append-drop}
 use Rattle.std.proofs.lemmas.List.Quantifiers.{position-Some}
 use Rattle.std.proofs.lemmas.Bool.{eqb-true}
 use Rattle.texts.specs.Lines.{is_one_line}
@@ -13,7 +13,8 @@ one_from : (n : ℕ) (bytes : List ℕ) → n ≤ length bytes
 one_from zero bytes within none = refl
 one_from (suc n) [] within none = absurd (omega (arith, within))
 one_from (suc n) (b ∷ bytes) within none =
-    rw (none 0 (omega arith)) (one_from n bytes (omega (arith, within)) (λ k lt. none (suc k) (omega (arith, lt))))
+    rw (none 0 (omega arith))
+    (one_from n bytes (omega (arith, within)) (λ k lt. none (suc k) (omega (arith, lt))))
 
 front_is : (n : ℕ) (bytes : List ℕ) (b : ℕ) → n < length bytes → get_or bytes n 0 ≡ b
     → take (suc n) bytes ≡ take n bytes ++ b ∷ []
@@ -42,7 +43,8 @@ pub front_of_front : (n m : ℕ) (bytes : List ℕ) → n ≤ m → take n (take
 front_of_front zero m bytes le = refl
 front_of_front (suc n) zero bytes le = absurd (omega (arith, le))
 front_of_front (suc n) (suc m) [] le = refl
-front_of_front (suc n) (suc m) (b ∷ bytes) le = ap (λ bs. b ∷ bs) (front_of_front n m bytes (omega (arith, le)))
+front_of_front (suc n) (suc m) (b ∷ bytes) le =
+    ap (λ bs. b ∷ bs) (front_of_front n m bytes (omega (arith, le)))
 
 -- so many bytes of the buffer were read
 pub buffer_read : (buffer : List ℕ) (left : Option (List ℕ)) (at end count : ℕ)

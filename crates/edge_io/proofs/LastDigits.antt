@@ -1,5 +1,5 @@
 -- A number whose last digit is kept apart rises.
-use Rattle.std.proofs.Common.{◌≡◌, ℕ, zero, suc, ◌+◌, ◌-◌, ◌*◌, ◌/◌, ◌%◌, ◌^◌, ◌<◌, ◌≤◌, List, [], ◌∷◌, ◌++◌, length, take, drop, get_or, set, inl, inr, length-append, refl, sym, ap, ap₂, subst, ◌∙◌, append_assoc, decimal, arith}
+use Rattle.std.proofs.Common.{◌≡◌, ℕ, zero, suc, ◌+◌, ◌-◌, ◌/◌, ◌%◌, ◌^◌, ◌<◌, ◌≤◌, List, [], ◌∷◌, ◌++◌, length, take, drop, get_or, set, inl, inr, length-append, refl, sym, ap, ap₂, subst, ◌∙◌, decimal, arith}
 use Rattle.std.proofs.lemmas.Bool.{cases_lt}
 use Rattle.std.proofs.lemmas.Fmt.{decimal_digit, decimal_step}
 use Rattle.std.proofs.Math.Seq.{take-append_seam, take-append-add}
@@ -66,7 +66,8 @@ module _ (bytes : List ℕ) (label last digit n : ℕ) (r : IsRising bytes label
       let risen = nine_carried whole label (last + 1) n r.text long fits
       (omega (arith, own, nine)) (omega (arith, tens, low)) in
       let new = get_or bytes (last - 1) 0 + 1 in
-      let same : set (set whole (last + 1 - 1 - 1) (get_or whole (last + 1 - 1 - 1) 0 + 1)) (last + 1 - 1) 48
+      let same : set (set whole (last + 1 - 1 - 1) (get_or whole (last + 1 - 1 - 1) 0 + 1))
+      (last + 1 - 1) 48
       ≡ set (set bytes (last - 1) new) last 48 =
       ap₂ (λ (k d : ℕ). set (set whole k (d + 1)) (last + 1 - 1) 48) f tens
       ∙ (ap (λ (k : ℕ). set (set whole (last - 1) new) k 48) e
@@ -85,7 +86,8 @@ placed_anew bytes label end n t some =
     record {
       size = t.size;
       behind = omega (arith, some);
-      text = subst (λ (l : List ℕ). IsText l label (end - 1 + 1) n) (sym (set-get_or bytes (end - 1) 0))
+      text = subst (λ (l : List ℕ). IsText l label (end - 1 + 1) n)
+          (sym (set-get_or bytes (end - 1) 0))
           (subst (λ (k : ℕ). IsText bytes label k n) (sym e) t);
     }
 
@@ -93,7 +95,12 @@ placed_anew bytes label end n t some =
 pub decimal_some : (n : ℕ) → n < 2 ^ 64 → 1 ≤ length (decimal n)
 decimal_some n fits = elim (cases_lt n 10) [
   | inl lt ↦ omega (arith, ap length (decimal_digit n lt))
-  | inr long ↦ omega (arith, ap length (decimal_step n long fits), length-append (decimal (n / 10)) ((48 + n % 10) ∷ []))
+  | inr long ↦ omega (
+    arith,
+    ap length (decimal_step n long fits),
+    length-append (decimal (n / 10))
+        ((48 + n % 10) ∷ []),
+  )
 ]
 
 -- the digits of a number were placed behind the label
@@ -110,11 +117,17 @@ anew old new label end n fits size long short room ends placed =
     ap (take label) placed ∙ (ap (λ (k : ℕ). take k (front ++ (digits ++ rest))) (sym at)
     ∙ take-append_seam front (digits ++ rest)) in
     let text : take end new ≡ front ++ digits =
-    ap₂ (λ (k : ℕ) (l : List ℕ). take k l) (ends ∙ ap (λ (k : ℕ). k + length digits) (sym at)) placed
+    ap₂ (λ (k : ℕ) (l : List ℕ). take k l) (ends
+    ∙ ap (λ (k : ℕ). k + length digits) (sym at)) placed
     ∙ (take-append-add front (digits ++ rest) (length digits)
     ∙ ap (λ (l : List ℕ). front ++ l) (take-append_seam digits rest)) in
     placed_anew new label end n
-    (record { size = long; short = short; room = room; text = text ∙ ap (λ (l : List ℕ). l ++ digits) (sym kept) })
+    (record {
+      size = long;
+      short = short;
+      room = room;
+      text = text ∙ ap (λ (l : List ℕ). l ++ digits) (sym kept);
+    })
     (omega (arith, ends, decimal_some n fits))
 
 -- how long the text is

@@ -30,7 +30,8 @@ ends_long n long fits = record {
   next = λ low.
       let tens : (n + 1) / 10 ≡ n / 10 = omega arith in
       let ones : 48 + (n + 1) % 10 ≡ 48 + n % 10 + 1 = omega arith in
-      decimal_step (n + 1) (omega arith) (omega arith) ∙ ap₂ (λ (q d : ℕ). decimal q ++ d ∷ []) tens ones;
+      decimal_step (n + 1) (omega arith) (omega arith)
+      ∙ ap₂ (λ (q d : ℕ). decimal q ++ d ∷ []) tens ones;
 }
 
 ends_in_digit : (n : ℕ) → n < 2 ^ 64 - 1 → EndsInDigit n
@@ -40,40 +41,60 @@ ends_in_digit n fits = elim (eq-zero-or-pos (n - 9)) [
 ]
 
 -- what lies before the last of some bytes, and that byte
-module _ (bytes front : List ℕ) (digit end : ℕ) (room : end ≤ length bytes) (is : take end bytes ≡ front ++ digit ∷ []) where
+module _ (bytes front : List ℕ) (digit end : ℕ) (room : end ≤ length bytes)
+    (is : take end bytes ≡ front ++ digit ∷ []) where
   size : end ≡ length front + 1
   size = sym (length-take-le end bytes room) ∙ ap length is ∙ length-append front (digit ∷ [])
 
   before : take (end - 1) bytes ≡ front
   before =
       let last : end - 1 ≡ length front = omega (arith, size) in
-      sym (take-take (end - 1) end bytes (omega arith)) ∙ ap₂ (λ (k : ℕ) (l : List ℕ). take k l) last is ∙ take-append_seam front (digit ∷ [])
+      sym (take-take (end - 1) end bytes (omega arith))
+      ∙ ap₂ (λ (k : ℕ) (l : List ℕ). take k l) last is ∙ take-append_seam front (digit ∷ [])
 
   last_byte : get_or bytes (end - 1) 0 ≡ digit
   last_byte =
       let last : end - 1 ≡ length front = omega (arith, size) in
-      sym (get_or-take end bytes (end - 1) 0 (omega (arith, size))) ∙ ap₂ (λ (k : ℕ) (l : List ℕ). get_or l k 0) last is ∙ get_or-append_seam front digit [] 0
+      sym (get_or-take end bytes (end - 1) 0 (omega (arith, size)))
+      ∙ ap₂ (λ (k : ℕ) (l : List ℕ). get_or l k 0) last is ∙ get_or-append_seam front digit [] 0
 
 -- where the text ends, and that it is not empty
-pub text_end : (bytes : List ℕ) (label end n : ℕ) → IsText bytes label end n → n < 2 ^ 64 - 1 → label < end
+pub text_end : (bytes : List ℕ) (label end n : ℕ) → IsText bytes label end n → n < 2 ^ 64 - 1
+    → label < end
 text_end bytes label end n t fits =
     let ends = ends_in_digit n fits in
-    omega (arith, t.size, t.short, t.room, length-take-le end bytes (omega (arith, t.size, t.room)), ap length t.text, length-append (take label bytes) (decimal n), length-take-le label bytes (omega (arith, t.size, t.short)), ap length ends.text, length-append ends.front (ends.digit ∷ []))
+    omega (
+      arith,
+      t.size,
+      t.short,
+      t.room,
+      length-take-le end bytes (omega (arith, t.size, t.room)),
+      ap length t.text,
+      length-append (take label bytes) (decimal n),
+      length-take-le label bytes
+          (omega (arith, t.size, t.short)),
+      ap length ends.text,
+      length-append ends.front
+          (ends.digit ∷ []),
+    )
 
 -- the last digit rises
-pub rises_in_place : (bytes : List ℕ) (label end n : ℕ) → IsText bytes label end n → n < 2 ^ 64 - 1 → get_or bytes (end - 1) 0 < 57
+pub rises_in_place : (bytes : List ℕ) (label end n : ℕ) → IsText bytes label end n → n < 2 ^ 64 - 1
+    → get_or bytes (end - 1) 0 < 57
     → IsText (set bytes (end - 1) (get_or bytes (end - 1) 0 + 1)) label end (n + 1)
 rises_in_place bytes label end n t fits low =
     let ends = ends_in_digit n fits in
     let behind = text_end bytes label end n t fits in
     let front = take label bytes ++ ends.front in
     let is : take end bytes ≡ front ++ ends.digit ∷ [] =
-    t.text ∙ ap (λ (l : List ℕ). take label bytes ++ l) ends.text ∙ sym (append_assoc (take label bytes) ends.front (ends.digit ∷ [])) in
+    t.text ∙ ap (λ (l : List ℕ). take label bytes ++ l) ends.text
+    ∙ sym (append_assoc (take label bytes) ends.front (ends.digit ∷ [])) in
     let room : end ≤ length bytes = omega (arith, t.size, t.room) in
     let digit = last_byte bytes front ends.digit end room is in
     let new = get_or bytes (end - 1) 0 + 1 in
     let whole : end - 1 + 1 ≡ end = omega (arith, behind) in
-    let label_is : take label (set bytes (end - 1) new) ≡ take label bytes = take-set-le label bytes (end - 1) new (omega (arith, behind)) in
+    let label_is : take label (set bytes (end - 1) new) ≡ take label bytes =
+    take-set-le label bytes (end - 1) new (omega (arith, behind)) in
     record {
       size = length-set bytes (end - 1) new ∙ t.size;
       short = t.short;
@@ -81,19 +102,23 @@ rises_in_place bytes label end n t fits low =
       text =
           ap (λ (k : ℕ). take k (set bytes (end - 1) new)) (sym whole)
           ∙ take_more_set bytes (end - 1) new (omega (arith, behind, room))
-          ∙ ap₂ (λ (l : List ℕ) (d : ℕ). l ++ (d + 1) ∷ []) (before bytes front ends.digit end room is) digit
+          ∙ ap₂ (λ (l : List ℕ) (d : ℕ). l ++ (d + 1) ∷ [])
+          (before bytes front ends.digit end room is) digit
           ∙ append_assoc (take label bytes) ends.front ((ends.digit + 1) ∷ [])
-          ∙ ap₂ (λ (l m : List ℕ). l ++ m) (sym label_is) (sym (ends.next (omega (arith, digit, low))));
+          ∙ ap₂ (λ (l m : List ℕ). l ++ m) (sym label_is)
+          (sym (ends.next (omega (arith, digit, low))));
     }
 
 -- what stands before the last digit is the text of the tens
-pub tens_text : (bytes : List ℕ) (label end n : ℕ) → IsText bytes label end n → 10 ≤ n → n < 2 ^ 64 → end ≤ length bytes
+pub tens_text : (bytes : List ℕ) (label end n : ℕ) → IsText bytes label end n → 10 ≤ n → n < 2 ^ 64
+    → end ≤ length bytes
     → IsText bytes label (end - 1) (n / 10) × (get_or bytes (end - 1) 0 ≡ 48 + n % 10)
 tens_text bytes label end n t long fits room =
     let front = take label bytes ++ decimal (n / 10) in
     let digit = 48 + n % 10 in
     let is : take end bytes ≡ front ++ digit ∷ [] =
-    t.text ∙ ap (λ (l : List ℕ). take label bytes ++ l) (decimal_step n long fits) ∙ sym (append_assoc (take label bytes) (decimal (n / 10)) (digit ∷ [])) in (
+    t.text ∙ ap (λ (l : List ℕ). take label bytes ++ l) (decimal_step n long fits)
+    ∙ sym (append_assoc (take label bytes) (decimal (n / 10)) (digit ∷ [])) in (
       record {
         size = t.size;
         short = t.short;
@@ -104,14 +129,16 @@ tens_text bytes label end n t long fits room =
     )
 
 -- a zero behind the text makes the number ten times as large
-pub zero_behind : (bytes : List ℕ) (label at end m n : ℕ) → IsText bytes label at m → end ≡ at + 1 → label ≤ at → end ≤ 32 → 0 < m → n ≡ 10 * m → n < 2 ^ 64
+pub zero_behind : (bytes : List ℕ) (label at end m n : ℕ) → IsText bytes label at m → end ≡ at + 1
+    → label ≤ at → end ≤ 32 → 0 < m → n ≡ 10 * m → n < 2 ^ 64
     → IsText (set bytes at 48) label end n
 zero_behind bytes label at end m n t end_is behind within some is fits =
     let within_bytes : at < length bytes = omega (arith, t.size, end_is, within) in
     let tens : m ≡ n / 10 = omega (arith, is) in
     let ones : 48 ≡ 48 + n % 10 = omega (arith, is) in
     let digits : decimal m ++ 48 ∷ [] ≡ decimal n =
-    ap₂ (λ (q d : ℕ). decimal q ++ d ∷ []) tens ones ∙ sym (decimal_step n (omega (arith, some, is)) fits) in
+    ap₂ (λ (q d : ℕ). decimal q ++ d ∷ []) tens ones
+    ∙ sym (decimal_step n (omega (arith, some, is)) fits) in
     record {
       size = length-set bytes at 48 ∙ t.size;
       short = t.short;
@@ -125,7 +152,8 @@ zero_behind bytes label at end m n t end_is behind within some is fits =
     }
 
 -- the last digit is a nine, and the one before it rises
-module _ (bytes : List ℕ) (label end n : ℕ) (t : IsText bytes label end n) (long : 10 ≤ n) (fits : n < 2 ^ 64 - 1) where
+module _ (bytes : List ℕ) (label end n : ℕ) (t : IsText bytes label end n) (long : 10 ≤ n)
+    (fits : n < 2 ^ 64 - 1) where
   room_is : end ≤ length bytes
   room_is = omega (arith, t.size, t.room)
 
@@ -136,14 +164,18 @@ module _ (bytes : List ℕ) (label end n : ℕ) (t : IsText bytes label end n) (
   two_digits = omega (arith, text_end bytes label (end - 1) (n / 10) tens (omega arith))
 
   pub nine_carried : 57 ≤ get_or bytes (end - 1) 0 → get_or bytes (end - 1 - 1) 0 < 57
-      → IsText (set (set bytes (end - 1 - 1) (get_or bytes (end - 1 - 1) 0 + 1)) (end - 1) 48) label end (n + 1)
+      → IsText (set (set bytes (end - 1 - 1) (get_or bytes (end - 1 - 1) 0 + 1)) (end - 1) 48) label
+      end (n + 1)
   nine_carried nine low =
-      let last : n % 10 ≡ 9 = omega (arith, nine, (tens_text bytes label end n t long (omega arith) room_is).1) in
+      let last : n % 10 ≡ 9 = omega
+      (arith, nine, (tens_text bytes label end n t long (omega arith) room_is).1) in
       let risen = rises_in_place bytes label (end - 1) (n / 10) tens (omega arith) low in
-      zero_behind _ label (end - 1) end (n / 10 + 1) (n + 1) risen (omega (arith, two_digits)) (omega (arith, two_digits)) t.room (omega arith) (omega (arith, last)) (omega arith)
+      zero_behind _ label (end - 1) end (n / 10 + 1) (n + 1) risen (omega (arith, two_digits))
+      (omega (arith, two_digits)) t.room (omega arith) (omega (arith, last)) (omega arith)
 
   -- and the label stays
-  pub label_kept : (x : ℕ) → take label (set (set bytes (end - 1 - 1) x) (end - 1) 48) ≡ take label bytes
+  pub label_kept : (x : ℕ) → take label (set (set bytes (end - 1 - 1) x) (end - 1) 48)
+      ≡ take label bytes
   label_kept x =
       take-set-le label (set bytes (end - 1 - 1) x) (end - 1) 48 (omega (arith, two_digits))
       ∙ take-set-le label bytes (end - 1 - 1) x (omega (arith, two_digits))

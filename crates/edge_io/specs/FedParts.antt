@@ -5,6 +5,7 @@ use Rattle.texts.specs.Causes.{Counted}
 use Rattle.texts.specs.Lines.{lines_of, whole_lines}
 use Rattle.texts.specs.Parts.{Next, Found, At, part_from}
 use Rattle.texts.specs.Limits.{Limited, by, beyond, with_limit, room_of, behind_lines}
+use Rattle.texts.specs.Pending.{MayGoOn, AllButLast, AtOnce}
 use Rattle.edge_io.specs.declared.fed_parts.FedPart.{FedPart}
 use Rattle.edge_io.specs.declared.fed_parts.FedError.{FedError}
 use Rattle.edge_io.specs.declared.fed_parts.FedError.TheVariants as fed
@@ -29,29 +30,43 @@ module _ {S V R : Type 0} (step : S → List ℕ → Next S V R) (form : R) wher
 
   -- the part from its start on, where lines of so many bytes were read before, and the text has a
   -- byte behind the limit or not
-  abbrev pub fed_part : S → (first limit before : ℕ) → (longer : Bool) → List (List ℕ) → LimitedPart V R
+  abbrev pub fed_part : S → (first limit before : ℕ) → (longer : Bool) → List (List ℕ)
+      → LimitedPart V R
   fed_part start first limit before longer lines =
       limited_part start 0 first (room_of longer (limit - before)) lines
 
+  -- These bytes do not decide the part: none of their whole lines ends it or is refused, so that
+  -- they alone would be refused for want of an end.
+  pub record PartPending (start : S) (first limit before : ℕ) (bytes : List ℕ) : Type 0 where
+    pub lines : limited_part start 0 first None (whole_lines bytes)
+        ≡ Err (record { line = first + length (whole_lines bytes); rule = by form })
+    pub room : MayGoOn limit before bytes
+
   -- these bytes were read, and decide the part, whatever may follow
-  pub record Decided (start : S) (first limit before after : ℕ) (old new : Option (List ℕ)) (outcome : Option ℕ → List ℕ → LimitedPart V R) : Type 0 where
+  pub record Decided (start : S) (first limit before after : ℕ) (old new : Option (List ℕ))
+      (outcome : Option ℕ → List ℕ → LimitedPart V R) : Type 0 where
     pub bytes : List ℕ
     pub ended : Bool
     pub read : Consumes old new bytes
     pub at_end : ended ≡ true → IsAtEnd new
     pub count : after ≡ before + length bytes
     pub within : after ≤ limit
+    pub at_once : AtOnce ended (λ bs. PartPending start first limit before bs) bytes
     pub decides : (longer : Bool) (rest : List ℕ) → MayFollow ended longer rest
-        → fed_part start first limit before longer (lines_of (bytes ++ rest)) ≡ outcome (room_of longer (limit - after)) rest
+        → fed_part start first limit before longer (lines_of (bytes ++ rest))
+        ≡ outcome (room_of longer (limit - after)) rest
 
   -- these bytes were read, one of them behind the limit, and do not decide the part
-  pub record Undecided (start : S) (first limit before : ℕ) (old new : Option (List ℕ)) : Type 0 where
+  pub record Undecided (start : S) (first limit before : ℕ)
+      (old new : Option (List ℕ)) : Type 0 where
     pub bytes : List ℕ
     pub line : ℕ
     pub read : Consumes old new bytes
     pub past : limit < before + length bytes
+    pub at_once : AllButLast (λ bs. PartPending start first limit before bs) bytes
     pub decides : (rest : List ℕ)
-        → fed_part start first limit before true (lines_of (bytes ++ rest)) ≡ Err (record { line = line; rule = beyond })
+        → fed_part start first limit before true (lines_of (bytes ++ rest))
+        ≡ Err (record { line = line; rule = beyond })
 
   -- what is decided where a part ends with this value, and where a line of it is refused
   abbrev pub ends_with : V → (taken : ℕ) → Option ℕ → List ℕ → LimitedPart V R
@@ -62,7 +77,8 @@ module _ {S V R : Type 0} (step : S → List ℕ → Next S V R) (form : R) wher
   refused_at line rule room rest = Err (record { line = line; rule = by rule })
 
   -- these bytes were read, and are the part
-  pub record WholePart (start : S) (first limit before after : ℕ) (old new : Option (List ℕ)) (x : FedPart V) : Type 0 where
+  pub record WholePart (start : S) (first limit before after : ℕ) (old new : Option (List ℕ))
+      (x : FedPart V) : Type 0 where
     pub decided : Decided start first limit before after old new (ends_with x.value x.lines)
     pub ends : decided.ended ≡ x.ended
     pub behind : (longer : Bool) (rest : List ℕ) → MayFollow decided.ended longer rest
@@ -71,12 +87,21 @@ module _ {S V R : Type 0} (step : S → List ℕ → Next S V R) (form : R) wher
         → limited_part start 0 first None (whole_lines (decided.bytes ++ rest))
         ≡ Ok (record { value = (None, x.value); taken = x.lines; behind = whole_lines rest })
 
-  -- these bytes were read, and their whole lines are not the part
-  pub record LostPart (start : S) (first : ℕ) (old new : Option (List ℕ)) : Type 0 where
+  -- these bytes were read, and do not decide the part
+  pub record LostPart (start : S) (first limit before : ℕ)
+      (old new : Option (List ℕ)) : Type 0 where
     pub bytes : List ℕ
-    pub line : ℕ
     pub read : Consumes old new bytes
-    pub lost : limited_part start 0 first None (whole_lines bytes) ≡ Err (record { line = line; rule = by form })
+    pub lost : PartPending start first limit before bytes
+
+  -- these bytes were read, and none but the last, or the end, may decide the part
+  pub record HaltedPart (start : S) (first limit before : ℕ)
+      (old new : Option (List ℕ)) : Type 0 where
+    pub bytes : List ℕ
+    pub ended : Bool
+    pub read : Consumes old new bytes
+    pub at_end : ended ≡ true → IsAtEnd new
+    pub at_once : AtOnce ended (λ bs. PartPending start first limit before bs) bytes
 
   -- what reading a part did
   abbrev pub PartFed : (start : S) (first limit before after : ℕ) (old new : Option (List ℕ))
@@ -87,9 +112,10 @@ module _ {S V R : Type 0} (step : S → List ℕ → Next S V R) (form : R) wher
       Decided start first limit before after old new (refused_at r.line r.rule)
   PartFed start first limit before after old new (Err fed.TooLong) =
       Undecided start first limit before old new
-  PartFed start first limit before after old new (Err fed.ReadFault) = LostPart start first old new
+  PartFed start first limit before after old new (Err fed.ReadFault) =
+      LostPart start first limit before old new
   PartFed start first limit before after old new (Err fed.NoMemory) =
-      (bytes : List ℕ) × Consumes old new bytes
+      HaltedPart start first limit before old new
 
   -- what the last line of an input made of a part
   abbrev pub IsLastLine : S → (number lines : ℕ) → List ℕ → Result (FedPart V) (FedError R) → Type 0

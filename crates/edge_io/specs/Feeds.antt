@@ -42,7 +42,8 @@ HasLineCause before now Dry (Err fault.ReadFault) = Counted before now × Dry
 HasLineCause before now Dry (Err fault.TooLong) = now ≡ before
 
 -- What reading a line did: these bytes of it, without the newline, were read, where the lines had
--- so many bytes before and after, newlines included.
+-- so many bytes before and after, newlines included. Only at `TooLong` is a byte behind the limit
+-- read, and then just one.
 abbrev pub LineIs : (limit before after : ℕ) → (old new : Option (List ℕ)) → List ℕ
     → Result Line LineFault → Type 0
 LineIs limit before after old new bytes (Ok line.Whole) =
@@ -56,10 +57,10 @@ LineIs limit before after old new bytes (Ok line.Long) =
 LineIs limit before after old new bytes (Ok line.End) =
     Keeps old new × IsAtEnd new × (bytes ≡ []) × (after ≡ before)
 LineIs limit before after old new bytes (Err fault.TooLong) =
-    (b : ℕ) × Consumes old new (bytes ++ b ∷ []) × (limit ≤ before + length bytes)
+    (b : ℕ) × Consumes old new (bytes ++ b ∷ []) × (length bytes ≡ limit - before)
     × (after ≡ min (before + length bytes + 1) (2 ^ 64 - 1))
 LineIs limit before after old new bytes (Err fault.ReadFault) =
-    Consumes old new bytes × (after ≡ before + length bytes)
+    Consumes old new bytes × (after ≡ before + length bytes) × (length bytes ≤ limit - before)
 
 -- so many bytes were read (true), or the input ended before (false), or a read failed before
 abbrev pub ReadsSoMany : {E : Type 0} → ℕ → (old new : Option (List ℕ)) → List ℕ → Result Bool E

@@ -5,6 +5,7 @@ pub mod Gathering
 pub mod HeldLines
 pub mod Items
 pub mod Memory
+pub mod PendingLaws
 pub mod Pieces
 pub mod Reading
 pub mod Real

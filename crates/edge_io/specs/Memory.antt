@@ -9,7 +9,8 @@ counted n = min (n + 1) (2 ^ 64 - 1)
 -- How many bytes a call moves of so many that it could, after so many calls that moved bytes: no
 -- more than the next cut. The cuts go round and round; where there are none, nothing is cut.
 abbrev pub moved : List ℕ → ℕ → ℕ → ℕ
-moved cuts turn most = if length cuts == 0 then most else min (slice_index cuts (turn % length cuts)) most
+moved cuts turn most = if length cuts == 0 then most else min
+    (slice_index cuts (turn % length cuts)) most
 
 -- A source in memory: the bytes that are left, the numbers of the calls that fail and the cuts; and
 -- how many calls there were, how many of them moved bytes, and how many failed.
@@ -23,7 +24,11 @@ pub record SourceState : Type 0 where
 
 -- after a read of so many bytes
 abbrev pub after_read : SourceState → ℕ → SourceState
-after_read s n = record s { left = drop n s.left; calls = counted s.calls; turn = if n == 0 then s.turn else s.turn + 1 }
+after_read s n = record s {
+  left = drop n s.left;
+  calls = counted s.calls;
+  turn = if n == 0 then s.turn else s.turn + 1;
+}
 
 -- after a read that failed
 abbrev pub after_failed_read : SourceState → SourceState
@@ -43,7 +48,11 @@ pub record SinkState : Type 0 where
 
 -- after a write that took these bytes
 abbrev pub after_write : SinkState → List ℕ → SinkState
-after_write s bytes = record s { taken = s.taken ++ bytes; calls = counted s.calls; turn = s.turn + 1 }
+after_write s bytes = record s {
+  taken = s.taken ++ bytes;
+  calls = counted s.calls;
+  turn = s.turn + 1;
+}
 
 -- after a write that failed
 abbrev pub after_failed_write : SinkState → SinkState

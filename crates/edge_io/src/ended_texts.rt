@@ -6,14 +6,16 @@ ghost use Rattle.edge_io.specs.EndedReads.{TextRead, EndIs};
 use crate::fed_parts::refused;
 use crate::{FedError, Feed, Line, LineBuf, LineFault, LineReader, Source, TakeError};
 
-/// Reads a text whose lines all end with a newline, from a feed of which no line was read, to the end
-/// of its input. Its first line has the number 1, and it may have `limit` bytes. No line is skipped.
+/// Reads a text whose lines all end with a newline, from a feed of which no line was read, to the
+/// end of its input. Its first line has the number 1, and it may have `limit` bytes. No line is
+/// skipped.
 ///
 /// `Refused` names the first line that is refused: by the reader's rule, or by `form` where it is
 /// longer than `LONGEST_LINE`, does not end with a newline, or stands behind the line that ends the
 /// part; and the line after the last one where the text ends before. `TooLong` comes where the byte
-/// behind the limit was read, and no line that is shown before it is refused. `ReadFault` comes only
-/// where the source counted a fault, and `NoMemory` where the reader ran out of memory.
+/// behind the limit was read, and no line that is shown before it is refused. `ReadFault` comes
+/// only where the source counted one fault, and `NoMemory` where the reader ran out of memory. What
+/// decides is the last byte that was read, or the end; at `ReadFault` nothing does.
 pub fn read_ended<S: Source, P: LineReader>(
     feed: &mut Feed<'_, S>,
     line: &mut LineBuf,
@@ -26,8 +28,10 @@ where
     requires none { feed.old.line_bytes ≡ 0 }
     requires numbers { limit < 2 ^ 64 - 2 }
     ensures same_reference { feed.new.source.ghost_name ≡ feed.old.source.ghost_name }
-    ensures text { TextRead P.step form reader limit (feed_left S.left feed.old) (feed_left S.left feed.new) result }
-    ensures cause { HasPartCause (S.faults feed.old.source.now) (S.faults feed.new.source.now) (feed.new.at ≡ feed.new.end) result }
+    ensures text { TextRead P.step form reader limit (feed_left S.left feed.old)
+        (feed_left S.left feed.new) result }
+    ensures cause { HasPartCause (S.faults feed.old.source.now) (S.faults feed.new.source.now)
+        (feed.new.at ≡ feed.new.end) result }
 {
     let mut number: u64 = 1;
     loop {
@@ -67,8 +71,10 @@ fn end_of_text<S: Source, R: Copy>(
 ) -> Result<(), FedError<R>>
     requires { feed.old.line_bytes ≤ limit }
     ensures same_reference { feed.new.source.ghost_name ≡ feed.old.source.ghost_name }
-    ensures end { EndIs form number limit feed.old.line_bytes (feed_left S.left feed.old) (feed_left S.left feed.new) result }
-    ensures cause { HasPartCause (S.faults feed.old.source.now) (S.faults feed.new.source.now) (feed.new.at ≡ feed.new.end) result }
+    ensures end { EndIs form number limit feed.old.line_bytes (feed_left S.left feed.old)
+        (feed_left S.left feed.new) result }
+    ensures cause { HasPartCause (S.faults feed.old.source.now) (S.faults feed.new.source.now)
+        (feed.new.at ≡ feed.new.end) result }
 {
     match feed.line(line, limit) {
         Ok(Line::End) => return Ok(()),

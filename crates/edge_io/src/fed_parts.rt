@@ -35,9 +35,11 @@ pub enum FedError<R> {
 /// Reads a part from a feed, line by line, and no byte behind its last line. The first line has the
 /// number `first`, and all lines that were read of the feed may have `limit` bytes.
 ///
-/// `Refused` comes exactly where `read_part` refuses a line of the same text, at a line that is shown
-/// within the limit; `TooLong` exactly where the byte behind the limit was read first. `ReadFault`
-/// comes only where the source counted a fault, and `NoMemory` where the reader ran out of memory.
+/// `Refused` comes exactly where `read_part` refuses a line of the same text, at a line that is
+/// shown within the limit; `TooLong` exactly where the byte behind the limit was read first.
+/// `ReadFault` comes only where the source counted one fault, and `NoMemory` where the reader ran
+/// out of memory. What decides is the last byte that was read, or the end; at `ReadFault` nothing
+/// does.
 pub fn feed_part<S: Source, P: LineReader>(
     feed: &mut Feed<'_, S>,
     line: &mut LineBuf,
@@ -49,9 +51,11 @@ pub fn feed_part<S: Source, P: LineReader>(
     requires room { feed.old.line_bytes ≤ limit }
     requires numbers { first + limit < 2 ^ 64 - 1 }
     ensures same_reference { feed.new.source.ghost_name ≡ feed.old.source.ghost_name }
-    ensures fed { PartFed (with_skips P.step form) form reader first limit feed.old.line_bytes feed.new.line_bytes (feed_left S.left feed.old) (feed_left S.left feed.new) result }
+    ensures fed { PartFed (with_skips P.step form) form reader first limit feed.old.line_bytes
+        feed.new.line_bytes (feed_left S.left feed.old) (feed_left S.left feed.new) result }
     ensures few { IfOk result (λ x. x.lines ≤ limit) }
-    ensures cause { HasPartCause (S.faults feed.old.source.now) (S.faults feed.new.source.now) (feed.new.at ≡ feed.new.end) result }
+    ensures cause { HasPartCause (S.faults feed.old.source.now) (S.faults feed.new.source.now)
+        (feed.new.at ≡ feed.new.end) result }
 {
     let mut number = first;
     let mut lines: u64 = 0;

@@ -1,4 +1,4 @@
-ghost use Rattle.std.specs.Prelude.{◌≤◌, length};
+ghost use Rattle.std.specs.Prelude.{◌≡◌, ◌≤◌, length};
 
 use crate::{Failed, LONGEST_LINE, LineBuf, ReadFault, Source};
 use thiserror::Error;
@@ -44,6 +44,7 @@ pub struct Feed<'a, S> {
     line_bytes: u64,
     ghost within: { at ≤ end },
     ghost room: { end ≤ length buffer },
+    ghost size: { length buffer ≡ 4096 },
 }
 
 impl<'a, S: Source> Feed<'a, S> {
@@ -76,7 +77,8 @@ impl<'a, S: Source> Feed<'a, S> {
         ensures left { Keeps (feed_left S.left self.old) (feed_left S.left self.new) }
         ensures end { result ≡ Ok false → IsAtEnd (feed_left S.left self.new) }
         ensures more { result ≡ Ok true → self.new.at < self.new.end }
-        ensures cause { HasCause (S.faults self.old.source.now) (S.faults self.new.source.now) result }
+        ensures cause { HasCause (S.faults self.old.source.now) (S.faults self.new.source.now)
+            result }
         ensures dry { OnErr result (self.new.at ≡ self.new.end) }
         ensures still { self.new.line_bytes ≡ self.old.line_bytes }
     {
@@ -94,12 +96,13 @@ impl<'a, S: Source> Feed<'a, S> {
 
     /// The next byte, None at the end.
     ///
-    /// `ReadFault` comes only where the source counted a fault. The feed is then as before, and its
-    /// buffer is empty: all bytes that the source gave were read.
+    /// `ReadFault` comes only where the source counted one fault. The feed is then as before, and
+    /// its buffer is empty: all bytes that the source gave were read.
     pub fn byte(&mut self) -> Result<Option<u8>, ReadFault>
         ensures same_reference { self.new.source.ghost_name ≡ self.old.source.ghost_name }
         ensures bytes { TakesByte (feed_left S.left self.old) (feed_left S.left self.new) result }
-        ensures cause { HasCause (S.faults self.old.source.now) (S.faults self.new.source.now) result }
+        ensures cause { HasCause (S.faults self.old.source.now) (S.faults self.new.source.now)
+            result }
         ensures dry { OnErr result (self.new.at ≡ self.new.end) }
         ensures still { self.new.line_bytes ≡ self.old.line_bytes }
     {
@@ -116,8 +119,10 @@ impl<'a, S: Source> Feed<'a, S> {
     /// The next byte of a line, where all lines so far may have `limit` bytes.
     fn line_byte(&mut self, limit: u64) -> Result<Option<u8>, LineFault>
         ensures same_reference { self.new.source.ghost_name ≡ self.old.source.ghost_name }
-        ensures bytes { TakesLineByte limit self.old.line_bytes self.new.line_bytes (feed_left S.left self.old) (feed_left S.left self.new) result }
-        ensures cause { HasLineCause (S.faults self.old.source.now) (S.faults self.new.source.now) (self.new.at ≡ self.new.end) result }
+        ensures bytes { TakesLineByte limit self.old.line_bytes self.new.line_bytes
+            (feed_left S.left self.old) (feed_left S.left self.new) result }
+        ensures cause { HasLineCause (S.faults self.old.source.now) (S.faults self.new.source.now)
+            (self.new.at ≡ self.new.end) result }
     {
         let byte = match self.byte() {
             Ok(Some(byte)) => byte,
@@ -136,7 +141,8 @@ impl<'a, S: Source> Feed<'a, S> {
     /// changes.
     fn take_held(&mut self, line: &mut LineBuf, limit: u64) -> bool
         requires { line.old ≡ [] }
-        ensures taken { result ≡ true → LineIs limit self.old.line_bytes self.new.line_bytes (feed_left S.left self.old) (feed_left S.left self.new) line.new (Ok how.Whole) }
+        ensures taken { result ≡ true → LineIs limit self.old.line_bytes self.new.line_bytes
+            (feed_left S.left self.old) (feed_left S.left self.new) line.new (Ok how.Whole) }
         ensures one { is_one_line line.new ≡ true }
         ensures short { length line.new ≤ 4096 }
         ensures none { result ≡ false → (self.new ≡ self.old) × (line.new ≡ []) }
@@ -176,13 +182,16 @@ impl<'a, S: Source> Feed<'a, S> {
     ///
     /// `TooLong` comes exactly where the byte behind the limit was read; it is tested at each byte
     /// before its newline or its byte 4097 is seen, and comes again at each later byte. `ReadFault`
-    /// comes only where the source counted a fault; all bytes that the source gave were then read.
+    /// comes only where the source counted one fault; all bytes that the source gave were then
+    /// read, and none behind the limit.
     pub fn line(&mut self, line: &mut LineBuf, limit: u64) -> Result<Line, LineFault>
         ensures same_reference { self.new.source.ghost_name ≡ self.old.source.ghost_name }
-        ensures line { LineIs limit self.old.line_bytes self.new.line_bytes (feed_left S.left self.old) (feed_left S.left self.new) line.new result }
+        ensures line { LineIs limit self.old.line_bytes self.new.line_bytes
+            (feed_left S.left self.old) (feed_left S.left self.new) line.new result }
         ensures one { is_one_line line.new ≡ true }
         ensures short { length line.new ≤ 4096 }
-        ensures cause { HasLineCause (S.faults self.old.source.now) (S.faults self.new.source.now) (self.new.at ≡ self.new.end) result }
+        ensures cause { HasLineCause (S.faults self.old.source.now) (S.faults self.new.source.now)
+            (self.new.at ≡ self.new.end) result }
     {
         line.clear();
         if self.take_held(line, limit) {
@@ -195,10 +204,12 @@ impl<'a, S: Source> Feed<'a, S> {
     fn line_by_bytes(&mut self, line: &mut LineBuf, limit: u64) -> Result<Line, LineFault>
         requires { line.old ≡ [] }
         ensures same_reference { self.new.source.ghost_name ≡ self.old.source.ghost_name }
-        ensures line { LineIs limit self.old.line_bytes self.new.line_bytes (feed_left S.left self.old) (feed_left S.left self.new) line.new result }
+        ensures line { LineIs limit self.old.line_bytes self.new.line_bytes
+            (feed_left S.left self.old) (feed_left S.left self.new) line.new result }
         ensures one { is_one_line line.new ≡ true }
         ensures short { length line.new ≤ 4096 }
-        ensures cause { HasLineCause (S.faults self.old.source.now) (S.faults self.new.source.now) (self.new.at ≡ self.new.end) result }
+        ensures cause { HasLineCause (S.faults self.old.source.now) (S.faults self.new.source.now)
+            (self.new.at ≡ self.new.end) result }
     {
         for _ in 0..LONGEST_LINE {
             match self.line_byte(limit) {

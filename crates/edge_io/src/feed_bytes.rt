@@ -4,12 +4,15 @@ ghost use Rattle.edge_io.specs.Feeds.{feed_left, ReadsSoMany, Fills};
 
 use crate::{Feed, ReadFault, Source};
 
-/// Reads `count` bytes and keeps none: true where they were there, false where the input ended before.
+/// Reads `count` bytes and keeps none: true where they were there, false where the input ended
+/// before.
 ///
-/// `ReadFault` comes only where the source counted a fault; all bytes that it gave were then read.
+/// `ReadFault` comes only where the source counted one fault; all bytes that it gave were then
+/// read.
 pub fn skip_bytes<S: Source>(feed: &mut Feed<'_, S>, count: usize) -> Result<bool, ReadFault>
     ensures same_reference { feed.new.source.ghost_name ≡ feed.old.source.ghost_name }
-    ensures bytes { (bytes : List ℕ) × ReadsSoMany count (feed_left S.left feed.old) (feed_left S.left feed.new) bytes result }
+    ensures bytes { (bytes : List ℕ)
+        × ReadsSoMany count (feed_left S.left feed.old) (feed_left S.left feed.new) bytes result }
     ensures cause { HasCause (S.faults feed.old.source.now) (S.faults feed.new.source.now) result }
     ensures dry { OnErr result (feed.new.at ≡ feed.new.end) }
 {
@@ -25,10 +28,12 @@ pub fn skip_bytes<S: Source>(feed: &mut Feed<'_, S>, count: usize) -> Result<boo
 
 /// Fills a buffer: true where so many bytes were there, false where the input ended before.
 ///
-/// `ReadFault` comes only where the source counted a fault; all bytes that it gave were then read.
+/// `ReadFault` comes only where the source counted one fault; all bytes that it gave were then
+/// read.
 pub fn take_bytes<S: Source>(feed: &mut Feed<'_, S>, buf: &mut [u8]) -> Result<bool, ReadFault>
     ensures same_reference { feed.new.source.ghost_name ≡ feed.old.source.ghost_name }
-    ensures bytes { Fills (feed_left S.left feed.old) (feed_left S.left feed.new) buf.old buf.new result }
+    ensures bytes { Fills (feed_left S.left feed.old) (feed_left S.left feed.new) buf.old buf.new
+        result }
     ensures cause { HasCause (S.faults feed.old.source.now) (S.faults feed.new.source.now) result }
     ensures dry { OnErr result (feed.new.at ≡ feed.new.end) }
 {

@@ -11,9 +11,11 @@ const ROOM: usize = 8192;
 /// The digits of the longest number.
 const MOST_DIGITS: usize = 20;
 
-/// A sink that gathers bytes in a buffer of 8192 bytes of its own, and passes them on to the sink that it was lent only when that is full and at `flush` or `finish`. It takes no memory.
+/// A sink that gathers bytes in a buffer of 8192 bytes of its own, and passes them on to the sink
+/// that it was lent only when that is full and at `flush` or `finish`. It takes no memory.
 ///
-/// What was not passed on when a write failed stays in the buffer. Bytes that are held back when it is dropped are lost: end with `finish`.
+/// What was not passed on when a write failed stays in the buffer. Bytes that are held back when it
+/// is dropped are lost: end with `finish`.
 #[derive(Drop)]
 pub struct Gathered<'a, K> {
     sink: &'a mut K,
@@ -34,7 +36,8 @@ impl<'a, K: Sink> Gathered<'a, K> {
     /// A gathering sink that holds nothing back.
     pub fn new(sink: &'a mut K) -> Gathered<'a, K>
         ensures same_reference { result.sink.ghost_name ≡ sink.entry.ghost_name }
-        ensures told { gathered_told K.told result ≡ gathering sink.entry.ghost_name [] (K.told sink.old) }
+        ensures told { gathered_told K.told result
+            ≡ gathering sink.entry.ghost_name [] (K.told sink.old) }
         ensures behind { result.sink.now ≡ sink.old }
     {
         Gathered {
@@ -47,10 +50,12 @@ impl<'a, K: Sink> Gathered<'a, K> {
 
     /// Passes on all that is held back.
     ///
-    /// `WriteFault` comes only where the sink behind counted a fault; what it did not take is still held back.
+    /// `WriteFault` comes only where the sink behind counted one fault; what it did not take is
+    /// still held back.
     pub fn flush(&mut self) -> Result<(), WriteFault>
         ensures same_reference { self.new.sink.ghost_name ≡ self.old.sink.ghost_name }
-        ensures puts { Puts result [] (gathered_told K.told self.old) (gathered_told K.told self.new) }
+        ensures puts { Puts result [] (gathered_told K.told self.old)
+            (gathered_told K.told self.new) }
         ensures none_held { OnOk result (held self.new ≡ []) }
         ensures room { OnOk result (self.new.end ≡ 0) }
     {
@@ -66,10 +71,13 @@ impl<'a, K: Sink> Gathered<'a, K> {
         Ok(())
     }
 
-    /// Ends a text: where all of it was written here, passes on all that is held back. Where not, answers that fault again.
+    /// Ends a text: where all of it was written here, passes on all that is held back. Where not,
+    /// answers that fault again.
     pub fn finish(&mut self, written: Result<(), WriteFault>) -> Result<(), WriteFault>
         ensures same_reference { self.new.sink.ghost_name ≡ self.old.sink.ghost_name }
-        ensures puts { (text : List ℕ) (start : Told) → Puts written text start (gathered_told K.told self.old) → Puts result text start (gathered_told K.told self.new) }
+        ensures puts { (text : List ℕ) (start : Told)
+            → Puts written text start (gathered_told K.told self.old)
+            → Puts result text start (gathered_told K.told self.new) }
         ensures none_held { OnOk result (held self.new ≡ []) }
     {
         match written {
@@ -82,7 +90,8 @@ impl<'a, K: Sink> Gathered<'a, K> {
     fn make_room(&mut self, count: usize) -> Result<(), WriteFault>
         requires few { count ≤ 8192 }
         ensures same_reference { self.new.sink.ghost_name ≡ self.old.sink.ghost_name }
-        ensures puts { Puts result [] (gathered_told K.told self.old) (gathered_told K.told self.new) }
+        ensures puts { Puts result [] (gathered_told K.told self.old)
+            (gathered_told K.told self.new) }
         ensures room { OnOk result (self.new.end + count ≤ length self.new.buffer) }
     {
         if count <= ROOM - self.end {
@@ -95,7 +104,8 @@ impl<'a, K: Sink> Gathered<'a, K> {
     fn hold_byte(&mut self, byte: u8)
         requires room { self.old.end < length self.old.buffer }
         ensures same_reference { self.new.sink.ghost_name ≡ self.old.sink.ghost_name }
-        ensures wrote { Wrote (byte ∷ []) (gathered_told K.told self.old) (gathered_told K.told self.new) }
+        ensures wrote { Wrote (byte ∷ []) (gathered_told K.told self.old)
+            (gathered_told K.told self.new) }
     {
         let at = self.end;
         place(&mut self.buffer, at, &[byte]);
@@ -106,7 +116,8 @@ impl<'a, K: Sink> Gathered<'a, K> {
     fn hold_all(&mut self, bytes: &[u8])
         requires room { self.old.end + length bytes.now ≤ length self.old.buffer }
         ensures same_reference { self.new.sink.ghost_name ≡ self.old.sink.ghost_name }
-        ensures wrote { Wrote bytes.now (gathered_told K.told self.old) (gathered_told K.told self.new) }
+        ensures wrote { Wrote bytes.now (gathered_told K.told self.old)
+            (gathered_told K.told self.new) }
         ensures end { self.new.end ≡ self.old.end + length bytes.now }
     {
         let at = self.end;
@@ -118,7 +129,8 @@ impl<'a, K: Sink> Gathered<'a, K> {
     fn hold_number(&mut self, value: u64)
         requires room { self.old.end + 20 ≤ length self.old.buffer }
         ensures same_reference { self.new.sink.ghost_name ≡ self.old.sink.ghost_name }
-        ensures wrote { Wrote (decimal value) (gathered_told K.told self.old) (gathered_told K.told self.new) }
+        ensures wrote { Wrote (decimal value) (gathered_told K.told self.old)
+            (gathered_told K.told self.new) }
     {
         if value < 10 {
             self.hold_byte(b'0' + value as u8);
@@ -132,7 +144,8 @@ impl<'a, K: Sink> Gathered<'a, K> {
     fn hold_rising(&mut self, number: &RisingText)
         requires room { self.old.end + 32 ≤ length self.old.buffer }
         ensures same_reference { self.new.sink.ghost_name ≡ self.old.sink.ghost_name }
-        ensures wrote { Wrote (labelled_text number.now) (gathered_told K.told self.old) (gathered_told K.told self.new) }
+        ensures wrote { Wrote (labelled_text number.now) (gathered_told K.told self.old)
+            (gathered_told K.told self.new) }
     {
         self.end = number.place_in(&mut self.buffer, self.end);
     }
@@ -144,7 +157,8 @@ impl<'a, K: Sink> Gathered<'a, K> {
         ensures same_reference { self.new.sink.ghost_name ≡ self.old.sink.ghost_name }
         ensures least { 0 < result }
         ensures most { result ≤ length bytes.now }
-        ensures wrote { Wrote (take result bytes.now) (gathered_told K.told self.old) (gathered_told K.told self.new) }
+        ensures wrote { Wrote (take result bytes.now) (gathered_told K.told self.old)
+            (gathered_told K.told self.new) }
     {
         let room = self.buffer.len() - self.end;
         let count = if bytes.len() < room {

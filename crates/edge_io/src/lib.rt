@@ -1,8 +1,15 @@
 //! Bytes in and bytes out.
 //!
-//! A `Source` gives bytes in pieces and a `Sink` takes them in pieces. Each counts its faults, so that a caller's clauses can say that it reports a fault exactly where one was counted. There are real ones (`StdSource`, `StdSink`), ones in memory that fail and cut where they are told to (`MemSource`, `MemSink`), plain ones that never fail (`PlainSource`, `NullSink`), and `Gathered`, a buffer over another sink.
+//! A `Source` gives bytes in pieces and a `Sink` takes them in pieces. Each counts its faults, one
+//! at a time, so that a caller's clauses can say that it reports a fault exactly where one was
+//! counted, and that this fault ended the call. There are real ones (`StdSource`, `StdSink`), ones
+//! in memory that fail and cut where they are told to (`MemSource`, `MemSink`), plain ones that
+//! never fail (`PlainSource`, `NullSink`), and `Gathered`, a buffer over another sink.
 //!
-//! Over these stand the calls that read a whole input, write a text, and read a text line by line, word by word and number by number. Only `read_all` and `MemSink::new` take memory.
+//! Over these stand the calls that read a whole input, write a text, and read a text line by line,
+//! word by word and number by number. What decides an answer decides it at once: a call takes no
+//! byte of a feed behind the one that does, and the feed at most a buffer of its source. Only
+//! `read_all`, `LineBuf::new` and `MemSink::new` take memory.
 #![tactic(auto)]
 
 mod cuts;
@@ -10,8 +17,6 @@ mod ended_texts;
 mod fed_parts;
 mod feed;
 mod feed_bytes;
-#[cfg(test)]
-mod feed_tests;
 mod gathered;
 mod laws;
 mod line_buf;
@@ -30,8 +35,6 @@ mod shapes;
 mod std_sink;
 mod std_source;
 mod taking;
-#[cfg(test)]
-mod tests;
 mod traits;
 mod whole;
 
@@ -40,7 +43,7 @@ pub use fed_parts::{FedError, FedPart, feed_part};
 pub use feed::{Feed, Line, LineFault};
 pub use feed_bytes::{skip_bytes, take_bytes};
 pub use gathered::Gathered;
-pub use laws::{ill_parted_lines_are_refused, numbers_have_one_word};
+pub use laws::{ill_parted_lines_are_refused, numbers_have_one_word, pending_bytes_decide_nothing};
 pub use line_buf::LineBuf;
 pub use lines::{Lines, Words, first_line};
 pub use mem_sink::{MemSink, NoMemory};

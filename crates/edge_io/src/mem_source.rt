@@ -20,20 +20,37 @@ pub struct MemSource {
 impl Model for MemSource {
     ghost Value = { SourceState };
 
-    ghost view = { λ s. record { left = drop s.at s.bytes.items; fails = s.fails.items; cuts = s.cuts.items; calls = s.calls; turn = s.turn; faults = s.faults } };
+    ghost view = { λ s. record {
+      left = drop s.at s.bytes.items;
+      fails = s.fails.items;
+      cuts = s.cuts.items;
+      calls = s.calls;
+      turn = s.turn;
+      faults = s.faults;
+    } };
 
-    ghost invariant = { λ s. (s.turn ≤ s.at) × (s.at ≤ vec_len s.bytes) × All (λ size. 1 ≤ size) s.cuts.items };
+    ghost invariant = { λ s. (s.turn ≤ s.at) × (s.at ≤ vec_len s.bytes)
+        × All (λ size. 1 ≤ size) s.cuts.items };
 }
 
 impl MemSource {
     ghost use Rattle.std.specs.Prelude.{◌≡◌, ◌≤◌, All};
 
-    /// A source of these bytes. The calls whose numbers are in `fails` fail, counted from 1, the number standing still at 2^64 - 1.
+    /// A source of these bytes. The calls whose numbers are in `fails` fail, counted from 1, the
+    /// number standing still at 2^64 - 1.
     ///
-    /// The sizes in `cuts`, each at least 1, are used round and round: each call that reads bytes reads no more than the next of them. Where the list is empty nothing is cut.
+    /// The sizes in `cuts`, each at least 1, are used round and round: each call that reads bytes
+    /// reads no more than the next of them. Where the list is empty nothing is cut.
     pub fn new(bytes: Vec<u8>, fails: Vec<u64>, cuts: Vec<usize>) -> MemSource
         requires { All (λ size. 1 ≤ size) cuts.items }
-        ensures { result ≡ record { left = bytes.items; fails = fails.items; cuts = cuts.items; calls = 0; turn = 0; faults = 0 } }
+        ensures { result ≡ record {
+          left = bytes.items;
+          fails = fails.items;
+          cuts = cuts.items;
+          calls = 0;
+          turn = 0;
+          faults = 0;
+        } }
     {
         MemSource {
             bytes,
@@ -58,7 +75,8 @@ impl Source for MemSource {
 
     ghost faults = { λ s. s.faults };
 
-    /// Reads as many bytes as the buffer, the bytes that are left and the next cut allow. `Failed` comes exactly at the listed calls.
+    /// Reads as many bytes as the buffer, the bytes that are left and the next cut allow. `Failed`
+    /// comes exactly at the listed calls.
     fn read(&mut self, buf: &mut [u8]) -> Result<usize, Failed>
         requires { 0 < length buf.old }
         ensures bound { ReadsAtMost result buf.new }
@@ -67,8 +85,10 @@ impl Source for MemSource {
 
         ensures listed { OnErr result (Contains self.old.fails (counted self.old.calls)) }
         ensures unlisted { OnOk result (Contains self.old.fails (counted self.old.calls) → ⊥) }
-        ensures count { IfOk result (λ n. n ≡ moved self.old.cuts self.old.turn (min (length buf.old) (length self.old.left))) }
-        ensures state { MatchResult result (λ n. self.new ≡ after_read self.old n) (λ _. self.new ≡ after_failed_read self.old) }
+        ensures count { IfOk result (λ n. n
+            ≡ moved self.old.cuts self.old.turn (min (length buf.old) (length self.old.left))) }
+        ensures state { MatchResult result (λ n. self.new ≡ after_read self.old n) (λ _. self.new
+            ≡ after_failed_read self.old) }
     {
         self.calls = self.calls.saturating_add(1);
         if self.fails.contains(&self.calls) {

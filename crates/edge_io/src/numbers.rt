@@ -8,7 +8,8 @@ use itoa::Buffer;
 /// The digits of the longest number.
 const MOST_DIGITS: usize = 15;
 
-/// The number that a word writes in decimal: 1 to 15 digits, with no leading zero but in `0` itself. None exactly where the word is no number.
+/// The number that a word writes in decimal: 1 to 15 digits, with no leading zero but in `0`
+/// itself. None exactly where the word is no number.
 pub fn number(word: &[u8]) -> Option<u64>
     ensures { result ≡ number_of word.now }
 {
@@ -30,7 +31,8 @@ pub fn number(word: &[u8]) -> Option<u64>
 
 /// Writes a number in decimal.
 ///
-/// `WriteFault` comes only where the sink counted a fault; a front of the digits was then taken.
+/// `WriteFault` comes only where the sink counted one fault, which ended the call; a front of the
+/// digits was then taken, and not all of them came through.
 pub fn put_number<K: Sink>(sink: &mut K, value: u64) -> Result<(), WriteFault>
     ensures { Puts result (decimal value) (K.told sink.old) (K.told sink.new) }
 {

@@ -99,8 +99,14 @@ pub fn read_part<P: LineReader>(
 ) -> Result<PartRead<P::Value>, PartError<P::Rule>>
     requires { first + length text.now < 2 ^ 64 }
     ensures exact { MatchResult result
-        (λ x. part_from (with_skips P.step form) form reader 0 first (lines_of text.now) ≡ Ok (record { value = x.value; taken = x.lines; behind = lines_of (drop x.bytes text.now) }))
-        (λ e. FailsAt e (part_from (with_skips P.step form) form reader 0 first (lines_of text.now))) }
+        (λ x. part_from (with_skips P.step form) form reader 0 first (lines_of text.now)
+        ≡ Ok (record {
+          value = x.value;
+          taken = x.lines;
+          behind = lines_of (drop x.bytes text.now);
+        }))
+        (λ e. FailsAt e
+        (part_from (with_skips P.step form) form reader 0 first (lines_of text.now))) }
     ensures within { IfOk result (λ x. x.bytes ≤ length text.now) }
     ensures lines { IfOk result (λ x. x.lines ≤ x.bytes) }
 {

@@ -86,10 +86,10 @@ impl NullSink {
 }
 
 impl Sink for NullSink {
-    ghost use Rattle.std.specs.Prelude.{◌≡◌, ◌<◌, ◌≤◌, ◌+◌, ◌-◌, ◌^◌, length, min, None, Ok, IfOk};
+    ghost use Rattle.std.specs.Prelude.{◌≡◌, ◌<◌, ◌≤◌, ◌+◌, ◌-◌, ◌^◌, length, min, None, Ok, IfOk, OnErr};
     ghost use Rattle.std.specs.Io.KnownBytes.{WriteAppends};
     ghost use Rattle.texts.specs.Causes.{HasCause};
-    ghost use Rattle.texts.specs.Growth.{Follows, UsesUp, plainly};
+    ghost use Rattle.texts.specs.Growth.{Follows, UsesUp, IsMissed, arrived, plainly};
 
     ghost told = { λ s. plainly None 0 };
 
@@ -102,6 +102,7 @@ impl Sink for NullSink {
         ensures cause { HasCause 0 0 result }
         ensures follows { Follows (plainly None 0) (plainly None 0) }
         ensures uses { UsesUp (plainly None 0) (plainly None 0) result bytes.now }
+        ensures missed { OnErr result (IsMissed None (arrived (plainly None 0)) bytes.now) }
 
         ensures all { result ≡ Ok (length bytes.now) }
         ensures counted { self.new ≡ min (self.old + length bytes.now) (2 ^ 64 - 1) }

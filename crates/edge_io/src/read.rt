@@ -1,7 +1,7 @@
 ghost use Rattle.std.specs.Prelude.{◌≡◌, ◌<◌, ◌≤◌, length, IfOk, IfSome, IsErrOf, OnOk, OnErr};
 ghost use Rattle.std.specs.Io.KnownBytes.{Consumes, IsAtEnd};
 ghost use Rattle.texts.specs.Causes.{Counted};
-ghost use Rattle.edge_io.specs.Reading.{LosesFront, LosesMore};
+ghost use Rattle.edge_io.specs.Reading.{LosesFront, LosesWithin, LosesMore};
 ghost use Rattle.edge_io.specs.declared.read.InputFault.TheVariants.{NoMemory};
 
 use crate::{Failed, Source};
@@ -37,8 +37,9 @@ const PIECE: usize = 4096;
 
 /// Reads to the end of an input of at most `limit` bytes, in time linear in its length.
 ///
-/// `TooLong` comes where the byte behind the limit was read, `ReadFault` only where the source
-/// counted a fault, `NoMemory` where memory ran out.
+/// `TooLong` comes at the first piece that goes past the limit, so at most 4096 bytes behind it.
+/// `ReadFault` comes only where the source counted one fault, and `NoMemory` where memory ran out;
+/// then at most `limit` bytes were read.
 pub fn read_all<S: Source>(
     alloc: Global,
     source: &mut S,
@@ -49,16 +50,25 @@ pub fn read_all<S: Source>(
     ensures end { OnOk result (IsAtEnd (S.left source.new)) }
     ensures short { IfOk result (λ v. length v.items ≤ limit) }
 
-    ensures long { IsErrOf result InputFault.TooLong → IfSome (S.left source.old) (λ bytes. limit < length bytes) }
-    ensures past { IsErrOf result InputFault.TooLong → LosesMore limit (S.left source.old) (S.left source.new) }
+    ensures long { IsErrOf result InputFault.TooLong
+        → IfSome (S.left source.old) (λ bytes. limit < length bytes) }
+    ensures past { IsErrOf result InputFault.TooLong
+        → LosesMore limit (S.left source.old) (S.left source.new) }
 
-    // What was read before an error is lost, and what is behind it is left.
+    // What was read before an error is lost, and what is behind it is left. Only at `TooLong` was a
+    // byte behind the limit read.
     ensures lost { OnErr result (LosesFront (S.left source.old) (S.left source.new)) }
+    ensures within { IsErrOf result InputFault.ReadFault
+        → LosesWithin limit (S.left source.old) (S.left source.new) }
+    ensures kept { IsErrOf result InputFault.NoMemory
+        → LosesWithin limit (S.left source.old) (S.left source.new) }
 
-    // Only a read fault was counted.
-    ensures fault { IsErrOf result InputFault.ReadFault → Counted (S.faults source.old) (S.faults source.new) }
+    // Only a read fault was counted, and one.
+    ensures fault { IsErrOf result InputFault.ReadFault
+        → Counted (S.faults source.old) (S.faults source.new) }
     ensures still { IsErrOf result InputFault.TooLong → S.faults source.new ≡ S.faults source.old }
-    ensures memory { IsErrOf result InputFault.NoMemory → S.faults source.new ≡ S.faults source.old }
+    ensures memory { IsErrOf result InputFault.NoMemory
+        → S.faults source.new ≡ S.faults source.old }
     ensures ok { OnOk result (S.faults source.new ≡ S.faults source.old) }
 {
     let mut bytes = Vec::new(alloc);

@@ -3,7 +3,8 @@ ghost use Rattle.std.specs.Prelude.{◌≤◌, length};
 use crate::places::{place, place_number};
 use std::marker::Model;
 
-/// The bytes that such a text takes up while it is copied: the longest label and the longest number.
+/// The bytes that such a text takes up while it is copied: the longest label and the longest
+/// number.
 pub const MOST_RISING: usize = 32;
 
 /// A number behind a label, kept as text, that rises by one at a time.

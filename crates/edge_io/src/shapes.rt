@@ -4,7 +4,8 @@ ghost use Rattle.texts.specs.Shapes.{numbers_after};
 
 use crate::{Words, number};
 
-/// The numbers of a line that is a key and exactly `N` numbers behind it, parted by single spaces. None exactly where the line is not of that shape.
+/// The numbers of a line that is a key and exactly `N` numbers behind it, parted by single spaces.
+/// None exactly where the line is not of that shape.
 pub fn numbers_after<const N: usize>(line: &[u8], key: &[u8]) -> Option<[u64; N]>
     ensures { result ≡ numbers_after key.now N (words_of line.now) }
 {

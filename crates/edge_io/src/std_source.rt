@@ -1,7 +1,8 @@
 use crate::{Failed, Source};
 use std::io::Read;
 
-/// A real reader. It tells nothing of its bytes, and counts each error, that of an interrupted call too.
+/// A real reader. It tells nothing of its bytes, and counts each error, that of an interrupted call
+/// too.
 #[derive(Drop)]
 pub struct StdSource<R> {
     inner: R,
@@ -30,7 +31,7 @@ impl<R: Read> StdSource<R> {
 impl<R: Read> Source for StdSource<R> {
     ghost use Rattle.std.specs.Prelude.{◌≡◌, ◌<◌, length, true, false, None, Ok, OnOk, OnErr, IfOk, ◌==◌};
     ghost use Rattle.std.specs.Io.{ReadsAtMost};
-    ghost use Rattle.std.specs.Io.KnownBytes.{ReadConsumes};
+    ghost use Rattle.std.specs.Io.KnownBytes.{Keeps, ReadConsumes};
     ghost use Rattle.texts.specs.Causes.{HasCause};
     ghost use Rattle.edge_io.specs.Memory.{counted};
     ghost use Rattle.edge_io.specs.Real.{failed_reads, has_ended, reader_of};
@@ -39,7 +40,8 @@ impl<R: Read> Source for StdSource<R> {
 
     ghost faults = { λ s. failed_reads s };
 
-    /// Reads once from the reader, and answers 0 for good after its first 0, without asking the reader again.
+    /// Reads once from the reader, and answers 0 for good after its first 0, without asking the
+    /// reader again.
     fn read(&mut self, buf: &mut [u8]) -> Result<usize, Failed>
         requires { 0 < length buf.old }
         ensures bound { ReadsAtMost result buf.new }
@@ -49,6 +51,8 @@ impl<R: Read> Source for StdSource<R> {
         // Each error is counted once, and is not the end.
         ensures counted { OnErr result (failed_reads self.new ≡ counted (failed_reads self.old)) }
         ensures open { OnErr result (has_ended self.new ≡ false) }
+        ensures kept { OnErr result (Keeps (R.remaining (reader_of self.old))
+            (R.remaining (reader_of self.new))) }
 
         // The end is where a read gave nothing, and stays so.
         ensures ends { IfOk result (λ n. has_ended self.new ≡ (n == 0)) }
@@ -56,7 +60,9 @@ impl<R: Read> Source for StdSource<R> {
         ensures unasked { has_ended self.old ≡ true → self.new ≡ self.old }
 
         // Before it the bytes are those of the reader, where that tells them.
-        ensures reader { has_ended self.old ≡ false → OnOk result (ReadConsumes (R.remaining (reader_of self.old)) (R.remaining (reader_of self.new)) result buf.new) }
+        ensures reader { has_ended self.old ≡ false
+            → OnOk result (ReadConsumes (R.remaining (reader_of self.old))
+            (R.remaining (reader_of self.new)) result buf.new) }
     {
         if self.ended {
             return Ok(0);

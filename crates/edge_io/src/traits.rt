@@ -1,9 +1,9 @@
-ghost use Rattle.std.specs.Prelude.{◌<◌, ◌≤◌, [], ◌∷◌, ◌++◌, List, ℕ, length, decimal, IfOk};
+ghost use Rattle.std.specs.Prelude.{◌<◌, ◌≤◌, [], ◌∷◌, ◌++◌, List, ℕ, length, decimal, IfOk, OnErr};
 ghost use Rattle.std.specs.declared.option.Option.{Option};
 ghost use Rattle.std.specs.Io.{ReadsAtMost};
 ghost use Rattle.std.specs.Io.KnownBytes.{ReadConsumes, WriteAppends};
 ghost use Rattle.texts.specs.Causes.{HasCause};
-ghost use Rattle.texts.specs.Growth.{Told, Follows, UsesUp, Puts};
+ghost use Rattle.texts.specs.Growth.{Told, Follows, UsesUp, Puts, IsMissed, arrived};
 ghost use Rattle.edge_io.specs.Rising.{labelled_text};
 
 use crate::{RisingText, WriteFault};
@@ -22,9 +22,10 @@ pub trait Source {
     /// How many reads have failed, up to 2 ^ 64 - 1.
     ghost faults: { Self → ℕ };
 
-    /// Places bytes at the front of the buffer, which is not empty, and answers how many: 0 only at the end of the input.
+    /// Places bytes at the front of the buffer, which is not empty, and answers how many: 0 only at
+    /// the end of the input.
     ///
-    /// `Failed` comes only where a fault was counted, and then nothing was read.
+    /// `Failed` comes only where one fault was counted, and then nothing was read.
     fn read(&mut self, buf: &mut [u8]) -> Result<usize, Failed>
         requires { 0 < length buf.old }
         ensures bound { ReadsAtMost result buf.new }
@@ -34,12 +35,15 @@ pub trait Source {
 
 /// Bytes that are taken in pieces.
 pub trait Sink {
-    /// The bytes that were taken, where the sink tells them, and how many writes have failed, up to 2 ^ 64 - 1.
+    /// The bytes that were taken, where the sink tells them, and how many writes have failed, up to
+    /// 2 ^ 64 - 1.
     ghost told: { Self → Told };
 
-    /// Takes some bytes from the front of a piece that is not empty, and answers how many: at least 1.
+    /// Takes some bytes from the front of a piece that is not empty, and answers how many: at least
+    /// 1.
     ///
-    /// `Failed` comes only where a fault was counted, and then nothing was taken.
+    /// `Failed` comes only where one fault was counted, and then nothing was taken: of the bytes
+    /// that were taken before and this piece, not all came through to the last sink.
     fn write(&mut self, bytes: &[u8]) -> Result<usize, Failed>
         requires { 0 < length bytes.now }
         ensures some { IfOk result (λ n. 0 < n) }
@@ -47,38 +51,46 @@ pub trait Sink {
         ensures bytes { WriteAppends (told self.old).taken (told self.new).taken result bytes.now }
         ensures cause { HasCause (told self.old).faults (told self.new).faults result }
         ensures follows { Follows (told self.old) (told self.new) }
-        ensures uses { UsesUp (told self.old) (told self.new) result bytes.now };
+        ensures uses { UsesUp (told self.old) (told self.new) result bytes.now }
+        ensures missed { OnErr result (IsMissed (told self.old).taken (arrived (told self.new))
+            bytes.now) };
 }
 
 /// A sink that takes whole texts and numbers, piece by piece.
 pub trait TextSink: Sink {
     /// Takes all of the bytes.
     ///
-    /// `WriteFault` comes only where a fault was counted; a front of them was then taken.
+    /// `WriteFault` comes only where one fault was counted; a front of them was then taken, and not
+    /// all of them came through.
     fn text(&mut self, bytes: &[u8]) -> Result<(), WriteFault>
         ensures { Puts result bytes.now (Self.Sink.told self.old) (Self.Sink.told self.new) };
 
     /// Takes the decimal digits of a number.
     ///
-    /// `WriteFault` comes only where a fault was counted; a front of them was then taken.
+    /// `WriteFault` comes only where one fault was counted; a front of them was then taken, and not
+    /// all of them came through.
     fn number(&mut self, value: u64) -> Result<(), WriteFault>
         ensures { Puts result (decimal value) (Self.Sink.told self.old) (Self.Sink.told self.new) };
 
     /// Takes the bytes of a label, and behind them the decimal digits of a number.
     ///
-    /// `WriteFault` comes only where a fault was counted; a front of them was then taken.
+    /// `WriteFault` comes only where one fault was counted; a front of them was then taken, and not
+    /// all of them came through.
     fn labelled(&mut self, label: &[u8], value: u64) -> Result<(), WriteFault>
-        ensures { Puts result (label.now ++ decimal value) (Self.Sink.told self.old) (Self.Sink.told self.new) };
+        ensures { Puts result (label.now ++ decimal value) (Self.Sink.told self.old)
+            (Self.Sink.told self.new) };
 
     /// Takes one byte.
     ///
-    /// `WriteFault` comes only where a fault was counted.
+    /// `WriteFault` comes only where one fault was counted, and then it did not come through.
     fn byte(&mut self, byte: u8) -> Result<(), WriteFault>
         ensures { Puts result (byte ∷ []) (Self.Sink.told self.old) (Self.Sink.told self.new) };
 
     /// Takes a number that rises, with its label.
     ///
-    /// `WriteFault` comes only where a fault was counted; a front of the text was then taken.
+    /// `WriteFault` comes only where one fault was counted; a front of the text was then taken, and
+    /// not all of it came through.
     fn rising(&mut self, number: &RisingText) -> Result<(), WriteFault>
-        ensures { Puts result (labelled_text number.now) (Self.Sink.told self.old) (Self.Sink.told self.new) };
+        ensures { Puts result (labelled_text number.now) (Self.Sink.told self.old)
+            (Self.Sink.told self.new) };
 }

@@ -1,7 +1,11 @@
--- A count that is always 0.
-use Rattle.std.proofs.Common.{◌≤◌, arith}
-use Rattle.texts.specs.Causes.{Counted}
+-- What follows where one fault was counted.
+use Rattle.std.proofs.Common.{◌≡◌, ℕ, arith}
+use Rattle.texts.specs.Causes.{Counted, Rose}
+
+-- it rose, or stands at its last value
+pub rose : (before now : ℕ) → Counted before now → Rose before now
+rose before now counted = let once = counted.once in omega (arith, once)
 
 -- a count that stays at 0 counted no fault
 pub never_counted : Counted 0 0 → ⊥
-never_counted counted = let rose : 1 ≤ 0 = counted.rose in omega arith
+never_counted counted = let once : 0 ≡ 1 = counted.once in omega (arith, once)

@@ -16,7 +16,8 @@ either_fails false false (inr e) = absurd cc
 -- the test of lines tells
 pub ill_parted : (line : List ℕ) → IsIllParted line → is_well_parted line ≡ false
 ill_parted line (inl word) =
-    let empty = list_any_at (λ w. length w == 0) (words_of line) word.0 [] word.1 (rw word.2 refl) in
+    let empty = list_any_at (λ w. length w == 0) (words_of line) word.0 [] word.1 (rw word.2 refl)
+    in
     either_fails _ _ (inl empty)
 ill_parted line (inr byte) =
     either_fails _ _ (inr (list_any_at (λ b. b == 13) line byte.0 13 byte.1 (rw byte.2 refl)))
@@ -41,7 +42,8 @@ module _ {S V R : Type 0} (step : S → List ℕ → Next S V R) (form : R) wher
   -- a line that no state takes refuses the part, where the lines in front don't
   refused_behind : (front behind : List (List ℕ)) (line : List ℕ) (s : S) (taken number : ℕ)
       → ((t : S) → step t line ≡ refuses form)
-      → part_from step form s taken number front ≡ Err (record { line = number + length front; rule = form })
+      → part_from step form s taken number front
+      ≡ Err (record { line = number + length front; rule = form })
       → part_from step form s taken number (front ++ line ∷ behind)
       ≡ Err (record { line = number + length front; rule = form })
   refused_behind [] behind line s taken number refused h = rw (refused s) h
@@ -53,13 +55,15 @@ module _ {S V R : Type 0} (step : S → List ℕ → Next S V R) (form : R) wher
         | ends v ↦ Ok (record { value = v; taken = taken + 1; behind = lines })
         | refuses r ↦ Err (record { line = number; rule = r })
       ] in
-      let there : Result (Found V) (At R) = Err (record { line = number + length (l ∷ front); rule = form }) in
+      let there : Result (Found V) (At R) =
+      Err (record { line = number + length (l ∷ front); rule = form }) in
       let goal : Next S V R → Type 0 = λ next.
       from front next ≡ there → from (front ++ line ∷ behind) next ≡ there in
       let onward : (t : S) → goal (goes t) = λ t k.
       rw far (refused_behind front behind line t (taken + 1) (number + 1) refused (rw far at k)) in
       let past : (r : R) → goal (refuses r) = λ r k.
-      let e : number ≡ number + length (l ∷ front) = ap refused_line k in absurd (omega (arith, e)) in
+      let e : number ≡ number + length (l ∷ front) = ap refused_line k in
+      absurd (omega (arith, e)) in
       let cases : (next : Next S V R) → goal next = λ next. elim next as goal [
         | goes t ↦ onward t
         | ends v ↦ λ k. absurd cc

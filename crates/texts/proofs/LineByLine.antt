@@ -1,5 +1,5 @@
 -- One line after another, and what follows.
-use Rattle.std.proofs.Common.{◌⊎◌, inl, inr, ◌≡◌, ℕ, suc, ◌+◌, ◌<◌, Bool, true, false, cond, eqb, not, List, [], ◌∷◌, ◌++◌, length, refl, ap, sym, ◌∙◌, append_assoc, arith}
+use Rattle.std.proofs.Common.{◌⊎◌, inl, inr, ◌≡◌, ℕ, zero, suc, ◌+◌, ◌<◌, Bool, true, false, cond, eqb, not, List, [], ◌∷◌, ◌++◌, length, refl, ap, sym, ◌∙◌, append_assoc, arith}
 use Rattle.std.specs.List.{list_all, onto_first}
 use Rattle.std.proofs.lemmas.Bool.{and_parts, not-true}
 use Rattle.std.proofs.lemmas.List.{append-nil}
@@ -62,10 +62,12 @@ longer_line (b ∷ []) [] some plain =
     record { more = []; lines = []; first = rw (not-true (eqb b 10) p.0) refl }
 longer_line (b ∷ []) (c ∷ rest) some plain =
     let p = and_parts (not (eqb b 10)) true plain in
-    onto_longer b [] (c ∷ rest) (not-true (eqb b 10) p.0) (longer_line [] (c ∷ rest) (omega arith) refl)
+    onto_longer b [] (c ∷ rest) (not-true (eqb b 10) p.0)
+    (longer_line [] (c ∷ rest) (omega arith) refl)
 longer_line (b ∷ d ∷ bs) rest some plain =
     let p = and_parts (not (eqb b 10)) (list_all (λ c. not (eqb c 10)) (d ∷ bs)) plain in
-    onto_longer b (d ∷ bs) ((d ∷ bs) ++ rest) (not-true (eqb b 10) p.0) (longer_line (d ∷ bs) rest (omega arith) p.1)
+    onto_longer b (d ∷ bs) ((d ∷ bs) ++ rest) (not-true (eqb b 10) p.0)
+    (longer_line (d ∷ bs) rest (omega arith) p.1)
 
 -- one line more is left behind
 pub behind_line : (n : ℕ) (line rest : List ℕ) → is_one_line line ≡ true
@@ -74,6 +76,31 @@ behind_line n [] rest plain = refl
 behind_line n (b ∷ bs) rest plain =
     let p = and_parts (not (eqb b 10)) (list_all (λ c. not (eqb c 10)) bs) plain in
     rw (not-true (eqb b 10) p.0) (behind_line n bs rest p.1)
+
+behind_end : (m : ℕ) → [] ≡ behind_lines m []
+behind_end zero = refl
+behind_end (suc m) = refl
+
+behind_by : (newline : Bool) (n m : ℕ) (bs : List ℕ)
+    → behind_lines (n + m) bs ≡ behind_lines m (behind_lines n bs)
+    → behind_lines (suc (n + m)) bs ≡ behind_lines m (behind_lines (suc n) bs)
+    → cond newline (behind_lines (n + m) bs) (behind_lines (suc (n + m)) bs)
+    ≡ behind_lines m (cond newline (behind_lines n bs) (behind_lines (suc n) bs))
+behind_by true n m bs a b = a
+behind_by false n m bs a b = b
+
+-- some lines are left behind, and then some more
+pub behind_both : (n m : ℕ) (bytes : List ℕ)
+    → behind_lines (n + m) bytes ≡ behind_lines m (behind_lines n bytes)
+behind_both zero m bytes = let e : 0 + m ≡ m = omega arith in ap (λ k. behind_lines k bytes) e
+behind_both (suc n) m [] =
+    let e : suc n + m ≡ suc (n + m) = omega arith in
+    ap (λ k. behind_lines k []) e ∙ behind_end m
+behind_both (suc n) m (b ∷ bs) =
+    let e : suc n + m ≡ suc (n + m) = omega arith in
+    ap (λ k. behind_lines k (b ∷ bs)) e
+    ∙ behind_by (eqb b 10) n m bs (behind_both n m bs)
+    (ap (λ k. behind_lines k bs) (sym e) ∙ behind_both (suc n) m bs)
 
 -- a line without newline that ends the text is left behind
 pub behind_last : (n : ℕ) (line : List ℕ) → is_one_line line ≡ true → behind_lines (suc n) line ≡ []
@@ -87,7 +114,8 @@ whole_more : (acc line rest : List ℕ) → is_one_line line ≡ true
 whole_more acc [] rest plain = ap (λ (l : List ℕ). l ∷ whole_lines rest) (sym (append-nil acc))
 whole_more acc (b ∷ bs) rest plain =
     let p = and_parts (not (eqb b 10)) (list_all (λ c. not (eqb c 10)) bs) plain in
-    rw (not-true (eqb b 10) p.0) (whole_more (acc ++ b ∷ []) bs rest p.1 ∙ ap (λ (l : List ℕ). l ∷ whole_lines rest) (append_assoc acc (b ∷ []) bs))
+    rw (not-true (eqb b 10) p.0) (whole_more (acc ++ b ∷ []) bs rest p.1
+    ∙ ap (λ (l : List ℕ). l ∷ whole_lines rest) (append_assoc acc (b ∷ []) bs))
 
 whole_none : (acc line : List ℕ) → is_one_line line ≡ true → whole_from acc line ≡ []
 whole_none acc [] plain = refl
@@ -121,7 +149,12 @@ some_further : (acc : List ℕ) (b : ℕ) (bs : List ℕ) → eqb b 10 ≡ false
     → SomeWhole (acc ++ b ∷ []) bs → SomeWhole acc (b ∷ bs)
 some_further acc b bs is (inl none) = inl (rw is none)
 some_further acc b bs is (inr (more, lines, h)) =
-    inr (b ∷ more, lines, rw is (h ∙ ap (λ (l : List ℕ). l ∷ lines) (append_assoc acc (b ∷ []) more)))
+    inr (
+      b ∷ more,
+      lines,
+      rw is (h
+          ∙ ap (λ (l : List ℕ). l ∷ lines) (append_assoc acc (b ∷ []) more)),
+    )
 
 some_whole_by : (acc : List ℕ) (b : ℕ) (bs : List ℕ) (test : Bool) → eqb b 10 ≡ test
     → SomeWhole (acc ++ b ∷ []) bs → SomeWhole acc (b ∷ bs)
@@ -138,7 +171,8 @@ whole_after : (acc line rest : List ℕ) → is_one_line line ≡ true
 whole_after acc [] rest plain = ap (λ (l : List ℕ). whole_from l rest) (sym (append-nil acc))
 whole_after acc (b ∷ bs) rest plain =
     let p = and_parts (not (eqb b 10)) (list_all (λ c. not (eqb c 10)) bs) plain in
-    rw (not-true (eqb b 10) p.0) (whole_after (acc ++ b ∷ []) bs rest p.1 ∙ ap (λ (l : List ℕ). whole_from l rest) (append_assoc acc (b ∷ []) bs))
+    rw (not-true (eqb b 10) p.0) (whole_after (acc ++ b ∷ []) bs rest p.1
+    ∙ ap (λ (l : List ℕ). whole_from l rest) (append_assoc acc (b ∷ []) bs))
 
 whole_found : (line rest : List ℕ) → is_one_line line ≡ true → SomeWhole line rest
     → (whole_lines (line ++ rest) ≡ []) ⊎ WholeLonger line (line ++ rest)

@@ -19,7 +19,8 @@ pub own : IsNumeralModel AllAsciiDigits (digits_value 10)
 own = numerals_by_value _ tells
 
 -- 15 digits at most have a value below 10 ^ 15
-pub value_small : (ds : List ℕ) → list_all is_ascii_digit ds ≡ true → length ds ≤ 15 → digits_value 10 ds < 10 ^ 15
+pub value_small : (ds : List ℕ) → list_all is_ascii_digit ds ≡ true → length ds ≤ 15
+    → digits_value 10 ds < 10 ^ 15
 value_small ds h short = digits_value_short own ds 15 h short
 
 -- the value of one digit

@@ -1,5 +1,5 @@
 -- What holds of each value that a part can end with.
-use Rattle.std.proofs.Common.{ℕ, ◌+◌, Bool, true, false, List, [], ◌∷◌, length, Result, Ok, Err}
+use Rattle.std.proofs.Common.{◌≡◌, ℕ, ◌+◌, Bool, true, false, List, [], ◌∷◌, length, Result, Ok, Err, ap, arith}
 use Rattle.std.specs.Prelude.{IfOk, nat_lt, if◌then◌else◌}
 use Rattle.texts.specs.Lines.{is_well_parted}
 use Rattle.texts.specs.Parts.{Next, goes, ends, refuses, Found, At, is_skipped, with_skips, part_from}
@@ -45,3 +45,29 @@ module _ {S V R : Type 0} (step : S → List ℕ → Next S V R) (form : R)
         | refuses r ↦ λ q. tt
       ] in
       cases (step s line) (kept s line p)
+
+-- the lines that a part took, and those behind it, are all lines
+module _ {S V R : Type 0} (step : S → List ℕ → Next S V R) (form : R) where
+  pub counts_all : (lines : List (List ℕ)) (s : S) (taken number : ℕ) (found : Found V)
+      → part_from step form s taken number lines ≡ Ok found
+      → taken + length lines ≡ found.taken + length found.behind
+  counts_all [] s taken number found is = absurd cc
+  counts_all (line ∷ lines) s taken number found is =
+      let goal : Next S V R → Type 0 = λ next. (elim next as (λ _. Result (Found V) (At R)) [
+        | goes t ↦ part_from step form t (taken + 1) (number + 1) lines
+        | ends v ↦ Ok (record { value = v; taken = taken + 1; behind = lines })
+        | refuses r ↦ Err (record { line = number; rule = r })
+      ]) ≡ Ok found → taken + length (line ∷ lines) ≡ found.taken + length found.behind in
+      let cases : (next : Next S V R) → goal next =
+      λ next. elim next as goal [
+        | goes t ↦ λ e.
+            let rest = counts_all lines t (taken + 1) (number + 1) found e in omega (arith, rest)
+        | ends v ↦ λ e.
+            let same : record { value = v; taken = taken + 1; behind = lines } ≡ found = cc in
+            let count : taken + 1 ≡ found.taken = ap (λ (f : Found V). f.taken) same in
+            let left : length lines ≡ length found.behind =
+            ap (λ (f : Found V). length f.behind) same in
+            omega (arith, count, left)
+        | refuses r ↦ λ e. absurd cc
+      ] in
+      cases (step s line) is

@@ -89,7 +89,8 @@ is_no_newline b h = grind (arith, nat_tests)
 is_no_return : (b : ℕ) → nat_le 32 b ≡ true → (b == 13) ≡ false
 is_no_return b h = grind (arith, nat_tests)
 
-first_line : (line rest : List ℕ) → IsLine line → lines_of (line ++ 10 ∷ rest) ≡ line ∷ lines_of rest
+first_line : (line rest : List ℕ) → IsLine line
+    → lines_of (line ++ 10 ∷ rest) ≡ line ∷ lines_of rest
 first_line [] rest h = refl
 first_line (b ∷ line) rest h =
     let parts = and_parts (nat_le 32 b) (list_all (nat_le 32) line) h in
@@ -178,18 +179,22 @@ module _ {S V R : Type 0} (step : S → List ℕ → Next S V R) (form : R)
 
   -- it goes on behind the line, where the step goes on
   pub goes_behind : (t : S) → step s (joined (word ∷ words)) ≡ goes t
-      → part_from (with_skips step form) form s taken number (lines_of (joined (word ∷ words) ++ 10 ∷ rest))
+      → part_from (with_skips step form) form s taken number
+      (lines_of (joined (word ∷ words) ++ 10 ∷ rest))
       ≡ part_from (with_skips step form) form t (taken + 1) (number + 1) (lines_of rest)
   goes_behind t is =
       let at = steps_at_joined step form s word words plain short unskipped in
-      ap (part_from (with_skips step form) form s taken number) (line_joined (word ∷ words) rest plain)
+      ap (part_from (with_skips step form) form s taken number)
+      (line_joined (word ∷ words) rest plain)
       ∙ step_goes (with_skips step form) form s line (lines_of rest) taken number t (at ∙ is)
 
   -- and ends with it, where the step ends
   pub ends_there : (v : V) → step s (joined (word ∷ words)) ≡ ends v
-      → part_from (with_skips step form) form s taken number (lines_of (joined (word ∷ words) ++ 10 ∷ rest))
+      → part_from (with_skips step form) form s taken number
+      (lines_of (joined (word ∷ words) ++ 10 ∷ rest))
       ≡ Ok (record { value = v; taken = taken + 1; behind = lines_of rest })
   ends_there v is =
       let at = steps_at_joined step form s word words plain short unskipped in
-      ap (part_from (with_skips step form) form s taken number) (line_joined (word ∷ words) rest plain)
+      ap (part_from (with_skips step form) form s taken number)
+      (line_joined (word ∷ words) rest plain)
       ∙ step_ends (with_skips step form) form s line (lines_of rest) taken number v (at ∙ is)

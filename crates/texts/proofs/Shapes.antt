@@ -10,26 +10,36 @@ with_front front None = None
 with_front front (Some ns) = Some (front ++ ns)
 
 -- a number moves from the rest to the front
-regroup : (front : List ℕ) (n : ℕ) (ns : Option (List ℕ)) → with_front front (onto_numbers (Some n) ns) ≡ with_front (front ++ n ∷ []) ns
+regroup : (front : List ℕ) (n : ℕ) (ns : Option (List ℕ))
+    → with_front front (onto_numbers (Some n) ns) ≡ with_front (front ++ n ∷ []) ns
 regroup front n None = refl
 regroup front n (Some ns) = ap Some (sym (append_assoc front (n ∷ []) ns))
 
 -- one more number
-pub numbers_more : (front : List ℕ) (end i : ℕ) (word : List ℕ) (words : List (List ℕ)) (n : ℕ) → i < end → number_of word ≡ Some n → with_front front (numbers_of (end - i) (word ∷ words)) ≡ with_front (front ++ n ∷ []) (numbers_of (end - (i + 1)) words)
-numbers_more front end i word words n lt is = let k : end - i ≡ suc (end - (i + 1)) = omega arith in rw (k, is) (regroup front n (numbers_of (end - (i + 1)) words))
+pub numbers_more : (front : List ℕ) (end i : ℕ) (word : List ℕ) (words : List (List ℕ)) (n : ℕ)
+    → i < end → number_of word ≡ Some n
+    → with_front front (numbers_of (end - i) (word ∷ words))
+    ≡ with_front (front ++ n ∷ []) (numbers_of (end - (i + 1)) words)
+numbers_more front end i word words n lt is = let k : end - i ≡ suc (end - (i + 1)) = omega arith in
+    rw (k, is) (regroup front n (numbers_of (end - (i + 1)) words))
 
 -- no word is left
-pub numbers_short : (front : List ℕ) (end i : ℕ) → i < end → with_front front (numbers_of (end - i) []) ≡ None
+pub numbers_short : (front : List ℕ) (end i : ℕ) → i < end
+    → with_front front (numbers_of (end - i) []) ≡ None
 numbers_short front end i lt = let k : end - i ≡ suc (end - (i + 1)) = omega arith in rw k refl
 
 -- a word is no number
-pub numbers_bad : (front : List ℕ) (end i : ℕ) (word : List ℕ) (words : List (List ℕ)) → i < end → number_of word ≡ None → with_front front (numbers_of (end - i) (word ∷ words)) ≡ None
-numbers_bad front end i word words lt is = let k : end - i ≡ suc (end - (i + 1)) = omega arith in rw (k, is) refl
+pub numbers_bad : (front : List ℕ) (end i : ℕ) (word : List ℕ) (words : List (List ℕ)) → i < end
+    → number_of word ≡ None → with_front front (numbers_of (end - i) (word ∷ words)) ≡ None
+numbers_bad front end i word words lt is = let k : end - i ≡ suc (end - (i + 1)) = omega arith in
+    rw (k, is) refl
 
 -- all numbers are read
-pub numbers_done : (front : List ℕ) (end i : ℕ) → end ≤ i → with_front front (numbers_of (end - i) []) ≡ Some front
+pub numbers_done : (front : List ℕ) (end i : ℕ) → end ≤ i
+    → with_front front (numbers_of (end - i) []) ≡ Some front
 numbers_done front end i le = let k : end - i ≡ 0 = omega arith in rw k (ap Some (append-nil front))
 
 -- a word too many
-pub numbers_long : (front : List ℕ) (end i : ℕ) (word : List ℕ) (words : List (List ℕ)) → end ≤ i → with_front front (numbers_of (end - i) (word ∷ words)) ≡ None
+pub numbers_long : (front : List ℕ) (end i : ℕ) (word : List ℕ) (words : List (List ℕ)) → end ≤ i
+    → with_front front (numbers_of (end - i) (word ∷ words)) ≡ None
 numbers_long front end i word words le = let k : end - i ≡ 0 = omega arith in rw k refl

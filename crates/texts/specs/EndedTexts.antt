@@ -31,13 +31,15 @@ module _ {S V R : Type 0} (step : S → List ℕ → Next S V R) (form : R) wher
   abbrev pub then_alone : List ℕ → Result (Found (Option ℕ × V)) (At (Limited R))
       → Result V (At (Limited R))
   then_alone text (Ok found) =
-      alone form (found.taken + 1) (found.value.0) (found.value.1) (lines_of (behind_lines found.taken text))
+      alone form (found.taken + 1) (found.value.0) (found.value.1)
+      (lines_of (behind_lines found.taken text))
   then_alone text (Err at) = Err at
 
   -- such a text, where it is longer than its limit or not
   abbrev pub ended_text : S → (limit : ℕ) → (longer : Bool) → List ℕ → Result V (At (Limited R))
   ended_text start limit longer text =
-      then_alone text (part_from (with_limit (with_length step form)) (by form) (room_of longer limit, start) 0 1 (ended_lines longer text))
+      then_alone text (part_from (with_limit (with_length step form)) (by form)
+      (room_of longer limit, start) 0 1 (ended_lines longer text))
 
   -- such a text under a limit
   abbrev pub ended_text_in : S → (limit : ℕ) → List ℕ → Result V (At (Limited R))

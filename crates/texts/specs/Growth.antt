@@ -1,5 +1,5 @@
 -- What a call that writes a text did to a sink.
-use Rattle.std.specs.Prelude.{◌≡◌, ℕ, ◌+◌, ◌-◌, ◌≤◌, length, List, [], ◌∷◌, ◌++◌, Option, Result, MatchResult}
+use Rattle.std.specs.Prelude.{◌≡◌, ℕ, ◌+◌, ◌-◌, ◌<◌, ◌≤◌, length, List, [], ◌∷◌, ◌++◌, Option, Some, None, Result, MatchResult}
 use Rattle.std.specs.Io.KnownBytes.{Appends, append_known}
 use Rattle.texts.specs.Causes.{Counted}
 
@@ -66,10 +66,26 @@ pub record Wrote (text : List ℕ) (old new : Told) : Type 0 where
   pub lasts : old.certain ≤ new.certain + length text
   pub follows : Follows old new
 
--- a fault was counted, and before it the sink took a front of the text, which was not certain to be
--- taken
+-- the bytes that came through to the last sink, from one that took these and passed those on
+abbrev pub last_of : Option (List ℕ) → List (Option (List ℕ)) → Option (List ℕ)
+last_of taken [] = taken
+last_of taken (behind ∷ passed) = last_of behind passed
+
+abbrev pub arrived : Told → Option (List ℕ)
+arrived told = last_of told.taken told.passed
+
+-- of these bytes and a text behind them, not all came through, where both sinks tell their bytes
+abbrev pub IsMissed : (taken arrived : Option (List ℕ)) → List ℕ → Type 0
+IsMissed None end text = Unit {0}
+IsMissed (Some xs) None text = Unit {0}
+IsMissed (Some xs) (Some ys) text = length ys < length xs + length text
+
+-- One fault was counted, and before it the sink took a front of the text, which was not certain to
+-- be taken. Not all of the text came through: where the sink holds nothing back, it took less than
+-- all of it.
 pub record Cut (text : List ℕ) (old new : Told) : Type 0 where
   pub front : AppendsFront old.taken new.taken text
+  pub missed : IsMissed old.taken (arrived new) text
   pub cause : Counted old.faults new.faults
   pub uncertain : old.certain ≤ length text
   pub follows : Follows old new

@@ -1,5 +1,5 @@
 use Rattle.std.proofs.Common.{refl}
-use Rattle.edge_io.proofs.EndedLines.{whole_behind, open_behind, long_behind, beyond_behind}
+use Rattle.edge_io.proofs.LinesBehind.{lost_behind, whole_behind, open_behind, long_behind, beyond_behind}
 use Rattle.edge_io.proofs.ended_texts.end_of_text.Goals as goal
 
 pub returns-in-Ok-Whole-clause-end : goal.returns-in-Ok-Whole-clause-end
@@ -28,3 +28,9 @@ returns-in-Err-TooLong-clause-end g c =
     let read = c.in-Err-TooLong.ensures in
     beyond_behind _ _ c.line.new.self.line_bytes _ _ _ read.one read.short c.requires
     (rw c.in-Err-TooLong.field-0-is at read.line)
+
+pub returns-in-Err-ReadFault-clause-end : goal.returns-in-Err-ReadFault-clause-end
+returns-in-Err-ReadFault-clause-end g c =
+    let read = c.in-Err-ReadFault.ensures in
+    lost_behind _ _ c.line.new.self.line_bytes _ _ _ read.one read.short c.requires
+    (rw c.in-Err-ReadFault.field-0-is at read.line)

@@ -1,6 +1,7 @@
 use Rattle.std.proofs.Common.{refl, ◌∙◌}
 use Rattle.edge_io.proofs.FedLines.{takes_goes, takes_ends, takes_refuses}
-use Rattle.edge_io.proofs.EndedLines.{starts, short_step, ended_here, refused_here, open_line, no_line, too_long_line, beyond_line, goes_on, read_so_far, end_met, end_read}
+use Rattle.edge_io.proofs.EndedLines.{starts, short_step, ended_here, refused_here, line_open, no_line, too_long_line, beyond_line, goes_on, lost_line, halted_line}
+use Rattle.edge_io.proofs.AloneLines.{end_met, end_read}
 use Rattle.edge_io.proofs.ended_texts.read_ended.Goals as goal
 
 pub loop-line-init : goal.loop-line-init
@@ -11,8 +12,8 @@ pub returns-in-Err-ReadFault-clause-text : goal.returns-in-Err-ReadFault-clause-
 returns-in-Err-ReadFault-clause-text g c =
     let read = c.in-Err-ReadFault.ensures in
     let line = rw c.in-Err-ReadFault.field-0-is at read.line in
-    read_so_far _ _ _ _ _ _ _ _ _ _ _ c.line.new.self.line_bytes _ read.one read.short
-    (c.loop-line.invariant.stands.1) _ line.0
+    lost_line _ _ _ _ _ _ _ _ _ _ _ c.line.new.self.line_bytes _ read.one read.short
+    (c.loop-line.invariant.stands.1) line
 
 pub returns-in-Err-TooLong-clause-text : goal.returns-in-Err-TooLong-clause-text
 returns-in-Err-TooLong-clause-text g c =
@@ -25,21 +26,24 @@ pub returns-in-Open-clause-text : goal.returns-in-Open-clause-text
 returns-in-Open-clause-text g c =
     let read = c.in-Ok.ensures in
     let line = rw c.in-Open.is at read.line in
-    rw c.refused.ensures (open_line _ _ _ _ _ _ _ _ _ _ _ c.line.new.self.line_bytes _ read.one read.short
+    rw c.refused.ensures (line_open _ _ _ _ _ _ _ _ _ _ _ c.line.new.self.line_bytes _ read.one
+    read.short
     (c.loop-line.invariant.stands.1) line)
 
 pub returns-in-Long-clause-text : goal.returns-in-Long-clause-text
 returns-in-Long-clause-text g c =
     let read = c.in-Ok.ensures in
     let line = rw c.in-Long.is at read.line in
-    rw c.refused-in-Long.ensures (too_long_line _ _ _ _ _ _ _ _ _ _ _ c.line.new.self.line_bytes _ read.one read.short
+    rw c.refused-in-Long.ensures
+    (too_long_line _ _ _ _ _ _ _ _ _ _ _ c.line.new.self.line_bytes _ read.one read.short
     (c.loop-line.invariant.stands.1) line)
 
 pub returns-in-End-clause-text : goal.returns-in-End-clause-text
 returns-in-End-clause-text g c =
     let read = c.in-Ok.ensures in
     let line = rw c.in-End.is at read.line in
-    rw c.refused-in-End.ensures (no_line _ _ _ _ _ _ _ _ _ _ _ c.line.new.self.line_bytes _ read.one read.short
+    rw c.refused-in-End.ensures
+    (no_line _ _ _ _ _ _ _ _ _ _ _ c.line.new.self.line_bytes _ read.one read.short
     (c.loop-line.invariant.stands.1) line)
 
 pub returns-in-Ok-end_of_text-clause-text : goal.returns-in-Ok-end_of_text-clause-text
@@ -49,7 +53,8 @@ returns-in-Ok-end_of_text-clause-text g c =
     let took = rw (c.in-Ok-Some.field-0-is, c.bytes.ensures) at c.in-Ok-Some.ensures in
     let alone = ended_here _ _ _ _ _ _ _ _ _ _ _ c.line.new.self.line_bytes _ read.one read.short
     (c.loop-line.invariant.stands.1) c.in-Ok-Some.value line
-    (short_step g.P.LineReader.step c.args.form c.loop-line.reader _ _ read.short (takes_ends _ _ _ took)) in
+    (short_step g.P.LineReader.step c.args.form c.loop-line.reader _ _ read.short
+    (takes_ends _ _ _ took)) in
     end_met _ _ _ _ _ _ _ _ _ _ alone c.in-Ok-end_of_text.ensures.end
 
 pub returns-in-Err-clause-text : goal.returns-in-Err-clause-text
@@ -59,7 +64,8 @@ returns-in-Err-clause-text g c =
     let took = rw (c.in-Ok-Some.field-0-is, c.bytes.ensures) at c.in-Ok-Some.ensures in
     let alone = ended_here _ _ _ _ _ _ _ _ _ _ _ c.line.new.self.line_bytes _ read.one read.short
     (c.loop-line.invariant.stands.1) c.in-Ok-Some.value line
-    (short_step g.P.LineReader.step c.args.form c.loop-line.reader _ _ read.short (takes_ends _ _ _ took)) in
+    (short_step g.P.LineReader.step c.args.form c.loop-line.reader _ _ read.short
+    (takes_ends _ _ _ took)) in
     end_read _ _ _ _ _ _ _ _ _ _ alone _ c.in-Err.ensures.end
 
 pub returns-in-Err-Refused-clause-text : goal.returns-in-Err-Refused-clause-text
@@ -70,14 +76,15 @@ returns-in-Err-Refused-clause-text g c =
     rw (c.refused-in-Err-Refused.ensures, c.in-Err-Refused.rule-is)
     (refused_here _ _ _ _ _ _ _ _ _ _ _ c.line.new.self.line_bytes _ read.one read.short
     (c.loop-line.invariant.stands.1) _ line
-    (short_step g.P.LineReader.step c.args.form c.loop-line.reader _ _ read.short (takes_refuses _ _ _ took)))
+    (short_step g.P.LineReader.step c.args.form c.loop-line.reader _ _ read.short
+    (takes_refuses _ _ _ took)))
 
 pub returns-in-Err-NoMemory-clause-text : goal.returns-in-Err-NoMemory-clause-text
 returns-in-Err-NoMemory-clause-text g c =
     let read = c.in-Ok.ensures in
     let line = rw c.in-Whole.is at read.line in
-    read_so_far _ _ _ _ _ _ _ _ _ _ _ c.line.new.self.line_bytes _ read.one read.short
-    (c.loop-line.invariant.stands.1) _ line.0
+    halted_line _ _ _ _ _ _ _ _ _ _ _ c.line.new.self.line_bytes _ read.one read.short
+    (c.loop-line.invariant.stands.1) line
 
 pub loop-line-preserved : goal.loop-line-preserved
 loop-line-preserved g c =
@@ -89,5 +96,6 @@ loop-line-preserved g c =
       still = read.cause ∙ c.loop-line.invariant.still;
       stands = goes_on _ _ _ _ _ _ _ _ _ _ _ c.line.new.self.line_bytes _ read.one read.short
           (c.loop-line.invariant.stands.1) _ line
-          (short_step g.P.LineReader.step c.args.form c.loop-line.reader _ _ read.short (takes_goes _ _ took));
+          (short_step g.P.LineReader.step c.args.form c.loop-line.reader _ _ read.short
+          (takes_goes _ _ took));
     }

@@ -1,6 +1,6 @@
 use Rattle.std.proofs.Common.{refl, ◌∙◌}
-use Rattle.std.proofs.KnownBytes.{Consumes-trans}
-use Rattle.edge_io.proofs.FedLines.{takes_goes, takes_ends, takes_refuses, stands_first, stands_more, ends_here, refuses_here, lost_here}
+use Rattle.edge_io.proofs.Standing.{stands_first}
+use Rattle.edge_io.proofs.FedLines.{takes_goes, takes_ends, takes_refuses, stands_more, ends_here, refuses_here, lost_here, halted_here}
 use Rattle.edge_io.proofs.FedEnds.{skips_refuse_long, long_here, end_here, too_long}
 use Rattle.edge_io.proofs.LastLines.{open_here}
 use Rattle.edge_io.proofs.fed_parts.feed_part.Goals as goal
@@ -57,8 +57,9 @@ returns-in-Err-Refused-clause-fed g c =
 
 pub returns-in-Err-NoMemory-clause-fed : goal.returns-in-Err-NoMemory-clause-fed
 returns-in-Err-NoMemory-clause-fed g c =
-    let read = rw c.in-Whole.is at c.in-Ok.ensures.line in
-    (_, Consumes-trans _ _ _ _ _ c.loop-line.invariant.stands.read read.0)
+    let read = c.in-Ok.ensures in
+    halted_here _ _ _ _ _ _ _ _ _ _ _ _ _ _ _ read.one read.short c.loop-line.invariant.stands
+    (rw c.in-Whole.is at read.line)
 
 pub loop-line-preserved : goal.loop-line-preserved
 loop-line-preserved g c =

@@ -6,5 +6,6 @@ pub loop-preserved : goal.loop-preserved
 loop-preserved g c = record {
   same = c.in-Ok-Some.ensures.same_reference ∙ c.loop.invariant.same;
   still = c.in-Ok-Some.ensures.cause ∙ c.loop.invariant.still;
-  so_far = one_more _ _ _ _ _ c.loop.invariant.so_far (rw c.in-Ok-Some.field-0-is at c.in-Ok-Some.ensures.bytes);
+  so_far = one_more _ _ _ _ _ c.loop.invariant.so_far
+      (rw c.in-Ok-Some.field-0-is at c.in-Ok-Some.ensures.bytes);
 }

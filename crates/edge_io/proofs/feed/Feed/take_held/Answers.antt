@@ -1,4 +1,4 @@
-use Rattle.std.proofs.Common.{◌≤◌, ℕ, length, ◌≡◌, ◌-◌, ◌+◌, List, take, drop, subst, arith}
+use Rattle.std.proofs.Common.{◌≤◌, ℕ, ◌-◌, ◌+◌, List, take, drop, subst, arith}
 use Rattle.std.specs.Io.KnownBytes.{Consumes, prepend_known}
 use Rattle.std.proofs.lemmas.List.{length-take}
 use Rattle.edge_io.specs.Feeds.{feed_left}

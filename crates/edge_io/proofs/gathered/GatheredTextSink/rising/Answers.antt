@@ -7,4 +7,5 @@ pub returns-in-Err : goal.returns-in-Err
 returns-in-Err g c = cut_more _ _ [] (labelled_text c.args.number.now) c.in-Err.ensures.puts
 
 pub returns : goal.returns
-returns g c = wrote_then _ _ _ [] (labelled_text c.args.number.now) c.in-Ok.ensures.puts c.hold_rising.ensures.wrote
+returns g c = wrote_then _ _ _ [] (labelled_text c.args.number.now) c.in-Ok.ensures.puts
+    c.hold_rising.ensures.wrote

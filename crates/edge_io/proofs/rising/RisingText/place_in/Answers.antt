@@ -1,4 +1,4 @@
-use Rattle.std.proofs.Common.{◌+◌, ◌≤◌, ◌++◌, length, take, refl, ap, ◌∙◌, arith}
+use Rattle.std.proofs.Common.{◌++◌, length, take, refl, ap, ◌∙◌, arith}
 use Rattle.edge_io.specs.Rising.{Labelled, labelled_text}
 use Rattle.edge_io.proofs.LastDigits.{rising_length, rising_placed}
 use Rattle.edge_io.proofs.rising.RisingText.place_in.Goals as goal
@@ -15,6 +15,7 @@ returns-clause-end c =
 pub returns-clause-text : goal.returns-clause-text
 returns-clause-text c =
     let t = c.self.inside in
-    rising_placed t.bytes t.label t.last t.digit t.value c.self.invariant c.args.at c.args.buffer.now
+    rising_placed t.bytes t.label t.last t.digit t.value c.self.invariant c.args.at
+    c.args.buffer.now
     c.place.new.buffer _ _ (omega (arith, c.requires)) c.place.ensures refl
     ∙ ap (λ (n : Labelled). take c.args.at c.args.buffer.now ++ labelled_text n) c.self.view_is

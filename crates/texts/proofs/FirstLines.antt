@@ -4,7 +4,7 @@ use Rattle.std.specs.List.{position, position_or_len}
 use Rattle.std.proofs.lemmas.List.{append-nil}
 use Rattle.texts.specs.Lines.{whole_from, whole_lines}
 use Rattle.texts.proofs.Lines.{found, found_in, missing}
-use Rattle.line_words.specs.Words.{open_from, open_rest}
+use Rattle.texts.specs.Words.{open_from, open_rest}
 
 abbrev place : List ℕ → ℕ
 place text = position_or_len (λ b. eqb b 10) text

@@ -14,8 +14,8 @@ use Rattle.texts.specs.Lines.{words_of}
 use Rattle.texts.specs.Numbers.{is_number, number_of}
 use Rattle.texts.proofs.Numbers.{own, value_small}
 use Rattle.texts.proofs.NumberWords.{read_is_printed, printed_is_read}
-use Rattle.line_words.specs.Words.{joined}
-use Rattle.line_words.proofs.Texts.{IsOneLine}
+use Rattle.texts.specs.Words.{joined}
+use Rattle.texts.proofs.Texts.{IsOneLine}
 
 -- a byte that ends no word and no line
 unfoldable pub is_solid : ℕ → Bool

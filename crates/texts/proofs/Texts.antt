@@ -4,7 +4,7 @@ use Rattle.std.specs.List.{AllByRecursion}
 use Rattle.std.proofs.lemmas.List.{append-nil}
 use Rattle.std.proofs.lemmas.Bool.{and_parts, not-true, eqb-true}
 use Rattle.texts.specs.Lines.{is_one_line, whole_from, whole_lines}
-use Rattle.line_words.specs.Words.{ended, text_of, open_from, open_rest}
+use Rattle.texts.specs.Words.{ended, text_of, open_from, open_rest}
 
 -- a line without a newline
 abbrev pub IsOneLine : List ℕ → Type 0

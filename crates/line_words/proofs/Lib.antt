@@ -1,3 +1,0 @@
-pub mod Texts
-pub mod LineWords
-pub mod FirstLines
