@@ -5,8 +5,10 @@ ghost use Rattle.plan_numbers.specs.Numbers.{line, level_of};
 ghost use Rattle.plan_numbers.specs.Premises.{first_premise, unless};
 ghost use Rattle.counter_core.specs.Meanings.{written};
 ghost use Rattle.counter_core.specs.Working.{IsFor, IsAsRoomy};
-ghost use Rattle.level_laws.specs.Boosted.{inner_state, level_register, boosted, BoostedRange, StandsOn};
-ghost use Rattle.level_laws.proofs.BoostLaws.{boosted_sizes, boosted_stays_in_range, boosted_zero_in_range};
+ghost use Rattle.level_laws.specs.Boosted.{inner_state, level_register, boosted, BoostedRange};
+ghost use Rattle.level_laws.specs.Boosted.{StandsOn};
+ghost use Rattle.level_laws.proofs.BoostLaws.{boosted_sizes, boosted_stays_in_range};
+ghost use Rattle.level_laws.proofs.BoostLaws.{boosted_zero_in_range};
 ghost use Rattle.level_laws.proofs.FurtherRegisters.{boosted_ignores_further};
 ghost use Rattle.level_laws.proofs.BoostSettles.{boosted_settles};
 ghost use Rattle.boost_step.specs.Numbers.{AreNumbersOver};
@@ -101,10 +103,12 @@ fn level_register<A: Counter>(
     requires numbers { AreNumbersOver (counter_below (A.meaning inner.now)) nums.now }
     requires place { place < nums.now.nodes }
     requires heard { length heard.now ≡ nums.now.nodes }
-    requires range { All (BoostedRange (A.in_range inner.now) (A.meaning inner.now).depth nums.now.modulus) heard.now }
+    requires range { All (BoostedRange (A.in_range inner.now) (A.meaning inner.now).depth
+        nums.now.modulus) heard.now }
     requires deep { All (λ s. (A.meaning inner.now).depth + 1 ≤ length s.registers) heard.now }
     requires work { IsFor nums.now.nodes work.old }
-    ensures register { result ≡ level_register (A.meaning inner.now) (level_of nums.now) place heard.now }
+    ensures register { result ≡ level_register (A.meaning inner.now) (level_of nums.now) place
+        heard.now }
     ensures work { IsAsRoomy work.old work.new }
 {
     hear_outputs(inner, nums.blocks * nums.block_nodes(), heard, work);
@@ -167,7 +171,8 @@ impl<A: Counter> Counter for Boost<A> {
 
     ghost meaning = { λ b. boosted (A.meaning b.inner) b.level };
 
-    ghost in_range = { λ b. BoostedRange (A.in_range b.inner) (A.meaning b.inner).depth b.level.modulus };
+    ghost in_range = { λ b. BoostedRange (A.in_range b.inner) (A.meaning b.inner).depth
+        b.level.modulus };
 
     fn nodes(&self) -> u32 {
         self.nums.nodes
@@ -212,15 +217,21 @@ impl<A: Counter> Counter for Boost<A> {
         out.set_reg(self.inner.depth(), reg);
     }
 
-    ghost sizes = { λ b v. boosted_sizes (A.meaning b.inner) (A.in_range b.inner) b.level (A.sizes b.inner v.0) v.1 };
+    ghost sizes = { λ b v. boosted_sizes (A.meaning b.inner) (A.in_range b.inner) b.level
+        (A.sizes b.inner v.0) v.1 };
 
     ghost stays_in_range = { λ b v. boosted_stays_in_range (A.meaning b.inner) (A.in_range b.inner)
         b.level (A.sizes b.inner v.0) v.1.least_modulus (A.stays_in_range b.inner v.0)
         (A.ignores_further b.inner v.0) (A.zero_in_range b.inner v.0) };
 
-    ghost ignores_further = { λ b v. boosted_ignores_further (A.meaning b.inner) (A.in_range b.inner) b.level (A.sizes b.inner v.0) (A.ignores_further b.inner v.0) b.level.modulus };
+    ghost ignores_further = { λ b v. boosted_ignores_further (A.meaning b.inner)
+        (A.in_range b.inner) b.level (A.sizes b.inner v.0) (A.ignores_further b.inner v.0)
+        b.level.modulus };
 
-    ghost zero_in_range = { λ b v. boosted_zero_in_range (A.meaning b.inner) (A.in_range b.inner) b.level (A.sizes b.inner v.0) v.1.least_modulus (A.ignores_further b.inner v.0) (A.zero_in_range b.inner v.0) };
+    ghost zero_in_range = { λ b v. boosted_zero_in_range (A.meaning b.inner) (A.in_range b.inner)
+        b.level (A.sizes b.inner v.0) v.1.least_modulus (A.ignores_further b.inner v.0)
+        (A.zero_in_range b.inner v.0) };
 
-    ghost settles = { λ b v. boosted_settles (A.meaning b.inner) (A.in_range b.inner) b.level (A.sizes b.inner v.0) v.1 (A.settles b.inner v.0) };
+    ghost settles = { λ b v. boosted_settles (A.meaning b.inner) (A.in_range b.inner) b.level
+        (A.sizes b.inner v.0) v.1 (A.settles b.inner v.0) };
 }

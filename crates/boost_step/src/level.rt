@@ -1,17 +1,15 @@
-ghost use Rattle.std.specs.Prelude.{◌≡◌, ◌+◌, ◌*◌, ◌/◌, ◌%◌, ◌≤◌, ◌<◌, List, take, map, length, All, IfSome};
+ghost use Rattle.std.specs.Prelude.{◌≡◌, ◌+◌, ◌*◌, ◌≤◌, ◌<◌, List, take, map, length, All, IfSome};
 ghost use Rattle.sync_types.specs.States.{register_at};
 ghost use Rattle.construction.specs.Votes.{lead, beat_heard};
-ghost use Rattle.construction.specs.PhaseKing.{instructed, up};
 ghost use Rattle.construction.specs.Steps.{state_of, register_after};
 ghost use Rattle.plan_numbers.specs.Numbers.{level_of};
 ghost use Rattle.counter_core.specs.Working.{IsFor};
 ghost use Rattle.boost_step.specs.Numbers.{AreNumbers, block_nodes, in_blocks};
 ghost use Rattle.boost_step.specs.Kept.{KeepsOutputs};
 
+use crate::obeying::obey;
 use crate::votes::{block_beat, block_vote};
-use counter_core::{Heard, Work, tally_values};
-use majority_votes::Tally;
-use phase_king::king_step;
+use counter_core::{Heard, Work};
 use plan_numbers::LevelNums;
 use sync_types::Reg;
 
@@ -57,42 +55,6 @@ fn beat(nums: &LevelNums, work: &mut Work) -> u64
     block_beat(&work.outputs[start..start + n], nums.beat, &mut work.values)
 }
 
-/// The register after the instruction of a beat, by the values heard.
-fn obey(
-    nums: &LevelNums,
-    beat: u64,
-    place: u32,
-    heard: &Heard<'_>,
-    register: usize,
-    values: &mut Tally,
-) -> Reg
-    requires numbers { AreNumbers nums.now }
-    requires beat { beat < nums.now.beat }
-    requires place { place < nums.now.nodes }
-    requires heard { length heard.now ≡ nums.now.nodes }
-    requires deep { All (λ s. register < length s.registers) heard.now }
-    requires range { All (λ s. IfSome (register_at register s).a (λ a. a < nums.now.modulus)) heard.now }
-    requires room { nums.now.nodes ≤ values.old.capacity }
-    ensures register { result ≡ instructed nums.now.nodes nums.now.faults (up nums.now.modulus) (beat % 3)
-        (register_at register (state_of heard.now place)) (map (λ s. (register_at register s).a) heard.now) (beat / 3) }
-    ensures range { IfSome result.a (λ a. a < nums.now.modulus) }
-    ensures capacity { values.new.capacity ≡ values.old.capacity }
-{
-    tally_values(heard, register, values);
-    let own = heard.state(place).reg(register);
-    let king = heard.state((beat / 3) as u32).reg(register).a;
-    king_step(
-        beat % 3,
-        own,
-        values.count_of(own.a),
-        values.least_above(nums.faults as usize),
-        king,
-        nums.nodes,
-        nums.faults,
-        nums.modulus,
-    )
-}
-
 /// One level's instruction to the register of the node at a place, by what the node hears of its
 /// group: the new register. The node may be a spare.
 ///
@@ -110,9 +72,11 @@ pub fn level_step(
     requires place { place < nums.now.nodes }
     requires heard { length heard.now ≡ nums.now.nodes }
     requires deep { All (λ s. register < length s.registers) heard.now }
-    requires range { All (λ s. IfSome (register_at register s).a (λ a. a < nums.now.modulus)) heard.now }
+    requires range { All (λ s. IfSome (register_at register s).a (λ a. a < nums.now.modulus))
+        heard.now }
     requires work { IsFor nums.now.nodes work.old }
-    ensures register { result ≡ register_after (block_nodes nums.now) (level_of nums.now) (register_at register (state_of heard.now place))
+    ensures register { result ≡ register_after (block_nodes nums.now) (level_of nums.now)
+        (register_at register (state_of heard.now place))
         (take (in_blocks nums.now) work.old.outputs.items)
         (map (λ s. (register_at register s).a) heard.now) }
     ensures range { IfSome result.a (λ a. a < nums.now.modulus) }
