@@ -9,7 +9,8 @@ use crate::heard::Heard;
 use crate::work::Work;
 use sync_types::NodeState;
 
-/// A counter of some nodes, of which some may be faulty. Its nodes step by what they hear, and from its bound on all correct ones show one output, which grows by one modulo its modulus.
+/// A counter of some nodes, of which some may be faulty. Its nodes step by what they hear, and from
+/// its bound on all correct ones show one output, which grows by one modulo its modulus.
 pub trait Counter: Drop {
     // Which values are counters.
     ghost valid: { Self → Type 0 };
@@ -68,7 +69,8 @@ pub trait Counter: Drop {
         requires work { IsFor (meaning self.now).nodes work.old }
         requires out { (meaning self.now).depth ≤ length out.old.registers }
         ensures work { IsAsRoomy work.old work.new }
-        ensures out { out.new ≡ written (meaning self.now).depth ((meaning self.now).next place heard.now) out.old };
+        ensures out { out.new
+            ≡ written (meaning self.now).depth ((meaning self.now).next place heard.now) out.old };
 
     ghost sizes: { (c : Self) → valid c → Sizes (meaning c) (in_range c) };
 

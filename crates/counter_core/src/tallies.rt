@@ -9,7 +9,10 @@ pub fn tally_values(heard: &Heard<'_>, register: usize, values: &mut Tally)
     requires few { length heard.now ≤ 256 }
     requires deep { All (λ s. register < length s.registers) heard.now }
     requires room { length heard.now ≤ values.old.capacity }
-    ensures { values.new ≡ record values.old { values = map (λ s. (register_at register s).a) heard.now } }
+    ensures { values.new ≡ record values.old {
+      values = map (λ s. (register_at register s).a)
+          heard.now;
+    } }
 {
     values.clear();
     for place in 0..heard.len() {

@@ -1,6 +1,8 @@
-//! Laws of pointers, for outputs that count without a bound or modulo a multiple of the span. Each function is empty: its clause is the law.
+//! Laws of pointers, for outputs that count without a bound or modulo a multiple of the span. Each
+//! function is empty: its clause is the law.
 
-ghost use Rattle.leader_pointers.specs.Intervals.{IntervalKeepsPointer, NextIntervalHasNextLeader, PointerHasPeriod, ModulusIsUnseen};
+ghost use Rattle.leader_pointers.specs.Intervals.{IntervalKeepsPointer, NextIntervalHasNextLeader};
+ghost use Rattle.leader_pointers.specs.Intervals.{PointerHasPeriod, ModulusIsUnseen};
 ghost use Rattle.leader_pointers.specs.Windows.{BlocksMeetAtEachLeader};
 
 /// From a multiple of the interval on, as many outputs as the interval is long have one pointer.

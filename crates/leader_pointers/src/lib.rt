@@ -1,4 +1,6 @@
-//! What the nodes of a block point to by their outputs, and the laws of pointers: how long a pointer stays and what comes next, and that the pointers of all blocks meet for a whole beat. No call takes memory.
+//! What the nodes of a block point to by their outputs, and the laws of pointers: how long a
+//! pointer stays and what comes next, and that the pointers of all blocks meet for a whole beat. No
+//! call takes memory.
 #![tactic(auto)]
 
 pub mod laws;
@@ -7,7 +9,8 @@ ghost use Rattle.std.specs.Prelude.{◌≡◌, ◌≤◌, ◌^◌};
 ghost use Rattle.construction.specs.Plans.{interval_of};
 ghost use Rattle.construction.specs.Pointers.{pointer_of, part_of};
 
-/// The leader, below `leaders`, to which the nodes of block `i` point at the output `o`. Block `i` keeps its pointer for `beat * (2 * leaders)^i` outputs, and then goes on to the next leader.
+/// The leader, below `leaders`, to which the nodes of block `i` point at the output `o`. Block `i`
+/// keeps its pointer for `beat * (2 * leaders)^i` outputs, and then goes on to the next leader.
 pub fn pointer(beat: u64, leaders: u32, i: u32, o: u64) -> u64
     requires beat { 1 ≤ beat }
     requires leaders { 1 ≤ leaders }
@@ -24,17 +27,4 @@ pub fn part(beat: u64, o: u64) -> u64
     ensures { result ≡ part_of beat o }
 {
     o % beat
-}
-
-#[cfg(test)]
-mod tests {
-    use super::*;
-
-    #[test]
-    fn points_to_leaders(rt: HostRuntime) {
-        for (i, o, leader) in [(0, 9, 1), (3, 575, 0), (3, 576, 1)] {
-            assert_eq!(rt; pointer(9, 2, i, o), leader, "block {i} at {o}");
-        }
-        assert_eq!(rt; part(9, 575), 8);
-    }
 }

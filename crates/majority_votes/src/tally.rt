@@ -1,4 +1,5 @@
-ghost use Rattle.std.specs.Prelude.{◌≡◌, ◌+◌, ◌-◌, true, take, ◌<◌, ◌≤◌, [], ◌∷◌, ◌++◌, IfOk, IsTrue, ◌↔◌, length};
+ghost use Rattle.std.specs.Prelude.{◌≡◌, ◌+◌, ◌-◌, true, take, ◌<◌, ◌≤◌, [], ◌∷◌, ◌++◌, IfOk};
+ghost use Rattle.std.specs.Prelude.{IsTrue, ◌↔◌, length};
 ghost use Rattle.counting.specs.Values.{count_of, majority_of, least_above};
 ghost use Rattle.counting.specs.Unfinished.{LeastStays};
 ghost use Rattle.majority_votes.specs.Outlooks.{IsOutlook};
@@ -30,7 +31,8 @@ pub enum Outlook {
     Open,
 }
 
-/// A list of values that is counted as it grows. Contracts see the values in order of adding, and the capacity beside them.
+/// A list of values that is counted as it grows. Contracts see the values in order of adding, and
+/// the capacity beside them.
 #[derive(Debug, Drop)]
 pub struct Tally {
     capacity: usize,
@@ -49,11 +51,13 @@ impl Model for Tally {
 
     ghost view = { λ t. record { values = t.values.items; capacity = t.capacity } };
 
-    ghost invariant = { λ t. IsKept t.capacity t.values.items t.counts.items t.infinities (vec_capacity t.values) (vec_capacity t.counts) };
+    ghost invariant = { λ t. IsKept t.capacity t.values.items t.counts.items t.infinities
+        (vec_capacity t.values) (vec_capacity t.counts) };
 }
 
 impl Tally {
-    /// An empty tally with room for `capacity` values. It takes all the memory that it will ever need.
+    /// An empty tally with room for `capacity` values. It takes all the memory that it will ever
+    /// need.
     pub fn new(alloc: Global, capacity: usize) -> Result<Tally, NoMemory>
         ensures { IfOk result (λ t. t ≡ record { values = []; capacity = capacity }) }
     {
@@ -96,7 +100,8 @@ impl Tally {
         self.infinities = 0;
     }
 
-    /// Adds a value at the end; `None` is infinity. There has to be room: fewer values than the capacity.
+    /// Adds a value at the end; `None` is infinity. There has to be room: fewer values than the
+    /// capacity.
     pub fn add(&mut self, value: Option<u64>)
         requires { length self.old.values < self.old.capacity }
         ensures { self.new ≡ record self.old { values = self.old.values ++ value ∷ [] } }
@@ -121,7 +126,10 @@ impl Tally {
     /// Takes the last value off.
     fn take_last(&mut self)
         requires { 0 < length self.old.values }
-        ensures { self.new ≡ record self.old { values = take (length self.old.values - 1) self.old.values } }
+        ensures { self.new ≡ record self.old {
+          values = take (length self.old.values - 1)
+              self.old.values;
+        } }
     {
         match self.values.pop() {
             Some(Some(number)) => count_less(&mut self.counts, number),
@@ -140,7 +148,8 @@ impl Tally {
         }
     }
 
-    /// The number that more than half of all places hold, those of infinity counted, or `None` where there is none.
+    /// The number that more than half of all places hold, those of infinity counted, or `None`
+    /// where there is none.
     pub fn majority(&self) -> Option<u64>
         ensures { result ≡ majority_of self.now.values }
     {
@@ -178,7 +187,8 @@ impl Tally {
     /// Whether the least number that more than `f` places hold is sure to stay the same, or to be
     /// absent, once `more` values have come. Where the answer is false, nothing is known.
     pub fn is_least_fixed(&self, f: usize, more: usize) -> bool
-        ensures { result ≡ true → LeastStays f more self.now.values (least_above f self.now.values) }
+        ensures { result ≡ true
+            → LeastStays f more self.now.values (least_above f self.now.values) }
     {
         if f < more {
             return false;
@@ -214,54 +224,5 @@ impl Tally {
             }
         }
         None
-    }
-}
-
-#[cfg(test)]
-mod tests {
-    use super::*;
-    use std::test::Fail;
-
-    const VALUES: [Option<u64>; 4] = [Some(3), Some(3), Some(5), None];
-
-    fn add_all(tally: &mut Tally, values: &[Option<u64>]) {
-        for value in values {
-            if tally.len() < tally.capacity() {
-                tally.add(*value);
-            }
-        }
-    }
-
-    #[test]
-    fn worked_list(rt: HostRuntime) -> Result<(), Fail> {
-        let mut tally = Tally::new(rt.alloc(), 7)?;
-        add_all(&mut tally, &VALUES);
-        assert_eq!(rt; tally.len(), 4);
-        assert_eq!(rt; tally.majority(), None);
-        assert_eq!(rt; tally.count_of(Some(3)), 2);
-        assert_eq!(rt; tally.count_of(None), 1);
-        assert_eq!(rt; tally.count_of(Some(4)), 0);
-        assert_eq!(rt; tally.least_above(1), Some(3));
-        assert_eq!(rt; tally.least_above(2), None);
-        Ok(())
-    }
-
-    #[test]
-    fn cleared_and_filled_again(rt: HostRuntime) -> Result<(), Fail> {
-        let mut tally = Tally::new(rt.alloc(), 7)?;
-        add_all(&mut tally, &VALUES);
-        tally.clear();
-        assert!(rt; tally.is_empty());
-        assert_eq!(rt; tally.capacity(), 7);
-        add_all(
-            &mut tally,
-            &[Some(9), None, Some(4), Some(9), Some(2), Some(9), Some(9)],
-        );
-        assert_eq!(rt; tally.len(), 7);
-        assert_eq!(rt; tally.majority(), Some(9));
-        assert_eq!(rt; tally.count_of(Some(3)), 0);
-        assert_eq!(rt; tally.least_above(0), Some(2));
-        assert_eq!(rt; tally.least_above(3), Some(9));
-        Ok(())
     }
 }

@@ -1,12 +1,17 @@
-ghost use Rattle.std.specs.Prelude.{◌≡◌, ◌<◌, ◌≤◌, ◌^◌, ℕ, List, Option, None, IfSome, slice_index_or};
+ghost use Rattle.std.specs.Prelude.{◌≡◌, ◌<◌, ◌≤◌, ◌^◌, ℕ, List, Option, None, IfSome};
+ghost use Rattle.std.specs.Prelude.{slice_index_or};
 ghost use Rattle.counting.specs.Values.{count_of, least_above};
-ghost use Rattle.construction.specs.PhaseKing.{own_or_kings, without_increment, incremented, up, instructed};
+ghost use Rattle.construction.specs.PhaseKing.{own_or_kings, without_increment, incremented, up};
+ghost use Rattle.construction.specs.PhaseKing.{instructed};
 
 use sync_types::Reg;
 
 /// The register of a node after one instruction of the counter.
 ///
-/// `kind` is 0, 1 or 2. Of the values that the node hears from all nodes of its group, `same` is how many are its own value, infinity being one; `least` is the least finite value that more than `faults` nodes have, None where there is none; `king` is the king's value, None being infinity. After the instruction a finite value goes to the next one modulo `modulus`, and infinity stays.
+/// `kind` is 0, 1 or 2. Of the values that the node hears from all nodes of its group, `same` is
+/// how many are its own value, infinity being one; `least` is the least finite value that more than
+/// `faults` nodes have, None where there is none; `king` is the king's value, None being infinity.
+/// After the instruction a finite value goes to the next one modulo `modulus`, and infinity stays.
 pub fn king_step(
     kind: u64,
     own: Reg,
@@ -23,11 +28,13 @@ pub fn king_step(
     requires own { IfSome own.a (λ a. a < modulus) }
     requires least { IfSome least (λ a. a < modulus) }
     requires king { IfSome king (λ a. a < modulus) }
-    ensures value { result ≡ incremented (up modulus) (without_increment nodes faults kind own same least king) }
+    ensures value { result ≡ incremented (up modulus) (without_increment nodes faults kind own same
+        least king) }
 
     // with the counts and the king's value of a list heard, it is the instruction on that list
     ensures heard { (values : List (Option ℕ)) (place : ℕ) →
-        same ≡ count_of values own.a → least ≡ least_above faults values → king ≡ slice_index_or values place None →
+        same ≡ count_of values own.a → least ≡ least_above faults values
+        → king ≡ slice_index_or values place None →
         result ≡ instructed nodes faults (up modulus) kind own values place }
     ensures below { IfSome result.a (λ a. a < modulus) }
 {
@@ -53,9 +60,11 @@ pub fn agree_step(
     requires faults { faults ≤ nodes }
     ensures value { result ≡ without_increment nodes faults kind own same least king }
 
-    // with the counts and the king's value of a list heard, it is the instruction on that list, where the next value is the value itself
+    // with the counts and the king's value of a list heard, it is the instruction on that list,
+    // where the next value is the value itself
     ensures heard { (values : List (Option ℕ)) (place : ℕ) →
-        same ≡ count_of values own.a → least ≡ least_above faults values → king ≡ slice_index_or values place None →
+        same ≡ count_of values own.a → least ≡ least_above faults values
+        → king ≡ slice_index_or values place None →
         result ≡ instructed nodes faults (λ a. a) kind own values place }
 {
     let enough = same >= (nodes - faults) as usize;

@@ -3,7 +3,8 @@
 ghost use Rattle.plan_laws.specs.ExplainedRuns.{ExplainedRunsLock, BoundIsExplained};
 ghost use Rattle.plan_laws.specs.Stretches.{StepsByStretches};
 ghost use Rattle.plan_laws.specs.VersionLaws.{VersionsAgree, NoSpares};
-ghost use Rattle.plan_laws.specs.Laws.{EveryPlanSettles, BlocksRun, LocksAtBound, LockedRunsCount, EachHasOneNext};
+ghost use Rattle.plan_laws.specs.Laws.{EveryPlanSettles, BlocksRun, LocksAtBound, LockedRunsCount};
+ghost use Rattle.plan_laws.specs.Laws.{EachHasOneNext};
 
 /// Every accepted plan settles: whatever the start and the lies, with each faulty set that the plan
 /// bears, all correct nodes show one number from the bound on, which grows by one modulo C each

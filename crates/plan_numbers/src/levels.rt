@@ -50,7 +50,8 @@ fn wide_span(k: u64, f: u64) -> u128
 /// Tests the premises in their order, and gives the span where all are met.
 fn tested_span(below: &Below, k: u64, f: u64, c: u64, s: u64) -> Result<u64, Premise>
     requires { IsSized below.now }
-    ensures answer { result ≡ unless (first_premise below.now (line k f c s)) (span_of (line k f c s)) }
+    ensures answer { result ≡ unless (first_premise below.now (line k f c s))
+        (span_of (line k f c s)) }
     ensures met { OnOk result (MeetsPremises below.now (line k f c s)) }
     ensures span { IfOk result (λ span. (1 ≤ span) × (span ≤ 2 ^ 40)) }
 {
@@ -85,7 +86,8 @@ fn tested_span(below: &Below, k: u64, f: u64, c: u64, s: u64) -> Result<u64, Pre
 /// `Blocks`, `Modulus`, `Quorum`, `Share`, `Multiple`. It takes no memory.
 pub fn level_nums(below: &Below, k: u64, f: u64, c: u64, s: u64) -> Result<LevelNums, Premise>
     requires { IsSized below.now }
-    ensures answer { result ≡ unless (first_premise below.now (line k f c s)) (numbers_over below.now (line k f c s)) }
+    ensures answer { result ≡ unless (first_premise below.now (line k f c s))
+        (numbers_over below.now (line k f c s)) }
     ensures sized { IfOk result (λ nums. IsSizedLevel nums) }
     ensures more { IfOk result (λ nums. 3 * below.now.nodes ≤ nums.nodes) }
 {

@@ -10,8 +10,6 @@ mod levels;
 mod lows;
 mod numbers;
 mod plans;
-#[cfg(test)]
-mod tests;
 mod widths;
 
 pub use levels::level_nums;

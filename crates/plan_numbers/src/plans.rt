@@ -1,7 +1,9 @@
 ghost use Rattle.std.specs.Prelude.{◌≡◌, ◌*◌, Some, None, ◌<◌, ◌≤◌, slice_get, OnOk, OnErr, IfErr};
 ghost use Rattle.std.specs.Int.{div_ceil};
-ghost use Rattle.construction.specs.Plans.{plan_nodes, plan_faults, plan_modulus, plan_bound, plan_bits, plan_low, plan_depth};
-ghost use Rattle.plan_numbers.specs.Numbers.{line, level_of, with_level, level_numbers, numbers_below, numbers_over};
+ghost use Rattle.construction.specs.Plans.{plan_nodes, plan_faults, plan_modulus, plan_bound};
+ghost use Rattle.construction.specs.Plans.{plan_bits, plan_low, plan_depth};
+ghost use Rattle.plan_numbers.specs.Numbers.{line, level_of, with_level, level_numbers};
+ghost use Rattle.plan_numbers.specs.Numbers.{numbers_below, numbers_over};
 ghost use Rattle.plan_numbers.specs.Premises.{first_premise, FitsVersion, IsAccepted};
 ghost use Rattle.plan_numbers.specs.Sizes.{IsSized, IsSizedLevel};
 ghost use Rattle.plan_numbers.specs.Begun.{Begins};
@@ -57,7 +59,12 @@ impl Model for Plan {
 
     ghost Value = { Plan };
 
-    ghost view = { λ p. record { version = p.version; base = p.base; levels = levels_in p.levels.items } };
+    ghost view = { λ p. record {
+      version = p.version;
+      base = p.base;
+      levels =
+          levels_in p.levels.items;
+    } };
 
     ghost invariant = { λ p. IsKept p.version p.base p.levels.items p.top (vec_capacity p.levels) };
 }
@@ -102,9 +109,11 @@ impl Plan {
 
     /// Puts a level without spare nodes on top: [`Plan::push_with`] with none.
     pub fn push(&mut self, k: u64, f: u64, c: u64) -> Result<(), Premise>
-        ensures accepted { OnOk result (first_premise (numbers_below self.old) (line k f c 0) ≡ None) }
+        ensures accepted { OnOk result (first_premise (numbers_below self.old) (line k f c 0)
+            ≡ None) }
         ensures pushed { OnOk result (self.new ≡ with_level self.old (line k f c 0)) }
-        ensures refused { IfErr result (λ premise. first_premise (numbers_below self.old) (line k f c 0) ≡ Some premise) }
+        ensures refused { IfErr result (λ premise. first_premise (numbers_below self.old)
+            (line k f c 0) ≡ Some premise) }
         ensures unchanged { OnErr result (self.new ≡ self.old) }
     {
         self.push_with(k, f, c, 0)
@@ -115,9 +124,11 @@ impl Plan {
     /// and leaves the plan as it was. It takes no memory.
     pub fn push_with(&mut self, k: u64, f: u64, c: u64, s: u64) -> Result<(), Premise>
         requires { self.old.version ≡ 1 → s ≡ 0 }
-        ensures accepted { OnOk result (first_premise (numbers_below self.old) (line k f c s) ≡ None) }
+        ensures accepted { OnOk result (first_premise (numbers_below self.old) (line k f c s)
+            ≡ None) }
         ensures pushed { OnOk result (self.new ≡ with_level self.old (line k f c s)) }
-        ensures refused { IfErr result (λ premise. first_premise (numbers_below self.old) (line k f c s) ≡ Some premise) }
+        ensures refused { IfErr result (λ premise. first_premise (numbers_below self.old)
+            (line k f c s) ≡ Some premise) }
         ensures unchanged { OnErr result (self.new ≡ self.old) }
     {
         let nums = level_nums(&self.top, k, f, c, s)?;

@@ -1,4 +1,5 @@
-ghost use Rattle.std.specs.Prelude.{◌≡◌, ℕ, ◌+◌, ◌-◌, ◌<◌, ◌≤◌, [], ◌∷◌, ◌++◌, length, false, slice_index, slice_index_or, IfOk, IsTrue, ◌↔◌};
+ghost use Rattle.std.specs.Prelude.{◌≡◌, ℕ, ◌+◌, ◌-◌, ◌<◌, ◌≤◌, [], ◌∷◌, ◌++◌, length, false};
+ghost use Rattle.std.specs.Prelude.{slice_index, slice_index_or, IfOk, IsTrue, ◌↔◌};
 ghost use Rattle.sync_types.specs.FaultSets.{AreFaulty, is_in};
 
 use crate::answers::NoMemory;
@@ -35,10 +36,12 @@ impl FaultSet {
         Ok(FaultSet { nodes, ids, marks })
     }
 
-    /// Adds the id of a node. It is above all ids so far, so it is enough that it is above the last.
+    /// Adds the id of a node. It is above all ids so far, so it is enough that it is above the
+    /// last.
     pub fn push(&mut self, id: u32)
         requires node { id < self.old.nodes }
-        requires above { 0 < length self.old.ids → slice_index self.old.ids (length self.old.ids - 1) < id }
+        requires above { 0 < length self.old.ids
+            → slice_index self.old.ids (length self.old.ids - 1) < id }
         ensures { self.new ≡ record self.old { ids = self.old.ids ++ id ∷ [] } }
     {
         self.ids.push(id).unwrap();
@@ -96,28 +99,5 @@ impl FaultSet {
         ensures { AreFaulty self.now }
     {
         let _ids = &self.ids;
-    }
-}
-
-#[cfg(test)]
-mod tests {
-    use super::*;
-    use std::test::Fail;
-
-    #[test]
-    fn ids_that_were_pushed_are_faulty(rt: HostRuntime) -> Result<(), Fail> {
-        let mut set = FaultSet::new(rt.alloc(), 12)?;
-        assert!(rt; set.is_empty());
-        set.push(0);
-        set.push(4);
-        set.push(8);
-        assert_eq!(rt; set.len(), 3);
-        assert_eq!(rt; set.at(1), 4);
-        assert_eq!(rt; set.marks().len(), 12);
-        assert_eq!(rt; set.nodes(), 12);
-        for (id, faulty) in [(0, true), (4, true), (5, false), (8, true), (12, false)] {
-            assert_eq!(rt; set.contains(id), faulty, "node {id}");
-        }
-        Ok(())
     }
 }

@@ -30,7 +30,8 @@ impl Model for NodeState {
 }
 
 impl NodeState {
-    /// The zero state with `depth` registers: the number 0, each value 0 and each mark false. It takes all the memory that the state ever needs.
+    /// The zero state with `depth` registers: the number 0, each value 0 and each mark false. It
+    /// takes all the memory that the state ever needs.
     pub fn zero(alloc: Global, depth: usize) -> Result<NodeState, NoMemory>
         ensures { IfOk result (λ state. state ≡ zero_state depth) }
     {
