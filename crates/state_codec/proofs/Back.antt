@@ -3,9 +3,9 @@ use Rattle.std.proofs.Common.{◌≡◌, ℕ, ◌+◌, ◌-◌, ◌*◌, ◌^◌
 use Rattle.std.specs.Prelude.{unwrap_or, IfSome, slice_index_or, All}
 use Rattle.std.proofs.lemmas.List.{take_at, drop_at, get_or_at, length-replicate, nil_from_length, length_push}
 use Rattle.std.proofs.lemmas.Bool.{lt-ltb, le-ltb, eq-eqb}
-use Rattle.bit_lists.specs.Bits.{bits, number_of}
-use Rattle.bit_lists.proofs.Numbers.{length-bits, number_of_enough}
-use Rattle.bit_lists.proofs.Bytes.{bits_of_bytes-bytes_of_bits, length-bytes_of_bits}
+use Rattle.state_codec.specs.Bits.{bits, number_of}
+use Rattle.state_codec.proofs.Numbers.{length-bits, number_of_enough}
+use Rattle.state_codec.proofs.Bytes.{bits_of_bytes-bytes_of_bits, length-bytes_of_bits}
 use Rattle.construction.specs.Widths.{width}
 use Rattle.sync_types.specs.States.{State, zero_register}
 use Rattle.sync_types.specs.declared.states.Reg.{Reg}

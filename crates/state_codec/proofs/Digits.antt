@@ -7,7 +7,7 @@ use Rattle.std.proofs.lemmas.List.Sums.{AllPass-from_list_all}
 use Rattle.hex.specs.Hex.{decode_sized, is_hex_digit, encode_with, lower_digits}
 use Rattle.hex.specs.declared.error.FromHexError.{FromHexError}
 use Rattle.hex.proofs.HexLemmas.{decode_sized-twice, decode_of-digits, decode_of-encode_lower, length-encode_with}
-use Rattle.bit_lists.proofs.Bytes.{bytes_of_bits_below, length-bytes_of_bits}
+use Rattle.state_codec.proofs.Bytes.{bytes_of_bits_below, length-bytes_of_bits}
 use Rattle.sync_types.specs.States.{State}
 use Rattle.state_codec.specs.Shapes.{Fields, IsFields, bytes_in}
 use Rattle.state_codec.specs.Ranges.{InRange}

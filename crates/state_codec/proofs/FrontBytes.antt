@@ -6,10 +6,10 @@ use Rattle.std.proofs.lemmas.List.Concat.{flat_map-append}
 use Rattle.std.proofs.lemmas.Nat.{mod_below, pow_pos}
 use Rattle.byteorder.specs.Endian.{big_from, big_bytes}
 use Rattle.byteorder.specs.Numbers.{length-bytes_high_first, big_number-reads_back}
-use Rattle.bit_lists.specs.Bits.{bits, number_of, bits_of_bytes, bytes_of_bits}
-use Rattle.bit_lists.proofs.Numbers.{bits_push, bits_of_remainder, length-bits}
-use Rattle.bit_lists.proofs.Fronts.{drop_front}
-use Rattle.bit_lists.proofs.Bytes.{length-bits_of_bytes, bytes_of_bits-bits_of_bytes}
+use Rattle.state_codec.specs.Bits.{bits, number_of, bits_of_bytes, bytes_of_bits}
+use Rattle.state_codec.proofs.Numbers.{bits_push, bits_of_remainder, length-bits}
+use Rattle.state_codec.proofs.Fronts.{drop_front}
+use Rattle.state_codec.proofs.Bytes.{length-bits_of_bytes, bytes_of_bits-bits_of_bytes}
 use Rattle.state_codec.proofs.Steps.{joined_below}
 use Rattle.state_codec.proofs.Windows.{window}
 

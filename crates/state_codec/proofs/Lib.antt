@@ -1,3 +1,6 @@
+pub mod Numbers
+pub mod Bytes
+pub mod Fronts
 pub mod BitLengths
 pub mod Steps
 pub mod RegisterSteps

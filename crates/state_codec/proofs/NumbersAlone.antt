@@ -2,7 +2,7 @@
 use Rattle.std.proofs.Common.{◌≡◌, ℕ, ◌+◌, Bool, List, [], ◌∷◌, ◌++◌, length, take, drop, refl, sym, ap, ap₂, ◌∙◌, arith}
 use Rattle.std.specs.Int.{div_ceil}
 use Rattle.std.proofs.lemmas.List.{append-nil, take-append-drop}
-use Rattle.bit_lists.specs.Bits.{bits, bytes_of_bits}
+use Rattle.state_codec.specs.Bits.{bits, bytes_of_bits}
 use Rattle.construction.specs.Widths.{width}
 use Rattle.sync_types.specs.States.{State}
 use Rattle.sync_types.specs.declared.states.Reg.{Reg}

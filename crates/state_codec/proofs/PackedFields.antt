@@ -6,8 +6,8 @@ use Rattle.std.proofs.lemmas.Bool.{eq-eqb}
 use Rattle.std.proofs.lemmas.Grind.{flat_map-append}
 use Rattle.std.proofs.lemmas.List.{take-append-drop, length-take-le, length-drop, take-append-le, drop-append-le, take-take, get_or-take, drop-drop}
 use Rattle.std.proofs.lemmas.List.Sums.{sum_by-take-le}
-use Rattle.bit_lists.specs.Bits.{bits, number_of, bits_of_bytes}
-use Rattle.bit_lists.proofs.Bytes.{length-bits_of_bytes}
+use Rattle.state_codec.specs.Bits.{bits, number_of, bits_of_bytes}
+use Rattle.state_codec.proofs.Bytes.{length-bits_of_bytes}
 use Rattle.construction.specs.Widths.{width}
 use Rattle.sync_types.specs.States.{State, zero_state, zero_register, register_at}
 use Rattle.sync_types.specs.declared.states.Reg.{Reg}

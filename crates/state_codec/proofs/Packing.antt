@@ -5,7 +5,7 @@ use Rattle.std.proofs.lemmas.Slice.{drop-append-drop}
 use Rattle.std.proofs.lemmas.List.{take-append-drop, length-take-le, length-drop, take-append-le, drop-take, take_at, drop_at, length-set, get_or-set_other, same_lists}
 use Rattle.std.proofs.lemmas.Grind.{get_or-set_at}
 use Rattle.std.proofs.lemmas.List.FromFn.{length-map-range_with_len, get_or-map-range_with_len}
-use Rattle.bit_lists.proofs.Bytes.{length-bytes_of_bits}
+use Rattle.state_codec.proofs.Bytes.{length-bytes_of_bits}
 use Rattle.construction.specs.Steps.{state_of}
 use Rattle.sync_types.specs.States.{State, zero_state}
 use Rattle.state_codec.specs.Shapes.{IsFields, Shape, IsShape, bytes_in, fields_at}

@@ -3,7 +3,7 @@ use Rattle.std.proofs.Common.{◌≡◌, ◌≢◌, get_or, cond, not, ℕ, zero
 use Rattle.std.specs.Prelude.{unwrap_or, IfSome, slice_index_or}
 use Rattle.std.proofs.lemmas.List.{length-replicate}
 use Rattle.std.proofs.lemmas.Bool.{ltb-true, eqb-false}
-use Rattle.bit_lists.specs.Bits.{number_of, bits_of_bytes}
+use Rattle.state_codec.specs.Bits.{number_of, bits_of_bytes}
 use Rattle.construction.specs.Widths.{width}
 use Rattle.sync_types.specs.States.{zero_state, zero_register}
 use Rattle.state_codec.specs.Shapes.{Fields, IsFields, register_bits, bytes_in}

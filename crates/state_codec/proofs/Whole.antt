@@ -2,9 +2,9 @@
 use Rattle.std.proofs.Common.{◌≡◌, ℕ, ◌+◌, ◌-◌, ◌*◌, ◌≤◌, ◌<◌, Bool, false, length, get_or, List, ◌++◌, refl, sym, ap, ◌∙◌, arith, replicate, []}
 use Rattle.std.specs.Int.{div_ceil}
 use Rattle.std.proofs.lemmas.List.{append-nil, take_all}
-use Rattle.bit_lists.specs.Bits.{bits, bits_of_bytes, bytes_of_bits}
-use Rattle.bit_lists.proofs.Numbers.{bits_of_zero}
-use Rattle.bit_lists.proofs.Bytes.{bytes_of_bits-bits_of_bytes}
+use Rattle.state_codec.specs.Bits.{bits, bits_of_bytes, bytes_of_bits}
+use Rattle.state_codec.proofs.Numbers.{bits_of_zero}
+use Rattle.state_codec.proofs.Bytes.{bytes_of_bits-bits_of_bytes}
 use Rattle.construction.specs.Widths.{width}
 use Rattle.sync_types.specs.States.{State}
 use Rattle.sync_types.specs.declared.states.Reg.{Reg}

@@ -6,10 +6,10 @@ use Rattle.std.proofs.lemmas.List.{get_or-take, get_or-drop, take-append-drop, t
 use Rattle.std.proofs.lemmas.Nat.{pow-add}
 use Rattle.std.proofs.Math.Nat.{mod-lt, mul-le-mul_right}
 use Rattle.byteorder.specs.Endian.{big_from}
-use Rattle.bit_lists.specs.Bits.{bits, number_of, bits_of_bytes}
-use Rattle.bit_lists.proofs.Numbers.{bits_push, number_of-bits}
-use Rattle.bit_lists.proofs.Fronts.{take_front, drop_front}
-use Rattle.bit_lists.proofs.Bytes.{length-bits_of_bytes}
+use Rattle.state_codec.specs.Bits.{bits, number_of, bits_of_bytes}
+use Rattle.state_codec.proofs.Numbers.{bits_push, number_of-bits}
+use Rattle.state_codec.proofs.Fronts.{take_front, drop_front}
+use Rattle.state_codec.proofs.Bytes.{length-bits_of_bytes}
 
 powers : (n : ℕ) → 256 ^ n ≡ 2 ^ (8 * n)
 powers zero = refl

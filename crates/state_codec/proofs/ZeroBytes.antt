@@ -3,8 +3,8 @@ use Rattle.std.proofs.Common.{◌≡◌, ℕ, zero, suc, ◌+◌, ◌-◌, ◌*�
 use Rattle.std.specs.Prelude.{slice_index_or}
 use Rattle.std.proofs.lemmas.List.{length-replicate, take-replicate, drop-replicate, get_or-replicate, replicate-append-replicate, same_lists}
 use Rattle.std.proofs.lemmas.List.FromFn.{get_or-map-range_with_len}
-use Rattle.bit_lists.specs.Bits.{number_of, bytes_of_bits}
-use Rattle.bit_lists.proofs.Numbers.{bits_of_zero}
+use Rattle.state_codec.specs.Bits.{number_of, bytes_of_bits}
+use Rattle.state_codec.proofs.Numbers.{bits_of_zero}
 use Rattle.construction.specs.Widths.{width}
 use Rattle.sync_types.specs.States.{zero_state, zero_register}
 use Rattle.state_codec.specs.Shapes.{Fields, Shape, IsShape, register_bits, registers_bits, bits_in, bytes_in, fields_at}

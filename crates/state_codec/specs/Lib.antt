@@ -1,3 +1,4 @@
+pub mod Bits
 pub mod Shapes
 pub mod Ranges
 pub mod Writing

@@ -2,7 +2,7 @@
 use Rattle.std.specs.Prelude.{ℕ, ◌+◌, ◌==◌, nat_lt, List, [], ◌∷◌, length, take, drop, Bool, false, if◌then◌else◌, Option, Some, None, unwrap_or, slice_index_or}
 use Rattle.sync_types.specs.States.{State, zero_state, zero_register}
 use Rattle.sync_types.specs.declared.states.Reg.{Reg}
-use Rattle.bit_lists.specs.Bits.{number_of, bits_of_bytes}
+use Rattle.state_codec.specs.Bits.{number_of, bits_of_bytes}
 use Rattle.construction.specs.Widths.{width}
 use Rattle.state_codec.specs.Shapes.{Fields, register_bits, bytes_in}
 

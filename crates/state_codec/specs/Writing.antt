@@ -3,7 +3,7 @@ use Rattle.std.specs.Prelude.{ℕ, ◌+◌, ◌-◌, ◌*◌, ◌==◌, if◌the
 use Rattle.std.specs.List.{flat_map, zip}
 use Rattle.sync_types.specs.States.{State}
 use Rattle.sync_types.specs.declared.states.Reg.{Reg}
-use Rattle.bit_lists.specs.Bits.{bits, bytes_of_bits}
+use Rattle.state_codec.specs.Bits.{bits, bytes_of_bits}
 use Rattle.construction.specs.Widths.{width}
 use Rattle.state_codec.specs.Shapes.{Fields, bits_in, bytes_in}
 

@@ -1,6 +1,7 @@
-ghost use Rattle.std.specs.Prelude.{◌≡◌, ◌+◌, ◌*◌, ◌/◌, ◌^◌, ◌<◌, ◌≤◌, ◌++◌, ℕ, take, drop, length, slice_index_or};
+ghost use Rattle.std.specs.Prelude.{◌≡◌, ◌+◌, ◌*◌, ◌/◌, ◌^◌, ◌<◌, ◌≤◌, ◌++◌, ℕ, take, drop, length};
+ghost use Rattle.std.specs.Prelude.{slice_index_or};
 ghost use Rattle.byteorder.specs.Endian.{big_number};
-ghost use Rattle.bit_lists.specs.Bits.{bits, number_of, bits_of_bytes, bytes_of_bits};
+ghost use Rattle.state_codec.specs.Bits.{bits, number_of, bits_of_bytes, bytes_of_bits};
 
 use byteorder::{BigEndian, ByteOrder};
 
@@ -46,7 +47,8 @@ pub fn set_bytes(bytes: &mut [u8], start: usize, count: u32, value: u64)
     requires value { value < 2 ^ (8 * count) }
     requires within { start + 8 ≤ length bytes.old }
     ensures length { length bytes.new ≡ length bytes.old }
-    ensures value { bytes.new ≡ (take start bytes.old ++ bytes_of_bits count (bits (8 * count) value))
+    ensures value { bytes.new
+        ≡ (take start bytes.old ++ bytes_of_bits count (bits (8 * count) value))
         ++ drop (start + count) bytes.old }
 {
     let behind = 64 - 8 * count;

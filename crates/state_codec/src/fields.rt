@@ -1,8 +1,10 @@
-ghost use Rattle.std.specs.Prelude.{◌≡◌, ◌<◌, ◌≤◌, ◌+◌, ◌*◌, ◌^◌, ◌++◌, ℕ, length, take, drop, slice_index, slice_index_or, All};
-ghost use Rattle.bit_lists.specs.Bits.{bits, bytes_of_bits};
+ghost use Rattle.std.specs.Prelude.{◌≡◌, ◌<◌, ◌≤◌, ◌+◌, ◌*◌, ◌^◌, ◌++◌, ℕ, length, take, drop};
+ghost use Rattle.std.specs.Prelude.{slice_index, slice_index_or, All};
+ghost use Rattle.state_codec.specs.Bits.{bits, bytes_of_bits};
 ghost use Rattle.std.specs.Int.{div_ceil};
 ghost use Rattle.sync_types.specs.States.{register_at};
-ghost use Rattle.state_codec.specs.Shapes.{Fields, register_bits, registers_bits, bits_in, bytes_in, IsFields};
+ghost use Rattle.state_codec.specs.Shapes.{Fields, register_bits, registers_bits, bits_in};
+ghost use Rattle.state_codec.specs.Shapes.{bytes_in, IsFields};
 ghost use Rattle.state_codec.specs.Ranges.{InRange};
 ghost use Rattle.state_codec.specs.Writing.{bits_of_state, padding, number_alone, written};
 ghost use Rattle.state_codec.specs.Reading.{read};

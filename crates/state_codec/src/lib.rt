@@ -3,7 +3,8 @@
 //!
 //! The bits of a state are its number, then for each register, the lowest first, its value and its
 //! mark, each most significant bit first, and then zeros up to a whole byte. A field that the node
-//! lacks has no bits, and is zero.
+//! lacks has no bits, and is zero. Beside the code stand definitions and lemmas of bits, numbers
+//! and bytes.
 #![tactic(auto)]
 
 mod field_bits;
@@ -14,8 +15,6 @@ mod packed;
 mod reader;
 mod registers;
 mod shapes;
-#[cfg(test)]
-mod tests;
 mod texts;
 mod widths;
 mod words;

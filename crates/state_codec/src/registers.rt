@@ -1,7 +1,8 @@
-ghost use Rattle.std.specs.Prelude.{◌≡◌, ◌≤◌, ◌<◌, ◌+◌, ◌*◌, ◌^◌, ◌++◌, ℕ, length, drop, All, IfSome, slice_index_or};
+ghost use Rattle.std.specs.Prelude.{◌≡◌, ◌≤◌, ◌<◌, ◌+◌, ◌*◌, ◌^◌, ◌++◌, ℕ, length, drop, All};
+ghost use Rattle.std.specs.Prelude.{IfSome, slice_index_or};
 ghost use Rattle.sync_types.specs.States.{zero_state};
 ghost use Rattle.construction.specs.Widths.{width};
-ghost use Rattle.bit_lists.specs.Bits.{bits, bits_of_bytes};
+ghost use Rattle.state_codec.specs.Bits.{bits, bits_of_bytes};
 ghost use Rattle.state_codec.specs.Shapes.{register_bits, registers_bits};
 ghost use Rattle.state_codec.specs.Ranges.{IsField, AreBelow};
 ghost use Rattle.state_codec.specs.Writing.{full_bits, bits_of_register, bits_of_registers};

@@ -1,6 +1,8 @@
-ghost use Rattle.std.specs.Prelude.{◌≡◌, ◌<◌, ◌≤◌, ◌+◌, ◌*◌, ◌^◌, length, take, slice_index, All, true, false, IfOk, OnOk, OnErr};
+ghost use Rattle.std.specs.Prelude.{◌≡◌, ◌<◌, ◌≤◌, ◌+◌, ◌*◌, ◌^◌, length, take, slice_index, All};
+ghost use Rattle.std.specs.Prelude.{true, false, IfOk, OnOk, OnErr};
 ghost use Rattle.construction.specs.Plans.{plan_bits, plan_depth, plan_nodes};
-ghost use Rattle.state_codec.specs.Shapes.{shape_over, shape_of, shape_with, fields_from, fields_at, bits_in, bytes_in, IsShape};
+ghost use Rattle.state_codec.specs.Shapes.{shape_over, shape_of, shape_with, fields_from};
+ghost use Rattle.state_codec.specs.Shapes.{fields_at, bits_in, bytes_in, IsShape};
 ghost use Rattle.state_codec.specs.Ranges.{InRange};
 ghost use Rattle.state_codec.specs.Writing.{written};
 ghost use Rattle.state_codec.specs.Reading.{read};
@@ -220,8 +222,8 @@ impl StateShape {
     }
 
     /// Reads a state of node `v` from the front of bytes into `out`, which has the depth of the
-    /// shape; eight bytes more stand behind it. It is read as [`read_state`](StateShape::read_state)
-    /// reads it.
+    /// shape; eight bytes more stand behind it. It is read as
+    /// [`read_state`](StateShape::read_state) reads it.
     pub fn read_front(&self, v: u32, bytes: &[u8], out: &mut NodeState)
         requires node { v < length self.now.lows }
         requires within { bytes_in (fields_at self.now v) + 8 ≤ length bytes.now }

@@ -2,7 +2,8 @@ ghost use Rattle.std.specs.Prelude.{◌≡◌, ◌*◌, length, true, false, OnO
 ghost use Rattle.std.specs.List.{list_all};
 ghost use Rattle.state_codec.specs.Shapes.{bytes_in};
 ghost use Rattle.state_codec.specs.Ranges.{InRange};
-ghost use Rattle.state_codec.specs.Texts.{is_lower_digit, is_state_text, decoded, written_text, read_text};
+ghost use Rattle.state_codec.specs.Texts.{is_lower_digit, is_state_text, decoded, written_text};
+ghost use Rattle.state_codec.specs.Texts.{read_text};
 
 use crate::fields::Fields;
 use sync_types::NodeState;

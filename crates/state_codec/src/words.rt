@@ -1,5 +1,5 @@
 ghost use Rattle.std.specs.Prelude.{◌≡◌, ◌<◌, ◌≤◌, ◌+◌, ◌^◌, ◌++◌};
-ghost use Rattle.bit_lists.specs.Bits.{bits};
+ghost use Rattle.state_codec.specs.Bits.{bits};
 
 /// Bits as the number that they write.
 #[derive(Clone, Copy)]

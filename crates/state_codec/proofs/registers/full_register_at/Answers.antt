@@ -1,8 +1,8 @@
 use Rattle.std.proofs.Common.{arith, ℕ, ◌≡◌, ◌<◌, ◌+◌, ◌%◌, ap, ◌∙◌, List, Bool, false, drop, take, length, ◌==◌}
 use Rattle.std.specs.Prelude.{slice_index_or}
 use Rattle.std.proofs.lemmas.List.{length-drop}
-use Rattle.bit_lists.specs.Bits.{number_of, bits_of_bytes}
-use Rattle.bit_lists.proofs.Bytes.{length-bits_of_bytes}
+use Rattle.state_codec.specs.Bits.{number_of, bits_of_bytes}
+use Rattle.state_codec.proofs.Bytes.{length-bits_of_bytes}
 use Rattle.construction.specs.Widths.{width}
 use Rattle.state_codec.specs.Reading.{below}
 use Rattle.state_codec.proofs.BitLengths.{bit_length_is}

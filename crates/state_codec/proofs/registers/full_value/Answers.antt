@@ -1,5 +1,5 @@
 use Rattle.std.proofs.Common.{arith, ℕ, ◌≤◌, ◌<◌, ◌+◌, ◌^◌, ap, ◌∙◌, ◌++◌, [], ◌∷◌}
-use Rattle.bit_lists.specs.Bits.{bits}
+use Rattle.state_codec.specs.Bits.{bits}
 use Rattle.construction.specs.Widths.{width}
 use Rattle.state_codec.proofs.BitLengths.{bit_length_is}
 use Rattle.state_codec.proofs.Steps.{shifted_in, joined_below}

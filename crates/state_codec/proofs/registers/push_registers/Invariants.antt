@@ -1,5 +1,5 @@
 use Rattle.std.proofs.Common.{◌≡◌, ◌+◌, ◌++◌, drop}
-use Rattle.bit_lists.specs.Bits.{bits}
+use Rattle.state_codec.specs.Bits.{bits}
 use Rattle.state_codec.specs.Shapes.{registers_bits}
 use Rattle.state_codec.specs.Writing.{bits_of_registers}
 use Rattle.state_codec.proofs.registers.push_registers.Given as goal

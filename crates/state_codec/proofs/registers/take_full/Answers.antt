@@ -1,7 +1,7 @@
 use Rattle.std.proofs.Common.{arith, ℕ, ◌≡◌, ◌<◌, ◌+◌, ap, ◌∙◌, List, Bool, drop, take, length, ◌==◌, false}
 use Rattle.std.proofs.lemmas.List.{drop-drop}
 use Rattle.std.specs.Prelude.{slice_index_or}
-use Rattle.bit_lists.specs.Bits.{number_of}
+use Rattle.state_codec.specs.Bits.{number_of}
 use Rattle.construction.specs.Widths.{width}
 use Rattle.state_codec.specs.Reading.{below}
 use Rattle.state_codec.proofs.RegisterSteps.{mark_is}

@@ -1,6 +1,6 @@
 use Rattle.std.proofs.Common.{arith, ◌≤◌, ◌+◌, ap, sym, ◌∙◌}
-use Rattle.bit_lists.specs.Bits.{bits}
-use Rattle.bit_lists.proofs.Numbers.{bits_push}
+use Rattle.state_codec.specs.Bits.{bits}
+use Rattle.state_codec.proofs.Numbers.{bits_push}
 use Rattle.state_codec.proofs.Steps.{shifted_in, joined_below}
 use Rattle.state_codec.proofs.words.push.Goals as goal
 

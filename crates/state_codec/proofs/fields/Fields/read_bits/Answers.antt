@@ -1,7 +1,7 @@
 use Rattle.std.proofs.Common.{arith, ℕ, ◌≡◌, ◌-◌, ◌*◌, ◌≤◌, ap, ◌∙◌, length, sym}
 use Rattle.std.specs.Int.{div_ceil}
 use Rattle.std.proofs.lemmas.List.{length-drop}
-use Rattle.bit_lists.proofs.Bytes.{length-bits_of_bytes}
+use Rattle.state_codec.proofs.Bytes.{length-bits_of_bytes}
 use Rattle.state_codec.specs.Shapes.{Fields, registers_bits, bits_in}
 use Rattle.state_codec.proofs.Whole.{rounded}
 use Rattle.state_codec.proofs.fields.Fields.read_bits.Goals as goal

@@ -1,6 +1,6 @@
 use Rattle.std.proofs.Common.{arith, ℕ, ◌≡◌, ◌<◌, ◌+◌, ◌*◌, refl, sym, ap, ◌∙◌, length, take, drop, get_or, List, Bool, cond}
 use Rattle.std.proofs.lemmas.Bool.{ne_eqb}
-use Rattle.bit_lists.specs.Bits.{bits_of_bytes}
+use Rattle.state_codec.specs.Bits.{bits_of_bytes}
 use Rattle.construction.specs.Widths.{width}
 use Rattle.state_codec.specs.Shapes.{Fields, register_bits, registers_bits}
 use Rattle.state_codec.specs.Reading.{full_register}

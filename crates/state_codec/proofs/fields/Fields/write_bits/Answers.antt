@@ -1,7 +1,7 @@
 use Rattle.std.proofs.Common.{arith, ℕ, ◌≡◌, ◌+◌, ◌-◌, ◌*◌, ap, sym, ◌∙◌, take, drop, ◌++◌, List, Bool, replicate, false}
 use Rattle.std.specs.Int.{div_ceil}
-use Rattle.bit_lists.specs.Bits.{bits, bytes_of_bits}
-use Rattle.bit_lists.proofs.Numbers.{bits_of_zero}
+use Rattle.state_codec.specs.Bits.{bits, bytes_of_bits}
+use Rattle.state_codec.proofs.Numbers.{bits_of_zero}
 use Rattle.state_codec.specs.Shapes.{Fields, bits_in, bytes_in}
 use Rattle.state_codec.specs.Writing.{padding}
 use Rattle.state_codec.proofs.Whole.{rounded}

@@ -1,5 +1,5 @@
 use Rattle.std.proofs.Common.{arith, ◌≡◌, ◌+◌, ap, sym, ◌∙◌, take, drop, ◌++◌}
-use Rattle.bit_lists.specs.Bits.{bytes_of_bits}
+use Rattle.state_codec.specs.Bits.{bytes_of_bits}
 use Rattle.construction.specs.Widths.{width}
 use Rattle.state_codec.specs.Shapes.{Fields, bits_in, bytes_in}
 use Rattle.state_codec.specs.Writing.{padding, number_alone}

@@ -1,6 +1,6 @@
 use Rattle.std.proofs.Common.{rules, arith, ℕ, ◌≡◌, ◌<◌, ◌+◌, ◌-◌, ◌*◌, ap, ◌∙◌, ◌++◌, List, Bool, length, get_or, sym}
 use Rattle.std.specs.Int.{div_ceil}
-use Rattle.bit_lists.specs.Bits.{bits}
+use Rattle.state_codec.specs.Bits.{bits}
 use Rattle.construction.specs.Widths.{width}
 use Rattle.state_codec.specs.Shapes.{Fields, registers_bits, bytes_in}
 use Rattle.state_codec.specs.Writing.{bits_of_registers, written}

@@ -1,5 +1,5 @@
 use Rattle.std.proofs.Common.{◌+◌, ap, ◌∙◌, take, drop, ◌++◌}
-use Rattle.bit_lists.specs.Bits.{bytes_of_bits}
+use Rattle.state_codec.specs.Bits.{bytes_of_bits}
 use Rattle.state_codec.specs.Shapes.{Fields, bytes_in}
 use Rattle.state_codec.specs.Writing.{padding}
 use Rattle.state_codec.proofs.fields.Fields.write_word.Goals as goal

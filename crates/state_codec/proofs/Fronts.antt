@@ -1,8 +1,8 @@
 -- What is taken from the front of bits.
 use Rattle.std.proofs.Common.{◌≡◌, ℕ, ◌+◌, ◌/◌, ◌^◌, Bool, take, drop, List, ◌++◌, append_assoc}
 use Rattle.std.proofs.lemmas.List.{take_at, drop_at}
-use Rattle.bit_lists.specs.Bits.{bits}
-use Rattle.bit_lists.proofs.Numbers.{length-bits, bits_split}
+use Rattle.state_codec.specs.Bits.{bits}
+use Rattle.state_codec.proofs.Numbers.{length-bits, bits_split}
 
 -- the first bits of a number are those of its quotient
 pub take_front : (w k a : ℕ) (rest : List Bool) → take w (bits (w + k) a ++ rest) ≡ bits w (a / 2 ^ k)

@@ -4,7 +4,7 @@ use Rattle.std.specs.Int.{bit_at}
 use Rattle.std.proofs.lemmas.Nat.{mod-pow-add, shr-shr, shr_high, shr_split}
 use Rattle.std.proofs.lemmas.Nat.Bits.{bit_at-lt, bit_at_cat_low, bit_at-zero}
 use Rattle.std.proofs.Math.Nat.{mod-eq_of_lt, pow-suc, pow-zero}
-use Rattle.bit_lists.specs.Bits.{bits, number_of}
+use Rattle.state_codec.specs.Bits.{bits, number_of}
 
 pub length-bits : (w n : ℕ) → length (bits w n) ≡ w
 unfolding bits

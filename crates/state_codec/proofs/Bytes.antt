@@ -3,8 +3,8 @@ use Rattle.std.proofs.Common.{◌≡◌, ℕ, zero, suc, ◌*◌, ◌^◌, ◌�
 use Rattle.std.specs.Prelude.{slice_index}
 use Rattle.std.proofs.lemmas.List.{take_at, drop_at, nil_from_length, length-take, length-take-le, length-drop, take-append-drop}
 use Rattle.std.proofs.Math.Nat.{pow-le-pow_right}
-use Rattle.bit_lists.specs.Bits.{bits, number_of, bits_of_bytes, bytes_of_bits}
-use Rattle.bit_lists.proofs.Numbers.{length-bits, number_of_enough, bits-number_of, number_of_below}
+use Rattle.state_codec.specs.Bits.{bits, number_of, bits_of_bytes, bytes_of_bits}
+use Rattle.state_codec.proofs.Numbers.{length-bits, number_of_enough, bits-number_of, number_of_below}
 
 -- bytes are those of their bits
 pub bytes_of_bits-bits_of_bytes : (bytes : List ℕ) → ((i : ℕ) → get_or bytes i 0 < 256) → bytes_of_bits (length bytes) (bits_of_bytes bytes) ≡ bytes
