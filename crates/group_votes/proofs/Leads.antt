@@ -14,7 +14,7 @@ use Rattle.majority_votes.specs.Outlooks.{IsOutlook}
 use Rattle.majority_votes.specs.declared.tally.Outlook.{Outlook}
 use Rattle.majority_votes.specs.declared.tally.Outlook.TheVariants as outlook
 use Rattle.group_votes.specs.Votes.{known_number, known_in, IsLead}
-use Rattle.group_votes.proofs.Stretches.{passing_most}
+use Rattle.group_votes.proofs.Passing.{passing_most}
 
 -- a known vote is that of a block
 known_within : (votes : List (Option ℕ)) (i : ℕ) → is_some (get_or votes i None) ≡ true → i < length votes

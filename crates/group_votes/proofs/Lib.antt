@@ -1,4 +1,4 @@
-pub mod Stretches
+pub mod Passing
 pub mod Single
 pub mod LockedGroups
 pub mod Heard

@@ -1,5 +1,5 @@
 -- The nodes of a plan as one of its levels sees them, and what is heard of them.
-use Rattle.std.specs.Prelude.{◌≡◌, ℕ, ◌+◌, ◌-◌, ◌/◌, ◌%◌, ◌≤◌, List, length, map, take, drop, slice_index_or, Bool, true, false, not, if◌then◌else◌, Option, Some}
+use Rattle.std.specs.Prelude.{◌≡◌, ℕ, ◌+◌, ◌-◌, ◌≤◌, List, length, map, take, drop, slice_index_or, Bool, true, false, not, if◌then◌else◌, Option, Some}
 use Rattle.std.specs.List.{filter, range_with_len}
 use Rattle.counting.specs.Places.{places}
 use Rattle.sync_types.specs.declared.states.Reg.{Reg}
@@ -54,14 +54,13 @@ module _ (s : Sent) where
   abbrev pub values_of : (first count : ℕ) → List (Option ℕ)
   values_of first count = map (λ u. (register_of u).a) (correct_in first count)
 
-  -- the pointers of the correct nodes, for an interval
-  abbrev pub pointers_of : (interval leaders first count : ℕ) → List (Option ℕ)
-  pointers_of interval leaders first count =
-      map (λ u. Some (output_of u / interval % leaders)) (correct_in first count)
+  -- what is read off what the correct nodes show
+  abbrev pub numbers_of : (reads : ℕ → ℕ) (first count : ℕ) → List (Option ℕ)
+  numbers_of reads first count = map (λ u. Some (reads (output_of u))) (correct_in first count)
 
   -- the parts of the beat of the correct nodes
   abbrev pub parts_of : (beat first count : ℕ) → List (Option ℕ)
-  parts_of beat first count = map (λ u. Some (part_of beat (output_of u))) (correct_in first count)
+  parts_of beat first count = numbers_of (part_of beat) first count
 
 -- What a receiver is told: a state of each liar, in the order of the liars.
 module _ (s : Sent) (lies : List State) where

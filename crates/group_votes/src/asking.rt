@@ -1,94 +1,59 @@
-ghost use Rattle.std.specs.Prelude.{◌≡◌, ◌+◌, ◌*◌, ◌<◌, ◌≤◌, ℕ, List, length, slice_index_or, All, IfSome, false};
+ghost use Rattle.std.specs.Prelude.{◌≡◌, ◌+◌, ◌*◌, ◌<◌, ◌≤◌, ℕ, List, length, slice_index_or, IfSome, true, false};
 ghost use Rattle.sync_types.specs.States.{State};
 ghost use Rattle.majority_votes.specs.Votes.{Votes};
 ghost use Rattle.group_votes.specs.Senders.{Sent, IsTold, TellsItself, liars_in, parts_of};
-ghost use Rattle.group_votes.specs.Votes.{IsKnown, IsVote, AreVotes, block_vote, block_part, blocks_lead};
-ghost use Rattle.group_votes.specs.Groups.{contents, IsGroup, IsCounted, StandsFor, register_heard, AreBelow, AreLies, beat_of_lead};
+ghost use Rattle.group_votes.specs.Votes.{AreAsked, HasRoomIn, block_part, blocks_lead};
+ghost use Rattle.group_votes.specs.Groups.{contents, IsGroup, StandsFor, register_heard, AreBelow, AreLies, beat_of_lead};
 
 use crate::group::Group;
-use crate::laying::{part_heard, vote_heard};
+use crate::hearing::Hearing;
 use crate::locks::is_locked_at;
 use crate::obeying::{is_king_open, is_test_open, locked_next, obey};
+use crate::polls::Poll;
+use crate::readings::{Parts, Pointers};
 use crate::senders::Senders;
+use crate::sites::Site;
+use crate::stretches::Stretch;
 use majority_votes::{Steps, Tally};
 use std::sync::ledger::Ledger;
 use sync_types::{NodeState, Reg};
 
-/// The vote heard of a block: the known one, or that of its correct nodes with its liars.
-fn block_vote_heard<G: Ledger>(
-    senders: &Senders<'_>,
-    interval: u64,
-    leaders: u64,
-    first: usize,
-    count: usize,
-    vote: Option<u64>,
-    lies: &[NodeState],
-    tally: &mut Tally,
-    steps: &mut Steps<G>,
-) -> u64
-    requires interval { 1 ≤ interval }
-    requires leaders { 1 ≤ leaders }
-    requires within { first + count ≤ length senders.now.registers }
-    requires stands { IsVote senders.now interval leaders first count vote tally.old }
-    requires told { IsTold senders.now lies.now }
-    requires deep { All (λ s. senders.now.height ≤ length s.registers) lies.now }
-    requires room { count ≤ tally.old.capacity }
-    ensures vote { result ≡ block_vote senders.now lies.now interval leaders first count }
-    ensures same { tally.new ≡ tally.old }
-    ensures steps { steps.new ≤ steps.old + liars_in senders.now first count }
-{
-    match vote {
-        Some(vote) => vote,
-        None => vote_heard(
-            senders.height(),
-            interval,
-            leaders,
-            senders.lies_in(first, count, lies),
-            tally,
-            steps,
-        ),
-    }
-}
-
-/// The lead heard of blocks of `count` nodes from `first` on, one for each interval.
+/// The lead heard of the blocks, the known one or that of their votes.
 fn lead_heard<G: Ledger>(
-    senders: &Senders<'_>,
-    intervals: &[u64],
-    leaders: u64,
-    first: usize,
-    count: usize,
+    hearing: &Hearing<'_>,
+    site: &Site<'_>,
+    known: Option<u64>,
     votes: &[Option<u64>],
-    lies: &[NodeState],
-    pointers: &mut [Tally],
+    pointers: &mut [Poll],
     scratch: &mut Tally,
     steps: &mut Steps<G>,
 ) -> u64
-    requires intervals { All (λ interval. 1 ≤ interval) intervals.now }
-    requires leaders { 1 ≤ leaders }
-    requires within { first + length intervals.now * count ≤ length senders.now.registers }
-    requires votes { length votes.now ≡ length intervals.now }
-    requires pointers { length pointers.old ≡ length intervals.now }
-    requires stand { AreVotes senders.now intervals.now leaders first count votes.now pointers.old }
-    requires told { IsTold senders.now lies.now }
-    requires deep { All (λ s. senders.now.height ≤ length s.registers) lies.now }
-    requires tallies { All (λ t. count ≤ t.capacity) pointers.old }
-    requires room { length intervals.now ≤ scratch.old.capacity }
-    ensures lead { result ≡ blocks_lead senders.now lies.now intervals.now leaders first count }
+    requires same { site.now.senders.now ≡ hearing.now.senders.now }
+    requires blocks { AreAsked site.now.senders.now site.now.intervals.now site.now.leaders
+        site.now.first site.now.size known votes.now pointers.old }
+    requires room { length site.now.intervals.now ≤ scratch.old.capacity }
+    ensures lead { result ≡ blocks_lead site.now.senders.now hearing.now.lies.now
+        site.now.intervals.now site.now.leaders site.now.first site.now.size }
     ensures same { pointers.new ≡ pointers.old }
     ensures capacity { scratch.new.capacity ≡ scratch.old.capacity }
-    ensures steps { steps.new ≤ steps.old + liars_in senders.now first (length intervals.now * count) }
+    ensures steps { steps.new ≤ steps.old + liars_in site.now.senders.now
+        site.now.first (length site.now.intervals.now * site.now.size) }
 {
+    if let Some(lead) = known {
+        return lead;
+    }
     scratch.clear();
-    for i in 0..intervals.len() {
-        let start = senders.start(first, i, count);
-        let vote = block_vote_heard(
-            senders,
-            intervals[i],
-            leaders,
-            start,
-            count,
+    for i in 0..site.intervals.len() {
+        let reading = Pointers {
+            interval: site.intervals[i],
+            leaders: site.leaders,
+        };
+        let start = site.start(i);
+        let vote = hearing.most(
+            &reading,
             votes[i],
-            lies,
+            start,
+            site.size,
             &mut pointers[i],
             steps,
         );
@@ -97,92 +62,29 @@ fn lead_heard<G: Ledger>(
     scratch.majority().unwrap_or(0)
 }
 
-/// The lead, the known one or the one that is heard.
-fn known_or_heard_lead<G: Ledger>(
-    known: Option<u64>,
-    senders: &Senders<'_>,
-    intervals: &[u64],
-    leaders: u64,
-    first: usize,
-    count: usize,
-    votes: &[Option<u64>],
-    lies: &[NodeState],
-    pointers: &mut [Tally],
-    scratch: &mut Tally,
-    steps: &mut Steps<G>,
-) -> u64
-    requires known { IsKnown senders.now (λ lies. blocks_lead senders.now lies intervals.now leaders first count) known }
-    requires intervals { All (λ interval. 1 ≤ interval) intervals.now }
-    requires leaders { 1 ≤ leaders }
-    requires within { first + length intervals.now * count ≤ length senders.now.registers }
-    requires votes { length votes.now ≡ length intervals.now }
-    requires pointers { length pointers.old ≡ length intervals.now }
-    requires stand { AreVotes senders.now intervals.now leaders first count votes.now pointers.old }
-    requires told { IsTold senders.now lies.now }
-    requires deep { All (λ s. senders.now.height ≤ length s.registers) lies.now }
-    requires tallies { All (λ t. count ≤ t.capacity) pointers.old }
-    requires room { length intervals.now ≤ scratch.old.capacity }
-    ensures lead { result ≡ blocks_lead senders.now lies.now intervals.now leaders first count }
-    ensures same { pointers.new ≡ pointers.old }
-    ensures capacity { scratch.new.capacity ≡ scratch.old.capacity }
-    ensures steps { steps.new ≤ steps.old + liars_in senders.now first (length intervals.now * count) }
-{
-    match known {
-        Some(lead) => lead,
-        None => lead_heard(
-            senders, intervals, leaders, first, count, votes, lies, pointers, scratch, steps,
-        ),
-    }
-}
-
-/// The part of the beat heard of a block, whose correct nodes' parts the tally holds.
-fn block_part_heard<G: Ledger>(
-    senders: &Senders<'_>,
-    beat: u64,
-    first: usize,
-    count: usize,
-    lies: &[NodeState],
-    tally: &mut Tally,
-    steps: &mut Steps<G>,
-) -> u64
-    requires beat { 1 ≤ beat }
-    requires within { first + count ≤ length senders.now.registers }
-    requires stands { tally.old.values ≡ parts_of senders.now beat first count }
-    requires told { IsTold senders.now lies.now }
-    requires deep { All (λ s. senders.now.height ≤ length s.registers) lies.now }
-    requires room { count ≤ tally.old.capacity }
-    ensures part { result ≡ block_part senders.now lies.now beat first count }
-    ensures same { tally.new ≡ tally.old }
-    ensures steps { steps.new ≤ steps.old + liars_in senders.now first count }
-{
-    let told = senders.lies_in(first, count, lies);
-    part_heard(senders.height(), beat, told, tally, steps)
-}
-
-/// The part of the beat heard of the lead, where that block's parts are counted.
+/// The part of the beat heard of the lead, whose parts are counted.
 fn part_of_lead<G: Ledger>(
-    senders: &Senders<'_>,
-    beat: u64,
-    first: usize,
-    count: usize,
+    hearing: &Hearing<'_>,
+    site: &Site<'_>,
     lead: usize,
-    lies: &[NodeState],
-    parts: &mut [Tally],
+    parts: &mut [Poll],
     steps: &mut Steps<G>,
 ) -> u64
-    requires beat { 1 ≤ beat }
-    requires lead { lead < length parts.old }
-    requires within { first + length parts.old * count ≤ length senders.now.registers }
-    requires stands { (none : Votes) → (slice_index_or parts.old lead none).values ≡ parts_of senders.now beat (first + lead * count) count }
-    requires told { IsTold senders.now lies.now }
-    requires deep { All (λ s. senders.now.height ≤ length s.registers) lies.now }
-    requires room { All (λ t. count ≤ t.capacity) parts.old }
-    ensures part { result ≡ block_part senders.now lies.now beat (first + lead * count) count }
+    requires same { site.now.senders.now ≡ hearing.now.senders.now }
+    requires lead { lead < site.now.leaders }
+    requires stands { (none : Votes) → (slice_index_or parts.old lead none).values
+        ≡ parts_of site.now.senders.now site.now.beat
+        (site.now.first + lead * site.now.size) site.now.size }
+    requires room { HasRoomIn site.now.leaders site.now.size parts.old }
+    ensures part { result ≡ block_part site.now.senders.now hearing.now.lies.now site.now.beat
+        (site.now.first + lead * site.now.size) site.now.size }
     ensures same { parts.new ≡ parts.old }
-    ensures steps { steps.new ≤ steps.old + liars_in senders.now first (length parts.old * count) }
+    ensures steps { steps.new ≤ steps.old + liars_in site.now.senders.now
+        site.now.first (site.now.leaders * site.now.size) }
 {
-    let start = senders.start(first, lead, count);
-    block_part_heard(senders, beat, start, count, lies, &mut parts[lead], steps)
+    let reading = Parts { beat: site.beat };
+    let start = site.start(lead);
+    hearing.most(&reading, None, start, site.size, &mut parts[lead], steps)
 }
 
 impl Group {
@@ -202,10 +104,12 @@ impl Group {
         requires told { IsTold senders.now lies.now }
         requires lies { AreLies senders.now.height self.old.nums.modulus lies.now }
         requires room { self.old.nums.blocks ≤ scratch.old.capacity }
-        ensures register { result ≡ register_heard senders.now self.old.nums self.old.first node lies.now }
+        ensures register { result
+            ≡ register_heard senders.now self.old.nums self.old.first node lies.now }
         ensures same { contents self.new ≡ contents self.old }
         ensures capacity { scratch.new.capacity ≡ scratch.old.capacity }
-        ensures steps { steps.new ≤ steps.old + 3 * liars_in senders.now self.old.first self.old.nums.nodes }
+        ensures steps { steps.new ≤ steps.old
+            + 3 * liars_in senders.now self.old.first self.old.nums.nodes }
     {
         let own = senders.register(node);
         if let Some(value) = self.locked
@@ -214,20 +118,15 @@ impl Group {
             return locked_next(value, self.nums.modulus);
         }
         let nums = self.nums;
-        let first = self.first;
         let least = self.least;
-        let beat = self.beat_heard(senders, lies, scratch, steps);
-        obey(
+        let hearing = Hearing {
             senders,
-            &nums,
-            first,
-            beat,
-            own,
-            least,
+            nums: &nums,
+            first: self.first,
             lies,
-            &mut self.values,
-            steps,
-        )
+        };
+        let beat = self.beat_heard(&hearing, scratch, steps);
+        obey(&hearing, beat, own, least, &mut self.values, steps)
     }
 
     /// The new register of every node of the group, whatever it is told, where all of the group's
@@ -248,53 +147,45 @@ impl Group {
         }
     }
 
-    /// The beat that is heard, of a group that is counted.
+    /// The beat that is heard, of a group that is not settled.
     fn beat_heard<G: Ledger>(
         &mut self,
-        senders: &Senders<'_>,
-        lies: &[NodeState],
+        hearing: &Hearing<'_>,
         scratch: &mut Tally,
         steps: &mut Steps<G>,
     ) -> u64
-        requires group { IsGroup self.old }
-        requires within { self.old.first + self.old.nums.nodes ≤ length senders.now.registers }
-        requires counted { IsCounted senders.now self.old }
-        requires told { IsTold senders.now lies.now }
-        requires deep { All (λ s. senders.now.height ≤ length s.registers) lies.now }
+        requires stands { StandsFor hearing.now.senders.now self.old }
+        requires open { self.old.is_settled ≡ false }
         requires room { self.old.nums.blocks ≤ scratch.old.capacity }
-        ensures beat { result ≡ beat_of_lead senders.now (contents self.old) lies.now }
+        ensures beat { result
+            ≡ beat_of_lead hearing.now.senders.now (contents self.old) hearing.now.lies.now }
         ensures same { contents self.new ≡ contents self.old }
         ensures capacity { scratch.new.capacity ≡ scratch.old.capacity }
-        ensures steps { steps.new ≤ steps.old + 2 * liars_in senders.now self.old.first self.old.nums.nodes }
+        ensures steps { steps.new ≤ steps.old
+            + 2 * liars_in hearing.now.senders.now self.old.first self.old.nums.nodes }
     {
-        match self.beat {
-            Some(beat) => beat,
-            None => {
-                let lead = known_or_heard_lead(
-                    self.lead,
-                    senders,
-                    &self.intervals,
-                    u64::from(self.nums.leaders),
-                    self.first,
-                    self.block,
-                    &self.votes,
-                    lies,
-                    &mut self.pointers,
-                    scratch,
-                    steps,
-                );
-                part_of_lead(
-                    senders,
-                    self.nums.beat,
-                    self.first,
-                    self.block,
-                    lead as usize,
-                    lies,
-                    &mut self.parts,
-                    steps,
-                )
-            }
+        if let Some(beat) = self.beat {
+            return beat;
         }
+        let site = Site {
+            senders: hearing.senders,
+            first: self.first,
+            nodes: self.nums.nodes as usize,
+            size: self.block,
+            intervals: &self.intervals,
+            leaders: u64::from(self.nums.leaders),
+            beat: self.nums.beat,
+        };
+        let lead = lead_heard(
+            hearing,
+            &site,
+            self.lead,
+            &self.votes,
+            &mut self.pointers,
+            scratch,
+            steps,
+        );
+        part_of_lead(hearing, &site, lead as usize, &mut self.parts, steps)
     }
 
     /// Whether the new register of a node of the group may hang on what it is told. Where it does
@@ -302,7 +193,8 @@ impl Group {
     pub fn is_open(&self, senders: &Senders<'_>, node: usize) -> bool
         requires stands { StandsFor senders.now self.now }
         requires node { (self.now.first ≤ node) × (node < self.now.first + self.now.nums.nodes) }
-        ensures { result ≡ false → (lies told : List State) → IsTold senders.now lies → IsTold senders.now told
+        ensures { result ≡ false → (lies told : List State)
+            → IsTold senders.now lies → IsTold senders.now told
             → TellsItself senders.now lies node → TellsItself senders.now told node
             → register_heard senders.now self.now.nums self.now.first node lies
             ≡ register_heard senders.now self.now.nums self.now.first node told }
@@ -311,6 +203,11 @@ impl Group {
             return false;
         }
         let nums = self.nums;
+        let group = Stretch {
+            senders,
+            first: self.first,
+            count: nums.nodes as usize,
+        };
         let own = senders.register(node);
         if let Some(value) = self.locked
             && is_locked_at(own, value)
@@ -321,12 +218,11 @@ impl Group {
             return true;
         };
         if beat % 3 == 2 {
-            let king = senders.end(self.first, (beat / 3) as usize);
+            let king = group.node((beat / 3) as usize);
             return is_king_open(senders, own, king, node);
         }
-        let liars = senders.liars_in(self.first, nums.nodes as usize);
         let need = (nums.nodes - nums.faults) as usize;
-        let test = is_test_open(self.values.count_of(own.a), liars, need);
+        let test = is_test_open(self.values.count_of(own.a), group.liars(), need);
         if beat % 3 == 0 {
             return own.a.is_some() && test;
         }

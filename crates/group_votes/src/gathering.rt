@@ -1,124 +1,174 @@
-ghost use Rattle.std.specs.Prelude.{◌≡◌, ◌+◌, ◌<◌, ◌≤◌, ◌++◌, length};
-ghost use Rattle.group_votes.specs.Senders.{correct_in, values_of, pointers_of, parts_of};
+ghost use Rattle.std.specs.Prelude.{◌≡◌, ◌+◌, ◌*◌, ◌%◌, ◌<◌, ◌≤◌, ◌++◌, ℕ, length, slice_index_or, IfSome};
+ghost use Rattle.counting.specs.Values.{least_above};
+ghost use Rattle.majority_votes.specs.Votes.{Votes};
+ghost use Rattle.group_votes.specs.Senders.{correct_in, parts_of, values_of, values_heard};
+ghost use Rattle.group_votes.specs.Votes.{IsKnown, IsBeat, IsLead, AreVotes, AreAsked, HasVotesIn, HasRoomIn, known_in};
 
-use crate::senders::Senders;
-use leader_pointers::part;
+use crate::polls::Poll;
+use crate::readings::{Parts, Pointers};
+use crate::sites::Site;
+use crate::stretches::{Stretch, known_number};
 use majority_votes::{Steps, Tally};
 use std::sync::ledger::Ledger;
 
-/// Counts the value of a node's register, where the node is correct.
-fn gather_value<G: Ledger>(senders: &Senders<'_>, u: usize, tally: &mut Tally, steps: &mut Steps<G>)
-    requires within { u < length senders.now.registers }
-    requires room { length tally.old.values < tally.old.capacity }
-    ensures tally { tally.new ≡ record tally.old { values = tally.old.values ++ values_of senders.now u 1 } }
-    ensures steps { steps.new ≡ steps.old + length (correct_in senders.now u 1) }
+/// Counts the pointers of the blocks, as far as they decide a vote.
+fn gather_votes<G: Ledger>(
+    site: &Site<'_>,
+    pointers: &mut [Poll],
+    votes: &mut [Option<u64>],
+    steps: &mut Steps<G>,
+)
+    requires { HasVotesIn (length site.now.intervals.now) site.now.size votes.old pointers.old }
+    ensures votes { AreVotes site.now.senders.now site.now.intervals.now site.now.leaders
+        site.now.first site.now.size votes.new pointers.new }
+    ensures room { HasVotesIn (length site.now.intervals.now) site.now.size
+        votes.new pointers.new }
+    ensures steps { steps.new ≤ steps.old + length (correct_in site.now.senders.now
+        site.now.first (length site.now.intervals.now * site.now.size)) }
 {
-    if !senders.is_liar(u) {
-        tally.place(senders.register(u).a, steps);
+    for i in 0..site.intervals.len() {
+        let block = Stretch {
+            senders: site.senders,
+            first: site.start(i),
+            count: site.size,
+        };
+        let reading = Pointers {
+            interval: site.intervals[i],
+            leaders: site.leaders,
+        };
+        votes[i] = block.gather_most(&reading, &mut pointers[i], steps);
     }
 }
 
-/// Counts the values of the registers of `count` nodes from `first` on, those of the correct ones
-/// alone.
-pub fn gather_values<G: Ledger>(
-    senders: &Senders<'_>,
-    first: usize,
-    count: usize,
-    tally: &mut Tally,
-    steps: &mut Steps<G>,
-)
-    requires within { first + count ≤ length senders.now.registers }
-    requires room { count ≤ tally.old.capacity }
-    ensures tally { tally.new ≡ record tally.old { values = values_of senders.now first count } }
-    ensures steps { steps.new ≡ steps.old + length (correct_in senders.now first count) }
+/// Adds the vote of a block, where it is known.
+fn add_known(votes: &[Option<u64>], i: usize, scratch: &mut Tally)
+    requires within { i < length votes.now }
+    requires room { length scratch.old.values < scratch.old.capacity }
+    ensures { scratch.new
+        ≡ record scratch.old { values = scratch.old.values ++ known_in votes.now i 1 } }
 {
-    tally.clear();
-    for u in first..senders.end(first, count) {
-        gather_value(senders, u, tally, steps);
+    if votes[i].is_some() {
+        scratch.add(votes[i]);
     }
 }
 
-/// Counts the pointer of a node, where it is correct.
-fn gather_pointer<G: Ledger>(
-    senders: &Senders<'_>,
-    interval: u64,
-    leaders: u64,
-    u: usize,
-    tally: &mut Tally,
-    steps: &mut Steps<G>,
-)
-    requires interval { 1 ≤ interval }
-    requires leaders { 1 ≤ leaders }
-    requires within { u < length senders.now.registers }
-    requires room { length tally.old.values < tally.old.capacity }
-    ensures tally { tally.new ≡ record tally.old { values = tally.old.values ++ pointers_of senders.now interval leaders u 1 } }
-    ensures steps { steps.new ≡ steps.old + length (correct_in senders.now u 1) }
+/// The lead, where the votes that are known decide it.
+fn known_lead(votes: &[Option<u64>], scratch: &mut Tally) -> Option<u64>
+    requires { length votes.now ≤ scratch.old.capacity }
+    ensures lead { IsLead votes.now result }
+    ensures capacity { scratch.new.capacity ≡ scratch.old.capacity }
 {
-    if !senders.is_liar(u) {
-        tally.place(Some(senders.output(u) / interval % leaders), steps);
+    scratch.clear();
+    for i in 0..votes.len() {
+        add_known(votes, i, scratch);
+    }
+    known_number(scratch.majority_with(votes.len() - scratch.len()))
+}
+
+/// Counts the pointers of the blocks, as far as they decide a vote. The answer is the lead, where
+/// it is known.
+pub(crate) fn gather_lead<G: Ledger>(
+    site: &Site<'_>,
+    pointers: &mut [Poll],
+    votes: &mut [Option<u64>],
+    scratch: &mut Tally,
+    steps: &mut Steps<G>,
+) -> Option<u64>
+    requires votes { HasVotesIn (length site.now.intervals.now) site.now.size
+        votes.old pointers.old }
+    requires room { length site.now.intervals.now ≤ scratch.old.capacity }
+    ensures blocks { AreAsked site.now.senders.now site.now.intervals.now site.now.leaders
+        site.now.first site.now.size result votes.new pointers.new }
+    ensures below { IfSome result (λ lead. lead < site.now.leaders) }
+    ensures capacity { scratch.new.capacity ≡ scratch.old.capacity }
+    ensures steps { steps.new ≤ steps.old + length (correct_in site.now.senders.now
+        site.now.first (length site.now.intervals.now * site.now.size)) }
+{
+    gather_votes(site, pointers, votes, steps);
+    known_lead(votes, scratch)
+}
+
+/// Counts the parts of the correct nodes of each leader.
+fn gather_leaders<G: Ledger>(site: &Site<'_>, parts: &mut [Poll], steps: &mut Steps<G>)
+    requires { HasRoomIn site.now.leaders site.now.size parts.old }
+    ensures parts { (b : ℕ) (none : Votes) → b < site.now.leaders
+        → (slice_index_or parts.new b none).values ≡ parts_of site.now.senders.now site.now.beat
+        (site.now.first + b * site.now.size) site.now.size }
+    ensures room { HasRoomIn site.now.leaders site.now.size parts.new }
+    ensures steps { steps.new ≤ steps.old + length (correct_in site.now.senders.now
+        site.now.first (site.now.leaders * site.now.size)) }
+{
+    let reading = Parts { beat: site.beat };
+    for b in 0..parts.len() {
+        let block = Stretch {
+            senders: site.senders,
+            first: site.start(b),
+            count: site.size,
+        };
+        block.gather_numbers(&reading, &mut parts[b], steps);
     }
 }
 
-/// Counts the pointers of `count` nodes from `first` on, those of the correct ones alone.
-/// `interval` is that of their block, and there are so many leaders.
-pub fn gather_pointers<G: Ledger>(
-    senders: &Senders<'_>,
-    interval: u64,
-    leaders: u64,
-    first: usize,
-    count: usize,
-    tally: &mut Tally,
+/// Counts the parts of the lead, or of all leaders where the lead is not known. The answer is the
+/// beat, where it is known.
+pub(crate) fn gather_beat<G: Ledger>(
+    site: &Site<'_>,
+    lead: Option<u64>,
+    parts: &mut [Poll],
     steps: &mut Steps<G>,
-)
-    requires interval { 1 ≤ interval }
-    requires leaders { 1 ≤ leaders }
-    requires within { first + count ≤ length senders.now.registers }
-    requires room { count ≤ tally.old.capacity }
-    ensures tally { tally.new ≡ record tally.old { values = pointers_of senders.now interval leaders first count } }
-    ensures steps { steps.new ≡ steps.old + length (correct_in senders.now first count) }
+) -> Option<u64>
+    requires lead { IfSome lead (λ lead. lead < site.now.leaders) }
+    requires room { HasRoomIn site.now.leaders site.now.size parts.old }
+    ensures beat { IsBeat site.now.senders.now site.now.beat site.now.first site.now.size
+        lead result parts.new }
+    ensures room { HasRoomIn site.now.leaders site.now.size parts.new }
+    ensures steps { steps.new ≤ steps.old + length (correct_in site.now.senders.now
+        site.now.first (site.now.leaders * site.now.size)) }
 {
-    tally.clear();
-    for u in first..senders.end(first, count) {
-        gather_pointer(senders, interval, leaders, u, tally, steps);
+    match lead {
+        Some(lead) => {
+            let lead = lead as usize;
+            let block = Stretch {
+                senders: site.senders,
+                first: site.start(lead),
+                count: site.size,
+            };
+            block.gather_most(&Parts { beat: site.beat }, &mut parts[lead], steps)
+        }
+        None => {
+            gather_leaders(site, parts, steps);
+            None
+        }
     }
 }
 
-/// Counts the part of the beat of a node, where it is correct.
-fn gather_part<G: Ledger>(
-    senders: &Senders<'_>,
-    beat: u64,
-    u: usize,
-    tally: &mut Tally,
+/// Counts the values of a group, unless the beat is known and counts none. The answer is the least
+/// value that more than `faults` nodes have, where it is known.
+pub(crate) fn gather_least<G: Ledger>(
+    group: &Stretch<'_>,
+    faults: usize,
+    beat: Option<u64>,
+    values: &mut Poll,
     steps: &mut Steps<G>,
-)
-    requires beat { 1 ≤ beat }
-    requires within { u < length senders.now.registers }
-    requires room { length tally.old.values < tally.old.capacity }
-    ensures tally { tally.new ≡ record tally.old { values = tally.old.values ++ parts_of senders.now beat u 1 } }
-    ensures steps { steps.new ≡ steps.old + length (correct_in senders.now u 1) }
+) -> Option<Option<u64>>
+    requires { group.now.count ≤ values.old.capacity }
+    ensures values { IfSome beat (λ beat. beat % 3 < 2)
+        → values.new.values ≡ values_of group.now.senders.now group.now.first group.now.count }
+    ensures least { IsKnown group.now.senders.now (λ lies. least_above faults
+        (values_heard group.now.senders.now lies group.now.first group.now.count)) result }
+    ensures capacity { values.new.capacity ≡ values.old.capacity }
+    ensures steps { steps.new ≤ steps.old
+        + length (correct_in group.now.senders.now group.now.first group.now.count) }
 {
-    if !senders.is_liar(u) {
-        tally.place(Some(part(beat, senders.output(u))), steps);
+    if let Some(beat) = beat
+        && beat % 3 == 2
+    {
+        return None;
     }
-}
-
-/// Counts the parts of the beat of `count` nodes from `first` on, those of the correct ones alone.
-pub fn gather_parts<G: Ledger>(
-    senders: &Senders<'_>,
-    beat: u64,
-    first: usize,
-    count: usize,
-    tally: &mut Tally,
-    steps: &mut Steps<G>,
-)
-    requires beat { 1 ≤ beat }
-    requires within { first + count ≤ length senders.now.registers }
-    requires room { count ≤ tally.old.capacity }
-    ensures tally { tally.new ≡ record tally.old { values = parts_of senders.now beat first count } }
-    ensures steps { steps.new ≡ steps.old + length (correct_in senders.now first count) }
-{
-    tally.clear();
-    for u in first..senders.end(first, count) {
-        gather_part(senders, beat, u, tally, steps);
+    group.gather_values(values, steps);
+    if values.is_least_fixed(faults, group.liars()) {
+        Some(values.least_above(faults))
+    } else {
+        None
     }
 }

@@ -9,15 +9,16 @@
 mod asking;
 mod gathering;
 mod group;
+mod hearing;
 mod laying;
 mod locks;
 mod obeying;
+mod polls;
+mod readings;
 mod rooms;
 mod senders;
-#[cfg(test)]
-mod tests;
+mod sites;
+mod stretches;
 
-pub use gathering::{gather_parts, gather_pointers, gather_values};
 pub use group::Group;
-pub use laying::{count_heard, least_heard, part_heard, vote_heard};
 pub use senders::Senders;

@@ -1,61 +1,31 @@
-ghost use Rattle.std.specs.Prelude.{◌≡◌, ◌+◌, ◌-◌, ◌*◌, ◌/◌, ◌%◌, ◌<◌, ◌≤◌, ◌++◌, ◌^◌, ◌⊎◌, ℕ, length, map, All, IfSome, None, false, nat_le, if◌then◌else◌};
+ghost use Rattle.std.specs.Prelude.{◌≡◌, ◌+◌, ◌-◌, ◌/◌, ◌%◌, ◌<◌, ◌≤◌, ◌++◌, ◌⊎◌, ℕ, length, map, All, IfSome, None, false, nat_le, if◌then◌else◌};
+ghost use Rattle.std.proofs.Props.{props};
 ghost use Rattle.counting.specs.Values.{count_of, least_above};
 ghost use Rattle.sync_types.specs.States.{register_at};
-ghost use Rattle.construction.specs.Steps.{state_of};
 ghost use Rattle.construction.specs.PhaseKing.{incremented, instructed, locked_at, up};
-ghost use Rattle.group_votes.specs.Senders.{IsTold, is_liar, liars_in, value_heard, values_heard, values_of};
+ghost use Rattle.group_votes.specs.Senders.{is_liar, liars_in, values_heard, values_of};
 ghost use Rattle.group_votes.specs.Votes.{IsKnown};
-ghost use Rattle.group_votes.specs.Groups.{AreNumbers, AreBelow, AreLies};
+ghost use Rattle.group_votes.specs.Groups.{AreNumbers};
 
-use crate::laying::{count_heard, least_heard};
+use crate::hearing::Hearing;
+use crate::laying::Lies;
+use crate::polls::Poll;
 use crate::senders::Senders;
-use majority_votes::{Steps, Tally};
+use majority_votes::Steps;
 use phase_king::king_step;
 use plan_numbers::LevelNums;
 use std::sync::ledger::Ledger;
-use sync_types::{NodeState, Reg};
-
-/// The value after a value, by a modulus.
-fn next(value: u64, modulus: u64) -> u64
-    requires below { value < modulus }
-    requires modulus { modulus ≤ 2 ^ 40 }
-    ensures { result ≡ up modulus value }
-{
-    if value + 1 == modulus { 0 } else { value + 1 }
-}
+use sync_types::Reg;
 
 /// The register after one that is locked at a value, in a group that is.
 pub(crate) fn locked_next(value: u64, modulus: u64) -> Reg
-    requires below { value < modulus }
-    requires modulus { modulus ≤ 2 ^ 40 }
+    requires { value < modulus }
     ensures { result ≡ locked_at (up modulus value) }
 {
+    let next = if value + 1 == modulus { 0 } else { value + 1 };
     Reg {
-        a: Some(next(value, modulus)),
+        a: Some(next),
         d: true,
-    }
-}
-
-/// The value of the register of one of the lies.
-fn told_value(height: usize, lies: &[NodeState], at: usize) -> Option<u64>
-    requires within { at < length lies.now }
-    requires deep { All (λ s. height < length s.registers) lies.now }
-    ensures { result ≡ (register_at height (state_of lies.now at)).a }
-{
-    lies[at].reg(height).a
-}
-
-/// The value heard of a node's register.
-fn value_heard(senders: &Senders<'_>, node: usize, lies: &[NodeState]) -> Option<u64>
-    requires node { node < length senders.now.registers }
-    requires told { IsTold senders.now lies.now }
-    requires deep { All (λ s. senders.now.height < length s.registers) lies.now }
-    ensures { result ≡ value_heard senders.now lies.now node }
-{
-    if senders.is_liar(node) {
-        told_value(senders.height(), lies, senders.liars_below(node))
-    } else {
-        senders.register(node).a
     }
 }
 
@@ -89,134 +59,145 @@ pub(crate) fn is_test_open(same: usize, liars: usize, need: usize) -> bool
 
 /// The least value that more than `faults` have, the known one or that of the values with the lies.
 fn least_of<G: Ledger>(
-    height: usize,
+    lies: &Lies<'_>,
     faults: usize,
     known: Option<Option<u64>>,
-    lies: &[NodeState],
-    values: &mut Tally,
+    values: &mut Poll,
     steps: &mut Steps<G>,
 ) -> Option<u64>
-    requires deep { All (λ s. height < length s.registers) lies.now }
-    requires room { length values.old.values + length lies.now ≤ values.old.capacity }
-    requires known { let heard = values.old.values ++ map (λ s. (register_at height s).a) lies.now in
+    requires room { length values.old.values + length lies.now.lies.now ≤ values.old.capacity }
+    requires known { let heard = values.old.values
+        ++ map (λ s. (register_at lies.now.height s).a) lies.now.lies.now in
         IfSome known (λ m. least_above faults heard ≡ m) }
-    ensures least { result ≡ least_above faults (values.old.values ++ map (λ s. (register_at height s).a) lies.now) }
+    ensures least { result ≡ least_above faults (values.old.values
+        ++ map (λ s. (register_at lies.now.height s).a) lies.now.lies.now) }
     ensures same { values.new ≡ values.old }
-    ensures steps { steps.new ≤ steps.old + length lies.now }
+    ensures steps { steps.new ≤ steps.old + length lies.now.lies.now }
 {
     match known {
         Some(least) => least,
-        None => least_heard(height, faults, lies, values, steps),
+        None => lies.least(faults, values, steps),
     }
 }
 
-/// The register after the instruction of kind 1: whether enough have the own value, and the least
-/// value that more than the faults have.
-fn obey_first<G: Ledger>(
-    senders: &Senders<'_>,
-    nums: &LevelNums,
+/// A node that obeys: the numbers of its level, and its own register.
+#[derive(Clone, Copy, Drop)]
+struct Node<'a> {
+    nums: &'a LevelNums,
     own: Reg,
-    least: Option<Option<u64>>,
-    lies: &[NodeState],
-    values: &mut Tally,
-    steps: &mut Steps<G>,
-) -> Reg
-    requires numbers { AreNumbers nums.now }
-    requires own { IfSome own.a (λ a. a < nums.now.modulus) }
-    requires lies { AreLies senders.now.height nums.now.modulus lies.now }
-    requires below { All (λ o. IfSome o (λ a. a < nums.now.modulus)) values.old.values }
-    requires room { length values.old.values + length lies.now ≤ values.old.capacity }
-    requires least { let heard = values.old.values ++ map (λ s. (register_at senders.now.height s).a) lies.now in
-        IfSome least (λ m. least_above nums.now.faults heard ≡ m) }
-    ensures register { let heard = values.old.values ++ map (λ s. (register_at senders.now.height s).a) lies.now in
-        result ≡ incremented (up nums.now.modulus)
-        (record { a = least_above nums.now.faults heard; d = nat_le (nums.now.nodes - nums.now.faults) (count_of heard own.a) }) }
-    ensures same { values.new ≡ values.old }
-    ensures steps { steps.new ≤ steps.old + length lies.now }
-{
-    let same = count_heard(senders.height(), own.a, lies, values);
-    let faults = nums.faults as usize;
-    let least = least_of(senders.height(), faults, least, lies, values, steps);
-    king_step(
-        1,
-        own,
-        same,
-        least,
-        None,
-        nums.nodes,
-        nums.faults,
-        nums.modulus,
-    )
+    ghost numbers: { AreNumbers nums.now } by { Prim.hlevel props },
+    ghost below: { IfSome own.a (λ a. a < nums.now.modulus) } by { Prim.hlevel props },
 }
 
-/// The register after the instruction of kind 0: an infinite value stays so, and a finite one stays
-/// where enough have it.
-fn obey_zeroth(
-    senders: &Senders<'_>,
-    nums: &LevelNums,
-    own: Reg,
-    lies: &[NodeState],
-    values: &Tally,
-) -> Reg
-    requires numbers { AreNumbers nums.now }
-    requires own { IfSome own.a (λ a. a < nums.now.modulus) }
-    requires lies { AreLies senders.now.height nums.now.modulus lies.now }
-    requires room { length values.now.values + length lies.now ≤ values.now.capacity }
-    ensures register { let heard = values.now.values ++ map (λ s. (register_at senders.now.height s).a) lies.now in
-        result ≡ incremented (up nums.now.modulus)
-        (record { a = if nat_le (nums.now.nodes - nums.now.faults) (count_of heard own.a) then own.a else None; d = own.d }) }
-{
-    if own.a.is_none() {
-        return own;
+impl Node<'_> {
+    /// Its register after the instruction of kind 0: an infinite value stays so, and a finite one
+    /// stays where enough have it.
+    fn obey_zeroth(&self, lies: &Lies<'_>, values: &Poll) -> Reg
+        requires { length values.now.values + length lies.now.lies.now ≤ values.now.capacity }
+        ensures { let heard = values.now.values
+            ++ map (λ s. (register_at lies.now.height s).a) lies.now.lies.now in
+            let nums = self.now.nums.now in
+            result ≡ incremented (up nums.modulus) (record {
+              a = if nat_le (nums.nodes - nums.faults) (count_of heard self.now.own.a)
+                  then self.now.own.a else None;
+              d = self.now.own.d;
+            }) }
+    {
+        let nums = self.nums;
+        let own = self.own;
+        if own.a.is_none() {
+            return own;
+        }
+        let same = lies.count(own.a, values);
+        king_step(
+            0,
+            own,
+            same,
+            None,
+            None,
+            nums.nodes,
+            nums.faults,
+            nums.modulus,
+        )
     }
-    let same = count_heard(senders.height(), own.a, lies, values);
-    king_step(
-        0,
-        own,
-        same,
-        None,
-        None,
-        nums.nodes,
-        nums.faults,
-        nums.modulus,
-    )
+
+    /// Its register after the instruction of kind 1: whether enough have the own value, and the
+    /// least value that more than the faults have.
+    fn obey_first<G: Ledger>(
+        &self,
+        least: Option<Option<u64>>,
+        lies: &Lies<'_>,
+        values: &mut Poll,
+        steps: &mut Steps<G>,
+    ) -> Reg
+        requires room { length values.old.values + length lies.now.lies.now ≤ values.old.capacity }
+        requires below { All (λ o. IfSome o (λ a. a < self.now.nums.now.modulus))
+            (values.old.values ++ map (λ s. (register_at lies.now.height s).a) lies.now.lies.now) }
+        requires least { let heard = values.old.values
+            ++ map (λ s. (register_at lies.now.height s).a) lies.now.lies.now in
+            IfSome least (λ m. least_above self.now.nums.now.faults heard ≡ m) }
+        ensures register { let heard = values.old.values
+            ++ map (λ s. (register_at lies.now.height s).a) lies.now.lies.now in
+            let nums = self.now.nums.now in
+            result ≡ incremented (up nums.modulus) (record {
+              a = least_above nums.faults heard;
+              d = nat_le (nums.nodes - nums.faults) (count_of heard self.now.own.a);
+            }) }
+        ensures same { values.new ≡ values.old }
+        ensures steps { steps.new ≤ steps.old + length lies.now.lies.now }
+    {
+        let nums = self.nums;
+        let own = self.own;
+        let same = lies.count(own.a, values);
+        let least = least_of(lies, nums.faults as usize, least, values, steps);
+        king_step(
+            1,
+            own,
+            same,
+            least,
+            None,
+            nums.nodes,
+            nums.faults,
+            nums.modulus,
+        )
+    }
 }
 
 /// The register after the instruction of a beat.
 pub(crate) fn obey<G: Ledger>(
-    senders: &Senders<'_>,
-    nums: &LevelNums,
-    first: usize,
+    hearing: &Hearing<'_>,
     beat: u64,
     own: Reg,
     least: Option<Option<u64>>,
-    lies: &[NodeState],
-    values: &mut Tally,
+    values: &mut Poll,
     steps: &mut Steps<G>,
 ) -> Reg
-    requires numbers { AreNumbers nums.now }
-    requires beat { beat < nums.now.beat }
-    requires within { first + nums.now.nodes ≤ length senders.now.registers }
-    requires own { IfSome own.a (λ a. a < nums.now.modulus) }
-    requires below { AreBelow nums.now.modulus senders.now.registers }
-    requires told { IsTold senders.now lies.now }
-    requires lies { AreLies senders.now.height nums.now.modulus lies.now }
-    requires room { nums.now.nodes ≤ values.old.capacity }
-    requires values { beat % 3 < 2 → values.old.values ≡ values_of senders.now first nums.now.nodes }
-    requires least { IsKnown senders.now (λ lies. least_above nums.now.faults (values_heard senders.now lies first nums.now.nodes)) least }
-    ensures register { result ≡ instructed nums.now.nodes nums.now.faults (up nums.now.modulus) (beat % 3) own
-        (values_heard senders.now lies.now first nums.now.nodes) (beat / 3) }
+    requires beat { beat < hearing.now.nums.now.beat }
+    requires own { IfSome own.a (λ a. a < hearing.now.nums.now.modulus) }
+    requires room { hearing.now.nums.now.nodes ≤ values.old.capacity }
+    requires values { beat % 3 < 2 → values.old.values
+        ≡ values_of hearing.now.senders.now hearing.now.first hearing.now.nums.now.nodes }
+    requires least { IsKnown hearing.now.senders.now
+        (λ lies. least_above hearing.now.nums.now.faults (values_heard hearing.now.senders.now lies
+        hearing.now.first hearing.now.nums.now.nodes)) least }
+    ensures register { result ≡ instructed hearing.now.nums.now.nodes hearing.now.nums.now.faults
+        (up hearing.now.nums.now.modulus) (beat % 3) own
+        (values_heard hearing.now.senders.now hearing.now.lies.now
+        hearing.now.first hearing.now.nums.now.nodes) (beat / 3) }
     ensures same { values.new ≡ values.old }
-    ensures steps { steps.new ≤ steps.old + liars_in senders.now first nums.now.nodes }
+    ensures steps { steps.new ≤ steps.old + liars_in hearing.now.senders.now
+        hearing.now.first hearing.now.nums.now.nodes }
 {
+    let nums = hearing.nums;
     if beat % 3 == 2 {
-        let king = value_heard(senders, senders.end(first, (beat / 3) as usize), lies);
+        let king = hearing.king(beat);
         return king_step(2, own, 0, None, king, nums.nodes, nums.faults, nums.modulus);
     }
-    let lies = senders.lies_in(first, nums.nodes as usize, lies);
+    let node = Node { nums, own };
+    let lies = hearing.lies_in(hearing.first, nums.nodes as usize);
     if beat % 3 == 0 {
-        obey_zeroth(senders, nums, own, lies, values)
+        node.obey_zeroth(&lies, values)
     } else {
-        obey_first(senders, nums, own, least, lies, values, steps)
+        node.obey_first(least, &lies, values, steps)
     }
 }

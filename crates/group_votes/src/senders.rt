@@ -1,8 +1,8 @@
-ghost use Rattle.std.specs.Prelude.{◌≡◌, ◌+◌, ◌-◌, ◌*◌, ◌<◌, ◌≤◌, length, take, drop};
-ghost use Rattle.group_votes.specs.Senders.{AreSent, is_liar, output_of, register_of, liars_below, liars_in, lies_in, IsTold};
+ghost use Rattle.std.specs.Prelude.{◌≡◌, ◌<◌, ◌≤◌, length};
+ghost use Rattle.group_votes.specs.Senders.{AreSent, is_liar, output_of, register_of, liars_below};
 
 use std::marker::Model;
-use sync_types::{NodeState, Reg};
+use sync_types::Reg;
 
 /// The nodes of a plan as one of its levels sees them: of each node what it shows to the level, its
 /// register there, and whether it is a liar.
@@ -21,18 +21,14 @@ impl<'a> Model for Senders<'a> {
 
     ghost Value = { Sent };
 
-    ghost view = { λ s. record { height = s.height; outputs = s.outputs.now; registers = s.registers.now; liars = s.liars.now } };
+    ghost view = { λ s. record {
+      height = s.height;
+      outputs = s.outputs.now;
+      registers = s.registers.now;
+      liars = s.liars.now;
+    } };
 
     ghost invariant = { λ s. AreSent s.outputs.now s.registers.now s.liars.now s.before.now };
-}
-
-/// The items from one place on to before another.
-fn between<T>(items: &[T], from: usize, to: usize) -> &[T]
-    requires order { from ≤ to }
-    requires within { to ≤ length items.now }
-    ensures { result.now ≡ take (to - from) (drop from items.now) }
-{
-    &items[from..to]
 }
 
 impl<'a> Senders<'a> {
@@ -46,7 +42,12 @@ impl<'a> Senders<'a> {
         before: &'a [u32],
     ) -> Senders<'a>
         requires { AreSent outputs.now registers.now liars.now before.now }
-        ensures { result ≡ record { height = height; outputs = outputs.now; registers = registers.now; liars = liars.now } }
+        ensures { result ≡ record {
+          height = height;
+          outputs = outputs.now;
+          registers = registers.now;
+          liars = liars.now;
+        } }
     {
         Senders {
             height,
@@ -90,22 +91,11 @@ impl<'a> Senders<'a> {
         self.liars[u]
     }
 
-    /// The place behind `count` nodes from `first` on.
-    pub fn end(&self, first: usize, count: usize) -> usize
-        requires { first + count ≤ length self.now.registers }
-        ensures { result ≡ first + count }
+    /// How many nodes there are.
+    pub fn len(&self) -> usize
+        ensures { result ≡ length self.now.registers }
     {
-        let _nodes = self.registers.len();
-        first + count
-    }
-
-    /// The first node of block `i`, where blocks of `count` nodes stand from `first` on.
-    pub fn start(&self, first: usize, i: usize, count: usize) -> usize
-        requires { first + i * count ≤ length self.now.registers }
-        ensures { result ≡ first + i * count }
-    {
-        let _nodes = self.registers.len();
-        first + i * count
+        self.registers.len()
     }
 
     /// How many liars there are below node `u`, or among all nodes where `u` is behind the last.
@@ -115,24 +105,5 @@ impl<'a> Senders<'a> {
     {
         let before = self.before;
         before[u] as usize
-    }
-
-    /// How many liars there are among `count` nodes from `first` on.
-    pub fn liars_in(&self, first: usize, count: usize) -> usize
-        requires { first + count ≤ length self.now.registers }
-        ensures { result ≡ liars_in self.now first count }
-    {
-        self.liars_below(self.end(first, count)) - self.liars_below(first)
-    }
-
-    /// What the liars among `count` nodes from `first` on tell.
-    pub fn lies_in<'b>(&self, first: usize, count: usize, lies: &'b [NodeState]) -> &'b [NodeState]
-        requires within { first + count ≤ length self.now.registers }
-        requires told { IsTold self.now lies.now }
-        ensures { result.now ≡ lies_in self.now lies.now first count }
-    {
-        let from = self.liars_below(first);
-        let to = self.liars_below(self.end(first, count));
-        between(lies, from, to)
     }
 }

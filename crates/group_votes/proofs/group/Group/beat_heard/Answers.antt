@@ -1,77 +1,101 @@
 use Rattle.std.proofs.Common.{◌≡◌, ℕ, ◌*◌, ◌≤◌, ◌∙◌, All, length, get_or, ap, sym, subst, arith}
-use Rattle.group_votes.specs.Votes.{blocks_lead}
+use Rattle.majority_votes.specs.Votes.{Votes}
+use Rattle.group_votes.specs.Votes.{IsKnown, AreVotes, blocks_lead}
 use Rattle.group_votes.specs.Groups.{contents, lead_heard}
 use Rattle.group_votes.proofs.Heard.{liars_inside}
 use Rattle.group_votes.proofs.Known.{lead_below, agrees}
 use Rattle.group_votes.proofs.Groups.{facts}
 use Rattle.group_votes.proofs.group.Group.beat_heard.Goals as goal
 
-pub known_or_heard_lead-lead-requires-clause-intervals : goal.known_or_heard_lead-lead-requires-clause-intervals
-known_or_heard_lead-lead-requires-clause-intervals g c =
-    subst (λ is. All (λ interval. 1 ≤ interval) is) (sym c.deref.ensures.value) (facts c.args.self.now c.requires.group).some_intervals
-
-pub known_or_heard_lead-lead-requires-clause-within : goal.known_or_heard_lead-lead-requires-clause-within
-known_or_heard_lead-lead-requires-clause-within g c =
-    let f = facts c.args.self.now c.requires.group in
+pub invariant_of-site : goal.invariant_of-site
+invariant_of-site g c =
+    let f = facts c.args.self.now c.requires.stands.room in
     let n : ℕ = c.args.self.now.block in
-    let long : length c.deref.result.now * n ≡ c.args.self.now.nums.blocks * n = ap (λ is. length is * n) c.deref.ensures.value ∙ ap (λ k. k * n) f.long in
-    omega (arith, long, f.size, c.requires.within)
+    let long : length c.deref.result.now ≡ c.args.self.now.nums.blocks = ap length c.deref.ensures.value ∙ f.long in
+    let fits : length c.deref.result.now * n ≡ c.args.self.now.nums.blocks * n = ap (λ k. k * n) long in
+    record {
+      some_intervals = subst (λ is. All (λ interval. 1 ≤ interval) is) (sym c.deref.ensures.value) f.some_intervals;
+      some_leaders = omega (arith, c.from.ensures, f.some_leaders);
+      few_leaders = omega (arith, c.from.ensures, f.few_leaders, long);
+      some_beat = omega (arith, f.beat);
+      fits = omega (arith, fits, f.size);
+      within = c.requires.stands.within;
+    }
 
-pub known_or_heard_lead-lead-requires-clause-votes : goal.known_or_heard_lead-lead-requires-clause-votes
-known_or_heard_lead-lead-requires-clause-votes g c =
-    let f = facts c.args.self.now c.requires.group in
-    ap length c.deref-in-None.ensures.value ∙ (c.requires.group.votes ∙ sym (ap length c.deref.ensures.value ∙ f.long))
+-- what is known and counted, by the names of the call
+pub lead_heard-lead-requires-clause-blocks : goal.lead_heard-lead-requires-clause-blocks
+lead_heard-lead-requires-clause-blocks g c =
+    let group = c.args.self.now in
+    let s = c.args.hearing.now.senders.now in
+    let n : ℕ = group.block in
+    let room = c.requires.stands.room in
+    let counted = c.requires.stands.counted c.requires.open in
+    let leaders : ℕ = c.from.result in
+    let votes = c.deref-2.result.now in
+    let pointers = c.deref_mut.result.now in
+    let intervals = c.deref.result.now in
+    let items = group.intervals.items in
+    let long = ap length c.deref.ensures.value ∙ (facts group room).long in
+    record {
+      known = subst (λ is. IsKnown s (λ lies. blocks_lead s lies is leaders group.first n) group.lead) (sym c.deref.ensures.value)
+          (subst (λ m. IsKnown s (λ lies. blocks_lead s lies items m group.first n) group.lead) (sym c.from.ensures) counted.lead);
+      counted = subst (λ is. AreVotes s is leaders group.first n votes pointers) (sym c.deref.ensures.value)
+          (subst (λ m. AreVotes s items m group.first n votes pointers) (sym c.from.ensures)
+          (subst (λ vs. AreVotes s items group.nums.leaders group.first n vs pointers) (sym c.deref-2.ensures.value)
+          (subst (λ ts. AreVotes s items group.nums.leaders group.first n group.votes.items ts) (sym c.deref_mut.ensures.value) counted.votes)));
+      room = (
+        ap length c.deref-2.ensures.value ∙ (room.votes ∙ sym long),
+        (
+          ap length c.deref_mut.ensures.value ∙ (room.pointers ∙ sym long),
+          subst (All (λ (t : Votes). n ≤ t.capacity)) (sym c.deref_mut.ensures.value) room.pointers_room,
+        ),
+      );
+    }
 
-pub known_or_heard_lead-lead-requires-clause-pointers : goal.known_or_heard_lead-lead-requires-clause-pointers
-known_or_heard_lead-lead-requires-clause-pointers g c =
-    let f = facts c.args.self.now c.requires.group in
-    ap length c.deref_mut.ensures.value ∙ (c.requires.group.pointers ∙ sym (ap length c.deref.ensures.value ∙ f.long))
-
-pub known_or_heard_lead-lead-requires-clause-room : goal.known_or_heard_lead-lead-requires-clause-room
-known_or_heard_lead-lead-requires-clause-room g c =
-    omega (arith, ap length c.deref.ensures.value, (facts c.args.self.now c.requires.group).long, c.requires.room)
+pub lead_heard-lead-requires-clause-room : goal.lead_heard-lead-requires-clause-room
+lead_heard-lead-requires-clause-room g c =
+    omega (arith, ap length c.deref.ensures.value, (facts c.args.self.now c.requires.stands.room).long, c.requires.room)
 
 -- the lead is one of the leaders, whose parts are counted
 pub part_of_lead-requires-clause-lead : goal.part_of_lead-requires-clause-lead
 part_of_lead-requires-clause-lead g c =
     let group = c.args.self.now in
-    let f = facts group c.requires.group in
+    let f = facts group c.requires.stands.room in
     omega (
       arith,
-      c.known_or_heard_lead-lead.ensures.lead,
-      lead_below c.args.senders.now c.deref.result.now c.from.result group.first group.block c.args.lies.now (omega (arith, c.from.ensures, f.some_leaders)),
-      c.from.ensures,
-      ap length c.deref_mut-in-None.ensures.value,
-      c.requires.group.parts,
+      c.lead_heard-lead.ensures.lead,
+      lead_below c.args.hearing.now.senders.now c.deref.result.now c.from.result group.first group.block c.args.hearing.now.lies.now (omega (arith, c.from.ensures, f.some_leaders)),
     )
 
 pub part_of_lead-requires-clause-stands : goal.part_of_lead-requires-clause-stands
 part_of_lead-requires-clause-stands g c = λ none.
     let group = c.args.self.now in
-    let s = c.args.senders.now in
-    let lead = c.known_or_heard_lead-lead.result in
-    let is : lead ≡ lead_heard s (contents group) c.args.lies.now =
-    c.known_or_heard_lead-lead.ensures.lead
-    ∙ (ap (λ is. blocks_lead s c.args.lies.now is c.from.result group.first group.block) c.deref.ensures.value
-    ∙ ap (λ m. blocks_lead s c.args.lies.now group.intervals.items m group.first group.block) c.from.ensures) in
-    let below = part_of_lead-requires-clause-lead g c in
-    ap (λ ts. (get_or ts lead none).values) c.deref_mut-in-None.ensures.value
-    ∙ c.requires.counted.parts c.in-None.is lead none (omega (arith, below, ap length c.deref_mut-in-None.ensures.value, c.requires.group.parts))
-    (agrees s (lead_heard s (contents group)) group.lead c.requires.counted.lead c.args.lies.now c.requires.told lead is)
+    let s = c.args.hearing.now.senders.now in
+    let lies = c.args.hearing.now.lies.now in
+    let counted = c.requires.stands.counted c.requires.open in
+    let lead = c.lead_heard-lead.result in
+    let is : lead ≡ lead_heard s (contents group) lies =
+    c.lead_heard-lead.ensures.lead
+    ∙ (ap (λ is. blocks_lead s lies is c.from.result group.first group.block) c.deref.ensures.value
+    ∙ ap (λ m. blocks_lead s lies group.intervals.items m group.first group.block) c.from.ensures) in
+    ap (λ ts. (get_or ts lead none).values) c.deref_mut-2.ensures.value
+    ∙ counted.parts c.in_default.is lead none (omega (arith, part_of_lead-requires-clause-lead g c, c.from.ensures))
+    (agrees s (lead_heard s (contents group)) group.lead counted.lead lies c.args.hearing.now.told lead is)
 
 -- at most two for each liar
-pub returns-in-None-clause-steps : goal.returns-in-None-clause-steps
-returns-in-None-clause-steps g c =
+pub returns-clause-steps : goal.returns-clause-steps
+returns-clause-steps g c =
     let group = c.args.self.now in
-    let s = c.args.senders.now in
-    let f = facts group c.requires.group in
+    let s = c.args.hearing.now.senders.now in
+    let f = facts group c.requires.stands.room in
     let n : ℕ = group.block in
-    let blocks : length c.deref.result.now * n ≡ group.nums.blocks * n = ap (λ is. length is * n) c.deref.ensures.value ∙ ap (λ k. k * n) f.long in
-    let leaders : length c.deref_mut-in-None.result.now * n ≡ group.nums.leaders * n = ap (λ ts. length ts * n) c.deref_mut-in-None.ensures.value ∙ ap (λ k. k * n) c.requires.group.parts in
+    let long = ap length c.deref.ensures.value ∙ f.long in
+    let blocks : length c.deref.result.now * n ≡ group.nums.blocks * n = ap (λ k. k * n) long in
+    let leaders : c.from.result * n ≡ group.nums.leaders * n = ap (λ k. k * n) c.from.ensures in
     omega (
       arith,
-      c.known_or_heard_lead-lead.ensures.steps,
+      c.lead_heard-lead.ensures.steps,
       c.part_of_lead.ensures.steps,
       liars_inside s group.first group.nums.nodes group.first (length c.deref.result.now * n) (omega arith) (omega (arith, blocks, f.size)),
-      liars_inside s group.first group.nums.nodes group.first (length c.deref_mut-in-None.result.now * n) (omega arith) (omega (arith, leaders, f.size, f.leaders_fit)),
+      liars_inside s group.first group.nums.nodes group.first (c.from.result * n) (omega arith) (omega (arith, leaders, f.size, f.leaders_fit)),
     )

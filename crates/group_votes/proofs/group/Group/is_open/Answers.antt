@@ -50,8 +50,8 @@ kind_one : (beat : ℕ) → (beat % 3 ≡ 2 → ⊥) → (beat % 3 ≡ 0 → ⊥
 kind_one beat two zeroth = let three : 0 < 3 = omega arith in grind (arith, mod-lt beat three, two, zeroth)
 
 -- the king is a node of the group
-pub end-king-requires : goal.end-king-requires
-end-king-requires c =
+pub node-king-requires : goal.node-king-requires
+node-king-requires c =
     let group = c.args.self.now in
     let nums = group.nums in
     let s = c.args.senders.now in
@@ -68,7 +68,7 @@ is_king_open-requires c =
     let counted = c.requires.stands.counted c.if-self.false in
     let beat : ℕ = c.in-Some-beat.beat in
     let known : IsKnown s (beat_of_lead s (contents group)) (Some beat) = subst (λ o. IsKnown s (beat_of_lead s (contents group)) o) c.in-Some-beat.is counted.beat in
-    omega (arith, king_inside s (contents group) c.requires.stands.room c.requires.stands.within beat known, c.requires.stands.within, c.end-king.ensures)
+    omega (arith, king_inside s (contents group) c.requires.stands.room c.requires.stands.within beat known, c.requires.stands.within, c.node-king.ensures)
 
 -- kind 2: the king cannot decide it
 pub returns-then-beat-eq2 : goal.returns-then-beat-eq2
@@ -79,8 +79,8 @@ returns-then-beat-eq2 c = λ e lies told is_lies is_told own_lies own_told.
     let counted = c.requires.stands.counted c.if-self.false in
     let beat : ℕ = c.in-Some-beat.beat in
     let known : IsKnown s (beat_of_lead s (contents group)) (Some beat) = subst (λ o. IsKnown s (beat_of_lead s (contents group)) o) c.in-Some-beat.is counted.beat in
-    let shut = subst (λ k. ((value : ℕ) × (register_of s c.args.node ≡ locked_at value)) ⊎ ((is_liar s k ≡ false) ⊎ (k ≡ c.args.node))) c.end-king.ensures
-    (subst (λ r. ((value : ℕ) × (r ≡ locked_at value)) ⊎ ((is_liar s c.end-king.result ≡ false) ⊎ (c.end-king.result ≡ c.args.node))) c.register-own.ensures (c.is_king_open.ensures e)) in
+    let shut = subst (λ k. ((value : ℕ) × (register_of s c.args.node ≡ locked_at value)) ⊎ ((is_liar s k ≡ false) ⊎ (k ≡ c.args.node))) c.node-king.ensures
+    (subst (λ r. ((value : ℕ) × (r ≡ locked_at value)) ⊎ ((is_liar s c.node-king.result ≡ false) ⊎ (c.node-king.result ≡ c.args.node))) c.register-own.ensures (c.is_king_open.ensures e)) in
     two_shut s (contents group) c.requires.stands.room c.requires.stands.within beat known c.args.node lies told is_lies is_told c.if-beat-eq2.true own_lies own_told shut
 
 -- kind 0: the liars cannot decide the test
@@ -100,7 +100,7 @@ returns-then-is_some c = λ e lies told is_lies is_told own_lies own_told.
     c.count_of.ensures ∙ (ap (λ vs. count_of vs c.register-own.result.a) values ∙ ap (λ (r : Reg). count_of all r.a) c.register-own.ensures) in
     zero_shut s (contents group) c.requires.stands.room c.requires.stands.within beat known c.args.node lies told is_lies is_told c.if-beat-eq0.true
     (subst (λ k. (need ≤ k) ⊎ (k + liars_in s group.first nums.nodes < need)) same
-    (subst (λ q. (need ≤ c.count_of.result) ⊎ (c.count_of.result + q < need)) c.liars_in-liars.ensures (c.is_test_open-test.ensures e)))
+    (subst (λ q. (need ≤ c.count_of.result) ⊎ (c.count_of.result + q < need)) c.liars.ensures (c.is_test_open-test.ensures e)))
 
 -- kind 0: an infinite value stays so
 pub returns-else-is_some : goal.returns-else-is_some
@@ -133,5 +133,5 @@ returns-else-test c = λ e lies told is_lies is_told own_lies own_told.
     let least = some_of group.least (c.is_none.ensures ∙ ap not e) in
     one_shut s (contents group) c.requires.stands.room c.requires.stands.within beat known c.args.node lies told is_lies is_told one
     (subst (λ k. (need ≤ k) ⊎ (k + liars_in s group.first nums.nodes < need)) same
-    (subst (λ q. (need ≤ c.count_of.result) ⊎ (c.count_of.result + q < need)) c.liars_in-liars.ensures (c.is_test_open-test.ensures c.if-test.false)))
+    (subst (λ q. (need ≤ c.count_of.result) ⊎ (c.count_of.result + q < need)) c.liars.ensures (c.is_test_open-test.ensures c.if-test.false)))
     least.0 (subst (λ o. IsKnown s (λ lies. least_above nums.faults (values_heard s lies group.first nums.nodes)) o) least.1 counted.least)

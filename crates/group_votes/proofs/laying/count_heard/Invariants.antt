@@ -1,8 +1,0 @@
-use Rattle.std.proofs.Common.{◌≡◌, ◌+◌, map, take}
-use Rattle.counting.specs.Values.{count_of}
-use Rattle.sync_types.specs.States.{register_at}
-use Rattle.group_votes.proofs.laying.count_heard.Given as goal
-
--- the places so far
-abbrev pub invariant-loop-lie : goal.invariant-loop-lie
-invariant-loop-lie l = l.count ≡ count_of l.tally.values l.value + count_of (map (λ s. (register_at l.height s).a) (take l.lie-index l.lies)) l.value

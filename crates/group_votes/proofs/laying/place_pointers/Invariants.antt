@@ -1,9 +1,0 @@
-use Rattle.std.proofs.Common.{◌≡◌, ◌+◌, ◌/◌, ◌%◌, ◌++◌, map, take, Some}
-use Rattle.construction.specs.Shown.{shown}
-use Rattle.group_votes.proofs.laying.place_pointers.Given as goal
-
--- those of the lies so far stand behind what was there
-abbrev pub invariant-loop-lie : goal.invariant-loop-lie
-invariant-loop-lie g l =
-    (l.tally ≡ record l.initial.tally { values = l.initial.tally.values ++ map (λ s. Some (shown l.height s / l.interval % l.leaders)) (take l.lie-index l.lies) })
-    × (l.steps ≡ l.initial.steps + l.lie-index)
