@@ -16,10 +16,10 @@ use Rattle.plan_numbers.specs.Sizes.{block_nodes}
 use Rattle.plan_laws.specs.Stretches.{stretch}
 use Rattle.group_votes.specs.Senders.{Sent, is_liar, output_of, register_of, correct_in, liars_below, liars_in, told_by, IsTold, output_heard, value_heard, outputs_heard, values_heard}
 use Rattle.group_votes.specs.Groups.{register_heard}
-use Rattle.shared_laws.specs.Sharing.{place_among, heard_at, heard_with, honest_in}
-use Rattle.shared_laws.specs.Groups.{register_for}
-use Rattle.shared_laws.proofs.Stretches.{stretch_of_range, same_range}
-use Rattle.shared_laws.proofs.Ids.{places_of_all}
+use Rattle.shared_board.specs.Sharing.{place_among, heard_at, heard_with, honest_in}
+use Rattle.shared_board.specs.Groups.{register_for}
+use Rattle.shared_board.proofs.Stretches.{stretch_of_range, same_range}
+use Rattle.shared_board.proofs.Ids.{places_of_all}
 use Rattle.shared_board.specs.Boards.{Board, sent_of, AreLiars}
 
 -- tests that agree on a stretch keep the same of it

@@ -9,8 +9,8 @@ use Rattle.plan_numbers.specs.Numbers.{level_of}
 use Rattle.plan_numbers.specs.Sizes.{block_nodes}
 use Rattle.group_votes.specs.Senders.{Sent, is_liar, register_of, output_of, liars_below, told_by, output_heard, value_heard, outputs_heard, values_heard}
 use Rattle.group_votes.specs.Groups.{register_heard}
-use Rattle.shared_laws.specs.Sharing.{place_among}
-use Rattle.shared_laws.proofs.Stretches.{same_range}
+use Rattle.shared_board.specs.Sharing.{place_among}
+use Rattle.shared_board.proofs.Stretches.{same_range}
 use Rattle.shared_board.specs.Boards.{Board, sent_of}
 use Rattle.shared_board.proofs.Hearing.{below_is}
 

@@ -1,3 +1,10 @@
+pub mod Stretches
+pub mod Descent
+pub mod Places
+pub mod Nested
+pub mod Costs
+pub mod Ids
+pub mod LieOrder
 pub mod ByPlace
 pub mod Filling
 pub mod Filled

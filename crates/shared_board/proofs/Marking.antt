@@ -5,8 +5,8 @@ use Rattle.std.proofs.lemmas.List.{take_more_set, take_all, length-set}
 use Rattle.std.proofs.lemmas.List.FromFn.{map-range_with_len_more}
 use Rattle.counting.proofs.Places.{at_most}
 use Rattle.sync_types.specs.FaultSets.{is_in}
-use Rattle.shared_laws.specs.Sharing.{place_among}
-use Rattle.shared_laws.proofs.Ids.{places_of_all}
+use Rattle.shared_board.specs.Sharing.{place_among}
+use Rattle.shared_board.proofs.Ids.{places_of_all}
 use Rattle.shared_board.specs.Boards.{AreLiars}
 
 -- one place more of a list that is filled place by place

@@ -6,7 +6,7 @@ use Rattle.counting.proofs.Places.{none_pass}
 use Rattle.sync_types.specs.declared.states.Reg.{Reg}
 use Rattle.sync_types.specs.FaultSets.{is_in}
 use Rattle.sync_types.specs.States.{zero_state, zero_register}
-use Rattle.shared_laws.specs.Sharing.{place_among}
+use Rattle.shared_board.specs.Sharing.{place_among}
 use Rattle.shared_board.specs.Boards.{IsBoard, board_of, state_by}
 
 map-same : {X Y : Type 0} → (f : X → Y) (x : X) (n : ℕ) → map f (replicate n x) ≡ replicate n (f x)

@@ -1,1 +1,4 @@
+pub mod Sharing
+pub mod LieOrder
+pub mod Groups
 pub mod Boards

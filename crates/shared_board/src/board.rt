@@ -3,7 +3,7 @@ ghost use Rattle.sync_types.specs.States.{zero_state};
 ghost use Rattle.construction.specs.Steps.{state_of};
 ghost use Rattle.counter_core.specs.Meanings.{cut};
 ghost use Rattle.shared_board.specs.Boards.{sent_of, AreLiars};
-ghost use Rattle.shared_laws.specs.Sharing.{place_among};
+ghost use Rattle.shared_board.specs.Sharing.{place_among};
 
 use crate::columns::{fill, zero_outputs, zero_registers};
 use crate::liars::{take_liars, zero_counts, zero_marks};
@@ -34,9 +34,12 @@ impl Model for Board {
 
     ghost Value = { Board };
 
-    ghost view = { λ b. board_of b.nodes (map (λ c. c.items) b.outputs.items) (map (λ c. c.items) b.registers.items) b.liars.items };
+    ghost view = { λ b. board_of b.nodes (map (λ c. c.items) b.outputs.items)
+        (map (λ c. c.items) b.registers.items) b.liars.items };
 
-    ghost invariant = { λ b. IsBoard b.nodes (map (λ c. c.items) b.outputs.items) (map (λ c. c.items) b.registers.items) b.liars.items b.marks.items b.before.items (vec_capacity b.liars) };
+    ghost invariant = { λ b. IsBoard b.nodes (map (λ c. c.items) b.outputs.items)
+        (map (λ c. c.items) b.registers.items) b.liars.items b.marks.items b.before.items
+        (vec_capacity b.liars) };
 }
 
 impl Board {

@@ -1,4 +1,5 @@
-ghost use Rattle.std.specs.Prelude.{◌≡◌, ◌<◌, ◌≤◌, ◌+◌, ℕ, List, length, map, replicate, slice_index_or, unwrap_or, All, IfOk};
+ghost use Rattle.std.specs.Prelude.{◌≡◌, ◌<◌, ◌≤◌, ◌+◌, ℕ, List, length, map, replicate};
+ghost use Rattle.std.specs.Prelude.{slice_index_or, unwrap_or, All, IfOk};
 ghost use Rattle.std.specs.List.{range_with_len};
 ghost use Rattle.sync_types.specs.declared.states.Reg.{Reg};
 ghost use Rattle.sync_types.specs.States.{zero_register, register_at};
@@ -15,7 +16,8 @@ pub(crate) fn zero_outputs(
     columns: usize,
     nodes: usize,
 ) -> Result<Vec<Vec<u64>>, NoMemory>
-    ensures { IfOk result (λ cs. map (λ c. c.items) cs.items ≡ replicate columns (replicate nodes 0)) }
+    ensures { IfOk result (λ cs. map (λ c. c.items) cs.items
+        ≡ replicate columns (replicate nodes 0)) }
 {
     let mut outputs = Vec::with_capacity(alloc, columns)?;
     for _ in 0..columns {
@@ -31,7 +33,8 @@ pub(crate) fn zero_registers(
     columns: usize,
     nodes: usize,
 ) -> Result<Vec<Vec<Reg>>, NoMemory>
-    ensures { IfOk result (λ cs. map (λ c. c.items) cs.items ≡ replicate columns (replicate nodes zero_register)) }
+    ensures { IfOk result (λ cs. map (λ c. c.items) cs.items
+        ≡ replicate columns (replicate nodes zero_register)) }
 {
     let zero = Reg {
         a: Some(0),

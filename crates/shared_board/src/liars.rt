@@ -1,7 +1,8 @@
-ghost use Rattle.std.specs.Prelude.{◌≡◌, ◌<◌, ◌≤◌, ◌+◌, ℕ, length, map, vec_capacity, true, false, replicate, IfOk};
+ghost use Rattle.std.specs.Prelude.{◌≡◌, ◌<◌, ◌≤◌, ◌+◌, ℕ, length, map, vec_capacity, true, false};
+ghost use Rattle.std.specs.Prelude.{replicate, IfOk};
 ghost use Rattle.std.specs.List.{range_with_len};
 ghost use Rattle.sync_types.specs.FaultSets.{is_in};
-ghost use Rattle.shared_laws.specs.Sharing.{place_among};
+ghost use Rattle.shared_board.specs.Sharing.{place_among};
 
 use std::alloc::Global;
 use sync_types::{FaultSet, NoMemory};
@@ -38,8 +39,10 @@ fn copy_ids(faulty: &FaultSet, ids: &mut Vec<u32>)
 fn mark(faulty: &FaultSet, marks: &mut Vec<bool>, before: &mut Vec<u32>)
     requires size { length before.old.items ≡ length marks.old.items + 1 }
     requires most { length marks.old.items ≤ 256 }
-    ensures marks { marks.new.items ≡ map (is_in faulty.now.ids) (range_with_len 0 (length marks.old.items)) }
-    ensures before { before.new.items ≡ map (place_among faulty.now.ids) (range_with_len 0 (length marks.old.items + 1)) }
+    ensures marks { marks.new.items
+        ≡ map (is_in faulty.now.ids) (range_with_len 0 (length marks.old.items)) }
+    ensures before { before.new.items
+        ≡ map (place_among faulty.now.ids) (range_with_len 0 (length marks.old.items + 1)) }
 {
     let nodes = marks.len();
     let mut count = 0;
@@ -79,12 +82,14 @@ pub(crate) fn take_liars(
     requires room { length faulty.now.ids ≤ vec_capacity ids.old }
     requires size { length before.old.items ≡ length marks.old.items + 1 }
     requires most { length marks.old.items ≤ 256 }
-    requires marks { marks.old.items ≡ map (is_in ids.old.items) (range_with_len 0 (length marks.old.items)) }
+    requires marks { marks.old.items
+        ≡ map (is_in ids.old.items) (range_with_len 0 (length marks.old.items)) }
     requires before { before.old.items
         ≡ map (place_among ids.old.items) (range_with_len 0 (length marks.old.items + 1)) }
     ensures ids { ids.new.items ≡ faulty.now.ids }
     ensures room { vec_capacity ids.old ≤ vec_capacity ids.new }
-    ensures marks { marks.new.items ≡ map (is_in faulty.now.ids) (range_with_len 0 (length marks.old.items)) }
+    ensures marks { marks.new.items
+        ≡ map (is_in faulty.now.ids) (range_with_len 0 (length marks.old.items)) }
     ensures before { before.new.items
         ≡ map (place_among faulty.now.ids) (range_with_len 0 (length marks.old.items + 1)) }
 {

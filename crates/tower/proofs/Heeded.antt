@@ -11,10 +11,10 @@ use Rattle.counter_core.specs.Meanings.{cut}
 use Rattle.majority_votes.specs.Votes.{Votes}
 use Rattle.plan_numbers.specs.declared.numbers.LevelNums.{LevelNums}
 use Rattle.plan_numbers.specs.Numbers.{levels_in}
-use Rattle.shared_laws.specs.Sharing.{Shares, Tells, heard_with, place_among}
-use Rattle.shared_laws.specs.Groups.{Group, group_at, index_at, nodes_in}
-use Rattle.shared_laws.proofs.Ids.{places_of_all}
-use Rattle.shared_laws.proofs.Nested.{IsWithin, groups_nest}
+use Rattle.shared_board.specs.Sharing.{Shares, Tells, heard_with, place_among}
+use Rattle.shared_board.specs.Groups.{Group, group_at, index_at, nodes_in}
+use Rattle.shared_board.proofs.Ids.{places_of_all}
+use Rattle.shared_board.proofs.Nested.{IsWithin, groups_nest}
 use Rattle.shared_board.specs.Boards.{Board, AreLiars}
 use Rattle.tower.specs.declared.rows.Row.{Row}
 use Rattle.tower.specs.Rows.{IsRow}

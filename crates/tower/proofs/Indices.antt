@@ -8,8 +8,8 @@ use Rattle.plan_numbers.specs.Numbers.{level_of, levels_in}
 use Rattle.plan_numbers.specs.Sizes.{IsSizedLevel, block_nodes}
 use Rattle.plan_numbers.specs.Stacked.{AreSomeLevels}
 use Rattle.plan_numbers.proofs.Stacking.{top_is, levels_in_push, length-levels_in}
-use Rattle.shared_laws.specs.Groups.{group_count, index_at}
-use Rattle.shared_laws.proofs.Places.{index_other}
+use Rattle.shared_board.specs.Groups.{group_count, index_at}
+use Rattle.shared_board.proofs.Places.{index_other}
 
 -- the groups before a block are fewer than the nodes before it
 pub before_less : (place n c : ℕ) → c < n → place / n * c + place % n ≤ place

@@ -15,10 +15,10 @@ use Rattle.counter_core.specs.Meanings.{cut, written}
 use Rattle.plan_laws.specs.PlanMeaning.{InRange, IsWithin}
 use Rattle.plan_laws.specs.Stretches.{step_at}
 use Rattle.plan_laws.proofs.Stretches.{steps_by_stretches}
-use Rattle.shared_laws.specs.Sharing.{place_among, heard_at, heard_with}
-use Rattle.shared_laws.specs.Groups.{Group, groups_of, group_at, index_at, nodes_in, register_for}
-use Rattle.shared_laws.proofs.Descent.{step_register, step_missing, step_number, step_numberless, length-step_at, group_top, group_under}
-use Rattle.shared_laws.proofs.Places.{group_stands, group_has, index_less, length-groups_of, groups_within, groups_low as levels_low}
+use Rattle.shared_board.specs.Sharing.{place_among, heard_at, heard_with}
+use Rattle.shared_board.specs.Groups.{Group, groups_of, group_at, index_at, nodes_in, register_for}
+use Rattle.shared_board.proofs.Descent.{step_register, step_missing, step_number, step_numberless, length-step_at, group_top, group_under}
+use Rattle.shared_board.proofs.Places.{group_stands, group_has, index_less, length-groups_of, groups_within, groups_low as levels_low}
 use Rattle.shared_board.specs.Boards.{Board}
 use Rattle.shared_board.proofs.Hearing.{register_is}
 use Rattle.tower.specs.Placings.{Placing}

@@ -10,10 +10,10 @@ use Rattle.counter_core.specs.Meanings.{cut}
 use Rattle.plan_numbers.specs.Premises.{IsAccepted}
 use Rattle.plan_laws.specs.PlanMeaning.{IsInRange}
 use Rattle.plan_laws.proofs.PlanCounter.{plan_ignores}
-use Rattle.shared_laws.specs.Sharing.{place_among, honest_in}
-use Rattle.shared_laws.specs.Groups.{Group, groups_of, nodes_in}
-use Rattle.shared_laws.proofs.Costs.{groups_weigh, honest_adds, honest_count}
-use Rattle.shared_laws.proofs.Ids.{places_of_all}
+use Rattle.shared_board.specs.Sharing.{place_among, honest_in}
+use Rattle.shared_board.specs.Groups.{Group, groups_of, nodes_in}
+use Rattle.shared_board.proofs.Costs.{groups_weigh, honest_adds, honest_count}
+use Rattle.shared_board.proofs.Ids.{places_of_all}
 use Rattle.shared_board.specs.Boards.{Board, AreLiars}
 use Rattle.tower.specs.Placings.{Placing, key_of, cost_of, IsReady}
 use Rattle.tower.proofs.Sums.{sum_mapped}

@@ -6,8 +6,8 @@ use Rattle.construction.specs.Steps.{step_of}
 use Rattle.counter_core.specs.Heard.{with_lies}
 use Rattle.counter_core.specs.Meanings.{written}
 use Rattle.plan_laws.specs.PlanMeaning.{plan_meaning}
-use Rattle.shared_laws.specs.Sharing.{heard_with}
-use Rattle.shared_laws.specs.ByPlace.{AreByPlace}
+use Rattle.shared_board.specs.Sharing.{heard_with}
+use Rattle.shared_board.specs.LieOrder.{AreByPlace}
 
 -- Where lies in the order of the liars are the same as lies by place, the step by the first writes
 -- what the counter's step writes that hears the states with the second laid over them.

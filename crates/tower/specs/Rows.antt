@@ -2,7 +2,7 @@
 use Rattle.std.specs.Prelude.{◌≡◌, ℕ, ◌<◌, List, length, map, slice_index_or}
 use Rattle.std.specs.List.{range_with_len}
 use Rattle.construction.specs.Plans.{Level, low_of}
-use Rattle.shared_laws.specs.Groups.{index_at}
+use Rattle.shared_board.specs.Groups.{index_at}
 use Rattle.tower.specs.declared.rows.Row.{Row}
 
 -- the row of a node

@@ -7,8 +7,8 @@ use Rattle.plan_numbers.specs.Premises.{IsAccepted}
 use Rattle.plan_laws.specs.PlanMeaning.{IsInRange}
 use Rattle.majority_votes.specs.Votes.{Votes}
 use Rattle.group_votes.specs.Groups.{Stands}
-use Rattle.shared_laws.specs.Sharing.{Shares}
-use Rattle.shared_laws.specs.Groups.{groups_of}
+use Rattle.shared_board.specs.Sharing.{Shares}
+use Rattle.shared_board.specs.Groups.{groups_of}
 use Rattle.shared_board.specs.Boards.{Board, sent_of}
 use Rattle.tower.specs.declared.rows.Row.{Row}
 use Rattle.tower.specs.Rows.{AreRows}

@@ -16,8 +16,6 @@ mod rows;
 mod shared;
 mod sharing;
 mod steps;
-#[cfg(test)]
-mod tests;
 mod towers;
 
 pub use shared::Shared;

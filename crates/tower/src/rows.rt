@@ -3,7 +3,7 @@ ghost use Rattle.std.specs.List.{range_with_len};
 ghost use Rattle.construction.specs.Plans.{nodes_of, low_of};
 ghost use Rattle.plan_numbers.specs.Numbers.{levels_in};
 ghost use Rattle.plan_numbers.specs.Stacked.{AreSomeLevels};
-ghost use Rattle.shared_laws.specs.Groups.{group_count, index_at};
+ghost use Rattle.shared_board.specs.Groups.{group_count, index_at};
 ghost use Rattle.tower.specs.Rows.{IsRow, AreRows};
 
 use plan_numbers::{LevelNums, low_in};

@@ -5,7 +5,7 @@ ghost use Rattle.construction.specs.PhaseKing.{up};
 ghost use Rattle.construction.specs.Steps.{state_of, step_of};
 ghost use Rattle.counter_core.specs.Meanings.{written};
 ghost use Rattle.plan_laws.specs.PlanMeaning.{IsInRange};
-ghost use Rattle.shared_laws.specs.Sharing.{heard_with, stands_for, Tells};
+ghost use Rattle.shared_board.specs.Sharing.{heard_with, stands_for, Tells};
 
 use crate::groups::{Placed, gather_groups, open_levels, write_registers};
 use crate::rows::Row;
@@ -37,7 +37,7 @@ pub struct Shared {
 }
 
 impl Model for Shared {
-    ghost use Rattle.shared_laws.specs.Sharing.{Shares};
+    ghost use Rattle.shared_board.specs.Sharing.{Shares};
     ghost use Rattle.tower.specs.Sharing.{shares_of, IsShared};
 
     ghost Value = { Shares };

@@ -2,7 +2,7 @@ use Rattle.std.proofs.Common.{◌≡◌, ℕ, ◌+◌, ◌≤◌, if◌then◌el
 use Rattle.std.specs.List.{range_with_len}
 use Rattle.std.proofs.lemmas.List.{length-set}
 use Rattle.sync_types.specs.FaultSets.{is_in}
-use Rattle.shared_laws.specs.Sharing.{place_among}
+use Rattle.shared_board.specs.Sharing.{place_among}
 use Rattle.shared_board.proofs.Marking.{one_more, last_one, counted, at_most_one}
 use Rattle.shared_board.proofs.liars.mark.Goals as goal
 use Rattle.shared_board.proofs.liars.mark.Goals.{then-is_liar, else-is_liar}

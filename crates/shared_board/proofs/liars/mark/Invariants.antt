@@ -1,7 +1,7 @@
 use Rattle.std.proofs.Common.{◌≡◌, ◌≤◌, length, map, take}
 use Rattle.std.specs.List.{range_with_len}
 use Rattle.sync_types.specs.FaultSets.{is_in}
-use Rattle.shared_laws.specs.Sharing.{place_among}
+use Rattle.shared_board.specs.Sharing.{place_among}
 use Rattle.shared_board.proofs.liars.mark.Given as goal
 
 abbrev pub invariant-loop-v : goal.invariant-loop-v

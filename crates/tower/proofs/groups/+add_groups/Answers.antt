@@ -1,6 +1,6 @@
 use Rattle.std.proofs.Common.{◌+◌, ◌*◌, ◌<◌, ◌++◌, List, [], ◌∷◌, length, map, All, sym, ap, ◌∙◌, subst, arith}
 use Rattle.plan_numbers.specs.Numbers.{levels_in}
-use Rattle.shared_laws.specs.Groups.{groups_of}
+use Rattle.shared_board.specs.Groups.{groups_of}
 use Rattle.std.proofs.Common.{append-nil}
 use Rattle.std.proofs.lemmas.List.{map_push}
 use Rattle.std.proofs.lemmas.List.Elements.{All-append, All-cons}

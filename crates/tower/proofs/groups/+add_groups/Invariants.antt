@@ -1,7 +1,7 @@
 use Rattle.std.proofs.Common.{◌≡◌, ◌+◌, ◌*◌, ◌++◌, length, map, All}
 use Rattle.std.specs.List.{range_with_len, flat_map}
 use Rattle.plan_numbers.specs.Numbers.{levels_in}
-use Rattle.shared_laws.specs.Groups.{groups_of}
+use Rattle.shared_board.specs.Groups.{groups_of}
 use Rattle.tower.specs.Placings.{key_of, IsReady}
 use Rattle.tower.proofs.groups.+add_groups.Given as goal
 

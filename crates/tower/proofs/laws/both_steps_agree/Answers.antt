@@ -2,7 +2,7 @@ use Rattle.std.proofs.Common.{ap}
 use Rattle.construction.specs.Plans.{plan_depth}
 use Rattle.construction.specs.Steps.{step_of}
 use Rattle.counter_core.specs.Meanings.{written}
-use Rattle.shared_laws.proofs.ByPlace.{heard_by_place}
+use Rattle.shared_board.proofs.LieOrder.{heard_by_place}
 use Rattle.tower.proofs.laws.both_steps_agree.Goals as goal
 
 pub returns : goal.returns

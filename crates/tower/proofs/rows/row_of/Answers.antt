@@ -2,7 +2,7 @@ use Rattle.std.proofs.Common.{ℕ, ◌++◌, [], ◌∷◌, length, map, sym, ap
 use Rattle.std.specs.List.{range_with_len}
 use Rattle.std.proofs.lemmas.List.FromFn.{length-map-range_with_len, map-range_with_len_more}
 use Rattle.plan_numbers.specs.Numbers.{levels_in}
-use Rattle.shared_laws.specs.Groups.{index_at}
+use Rattle.shared_board.specs.Groups.{index_at}
 use Rattle.tower.proofs.rows.row_of.Goals as goal
 
 pub unwrap-requires : goal.unwrap-requires

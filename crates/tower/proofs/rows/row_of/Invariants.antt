@@ -1,7 +1,7 @@
 use Rattle.std.proofs.Common.{◌≡◌, ◌≤◌, length, map, vec_capacity}
 use Rattle.std.specs.List.{range_with_len}
 use Rattle.plan_numbers.specs.Numbers.{levels_in}
-use Rattle.shared_laws.specs.Groups.{index_at}
+use Rattle.shared_board.specs.Groups.{index_at}
 use Rattle.tower.proofs.rows.row_of.Given as goal
 
 abbrev pub invariant-loop-height : goal.invariant-loop-height

@@ -1,7 +1,7 @@
 use Rattle.std.proofs.Common.{ℕ, ◌+◌, List, length, map, get_or, Vec, Global, sym, ap, ◌∙◌, arith}
 use Rattle.std.proofs.lemmas.List.FromFn.{length-map-range_with_len, get_or-map-range_with_len}
 use Rattle.sync_types.specs.declared.states.Reg.{Reg}
-use Rattle.shared_laws.specs.Sharing.{place_among}
+use Rattle.shared_board.specs.Sharing.{place_among}
 use Rattle.shared_board.proofs.ByPlace.{board_size, board_faulty}
 use Rattle.shared_board.proofs.board.Board.liars_below.Goals as goal
 

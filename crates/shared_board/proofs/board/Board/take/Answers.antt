@@ -6,7 +6,7 @@ use Rattle.sync_types.specs.declared.states.Reg.{Reg}
 use Rattle.sync_types.specs.FaultSets.{is_in}
 use Rattle.sync_types.specs.States.{State}
 use Rattle.counter_core.specs.Meanings.{cut}
-use Rattle.shared_laws.specs.Sharing.{place_among}
+use Rattle.shared_board.specs.Sharing.{place_among}
 use Rattle.shared_board.specs.Boards.{AreLiars, AreFilled, state_by}
 use Rattle.shared_board.proofs.Marking.{few_liars}
 use Rattle.shared_board.proofs.ByPlace.{board_size, board_depth, lists_held}

@@ -13,8 +13,8 @@ use Rattle.construction.specs.Steps.{state_of, step_of}
 use Rattle.counter_core.specs.Meanings.{cut, written}
 use Rattle.plan_numbers.specs.Numbers.{levels_in}
 use Rattle.plan_laws.specs.PlanMeaning.{IsInRange}
-use Rattle.shared_laws.specs.Sharing.{Shares, heard_with, place_among}
-use Rattle.shared_laws.specs.Groups.{index_at}
+use Rattle.shared_board.specs.Sharing.{Shares, heard_with, place_among}
+use Rattle.shared_board.specs.Groups.{index_at}
 use Rattle.shared_board.specs.Boards.{Board}
 use Rattle.tower.specs.declared.rows.Row.{Row}
 use Rattle.tower.specs.Rows.{IsRow}

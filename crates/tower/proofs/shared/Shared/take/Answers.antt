@@ -5,7 +5,7 @@ use Rattle.construction.specs.Plans.{Level, Plan, nodes_of, plan_nodes, plan_dep
 use Rattle.counter_core.specs.Meanings.{cut}
 use Rattle.plan_numbers.specs.Numbers.{levels_in}
 use Rattle.plan_laws.specs.PlanMeaning.{IsInRange}
-use Rattle.shared_laws.specs.Sharing.{Shares}
+use Rattle.shared_board.specs.Sharing.{Shares}
 use Rattle.shared_board.specs.Boards.{Board, AreLiars}
 use Rattle.tower.specs.Placings.{Placing, key_of, cost_of}
 use Rattle.tower.specs.Sharing.{IsShared, plan_of}

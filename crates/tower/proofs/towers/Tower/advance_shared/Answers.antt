@@ -3,7 +3,7 @@ use Rattle.sync_types.specs.States.{State}
 use Rattle.construction.specs.Plans.{Plan, plan_depth}
 use Rattle.construction.specs.Steps.{step_of}
 use Rattle.counter_core.specs.Meanings.{written}
-use Rattle.shared_laws.specs.Sharing.{Shares, heard_with}
+use Rattle.shared_board.specs.Sharing.{Shares, heard_with}
 use Rattle.tower.proofs.Further.{without_further}
 use Rattle.tower.proofs.towers.Tower.advance_shared.Goals as goal
 

@@ -14,7 +14,7 @@ use Rattle.construction.specs.Steps.{state_of, new_register, register_after}
 use Rattle.construction.proofs.Blocks.{block_some}
 use Rattle.construction.proofs.Ranges.{zero_at, low_most}
 use Rattle.plan_laws.specs.Stretches.{stretch, step_at}
-use Rattle.shared_laws.specs.Groups.{group_at, register_for}
+use Rattle.shared_board.specs.Groups.{group_at, register_for}
 
 -- a level and those below it, and a node at a place of the group
 module _ (level : Level) (below : List Level) (place : ℕ) where

@@ -6,8 +6,8 @@ use Rattle.std.proofs.lemmas.List.{length-append, get_or_append_left, get_or-app
 use Rattle.std.proofs.lemmas.List.Elements.{All-cons, All-append, All-weaker}
 use Rattle.construction.specs.Plans.{Level, group_size, nodes_of, low_of}
 use Rattle.construction.proofs.Blocks.{block_room}
-use Rattle.shared_laws.specs.Groups.{Group, groups_of, group_count, group_at, index_at, nodes_in}
-use Rattle.shared_laws.proofs.Descent.{InBlock, in_block, place_inner, block_below, group_top, group_under, parted}
+use Rattle.shared_board.specs.Groups.{Group, groups_of, group_count, group_at, index_at, nodes_in}
+use Rattle.shared_board.proofs.Descent.{InBlock, in_block, place_inner, block_below, group_top, group_under, parted}
 
 -- lists of one length, one behind the other
 module _ {A : Type 0} (f : ℕ → List A) (c : ℕ) (long : (i : ℕ) → length (f i) ≡ c) where

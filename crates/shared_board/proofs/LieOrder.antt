@@ -7,8 +7,8 @@ use Rattle.sync_types.specs.States.{State, zero_state}
 use Rattle.construction.specs.Steps.{state_of}
 use Rattle.counter_core.specs.Heard.{with_lies}
 use Rattle.counter_core.proofs.LiesHeard.{length-with_lies, get_or-with_lies}
-use Rattle.shared_laws.specs.Sharing.{place_among, heard_at, heard_with}
-use Rattle.shared_laws.specs.ByPlace.{AreByPlace}
+use Rattle.shared_board.specs.Sharing.{place_among, heard_at, heard_with}
+use Rattle.shared_board.specs.LieOrder.{AreByPlace}
 
 pub heard_by_place : (faulty : List ℕ) (lies config : List State) (liars : List Bool) (told : List State)
     → AreByPlace (length config) faulty lies liars told

@@ -5,8 +5,8 @@ use Rattle.std.proofs.lemmas.Nat.{mul-le}
 use Rattle.std.proofs.lemmas.List.Sums.{sum_by-append, sum_by-cons}
 use Rattle.construction.specs.Plans.{Level, group_size, nodes_of}
 use Rattle.sync_types.specs.FaultSets.{is_in}
-use Rattle.shared_laws.specs.Sharing.{place_among, honest_in}
-use Rattle.shared_laws.specs.Groups.{Group, groups_of, nodes_in}
+use Rattle.shared_board.specs.Sharing.{place_among, honest_in}
+use Rattle.shared_board.specs.Groups.{Group, groups_of, nodes_in}
 
 -- a weight of stretches of nodes that adds up
 module _ (weight : (first count : ℕ) → ℕ)

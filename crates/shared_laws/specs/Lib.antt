@@ -1,3 +1,0 @@
-pub mod Sharing
-pub mod ByPlace
-pub mod Groups
