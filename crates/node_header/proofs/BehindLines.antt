@@ -1,37 +1,8 @@
 -- What stands behind the lines of a part.
-use Rattle.std.proofs.Common.{◌≡◌, ℕ, zero, suc, ◌+◌, Bool, true, false, eqb, List, [], ◌∷◌, ◌++◌, length, Result, Ok, Err, refl, ap, arith}
+use Rattle.std.proofs.Common.{◌≡◌, ℕ, zero, suc, Bool, true, false, eqb, List, [], ◌∷◌, ◌++◌, length, refl, ap, arith}
 use Rattle.std.specs.List.{onto_first}
 use Rattle.texts.specs.Lines.{lines_of}
-use Rattle.texts.specs.Parts.{Next, goes, ends, refuses, Found, At, part_from}
 use Rattle.texts.specs.Limits.{behind_lines}
-
-module _ {S V R : Type 0} (step : S → List ℕ → Next S V R) (form : R) where
-  -- each line is taken or left
-  abbrev AreTaken : (lines : List (List ℕ)) → Type 0
-  AreTaken lines = (s : S) (taken number : ℕ) (found : Found V)
-      → part_from step form s taken number lines ≡ Ok found
-      → found.taken + length found.behind ≡ taken + length lines
-
-  taken_by : (line : List ℕ) (lines : List (List ℕ)) → AreTaken lines → (taken number : ℕ)
-      → (found : Found V) (next : Next S V R)
-      → elim next as (λ _. Result (Found V) (At R)) [
-        | goes t ↦ part_from step form t (taken + 1) (number + 1) lines
-        | ends v ↦ Ok (record { value = v; taken = taken + 1; behind = lines })
-        | refuses r ↦ Err (record { line = number; rule = r })
-      ] ≡ Ok found
-      → found.taken + length found.behind ≡ taken + length (line ∷ lines)
-  taken_by line lines further taken number found (goes t) is =
-      let rest = further t (taken + 1) (number + 1) found is in omega (arith, rest)
-  taken_by line lines further taken number found (ends v) is =
-      let count : taken + 1 ≡ found.taken = cc in
-      let left : lines ≡ found.behind = cc in
-      omega (arith, count, ap (λ (ls : List (List ℕ)). length ls) left)
-  taken_by line lines further taken number found (refuses r) is = absurd cc
-
-  pub are_taken : (lines : List (List ℕ)) → AreTaken lines
-  are_taken [] s taken number found is = absurd cc
-  are_taken (line ∷ lines) s taken number found is =
-      taken_by line lines (are_taken lines) taken number found (step s line) is
 
 -- a text that ends with a newline has a line
 pub record Ended (front : List ℕ) : Type 0 where

@@ -1,104 +1,307 @@
 -- One part of a header behind another.
-use Rattle.std.proofs.Common.{◌≡◌, ℕ, zero, suc, ◌+◌, ◌-◌, ◌^◌, Bool, true, false, cond, eqb, List, [], ◌∷◌, ◌++◌, Option, Some, None, Err, refl, sym, ap, ◌∙◌, append_assoc, length-append, subst, arith}
+use Rattle.std.proofs.Common.{◌≡◌, ℕ, ◌+◌, ◌-◌, ◌^◌, Bool, true, false, List, [], ◌++◌, Option, Some, None, Result, Ok, Err, refl, sym, ap, ◌∙◌, append_assoc, length-append, subst, arith}
 use Rattle.std.proofs.KnownBytes.{Consumes-trans}
+use Rattle.texts.specs.Causes.{Counted}
 use Rattle.texts.specs.Lines.{lines_of, whole_lines}
-use Rattle.texts.specs.Parts.{Next, with_skips}
 use Rattle.texts.specs.Limits.{by, room_of, behind_lines}
+use Rattle.texts.proofs.LineByLine.{behind_both}
 use Rattle.edge_io.specs.declared.fed_parts.FedPart.{FedPart}
-use Rattle.edge_io.specs.FedParts.{MayFollow, limited_part, Decided, Undecided, WholePart, LostPart}
+use Rattle.edge_io.specs.declared.fed_parts.FedError.{FedError}
+use Rattle.edge_io.specs.declared.fed_parts.FedError.TheVariants as fed
+use Rattle.edge_io.specs.FedParts.{MayFollow, limited_part, Decided, Undecided, WholePart, LostPart, HaltedPart, PartFed, HasPartCause}
 use Rattle.sync_types.specs.declared.answers.Premise.{Premise}
 use Rattle.sync_types.specs.declared.answers.Premise.TheVariants as premise
 use Rattle.sync_types.specs.declared.answers.Rule.{Rule}
 use Rattle.sync_types.specs.declared.answers.Rule.TheVariants as rule
 use Rattle.construction.specs.Plans.{Plan}
-use Rattle.plan_reader.specs.PlanPart.{plan_step}
 use Rattle.plan_reader.specs.declared.stages.PlanStage.{PlanStage}
 use Rattle.plan_reader.specs.declared.stages.PlanStage.TheVariants.{Unread}
-use Rattle.state_codec.specs.Shapes.{Shape, shape_of}
+use Rattle.state_codec.specs.Shapes.{Shape, IsShape, shape_of}
 use Rattle.node_header.specs.declared.header_lines.NodeHeader.{NodeHeader}
+use Rattle.node_header.specs.declared.headers.HeaderRefusal.{HeaderRefusal}
 use Rattle.node_header.specs.declared.headers.HeaderRefusal.TheVariants as refusal
-use Rattle.node_header.specs.NodePart.{HeaderSoFar, header_step, nothing_read}
-use Rattle.node_header.specs.Headers.{header_in, behind_plan, behind_node, plan_refused, node_refused}
-use Rattle.node_header.specs.FedHeaders.{HeaderDecided, HeaderWhole, HeaderTooLong, HeaderLost}
+use Rattle.node_header.specs.declared.headers.HeaderRead.{HeaderRead}
+use Rattle.node_header.specs.declared.headers.HeaderError.{HeaderError}
+use Rattle.node_header.specs.NodePart.{HeaderSoFar, nothing_read}
+use Rattle.node_header.specs.Headers.{Header, header_in, behind_plan, behind_node}
+use Rattle.node_header.specs.FedHeaders.{HeaderPending, HeaderDecided, HeaderWhole, HeaderTooLong, HeaderLost, HeaderHalted, HeaderFed, plan_failed, node_failed, HasHeaderCause}
+use Rattle.node_header.specs.Fits.{IsFit}
+use Rattle.node_header.proofs.HeaderFits.{header_fits}
+use Rattle.node_header.proofs.PendingHeaders.{plan_line, node_line, PlanPending, NodePending, all_but_last, at_once, pending_first, pending_second}
 
--- the steps of the parts over all lines
-abbrev plan_line : PlanStage → List ℕ → Next PlanStage Plan Premise
-plan_line = with_skips plan_step premise.Form
+-- the header of a text of which so many bytes may be read
+abbrev header_by : (longer : Bool) → List ℕ → Result Header (Option HeaderRefusal)
+header_by longer bytes = header_in (room_of longer (2 ^ 20)) (lines_of bytes)
 
-abbrev node_line : HeaderSoFar → List ℕ → Next HeaderSoFar NodeHeader Rule
-node_line = with_skips header_step rule.Form
+-- ---- the first part is not read
 
--- a read failed in the first part
-pub lost_first : (s t : Option (List ℕ)) → LostPart plan_line premise.Form Unread 1 s t → HeaderLost s t
-lost_first s t h = record { bytes = h.bytes; refusal = plan_refused h.line (by premise.Form); read = h.read; lost = ap behind_plan h.lost }
+module _ (s t : Option (List ℕ)) (after : ℕ) where
+  lost_first : LostPart plan_line premise.Form Unread 1 (2 ^ 20) 0 s t → HeaderLost s t
+  lost_first h =
+      record { bytes = h.bytes; read = h.read; lost = pending_first h.bytes h.lost }
 
--- the bytes behind some lines, and some more
-behind_by : (newline : Bool) (n m : ℕ) (bs : List ℕ) → behind_lines (n + m) bs ≡ behind_lines m (behind_lines n bs) → behind_lines (suc (n + m)) bs ≡ behind_lines m (behind_lines (suc n) bs) → cond newline (behind_lines (n + m) bs) (behind_lines (suc (n + m)) bs) ≡ behind_lines m (cond newline (behind_lines n bs) (behind_lines (suc n) bs))
-behind_by true n m bs a b = a
-behind_by false n m bs a b = b
-
-behind_end : (m : ℕ) → [] ≡ behind_lines m []
-behind_end zero = refl
-behind_end (suc m) = refl
-
-pub behind_both : (n m : ℕ) (bytes : List ℕ) → behind_lines (n + m) bytes ≡ behind_lines m (behind_lines n bytes)
-behind_both zero m bytes = let e : 0 + m ≡ m = omega arith in ap (λ k. behind_lines k bytes) e
-behind_both (suc n) m [] = let e : suc n + m ≡ suc (n + m) = omega arith in ap (λ k. behind_lines k []) e ∙ behind_end m
-behind_both (suc n) m (b ∷ bs) =
-    let e : suc n + m ≡ suc (n + m) = omega arith in
-    ap (λ k. behind_lines k (b ∷ bs)) e ∙ behind_by (eqb b 10) n m bs (behind_both n m bs) (ap (λ k. behind_lines k bs) (sym e) ∙ behind_both (suc n) m bs)
-
-module _ (s t u : Option (List ℕ)) (after last : ℕ) (x : FedPart Plan) (w : WholePart plan_line premise.Form Unread 1 (2 ^ 20) 0 after s t x) (goes_on : w.decided.ended ≡ false) where
-  anything : (longer : Bool) (rest : List ℕ) → MayFollow w.decided.ended longer rest
-  anything longer rest = subst (λ (e : Bool). MayFollow e longer rest) (sym goes_on) tt
-
-  abbrev start : HeaderSoFar
-  start = nothing_read (shape_of x.value)
-
-  -- the first part, and then the second from some bytes
-  chained : (longer : Bool) (bytes rest : List ℕ) → header_in (room_of longer (2 ^ 20)) (lines_of ((w.decided.bytes ++ bytes) ++ rest)) ≡ behind_node x.value x.lines (limited_part node_line rule.Form start 0 (1 + x.lines) (room_of longer (2 ^ 20 - after)) (lines_of (bytes ++ rest)))
-  chained longer bytes rest = ap (λ (l : List ℕ). header_in (room_of longer (2 ^ 20)) (lines_of l)) (append_assoc w.decided.bytes bytes rest) ∙ ap behind_plan (w.decided.decides longer (bytes ++ rest) (anything longer (bytes ++ rest)))
-
-  pub lost_second : LostPart node_line rule.Form start (1 + x.lines) t u → HeaderLost s u
-  lost_second h = record {
-    bytes = w.decided.bytes ++ h.bytes;
-    refusal = node_refused h.line (by rule.Form);
-    read = Consumes-trans s t u w.decided.bytes h.bytes w.decided.read h.read;
-    lost = ap behind_plan (w.whole goes_on h.bytes) ∙ ap (behind_node x.value x.lines) h.lost;
+  long_first : Undecided plan_line premise.Form Unread 1 (2 ^ 20) 0 s t → HeaderTooLong s t
+  long_first h = record {
+    bytes = h.bytes;
+    read = h.read;
+    past = omega (arith, h.past);
+    at_once = all_but_last PlanPending HeaderPending [] pending_first h.bytes h.at_once;
+    decides = λ rest. ap behind_plan (h.decides rest);
   }
 
-  pub long_second : Undecided node_line rule.Form start (1 + x.lines) (2 ^ 20) after t u → HeaderTooLong s u
-  long_second h = record {
-    bytes = w.decided.bytes ++ h.bytes;
-    read = Consumes-trans s t u w.decided.bytes h.bytes w.decided.read h.read;
-    past = omega (arith, length-append w.decided.bytes h.bytes, h.past, w.decided.count);
-    decides = λ rest. chained true h.bytes rest ∙ ap (behind_node x.value x.lines) (h.decides rest);
-  }
-
-  pub refused_second : (line : ℕ) (r : Rule) → Decided node_line rule.Form start (1 + x.lines) (2 ^ 20) after last t u (λ room rest. Err (record { line = line; rule = by r })) → HeaderDecided s u (Err (Some (refusal.Node line r)))
-  refused_second line r d = record {
-    bytes = w.decided.bytes ++ d.bytes;
+  refused_first : (line : ℕ) (p : Premise)
+      → Decided plan_line premise.Form Unread 1 (2 ^ 20) 0 after s t
+      (λ room rest. Err (record { line = line; rule = by p }))
+      → HeaderDecided s t (Err (Some (refusal.Plan line p)))
+  refused_first line p d = record {
+    bytes = d.bytes;
     ended = d.ended;
-    read = Consumes-trans s t u w.decided.bytes d.bytes w.decided.read d.read;
+    read = d.read;
     at_end = d.at_end;
-    within = omega (arith, length-append w.decided.bytes d.bytes, w.decided.count, d.count, d.within);
-    decides = λ longer rest follows. chained longer d.bytes rest ∙ ap (behind_node x.value x.lines) (d.decides longer rest follows);
+    within = omega (arith, d.count, d.within);
+    at_once = at_once PlanPending HeaderPending [] pending_first d.ended d.bytes d.at_once;
+    decides = λ longer rest follows. ap behind_plan (d.decides longer rest follows);
   }
 
-  pub whole_second : (y : FedPart NodeHeader) → WholePart node_line rule.Form start (1 + x.lines) (2 ^ 20) after last t u y → (shape : Shape) → HeaderWhole s u (record { plan = x.value; shape = shape; header = y.value; ended = y.ended })
-  whole_second y d shape = record {
-    header = record { plan = x.value; node = y.value; lines = x.lines + y.lines };
-    plan = refl;
-    node = refl;
-    decided = record {
-      bytes = w.decided.bytes ++ d.decided.bytes;
-      ended = d.decided.ended;
-      read = Consumes-trans s t u w.decided.bytes d.decided.bytes w.decided.read d.decided.read;
-      at_end = d.decided.at_end;
-      within = omega (arith, length-append w.decided.bytes d.decided.bytes, w.decided.count, d.decided.count, d.decided.within);
-      decides = λ longer rest follows. chained longer d.decided.bytes rest ∙ ap (behind_node x.value x.lines) (d.decided.decides longer rest follows);
-    };
-    ends = d.ends;
-    behind = λ longer rest follows. behind_both x.lines y.lines ((w.decided.bytes ++ d.decided.bytes) ++ rest) ∙ ap (behind_lines y.lines) (ap (behind_lines x.lines) (append_assoc w.decided.bytes d.decided.bytes rest) ∙ w.behind longer (d.decided.bytes ++ rest) (anything longer (d.decided.bytes ++ rest))) ∙ d.behind longer rest follows;
-    whole = λ open_end rest. ap (λ (l : List ℕ). header_in None (whole_lines l)) (append_assoc w.decided.bytes d.decided.bytes rest) ∙ ap behind_plan (w.whole goes_on (d.decided.bytes ++ rest)) ∙ ap (behind_node x.value x.lines) (d.whole open_end rest);
+  halted_first : HaltedPart plan_line premise.Form Unread 1 (2 ^ 20) 0 s t → HeaderHalted s t
+  halted_first h = record {
+    bytes = h.bytes;
+    ended = h.ended;
+    read = h.read;
+    at_end = h.at_end;
+    at_once = at_once PlanPending HeaderPending [] pending_first h.ended h.bytes h.at_once;
   }
+
+  failed_first : (e : FedError Premise)
+      → PartFed plan_line premise.Form Unread 1 (2 ^ 20) 0 after s t (Err e)
+      → HeaderFed s t (Err (plan_failed e))
+  failed_first fed.ReadFault h = lost_first h
+  failed_first fed.TooLong h = long_first h
+  failed_first (fed.Refused at) d = refused_first at.line at.rule d
+  failed_first fed.NoMemory h = halted_first h
+
+  -- what reading a plan did, with a reader of which nothing was read
+  abbrev PlanFed : (reader : PlanStage) (before : ℕ) → Result (FedPart Plan) (FedError Premise)
+      → Type 0
+  PlanFed reader before result =
+      PartFed plan_line premise.Form reader 1 (2 ^ 20) before after s t result
+
+  module _ (reader : PlanStage) (before : ℕ) (unread : reader ≡ Unread) (none : before ≡ 0) where
+    plan_unread : (result : Result (FedPart Plan) (FedError Premise))
+        → PlanFed reader before result → PlanFed Unread 0 result
+    plan_unread result h =
+        subst (λ (n : ℕ). PlanFed Unread n result) none
+        (subst (λ (r : PlanStage). PlanFed r before result) unread h)
+
+    pub first_failed : (e : FedError Premise) → PlanFed reader before (Err e)
+        → HeaderFed s t (Err (plan_failed e))
+    first_failed e h = failed_first e (plan_unread (Err e) h)
+
+    pub plan_whole : (x : FedPart Plan) → PlanFed reader before (Ok x) → PlanFed Unread 0 (Ok x)
+    plan_whole x h = plan_unread (Ok x) h
+
+-- what reading a node part did, with a reader of which nothing was read
+module _ (first before last : ℕ) (t u : Option (List ℕ)) where
+  abbrev NodeFed : (reader : HeaderSoFar) → Result (FedPart NodeHeader) (FedError Rule) → Type 0
+  NodeFed reader result =
+      PartFed node_line rule.Form reader first (2 ^ 20) before last t u result
+
+  module _ (plan : Plan) (shape : Shape) (reader : HeaderSoFar) (shaped : shape ≡ shape_of plan)
+      (unread : reader ≡ nothing_read shape) where
+    at_plan : reader ≡ nothing_read (shape_of plan)
+    at_plan = unread ∙ ap nothing_read shaped
+
+    pub node_unread : (e : FedError Rule) → NodeFed reader (Err e)
+        → NodeFed (nothing_read (shape_of plan)) (Err e)
+    node_unread e h = subst (λ (r : HeaderSoFar). NodeFed r (Err e)) at_plan h
+
+    pub node_whole : (y : FedPart NodeHeader) → NodeFed reader (Ok y)
+        → NodeFed (nothing_read (shape_of plan)) (Ok y)
+    node_whole y h = subst (λ (r : HeaderSoFar). NodeFed r (Ok y)) at_plan h
+
+    pub node_fits : IsShape shape → (y : FedPart NodeHeader) → NodeFed reader (Ok y)
+        → IsFit shape y.value
+    node_fits sound y h =
+        header_fits shape sound first (2 ^ 20) before last t u y
+        (subst (λ (r : HeaderSoFar). NodeFed r (Ok y)) unread h)
+
+-- ---- the first part is read
+
+module _ (s t : Option (List ℕ)) (after : ℕ) (x : FedPart Plan)
+    (w : WholePart plan_line premise.Form Unread 1 (2 ^ 20) 0 after s t x) where
+  -- its last line is that of the input
+  pub ends_first : w.decided.ended ≡ true
+      → HeaderDecided s t (Err (Some (refusal.Node (1 + x.lines) rule.Form)))
+  ends_first ends =
+      let d = w.decided in
+      record {
+        bytes = d.bytes;
+        ended = d.ended;
+        read = d.read;
+        at_end = d.at_end;
+        within = omega (arith, d.count, d.within);
+        at_once = at_once PlanPending HeaderPending [] pending_first d.ended d.bytes d.at_once;
+        decides = λ longer rest follows.
+            let none : rest ≡ [] = (subst (λ (e : Bool). MayFollow e longer rest) ends follows).0 in
+            ap behind_plan (d.decides longer rest follows)
+            ∙ ap (λ (l : List ℕ). behind_node x.value x.lines
+            (limited_part node_line rule.Form (nothing_read (shape_of x.value)) 0 (1 + x.lines)
+            (room_of longer (2 ^ 20 - after)) (lines_of l))) none;
+      }
+
+  -- memory runs out behind it
+  pub halts_between : HeaderHalted s t
+  halts_between =
+      let d = w.decided in
+      record {
+        bytes = d.bytes;
+        ended = d.ended;
+        read = d.read;
+        at_end = d.at_end;
+        at_once = at_once PlanPending HeaderPending [] pending_first d.ended d.bytes d.at_once;
+      }
+
+  module _ (u : Option (List ℕ)) (last : ℕ) (goes_on : w.decided.ended ≡ false) where
+    anything : (longer : Bool) (rest : List ℕ) → MayFollow w.decided.ended longer rest
+    anything longer rest = subst (λ (e : Bool). MayFollow e longer rest) (sym goes_on) tt
+
+    abbrev start : HeaderSoFar
+    start = nothing_read (shape_of x.value)
+
+    abbrev Pending : List ℕ → Type 0
+    Pending bytes = NodePending s t after x w goes_on bytes
+
+    pending : (bytes : List ℕ) → Pending bytes → HeaderPending (w.decided.bytes ++ bytes)
+    pending bytes p = pending_second s t after x w goes_on bytes p
+
+    abbrev front : List ℕ
+    front = w.decided.bytes
+
+    -- the first part, and then the second from some bytes
+    chained : (longer : Bool) (bytes rest : List ℕ) → header_by longer ((front ++ bytes) ++ rest)
+        ≡ behind_node x.value x.lines (limited_part node_line rule.Form start 0 (1 + x.lines)
+        (room_of longer (2 ^ 20 - after)) (lines_of (bytes ++ rest)))
+    chained longer bytes rest =
+        ap (header_by longer) (append_assoc front bytes rest)
+        ∙ ap behind_plan
+        (w.decided.decides longer (bytes ++ rest) (anything longer (bytes ++ rest)))
+
+    lost_second : LostPart node_line rule.Form start (1 + x.lines) (2 ^ 20) after t u
+        → HeaderLost s u
+    lost_second h = record {
+      bytes = front ++ h.bytes;
+      read = Consumes-trans s t u front h.bytes w.decided.read h.read;
+      lost = pending h.bytes h.lost;
+    }
+
+    long_second : Undecided node_line rule.Form start (1 + x.lines) (2 ^ 20) after t u
+        → HeaderTooLong s u
+    long_second h = record {
+      bytes = front ++ h.bytes;
+      read = Consumes-trans s t u front h.bytes w.decided.read h.read;
+      past = omega (arith, length-append front h.bytes, h.past, w.decided.count);
+      at_once = all_but_last Pending HeaderPending front pending h.bytes h.at_once;
+      decides = λ rest. chained true h.bytes rest
+          ∙ ap (behind_node x.value x.lines) (h.decides rest);
+    }
+
+    refused_second : (line : ℕ) (r : Rule)
+        → Decided node_line rule.Form start (1 + x.lines) (2 ^ 20) after last t u
+        (λ room rest. Err (record { line = line; rule = by r }))
+        → HeaderDecided s u (Err (Some (refusal.Node line r)))
+    refused_second line r d = record {
+      bytes = front ++ d.bytes;
+      ended = d.ended;
+      read = Consumes-trans s t u front d.bytes w.decided.read d.read;
+      at_end = d.at_end;
+      within = omega (arith, length-append front d.bytes, w.decided.count, d.count, d.within);
+      at_once = at_once Pending HeaderPending front pending d.ended d.bytes d.at_once;
+      decides = λ longer rest follows.
+          chained longer d.bytes rest
+          ∙ ap (behind_node x.value x.lines) (d.decides longer rest follows);
+    }
+
+    halted_second : HaltedPart node_line rule.Form start (1 + x.lines) (2 ^ 20) after t u
+        → HeaderHalted s u
+    halted_second h = record {
+      bytes = front ++ h.bytes;
+      ended = h.ended;
+      read = Consumes-trans s t u front h.bytes w.decided.read h.read;
+      at_end = h.at_end;
+      at_once = at_once Pending HeaderPending front pending h.ended h.bytes h.at_once;
+    }
+
+    pub second_failed : (e : FedError Rule)
+        → PartFed node_line rule.Form start (1 + x.lines) (2 ^ 20) after last t u (Err e)
+        → HeaderFed s u (Err (node_failed e))
+    second_failed fed.ReadFault h = lost_second h
+    second_failed fed.TooLong h = long_second h
+    second_failed (fed.Refused at) d = refused_second at.line at.rule d
+    second_failed fed.NoMemory h = halted_second h
+
+    pub whole_second : (y : FedPart NodeHeader)
+        → WholePart node_line rule.Form start (1 + x.lines) (2 ^ 20) after last t u y
+        → (shape : Shape)
+        → HeaderWhole s u (record {
+          plan = x.value;
+          shape = shape;
+          header = y.value;
+          ended = y.ended;
+        })
+    whole_second y d shape = record {
+      header = record { plan = x.value; node = y.value; lines = x.lines + y.lines };
+      plan = refl;
+      node = refl;
+      decided = record {
+        bytes = front ++ d.decided.bytes;
+        ended = d.decided.ended;
+        read = Consumes-trans s t u front d.decided.bytes w.decided.read d.decided.read;
+        at_end = d.decided.at_end;
+        within = omega (
+          arith,
+          length-append front d.decided.bytes,
+          w.decided.count,
+          d.decided.count,
+          d.decided.within,
+        );
+        at_once = at_once Pending HeaderPending front pending d.decided.ended d.decided.bytes
+            d.decided.at_once;
+        decides = λ longer rest follows.
+            chained longer d.decided.bytes rest
+            ∙ ap (behind_node x.value x.lines) (d.decided.decides longer rest follows);
+      };
+      ends = d.ends;
+      behind = λ longer rest follows.
+          behind_both x.lines y.lines ((front ++ d.decided.bytes) ++ rest)
+          ∙ ap (behind_lines y.lines)
+          (ap (behind_lines x.lines) (append_assoc front d.decided.bytes rest)
+          ∙ w.behind longer (d.decided.bytes ++ rest)
+          (anything longer (d.decided.bytes ++ rest)))
+          ∙ d.behind longer rest follows;
+      whole = λ open_end rest.
+          ap (λ (l : List ℕ). header_in None (whole_lines l))
+          (append_assoc front d.decided.bytes rest)
+          ∙ ap behind_plan (w.whole goes_on (d.decided.bytes ++ rest))
+          ∙ ap (behind_node x.value x.lines) (d.whole open_end rest);
+    }
+
+-- ---- the faults that are counted
+
+pub plan_cause : (before now : ℕ) (Dry : Type 0) (e : FedError Premise)
+    → HasPartCause before now Dry (let r : Result (FedPart Plan) (FedError Premise) = Err e in r)
+    → HasHeaderCause before now Dry (let r : Result HeaderRead HeaderError = Err (plan_failed e) in
+    r)
+plan_cause before now Dry fed.ReadFault h = h
+plan_cause before now Dry fed.TooLong h = h
+plan_cause before now Dry (fed.Refused at) h = h
+plan_cause before now Dry fed.NoMemory h = h
+
+pub node_cause : (before mid now : ℕ) (Dry : Type 0) (e : FedError Rule) → mid ≡ before
+    → HasPartCause mid now Dry (let r : Result (FedPart NodeHeader) (FedError Rule) = Err e in r)
+    → HasHeaderCause before now Dry (let r : Result HeaderRead HeaderError = Err (node_failed e) in
+    r)
+node_cause before mid now Dry fed.ReadFault still h =
+    (subst (λ (n : ℕ). Counted n now) still h.0, h.1)
+node_cause before mid now Dry fed.TooLong still h = h ∙ still
+node_cause before mid now Dry (fed.Refused at) still h = h ∙ still
+node_cause before mid now Dry fed.NoMemory still h = h ∙ still

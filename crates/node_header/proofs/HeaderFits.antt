@@ -32,7 +32,8 @@ module _ {S V R : Type 0} (step : S → List ℕ → Next S V R) (P : S → Type
   abbrev Q' : Option ℕ × V → Type 0
   Q' x = Q (x.1)
 
-  rest_keeps : (room : Option ℕ) (next : Next S V R) → After P Q next → After P' Q' (with_rest room next)
+  rest_keeps : (room : Option ℕ) (next : Next S V R) → After P Q next
+      → After P' Q' (with_rest room next)
   rest_keeps room (goes t) h = h
   rest_keeps room (ends v) h = h
   rest_keeps room (refuses r) h = tt
@@ -47,7 +48,8 @@ module _ (shape : Shape) (sound : IsShape shape) where
   Kept h = (h.shape ≡ shape) × StageFits shape h.stage
 
   named_by : (h : HeaderSoFar) (v : ℕ) (test : Bool) → (test ≡ false → v < length shape.lows)
-      → h.shape ≡ shape → After Kept (IsFit shape) (goes_named h (if test then Err rule.Node else Ok v))
+      → h.shape ≡ shape
+      → After Kept (IsFit shape) (goes_named h (if test then Err rule.Node else Ok v))
   named_by h v true lt same = tt
   named_by h v false lt same = (same, lt refl)
 
@@ -65,31 +67,39 @@ module _ (shape : Shape) (sound : IsShape shape) where
     stated_by s true range = (same, record { node = node; range = range })
     stated_by s false range = tt
 
-    stated_in : (word : Option (List ℕ)) → After Kept (IsFit shape) (goes_stated h (header_of shape id word))
+    stated_in : (word : Option (List ℕ))
+        → After Kept (IsFit shape) (goes_stated h (header_of shape id word))
     stated_in None = tt
     stated_in (Some word) =
         let fields = fields_at shape id in
         stated_by (read_text fields word) (is_state_text fields word)
-        (read_is_in_range fields (decoded word) (fields_limited shape (slice_index_or shape.lows id 0) sound))
+        (read_is_in_range fields (decoded word)
+        (fields_limited shape (slice_index_or shape.lows id 0) sound))
 
   stage_keeps : (h : HeaderSoFar) (stage : HeaderStage) (line : List ℕ) → h.shape ≡ shape
       → StageFits shape stage → After Kept (IsFit shape) (stage_step h stage line)
   stage_keeps h Unread line same fits =
-      after_if Kept (IsFit shape) (bytes_eq line (codes "node 1")) (goes (record h { stage = Begun })) (refuses rule.Form) (same, tt) tt
+      after_if Kept (IsFit shape) (bytes_eq line (codes "node 1"))
+      (goes (record h { stage = Begun })) (refuses rule.Form) (same, tt) tt
   stage_keeps h Begun line same fits =
-      named h (length h.shape.lows) (ap (λ (s : Shape). length s.lows) same) same (numbers_after (codes "id") 1 (words_of line))
+      named h (length h.shape.lows) (ap (λ (s : Shape). length s.lows) same) same
+      (numbers_after (codes "id") 1 (words_of line))
   stage_keeps h (Named id) line same fits =
-      subst (λ (s : Shape). After Kept (IsFit shape) (goes_stated h (state_in s id line))) (sym same)
+      subst (λ (s : Shape). After Kept (IsFit shape) (goes_stated h (state_in s id line)))
+      (sym same)
       (stated_in h id fits same (state_word (words_of line)))
   stage_keeps h (Stated header) line same fits =
-      after_if Kept (IsFit shape) (bytes_eq line (codes "end")) (ends header) (refuses rule.Form) fits tt
+      after_if Kept (IsFit shape) (bytes_eq line (codes "end")) (ends header) (refuses rule.Form)
+      fits tt
 
-  step_keeps : (h : HeaderSoFar) (line : List ℕ) → Kept h → After Kept (IsFit shape) (header_step h line)
+  step_keeps : (h : HeaderSoFar) (line : List ℕ) → Kept h
+      → After Kept (IsFit shape) (header_step h line)
   step_keeps h line (same, fits) = stage_keeps h h.stage line same fits
 
   line_keeps : (h : HeaderSoFar) (line : List ℕ) → Kept h
       → After Kept (IsFit shape) (with_skips header_step rule.Form h line)
-  line_keeps h line k = skips_keep header_step rule.Form Kept (IsFit shape) h line k (step_keeps h line k)
+  line_keeps h line k = skips_keep header_step rule.Form Kept (IsFit shape) h line k
+      (step_keeps h line k)
 
   nothing_follows : (ended : Bool) → MayFollow ended false []
   nothing_follows true = (refl, refl)
@@ -97,7 +107,8 @@ module _ (shape : Shape) (sound : IsShape shape) where
 
   -- the node of a part within any room
   pub part_fits : (taken number : ℕ) (room : Option ℕ) (lines : List (List ℕ))
-      → IfOk (limited_part (with_skips header_step rule.Form) rule.Form (nothing_read shape) taken number room lines)
+      → IfOk (limited_part (with_skips header_step rule.Form) rule.Form (nothing_read shape) taken
+      number room lines)
       (λ found. IsFit shape (found.value.1))
   part_fits taken number room lines =
       let step = with_skips header_step rule.Form in
@@ -107,7 +118,8 @@ module _ (shape : Shape) (sound : IsShape shape) where
       (refl, tt)
 
   pub header_fits : (first limit before after : ℕ) (s t : Option (List ℕ)) (x : FedPart NodeHeader)
-      → WholePart (with_skips header_step rule.Form) rule.Form (nothing_read shape) first limit before after s t x
+      → WholePart (with_skips header_step rule.Form) rule.Form (nothing_read shape) first limit
+      before after s t x
       → IsFit shape x.value
   header_fits first limit before after s t x w =
       subst (λ r. IfOk r (λ found. IsFit shape (found.value.1)))

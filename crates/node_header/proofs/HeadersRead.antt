@@ -4,7 +4,8 @@ use Rattle.std.specs.Prelude.{codes}
 use Rattle.texts.specs.Lines.{lines_of}
 use Rattle.texts.specs.Parts.{with_skips}
 use Rattle.texts.specs.Limits.{room_of, behind_lines}
-use Rattle.texts.proofs.LineByLine.{behind_line}
+use Rattle.texts.proofs.LineByLine.{behind_line, behind_both}
+use Rattle.texts.proofs.Parts.{counts_all}
 use Rattle.sync_types.specs.declared.answers.Premise.TheVariants as premise
 use Rattle.sync_types.specs.declared.answers.Rule.TheVariants as rule
 use Rattle.sync_types.specs.States.{State}
@@ -23,8 +24,7 @@ use Rattle.node_header.specs.declared.headers.HeaderRefusal.{HeaderRefusal}
 use Rattle.node_header.specs.NodePart.{header_step, nothing_read}
 use Rattle.node_header.specs.Headers.{Header, behind_node, behind_plan, header_in}
 use Rattle.node_header.specs.HeaderTexts.{node_part, header_text, header_stated, HeaderTextIsRead}
-use Rattle.node_header.proofs.Chained.{behind_both}
-use Rattle.node_header.proofs.BehindLines.{are_taken, behind_all}
+use Rattle.node_header.proofs.BehindLines.{behind_all}
 use Rattle.node_header.proofs.HeaderTexts.{line_1, line_2, line_3, line_4, part_text, part_is_read, words_are_lines}
 use Rattle.node_header.proofs.Rooms.{HasRoom, is_within}
 
@@ -65,7 +65,7 @@ module _ (plan : Plan) (accepted : IsAccepted plan) where
       let read = ap (λ (text : List ℕ). plan_of text) (sym (plan_ends [])) ∙ plan_read [] in
       omega (
         arith,
-        are_taken (with_skips plan_step premise.Form) premise.Form (lines_of (front ++ 10 ∷ []))
+        counts_all (with_skips plan_step premise.Form) premise.Form (lines_of (front ++ 10 ∷ []))
             Unread 0 1 (record { value = plan; taken = plan_depth plan + 3; behind = [] }) read,
       )
 

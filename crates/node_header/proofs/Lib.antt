@@ -4,6 +4,7 @@ pub mod Chained
 pub mod HeaderFits
 pub mod HeaderTexts
 pub mod HeadersRead
+pub mod PendingHeaders
 pub mod Rooms
 pub mod StateDigits
 pub mod Unlimited

@@ -1,23 +1,45 @@
 -- What reading a header from a feed did.
-use Rattle.std.specs.Prelude.{◌≡◌, ℕ, ◌^◌, ◌<◌, ◌≤◌, List, ◌++◌, length, Bool, true, false, Option, Some, None, Result, Ok, Err}
+use Rattle.std.specs.Prelude.{◌≡◌, ℕ, ◌+◌, ◌^◌, ◌<◌, ◌≤◌, List, ◌++◌, length, Bool, true, false, Option, Some, None, Result, Ok, Err}
 use Rattle.std.specs.Io.KnownBytes.{Consumes, IsAtEnd}
 use Rattle.texts.specs.Causes.{Counted}
 use Rattle.texts.specs.Lines.{lines_of, whole_lines}
 use Rattle.texts.specs.Limits.{room_of, behind_lines}
+use Rattle.texts.specs.Pending.{MayGoOn, AllButLast, AtOnce}
+use Rattle.edge_io.specs.declared.fed_parts.FedError.{FedError}
+use Rattle.edge_io.specs.declared.fed_parts.FedError.TheVariants as fed
 use Rattle.edge_io.specs.FedParts.{MayFollow}
+use Rattle.sync_types.specs.declared.answers.Premise.{Premise}
+use Rattle.sync_types.specs.declared.answers.Rule.{Rule}
 use Rattle.node_header.specs.declared.headers.HeaderRefusal.{HeaderRefusal}
+use Rattle.node_header.specs.declared.headers.HeaderRefusal.TheVariants as refusal
 use Rattle.node_header.specs.declared.headers.HeaderRead.{HeaderRead}
 use Rattle.node_header.specs.declared.headers.HeaderError.{HeaderError}
 use Rattle.node_header.specs.declared.headers.HeaderError.TheVariants as error
 use Rattle.node_header.specs.Headers.{Header, header_in}
 
--- these bytes were read, and decide the header, whatever may follow
-pub record HeaderDecided (old new : Option (List ℕ)) (outcome : Result Header (Option HeaderRefusal)) : Type 0 where
+-- the line that is refused
+abbrev pub refused_line : HeaderRefusal → ℕ
+refused_line (refusal.Plan line premise) = line
+refused_line (refusal.Node line rule) = line
+
+-- These bytes do not decide the header: none of their whole lines ends it or is refused, so that
+-- these lines alone would be refused at the line behind them, for want of an end.
+pub record HeaderPending (bytes : List ℕ) : Type 0 where
+  pub refusal : HeaderRefusal
+  pub lines : header_in None (whole_lines bytes) ≡ Err (Some refusal)
+  pub behind : refused_line refusal ≡ 1 + length (whole_lines bytes)
+  pub room : MayGoOn (2 ^ 20) 0 bytes
+
+-- These bytes were read, and decide the header, whatever may follow. What decides is the last of
+-- them, or the end.
+pub record HeaderDecided (old new : Option (List ℕ))
+    (outcome : Result Header (Option HeaderRefusal)) : Type 0 where
   pub bytes : List ℕ
   pub ended : Bool
   pub read : Consumes old new bytes
   pub at_end : ended ≡ true → IsAtEnd new
   pub within : length bytes ≤ 2 ^ 20
+  pub at_once : AtOnce ended HeaderPending bytes
   pub decides : (longer : Bool) (rest : List ℕ) → MayFollow ended longer rest
       → header_in (room_of longer (2 ^ 20)) (lines_of (bytes ++ rest)) ≡ outcome
 
@@ -33,28 +55,50 @@ pub record HeaderWhole (old new : Option (List ℕ)) (x : HeaderRead) : Type 0 w
   pub whole : decided.ended ≡ false → (rest : List ℕ)
       → header_in None (whole_lines (decided.bytes ++ rest)) ≡ Ok header
 
--- they do not decide it, and one of them is behind the limit
+-- they do not decide it, and the last of them is the one behind the limit
 pub record HeaderTooLong (old new : Option (List ℕ)) : Type 0 where
   pub bytes : List ℕ
   pub read : Consumes old new bytes
   pub past : 2 ^ 20 < length bytes
-  pub decides : (rest : List ℕ) → header_in (room_of true (2 ^ 20)) (lines_of (bytes ++ rest)) ≡ Err None
+  pub at_once : AllButLast HeaderPending bytes
+  pub decides : (rest : List ℕ)
+      → header_in (room_of true (2 ^ 20)) (lines_of (bytes ++ rest)) ≡ Err None
 
--- their whole lines are no header
+-- they do not decide it
 pub record HeaderLost (old new : Option (List ℕ)) : Type 0 where
   pub bytes : List ℕ
-  pub refusal : Option HeaderRefusal
   pub read : Consumes old new bytes
-  pub lost : header_in None (whole_lines bytes) ≡ Err refusal
+  pub lost : HeaderPending bytes
+
+-- none but the last of them, or the end, may decide it
+pub record HeaderHalted (old new : Option (List ℕ)) : Type 0 where
+  pub bytes : List ℕ
+  pub ended : Bool
+  pub read : Consumes old new bytes
+  pub at_end : ended ≡ true → IsAtEnd new
+  pub at_once : AtOnce ended HeaderPending bytes
 
 abbrev pub HeaderFed : (old new : Option (List ℕ)) → Result HeaderRead HeaderError → Type 0
 HeaderFed old new (Ok x) = HeaderWhole old new x
 HeaderFed old new (Err (error.Refused r)) = HeaderDecided old new (Err (Some r))
 HeaderFed old new (Err error.TooLong) = HeaderTooLong old new
 HeaderFed old new (Err error.ReadFault) = HeaderLost old new
-HeaderFed old new (Err error.NoMemory) = Unit {0}
+HeaderFed old new (Err error.NoMemory) = HeaderHalted old new
 
--- only a read fault is counted; `Dry` holds after it
+-- why no header was read, where its plan was not read, or its node was not
+abbrev pub plan_failed : FedError Premise → HeaderError
+plan_failed fed.ReadFault = error.ReadFault
+plan_failed fed.TooLong = error.TooLong
+plan_failed (fed.Refused at) = error.Refused (refusal.Plan at.line at.rule)
+plan_failed fed.NoMemory = error.NoMemory
+
+abbrev pub node_failed : FedError Rule → HeaderError
+node_failed fed.ReadFault = error.ReadFault
+node_failed fed.TooLong = error.TooLong
+node_failed (fed.Refused at) = error.Refused (refusal.Node at.line at.rule)
+node_failed fed.NoMemory = error.NoMemory
+
+-- only a read fault is counted, and just one; `Dry` holds after it
 abbrev pub HasHeaderCause : {V : Type 0} → (before now : ℕ) → (Dry : Type 0)
     → Result V HeaderError → Type 0
 HasHeaderCause before now Dry (Err error.ReadFault) = Counted before now × Dry

@@ -41,9 +41,13 @@ abbrev pub behind_plan : Result (Found (Option ℕ × Plan)) (At (Limited Premis
     → Result Header (Option HeaderRefusal)
 behind_plan (Err at) = Err (plan_refused at.line at.rule)
 behind_plan (Ok found) =
-    behind_node (found.value.1) found.taken (limited_part (with_skips header_step rule.Form) rule.Form (nothing_read (shape_of (found.value.1))) 0 (1 + found.taken) (found.value.0) found.behind)
+    let plan = found.value.1 in
+    behind_node plan found.taken
+    (limited_part (with_skips header_step rule.Form) rule.Form (nothing_read (shape_of plan))
+    0 (1 + found.taken) (found.value.0) found.behind)
 
 -- the header of these lines, where so many bytes may be read
 abbrev pub header_in : Option ℕ → List (List ℕ) → Result Header (Option HeaderRefusal)
 header_in room lines =
-    behind_plan (limited_part (with_skips plan_step premise.Form) premise.Form Unread 0 1 room lines)
+    behind_plan
+    (limited_part (with_skips plan_step premise.Form) premise.Form Unread 0 1 room lines)

@@ -102,8 +102,10 @@ fn state_of_digits(
     word: &[u8],
 ) -> Result<Option<NodeState>, NoMemory>
     requires { v < length shape.now.lows }
-    ensures value { IfOk result (λ found. found ≡ state_of_digits (fields_at shape.now v) word.now) }
-    ensures range { IfOk result (λ found. IfSome found (λ state. InRange (fields_at shape.now v) state)) }
+    ensures value { IfOk result (λ found.
+        found ≡ state_of_digits (fields_at shape.now v) word.now) }
+    ensures range { IfOk result (λ found.
+        IfSome found (λ state. InRange (fields_at shape.now v) state)) }
 {
     let mut state = NodeState::zero(alloc, shape.depth())?;
     match shape.read_hex(v, word, &mut state) {

@@ -4,11 +4,10 @@ ghost use Rattle.state_codec.specs.Shapes.{shape_of};
 ghost use Rattle.node_header.specs.Fits.{IsFit};
 ghost use Rattle.node_header.specs.FedHeaders.{HeaderFed, HasHeaderCause};
 
-use crate::header_lines::NodeHeader;
-use crate::reading::feed_header;
-use edge_io::{FedError, Feed, LineBuf, Source};
+use crate::header_lines::{HeaderLines, NodeHeader};
+use edge_io::{FedError, Feed, LineBuf, Source, feed_part};
 use plan_numbers::Plan;
-use plan_reader::feed_plan;
+use plan_reader::PlanLines;
 use state_codec::StateShape;
 use std::alloc::Global;
 use sync_types::{NoMemory, Premise, Rule};
@@ -43,6 +42,52 @@ pub enum HeaderError {
     NoMemory,
 }
 
+impl From<FedError<Premise>> for HeaderError {
+    ghost use Rattle.node_header.specs.FedHeaders.{plan_failed};
+
+    ghost from_gives = { λ error e. e ≡ plan_failed error };
+
+    fn from(error: FedError<Premise>) -> Self {
+        match error {
+            FedError::ReadFault => HeaderError::ReadFault,
+            FedError::TooLong => HeaderError::TooLong,
+            FedError::Refused(at) => HeaderError::Refused(HeaderRefusal::Plan {
+                line: at.line,
+                premise: at.rule,
+            }),
+            FedError::NoMemory => HeaderError::NoMemory,
+        }
+    }
+}
+
+impl From<FedError<Rule>> for HeaderError {
+    ghost use Rattle.node_header.specs.FedHeaders.{node_failed};
+
+    ghost from_gives = { λ error e. e ≡ node_failed error };
+
+    fn from(error: FedError<Rule>) -> Self {
+        match error {
+            FedError::ReadFault => HeaderError::ReadFault,
+            FedError::TooLong => HeaderError::TooLong,
+            FedError::Refused(at) => HeaderError::Refused(HeaderRefusal::Node {
+                line: at.line,
+                rule: at.rule,
+            }),
+            FedError::NoMemory => HeaderError::NoMemory,
+        }
+    }
+}
+
+impl From<NoMemory> for HeaderError {
+    ghost use Rattle.node_header.specs.declared.headers.HeaderError.TheVariants as error;
+
+    ghost from_gives = { λ _ e. e ≡ error.NoMemory };
+
+    fn from(_: NoMemory) -> Self {
+        HeaderError::NoMemory
+    }
+}
+
 /// A header that was read.
 #[derive(Drop)]
 pub struct HeaderRead {
@@ -54,11 +99,13 @@ pub struct HeaderRead {
     pub ended: bool,
 }
 
-/// Reads a plan and then a node part from a feed of which no line was read, and no byte behind their
-/// last line. They may have 2^20 bytes.
+/// Reads a plan and then a node part from a feed of which no line was read, and no byte behind
+/// their last line. They may have 2^20 bytes.
 ///
-/// `Refused` is the first line that fails, where it is shown within the limit; else `TooLong` comes.
-/// `ReadFault` comes only where the source counted a fault, and `NoMemory` where memory was refused.
+/// `Refused` is the first line that fails, where it is shown within the limit; else `TooLong`
+/// comes. `ReadFault` comes only where the source counted one fault, and `NoMemory` where memory
+/// was refused. What decides is the last byte that was read, or the end; at `ReadFault` nothing
+/// does.
 pub fn read_header<S: Source>(
     alloc: Global,
     feed: &mut Feed<'_, S>,
@@ -67,51 +114,28 @@ pub fn read_header<S: Source>(
     requires { feed.old.line_bytes ≡ 0 }
     ensures same_reference { feed.new.source.ghost_name ≡ feed.old.source.ghost_name }
     ensures header { HeaderFed (feed_left S.left feed.old) (feed_left S.left feed.new) result }
-    ensures cause { HasHeaderCause (S.faults feed.old.source.now) (S.faults feed.new.source.now) (feed.new.at ≡ feed.new.end) result }
+    ensures cause { HasHeaderCause (S.faults feed.old.source.now) (S.faults feed.new.source.now)
+        (feed.new.at ≡ feed.new.end) result }
     ensures shape { IfOk result (λ x. x.shape ≡ shape_of x.plan) }
     ensures fits { IfOk result (λ x. IsFit x.shape x.header) }
 {
-    let part = match feed_plan(alloc, feed, line, LONGEST_HEADER) {
-        Ok(part) => part,
-        Err(FedError::ReadFault) => return Err(HeaderError::ReadFault),
-        Err(FedError::TooLong) => return Err(HeaderError::TooLong),
-        Err(FedError::Refused(refused)) => {
-            return Err(HeaderError::Refused(HeaderRefusal::Plan {
-                line: refused.line,
-                premise: refused.rule,
-            }));
-        }
-        Err(FedError::NoMemory) => return Err(HeaderError::NoMemory),
-    };
+    let plan_lines = PlanLines::new(alloc);
+    let part = feed_part(feed, line, plan_lines, Premise::Form, 1, LONGEST_HEADER)?;
     let plan = part.value;
-    let lines = part.lines;
+    let first = 1 + part.lines;
     if part.ended {
         return Err(HeaderError::Refused(HeaderRefusal::Node {
-            line: 1 + lines,
+            line: first,
             rule: Rule::Form,
         }));
     }
-    let shape = match StateShape::of(alloc, &plan) {
-        Ok(shape) => shape,
-        Err(NoMemory) => return Err(HeaderError::NoMemory),
-    };
-    match feed_header(alloc, &shape, feed, line, 1 + lines, LONGEST_HEADER) {
-        Ok(part) => {
-            return Ok(HeaderRead {
-                plan,
-                shape,
-                header: part.value,
-                ended: part.ended,
-            });
-        }
-        Err(FedError::ReadFault) => return Err(HeaderError::ReadFault),
-        Err(FedError::TooLong) => return Err(HeaderError::TooLong),
-        Err(FedError::Refused(refused)) => {
-            return Err(HeaderError::Refused(HeaderRefusal::Node {
-                line: refused.line,
-                rule: refused.rule,
-            }));
-        }
-        Err(FedError::NoMemory) => return Err(HeaderError::NoMemory),
-    }
+    let shape = StateShape::of(alloc, &plan)?;
+    let node_lines = HeaderLines::new(alloc, &shape);
+    let node = feed_part(feed, line, node_lines, Rule::Form, first, LONGEST_HEADER)?;
+    Ok(HeaderRead {
+        plan,
+        shape,
+        header: node.value,
+        ended: node.ended,
+    })
 }

@@ -10,9 +10,9 @@ use Rattle.texts.specs.Lines.{words_of, whole_lines}
 use Rattle.texts.specs.Numbers.{number_of}
 use Rattle.texts.specs.Shapes.{numbers_after, numbers_of, onto_numbers}
 use Rattle.texts.specs.Parts.{Next, goes, ends, refuses, Found, At, part_from}
-use Rattle.line_words.specs.Words.{joined, text_of, open_rest}
-use Rattle.line_words.proofs.Texts.{whole_text}
-use Rattle.line_words.proofs.LineWords.{words_back, number_back}
+use Rattle.texts.specs.Words.{joined, text_of, open_rest}
+use Rattle.texts.proofs.Texts.{whole_text}
+use Rattle.texts.proofs.LineWords.{words_back, number_back}
 use Rattle.sync_types.specs.declared.answers.Cause.{Cause}
 use Rattle.sync_types.specs.declared.answers.Cause.TheVariants as cause
 use Rattle.sync_types.specs.declared.answers.Premise.{Premise}

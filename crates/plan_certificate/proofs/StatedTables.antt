@@ -3,7 +3,7 @@ use Rattle.std.proofs.Common.{◌≡◌, ℕ, ◌+◌, ◌⊎◌, inl, inr, List
 use Rattle.std.specs.List.{concat, flat_map, enumerate_from}
 use Rattle.std.proofs.lemmas.List.{append-nil}
 use Rattle.std.proofs.lemmas.Grind.{flat_map-append}
-use Rattle.line_words.specs.Words.{joined, ended, text_of}
+use Rattle.texts.specs.Words.{joined, ended, text_of}
 use Rattle.construction.specs.Plans.{Level, Plan}
 use Rattle.plan_numbers.specs.declared.numbers.LevelNums.{LevelNums}
 use Rattle.plan_numbers.specs.Numbers.{below_of, numbers_over, numbers_of}

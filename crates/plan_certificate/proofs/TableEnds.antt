@@ -4,8 +4,8 @@ use Rattle.std.specs.Prelude.{true, false, ◌==◌}
 use Rattle.std.proofs.lemmas.Bool.{eqb-true}
 use Rattle.texts.specs.Lines.{whole_lines}
 use Rattle.texts.specs.Parts.{Next, goes, ends, refuses, Found, At, part_from}
-use Rattle.line_words.specs.Words.{text_of, open_rest}
-use Rattle.line_words.proofs.Texts.{whole_text}
+use Rattle.texts.specs.Words.{text_of, open_rest}
+use Rattle.texts.proofs.Texts.{whole_text}
 use Rattle.sync_types.specs.declared.answers.Cause.{Cause}
 use Rattle.sync_types.specs.declared.answers.Cause.TheVariants.{Premise}
 use Rattle.sync_types.specs.declared.answers.Premise.TheVariants.{Form}

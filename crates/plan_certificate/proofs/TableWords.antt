@@ -7,7 +7,7 @@ use Rattle.std.proofs.lemmas.Bool.{eqb-true}
 use Rattle.std.proofs.lemmas.Slice.Eq.{bytes_eq-Decides}
 use Rattle.texts.specs.Numbers.{number_of}
 use Rattle.texts.specs.Shapes.{onto_numbers}
-use Rattle.line_words.proofs.LineWords.{is_solid, IsWord, decimal_word, number_back, number_there}
+use Rattle.texts.proofs.LineWords.{is_solid, IsWord, decimal_word, number_back, number_there}
 use Rattle.plan_numbers.specs.declared.numbers.LevelNums.{LevelNums}
 use Rattle.plan_certificate.specs.TableLines.{numbers_named, level_names, spare_level_names, plan_names, without_spares, level_stated, plan_stated, level_values}
 use Rattle.plan_certificate.proofs.NamedNumbers.{length_named}

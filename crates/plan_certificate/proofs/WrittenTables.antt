@@ -10,9 +10,9 @@ use Rattle.std.proofs.lemmas.Slice.Eq.{bytes_eq-Decides}
 use Rattle.texts.specs.Lines.{words_of}
 use Rattle.texts.specs.Shapes.{numbers_after}
 use Rattle.texts.specs.Parts.{goes, refuses, Found, At, part_from}
-use Rattle.line_words.specs.Words.{joined, text_of, open_rest}
-use Rattle.line_words.proofs.Texts.{IsOneLine, cut_again}
-use Rattle.line_words.proofs.LineWords.{is_solid, IsWord, words_there, decimal_word, number_there, joined_is_one}
+use Rattle.texts.specs.Words.{joined, text_of, open_rest}
+use Rattle.texts.proofs.Texts.{IsOneLine, cut_again}
+use Rattle.texts.proofs.LineWords.{is_solid, IsWord, words_there, decimal_word, number_there, joined_is_one}
 use Rattle.sync_types.specs.declared.answers.Cause.{Cause}
 use Rattle.sync_types.specs.declared.answers.Cause.TheVariants as cause
 use Rattle.sync_types.specs.declared.answers.Premise.TheVariants.{Form}

@@ -1,7 +1,7 @@
 -- The first line of a text that ends with a newline.
 use Rattle.std.specs.Prelude.{◌≡◌, ℕ, ◌<◌, List, [], ◌∷◌, length}
 use Rattle.texts.specs.Lines.{whole_lines}
-use Rattle.line_words.specs.Words.{open_rest}
+use Rattle.texts.specs.Words.{open_rest}
 
 -- no line of the text ends with a newline
 pub record HasNoLine (text : List ℕ) : Type 0 where

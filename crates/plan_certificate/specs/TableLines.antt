@@ -7,7 +7,7 @@ use Rattle.texts.specs.Lines.{words_of, whole_lines}
 use Rattle.texts.specs.Numbers.{number_of}
 use Rattle.texts.specs.Shapes.{onto_numbers, numbers_after}
 use Rattle.texts.specs.Parts.{Next, goes, ends, refuses, Found, At, part_from}
-use Rattle.line_words.specs.Words.{open_rest}
+use Rattle.texts.specs.Words.{open_rest}
 use Rattle.sync_types.specs.declared.answers.Premise as premise
 use Rattle.sync_types.specs.declared.answers.Premise.TheVariants.{Form}
 use Rattle.sync_types.specs.declared.answers.Cause.{Cause}

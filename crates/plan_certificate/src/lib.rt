@@ -17,8 +17,6 @@ mod table_reading;
 mod table_refusals;
 mod table_stages;
 mod tables;
-#[cfg(test)]
-mod tests;
 
 pub use laws::{plan_texts_read_back, tables_read_back};
 pub use plan_texts::write_plan;

@@ -23,7 +23,8 @@ fn put_level_words<K: Sink>(sink: &mut K, nums: &LevelNums) -> Result<(), WriteF
 }
 
 fn put_level<K: Sink>(sink: &mut K, version: u32, nums: &LevelNums) -> Result<(), WriteFault>
-    ensures { Puts result (level_text version (level_of nums.now)) (K.told sink.old) (K.told sink.new) }
+    ensures { Puts result (level_text version (level_of nums.now)) (K.told sink.old)
+        (K.told sink.new) }
 {
     put_level_words(sink, nums)?;
     put_spares_end(sink, version, nums.spares)

@@ -1,6 +1,7 @@
 ghost use Rattle.std.specs.Prelude.{◌≡◌, ◌≤◌, length, slice_index, IfSome};
 ghost use Rattle.texts.specs.Lines.{words_of};
-ghost use Rattle.plan_certificate.specs.TableLines.{numbers_named, level_stated, plan_stated, version_named};
+ghost use Rattle.plan_certificate.specs.TableLines.{numbers_named, level_stated, plan_stated};
+ghost use Rattle.plan_certificate.specs.TableLines.{version_named};
 
 use edge_io::{Words, number};
 

@@ -21,7 +21,8 @@ fn newline_in(text: &[u8]) -> Option<usize>
 
 /// The first line that ends with a newline, without it, and what stands behind that.
 fn first_ended(text: &[u8]) -> Option<(&[u8], &[u8])>
-    ensures { MatchOption result (HasNoLine text.now) (λ parts. HasFirstLine text.now parts.0.now parts.1.now) }
+    ensures { MatchOption result (HasNoLine text.now) (λ parts. HasFirstLine text.now parts.0.now
+        parts.1.now) }
 {
     let end = newline_in(text)?;
     Some((&text[..end], &text[end + 1..]))

@@ -3,7 +3,9 @@ ghost use Rattle.texts.specs.Lines.{words_of};
 ghost use Rattle.texts.specs.Shapes.{numbers_after};
 ghost use Rattle.construction.specs.Plans.{plan_depth};
 ghost use Rattle.texts.specs.Parts.{goes, refuses};
-ghost use Rattle.plan_certificate.specs.TableLines.{same_numbers, plan_values, top_values, based, level_behind, built_by, level_stated, plan_stated};
+ghost use Rattle.plan_certificate.specs.TableLines.{same_numbers, plan_values, top_values, based};
+ghost use Rattle.plan_certificate.specs.TableLines.{level_behind, built_by, level_stated};
+ghost use Rattle.plan_certificate.specs.TableLines.{plan_stated};
 ghost use Rattle.plan_certificate.specs.TableVersions.{HasVersion};
 ghost use Rattle.plan_certificate.specs.TableRefusals.{TakesAsDefined};
 
@@ -102,8 +104,10 @@ impl LineReader for TableReader {
 /// line is refused.
 fn behind_built(mut plan: Plan, line: &[u8]) -> Result<TableStage, Cause>
     ensures exact { MatchResult result
-        (λ stage. built_by plan (level_stated plan.version (words_of line.now)) (plan_stated (words_of line.now)) ≡ goes stage)
-        (λ cause. built_by plan (level_stated plan.version (words_of line.now)) (plan_stated (words_of line.now)) ≡ refuses cause) }
+        (λ stage. built_by plan (level_stated plan.version (words_of line.now))
+        (plan_stated (words_of line.now)) ≡ goes stage)
+        (λ cause. built_by plan (level_stated plan.version (words_of line.now))
+        (plan_stated (words_of line.now)) ≡ refuses cause) }
     ensures version { IfOk result HasVersion }
 {
     if let Some(numbers) = level_stated(plan.version(), line) {
@@ -126,7 +130,8 @@ fn behind_built(mut plan: Plan, line: &[u8]) -> Result<TableStage, Cause>
 fn base_plan(alloc: Global, version: u32, line: &[u8]) -> Result<Plan, TakeError<Cause>>
     requires oldest { 1 ≤ version }
     requires newest { version ≤ 2 }
-    ensures { TakesAsDefined result (based version (numbers_after (codes "base") 1 (words_of line.now))) }
+    ensures { TakesAsDefined result
+        (based version (numbers_after (codes "base") 1 (words_of line.now))) }
 {
     let Some(numbers) = numbers_after::<1>(line, b"base") else {
         return Err(TakeError::Refused(FORM));

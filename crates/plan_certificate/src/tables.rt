@@ -1,5 +1,6 @@
 ghost use Rattle.texts.specs.Growth.{Puts};
-ghost use Rattle.plan_certificate.specs.Tables.{level_front, level_line, level_lines, plan_line, table_text};
+ghost use Rattle.plan_certificate.specs.Tables.{level_front, level_line, level_lines, plan_line};
+ghost use Rattle.plan_certificate.specs.Tables.{table_text};
 
 use crate::lines::{put_base, put_spares_end, put_version};
 use edge_io::{Gathered, Piece, Sink, WriteFault, put_all, put_pieces};
@@ -41,7 +42,8 @@ fn put_level<K: Sink>(
     index: u64,
     nums: &LevelNums,
 ) -> Result<(), WriteFault>
-    ensures { Puts result (level_line version (index, nums.now)) (K.told sink.old) (K.told sink.new) }
+    ensures { Puts result (level_line version (index, nums.now)) (K.told sink.old)
+        (K.told sink.new) }
 {
     put_level_front(sink, index, nums)?;
     put_spares_end(sink, version, nums.spares)

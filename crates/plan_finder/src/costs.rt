@@ -14,9 +14,9 @@ fn wide_cost(k: u64, g: u64) -> u128
     u128::from(3 * (g + 2)) * turns.pow(k as u32)
 }
 
-/// The cost of a step to `g` faults, at most 85, by `k` blocks, 3 to 16: the rounds in which a level
-/// of `k` blocks that bears `g` faults settles once its blocks count, 3 (g + 2) (2 m)^k with m half
-/// of `k`, rounded up.
+/// The cost of a step to `g` faults, at most 85, by `k` blocks, 3 to 16: the rounds in which a
+/// level of `k` blocks that bears `g` faults settles once its blocks count, 3 (g + 2) (2 m)^k with
+/// m half of `k`, rounded up.
 ///
 /// None exactly where it is above 2^40. No level has such a cost: it divides a modulus.
 pub fn step_cost(k: u64, g: u64) -> Option<u64>

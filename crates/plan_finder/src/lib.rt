@@ -18,8 +18,6 @@ mod reading;
 mod refusals;
 mod searching;
 mod table;
-#[cfg(test)]
-mod tests;
 mod want_lines;
 mod wants;
 mod writing;

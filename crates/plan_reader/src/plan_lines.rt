@@ -1,42 +1,14 @@
-ghost use Rattle.std.specs.Prelude.{◌≡◌, MatchResult};
 ghost use Rattle.texts.specs.Parts.{with_skips};
+ghost use Rattle.sync_types.specs.declared.answers.Premise.TheVariants.{Form};
 ghost use Rattle.plan_reader.specs.PlanPart.{plan_step};
 ghost use Rattle.plan_reader.specs.PlanRefusals.{TakesPlanLine};
 
-use crate::stages::PlanReader;
+use crate::stages::PlanLines;
 use edge_io::{TakeError, take_unless_skipped};
 use plan_numbers::{Plan, PremiseError};
-use std::alloc::Global;
-use std::marker::Model;
 use sync_types::Premise;
 
-/// Reads a plan part line by line.
-#[derive(Drop)]
-pub struct PlanLines {
-    reader: PlanReader,
-}
-
-impl Model for PlanLines {
-    ghost use Rattle.plan_reader.specs.declared.stages.PlanStage.{PlanStage};
-
-    ghost Value = { PlanStage };
-
-    ghost view = { λ l. l.reader };
-}
-
 impl PlanLines {
-    ghost use Rattle.sync_types.specs.declared.answers.Premise.TheVariants.{Form};
-    ghost use Rattle.plan_reader.specs.declared.stages.PlanStage.TheVariants.{Unread};
-
-    /// A reader of a part of which nothing was read.
-    pub fn new(alloc: Global) -> PlanLines
-        ensures { result ≡ Unread }
-    {
-        PlanLines {
-            reader: PlanReader::new(alloc),
-        }
-    }
-
     /// Takes the next line of the part, without its newline: Some plan exactly at its `end` line,
     /// after which a further part may be read. A skipped line changes nothing.
     ///
@@ -46,7 +18,7 @@ impl PlanLines {
     pub fn take(&mut self, line: &[u8]) -> Result<Option<Plan>, PremiseError>
         ensures { TakesPlanLine (with_skips plan_step Form self.old line.now) self.new result }
     {
-        match take_unless_skipped(&mut self.reader, Premise::Form, line) {
+        match take_unless_skipped(self, Premise::Form, line) {
             Ok(found) => Ok(found),
             Err(TakeError::Refused(premise)) => Err(PremiseError::Refused(premise)),
             Err(TakeError::NoMemory) => Err(PremiseError::NoMemory),

@@ -21,14 +21,14 @@ pub enum PlanStage {
     Built(Plan),
 }
 
-/// Reads the lines of a plan part that count.
+/// Reads a plan part line by line.
 #[derive(Drop)]
-pub struct PlanReader {
+pub struct PlanLines {
     alloc: Global,
     stage: PlanStage,
 }
 
-impl Model for PlanReader {
+impl Model for PlanLines {
     ghost use Rattle.plan_reader.specs.declared.stages.PlanStage.{PlanStage};
     ghost use Rattle.plan_reader.specs.BuiltPlans.{HasVersion};
 
@@ -39,15 +39,15 @@ impl Model for PlanReader {
     ghost invariant = { λ r. HasVersion r.stage };
 }
 
-impl PlanReader {
+impl PlanLines {
     ghost use Rattle.plan_reader.specs.declared.stages.PlanStage.TheVariants.{Unread};
     ghost use Rattle.plan_reader.specs.BuiltPlans.{built_plan};
 
     /// A reader of a part of which nothing was read.
-    pub fn new(alloc: Global) -> PlanReader
+    pub fn new(alloc: Global) -> PlanLines
         ensures { result ≡ Unread }
     {
-        PlanReader {
+        PlanLines {
             alloc,
             stage: PlanStage::Unread,
         }
@@ -65,7 +65,7 @@ impl PlanReader {
     }
 }
 
-impl LineReader for PlanReader {
+impl LineReader for PlanLines {
     type Value = Plan;
 
     type Rule = Premise;

@@ -1,40 +1,63 @@
 use Rattle.std.proofs.Common.{◌∙◌, subst}
+use Rattle.std.proofs.lemmas.Result.{err_from_is_err_and}
 use Rattle.state_codec.specs.Shapes.{IsShape}
-use Rattle.node_header.proofs.Chained.{lost_first, lost_second, long_second, refused_second, whole_second}
-use Rattle.node_header.proofs.HeaderFits.{header_fits}
+use Rattle.node_header.proofs.Chained.{first_failed, plan_whole, plan_cause, ends_first, halts_between, node_unread, node_whole, node_fits, node_cause, second_failed, whole_second}
 use Rattle.node_header.proofs.headers.read_header.Goals as goal
 
-pub returns-in-Ok-feed_header-clause-header : goal.returns-in-Ok-feed_header-clause-header
-returns-in-Ok-feed_header-clause-header g c =
-    let w = rw c.requires at c.in-Ok.ensures.fed in
-    let d = rw c.in-Ok-of.ensures.shape at c.in-Ok-feed_header.ensures.fed in
-    whole_second _ _ _ _ _ _ w (w.ends ∙ c.if-part.false) _ d _
+-- the plan is not read
+pub returns-in_err-part-clause-header : goal.returns-in_err-part-clause-header
+returns-in_err-part-clause-header g c =
+    let p = err_from_is_err_and c.from_residual.result c.from_residual.ensures.1 in
+    rw (p.1, p.2) (first_failed _ _ _ _ _ c.new-plan_lines.ensures c.requires _
+    c.in_err-part.ensures.fed)
 
-pub returns-in-Ok-feed_header-clause-fits : goal.returns-in-Ok-feed_header-clause-fits
-returns-in-Ok-feed_header-clause-fits g c =
-    header_fits c.in-Ok-of.shape (subst IsShape c.shape.view_is c.shape.invariant.sound) _ _ _ _ _ _ _ c.in-Ok-feed_header.ensures.fed
+pub returns-in_err-part-clause-cause : goal.returns-in_err-part-clause-cause
+returns-in_err-part-clause-cause g c =
+    let p = err_from_is_err_and c.from_residual.result c.from_residual.ensures.1 in
+    rw (p.1, p.2) (plan_cause _ _ _ _ c.in_err-part.ensures.cause)
 
-pub returns-in-Err-ReadFault-feed_header-clause-header :
-    goal.returns-in-Err-ReadFault-feed_header-clause-header
-returns-in-Err-ReadFault-feed_header-clause-header g c =
-    let w = rw c.requires at c.in-Ok.ensures.fed in
-    let d = rw (c.in-Err-ReadFault-feed_header.field-0-is, c.in-Ok-of.ensures.shape) at c.in-Err-ReadFault-feed_header.ensures.fed in
-    lost_second _ _ _ _ 0 _ w (w.ends ∙ c.if-part.false) d
+-- the input ends with the plan
+pub returns-then-part-clause-header : goal.returns-then-part-clause-header
+returns-then-part-clause-header g c =
+    let w = plan_whole _ _ _ _ _ c.new-plan_lines.ensures c.requires _ c.in_ok-part.ensures.fed in
+    ends_first _ _ _ _ w (w.ends ∙ c.if-part.true)
 
-pub returns-in-Err-TooLong-feed_header-clause-header :
-    goal.returns-in-Err-TooLong-feed_header-clause-header
-returns-in-Err-TooLong-feed_header-clause-header g c =
-    let w = rw c.requires at c.in-Ok.ensures.fed in
-    let d = rw (c.in-Err-TooLong-feed_header.field-0-is, c.in-Ok-of.ensures.shape) at c.in-Err-TooLong-feed_header.ensures.fed in
-    long_second _ _ _ _ 0 _ w (w.ends ∙ c.if-part.false) d
+-- memory runs out between plan and node
+pub returns-in_err-shape-clause-header : goal.returns-in_err-shape-clause-header
+returns-in_err-shape-clause-header g c =
+    let p = err_from_is_err_and c.from_residual-in_err-shape.result
+    c.from_residual-in_err-shape.ensures.1 in
+    let w = plan_whole _ _ _ _ _ c.new-plan_lines.ensures c.requires _ c.in_ok-part.ensures.fed in
+    rw (p.1, p.2) (halts_between _ _ _ _ w)
 
-pub returns-in-Err-Refused-feed_header-clause-header :
-    goal.returns-in-Err-Refused-feed_header-clause-header
-returns-in-Err-Refused-feed_header-clause-header g c =
-    let w = rw c.requires at c.in-Ok.ensures.fed in
-    let d = rw (c.in-Err-Refused-feed_header.field-0-is, c.in-Ok-of.ensures.shape) at c.in-Err-Refused-feed_header.ensures.fed in
-    refused_second _ _ _ _ _ _ w (w.ends ∙ c.if-part.false) _ _ d
+-- the node is not read
+pub returns-in_err-node-clause-header : goal.returns-in_err-node-clause-header
+returns-in_err-node-clause-header g c =
+    let p = err_from_is_err_and c.from_residual-in_err-node.result
+    c.from_residual-in_err-node.ensures.1 in
+    let w = plan_whole _ _ _ _ _ c.new-plan_lines.ensures c.requires _ c.in_ok-part.ensures.fed in
+    let d = node_unread _ _ _ _ _ c.in_ok-part.part.value _ _
+    c.in_ok-shape.ensures.shape c.new-node_lines.ensures _
+    c.in_err-node.ensures.fed in
+    rw (p.1, p.2) (second_failed _ _ _ _ w _ _ (w.ends ∙ c.if-part.false) _ d)
 
-pub returns-in-Err-ReadFault-clause-header : goal.returns-in-Err-ReadFault-clause-header
-returns-in-Err-ReadFault-clause-header g c =
-    lost_first _ _ (rw c.in-Err-ReadFault.field-0-is at c.in-Err-ReadFault.ensures.fed)
+pub returns-in_err-node-clause-cause : goal.returns-in_err-node-clause-cause
+returns-in_err-node-clause-cause g c =
+    let p = err_from_is_err_and c.from_residual-in_err-node.result
+    c.from_residual-in_err-node.ensures.1 in
+    rw (p.1, p.2) (node_cause _ _ _ _ _ c.in_ok-part.ensures.cause c.in_err-node.ensures.cause)
+
+-- the header is read
+pub returns-clause-header : goal.returns-clause-header
+returns-clause-header g c =
+    let w = plan_whole _ _ _ _ _ c.new-plan_lines.ensures c.requires _ c.in_ok-part.ensures.fed in
+    let d = node_whole _ _ _ _ _ c.in_ok-part.part.value _ _
+    c.in_ok-shape.ensures.shape c.new-node_lines.ensures _
+    c.in_ok-node.ensures.fed in
+    whole_second _ _ _ _ w _ _ (w.ends ∙ c.if-part.false) _ d _
+
+pub returns-clause-fits : goal.returns-clause-fits
+returns-clause-fits g c =
+    node_fits _ _ _ _ _ c.in_ok-part.part.value _ _
+    c.in_ok-shape.ensures.shape c.new-node_lines.ensures
+    (subst IsShape c.shape.view_is c.shape.invariant.sound) _ c.in_ok-node.ensures.fed

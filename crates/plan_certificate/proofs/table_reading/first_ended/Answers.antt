@@ -3,8 +3,8 @@ use Rattle.std.specs.List.{position}
 use Rattle.std.proofs.lemmas.List.{take_all}
 use Rattle.texts.specs.Lines.{whole_lines}
 use Rattle.texts.proofs.Lines.{found, found_in}
-use Rattle.line_words.specs.Words.{open_rest}
-use Rattle.line_words.proofs.FirstLines.{whole_at, none_whole}
+use Rattle.texts.specs.Words.{open_rest}
+use Rattle.texts.proofs.FirstLines.{whole_at, none_whole}
 use Rattle.plan_certificate.specs.EndedLines.{HasNoLine, HasFirstLine}
 use Rattle.plan_certificate.proofs.table_reading.first_ended.Goals as goal
 
