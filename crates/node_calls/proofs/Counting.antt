@@ -21,7 +21,8 @@ use Rattle.node_stepper.specs.Nodes.{fields_of, state_after, state_behind}
 use Rattle.node_stepper.proofs.CellByCell.{written_size}
 use Rattle.node_runs.specs.NodeRuns.{Nodes, IsCorrect, state_at, states_at, AreConnected}
 use Rattle.node_runs.specs.Laws.{CountThrough, NodesSettle}
-use Rattle.node_runs.proofs.States.{behind_push, read_is_state, reads_back, behind_is_state}
+use Rattle.node_stepper.proofs.Answering.{state_push}
+use Rattle.node_runs.proofs.States.{read_is_state, reads_back, behind_is_state}
 use Rattle.node_calls.specs.declared.errors.CallError.{CallError}
 use Rattle.node_calls.specs.declared.errors.CallError.TheVariants as error
 use Rattle.node_calls.specs.Answers.{plan_or_refused, plan_answer, packets_for, by_ending, bytes_behind, steps_over, step_in, step_answer, output_answer}
@@ -128,7 +129,7 @@ module _ (text : List ℕ) (plan : Plan) (is : plan_answer text ≡ Ok plan) (fa
     stands_next t early is =
         ap (state_behind plan v (state 0 v))
         (take_more (nodes.packets v) t [] (omega (arith, early, many v)))
-        ∙ behind_push plan v (state 0 v) (take t (nodes.packets v)) (get_or (nodes.packets v) t [])
+        ∙ state_push plan v (state 0 v) (take t (nodes.packets v)) (get_or (nodes.packets v) t [])
         ∙ ap (state_after plan v (state_at plan nodes t v)) (packet_is t v early)
         ∙ ap (λ (s : State). state_after plan v s (packet v t)) is
         ∙ sym (next_state t early)
@@ -161,7 +162,8 @@ module _ (text : List ℕ) (plan : Plan) (is : plan_answer text ≡ Ok plan) (fa
         ∙ ap (λ (o : ℕ). let r : Result ℕ CallError = Ok o in r)
         (ap (shown (plan_depth plan)) (sym (stands v correct t early))
         ∙ ap (shown (plan_depth plan))
-        (sym (get_or-map-range_with_len (state_at plan nodes t) 0 (plan_nodes plan) v v (zero_state 0)
+        (sym (get_or-map-range_with_len (state_at plan nodes t) 0 (plan_nodes plan) v v
+        (zero_state 0)
         correct.0 (omega arith)))
         ∙ counts.shows t (omega (arith, late)) early v correct.0 correct.1);
     grows = λ t late early. counts.grows t (omega (arith, late)) early;

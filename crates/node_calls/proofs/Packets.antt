@@ -18,7 +18,8 @@ one_more : (nodes most from n : ℕ) (found : Result (List (List ℕ) × List �
 one_more nodes most from n (Err sender) behind is = absurd cc
 one_more nodes most from n (Ok packet) behind is = omega (arith, behind (packet.1) is)
 
-pub as_many : (nodes most from n : ℕ) (bytes : List ℕ) → EndAt from n (packets_of nodes most from bytes)
+pub as_many : (nodes most from n : ℕ) (bytes : List ℕ)
+    → EndAt from n (packets_of nodes most from bytes)
 as_many nodes most from n [] is = let same : from ≡ n = cc in omega (arith, same)
 as_many nodes zero from n (b ∷ bytes) is = absurd cc
 as_many nodes (suc most) from n (b ∷ bytes) is =

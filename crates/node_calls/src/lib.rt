@@ -11,8 +11,6 @@ mod errors;
 mod hearing;
 pub mod laws;
 mod steps;
-#[cfg(test)]
-mod tests;
 
 pub use calls::{output, plan_in, state_bytes};
 pub use errors::CallError;

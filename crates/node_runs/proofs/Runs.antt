@@ -17,7 +17,8 @@ use Rattle.state_codec.specs.Reading.{read}
 use Rattle.node_stepper.specs.Nodes.{fields_of, heard_of, heard_in, state_after, state_behind}
 use Rattle.node_runs.specs.NodeRuns.{Nodes, cell_given, IsCorrect, state_at, states_at, AreConnected}
 use Rattle.node_runs.specs.Laws.{RunThrough, NodesRun}
-use Rattle.node_runs.proofs.States.{behind_push, read_is_state, behind_is_state}
+use Rattle.node_stepper.proofs.Answering.{state_push}
+use Rattle.node_runs.proofs.States.{read_is_state, behind_is_state}
 
 -- lists that are made place by place
 each : {X : Type 0} (P : X → Type 0) (f : ℕ → X) (n : ℕ) → ((i : ℕ) → i < n → P (f i))
@@ -55,7 +56,7 @@ module _ (plan : Plan) (accepted : IsAccepted plan) (faulty : List ℕ) (nodes :
       let enough = are.enough v correct in
       let there : t < length (nodes.packets v) = omega arith in
       ap (state_behind plan v (nodes.starts v)) (take_more (nodes.packets v) t [] there)
-      ∙ behind_push plan v (nodes.starts v) (take t (nodes.packets v))
+      ∙ state_push plan v (nodes.starts v) (take t (nodes.packets v))
       (get_or (nodes.packets v) t [])
 
   -- it is one of the node
@@ -147,7 +148,8 @@ module _ (plan : Plan) (accepted : IsAccepted plan) (faulty : List ℕ) (nodes :
           (λ u ult. get_or-map-range_with_len heard_here 0 n u u (zero_state 0) ult (omega arith)
           ∙ heard_same u ult)
 
-      step_is : state_of (config (t + 1)) v ≡ step_of plan v (heard_by n faulty (config t) (lies t) v)
+      step_is : state_of (config (t + 1)) v
+          ≡ step_of plan v (heard_by n faulty (config t) (lies t) v)
       step_is =
           state_is (t + 1) v correct ∙ next_is t v lt correct ∙ ap (step_of plan v) (sym all_heard)
 

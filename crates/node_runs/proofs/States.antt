@@ -16,15 +16,6 @@ use Rattle.state_codec.proofs.PlanStates.{in_range_of_node, state_of_node}
 use Rattle.state_codec.proofs.Ranged.{read_is_in_range}
 use Rattle.node_stepper.specs.Nodes.{fields_of, heard_in, state_after, state_behind}
 
--- one packet more
-pub behind_push : (plan : Plan) (v : ℕ) (s : State) (packets : List (List (List ℕ)))
-    (packet : List (List ℕ))
-    → state_behind plan v s (packets ++ packet ∷ [])
-    ≡ state_after plan v (state_behind plan v s packets) packet
-behind_push plan v s [] packet = refl
-behind_push plan v s (p ∷ packets) packet =
-    behind_push plan v (state_after plan v s p) packets packet
-
 module _ (plan : Plan) (accepted : IsAccepted plan) where
   sound : (u : ℕ) → IsFields (fields_of plan u)
   sound u =

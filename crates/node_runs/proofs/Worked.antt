@@ -3,7 +3,7 @@ use Rattle.std.proofs.Common.{◌≡◌, ℕ, List, [], ◌∷◌, Some, refl}
 use Rattle.sync_types.specs.States.{zero_state}
 use Rattle.construction.specs.Plans.{Plan}
 use Rattle.construction.specs.Widths.{width}
-use Rattle.bit_lists.specs.Bits.{bits, number_of, bytes_of_bits}
+use Rattle.state_codec.specs.Bits.{bits, number_of, bytes_of_bits}
 use Rattle.plan_numbers.specs.Numbers.{line}
 use Rattle.state_codec.specs.Shapes.{registers_bits, moduli_of}
 use Rattle.state_codec.specs.Reading.{read, registers_from}

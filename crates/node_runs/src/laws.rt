@@ -1,7 +1,8 @@
 //! The laws of nodes over packets. Each function is empty: its clause is the law.
 
 ghost use Rattle.node_runs.specs.Cells.{NodeWritesStates};
-ghost use Rattle.node_runs.specs.Laws.{AnyLiesConnect, BorneLeavesSome, NodesRun, NodesSettle, NodesLock, NodesStayLocked};
+ghost use Rattle.node_runs.specs.Laws.{AnyLiesConnect, BorneLeavesSome, NodesRun, NodesSettle};
+ghost use Rattle.node_runs.specs.Laws.{NodesLock, NodesStayLocked};
 
 use plan_laws::laws::{every_plan_settles, locked_runs_count, locks_at_bound};
 

@@ -1,5 +1,5 @@
 -- One packet after another is heard and answered.
-use Rattle.std.proofs.Common.{◌≡◌, ℕ, zero, suc, ◌+◌, ◌-◌, ◌<◌, ◌≤◌, ◌⊎◌, inl, inr, Bool, true, false, List, [], ◌∷◌, ◌++◌, length, Option, Some, None, Result, Ok, Err, refl, sym, ap, ◌∙◌, append_assoc, append-nil, length-append, subst, arith}
+use Rattle.std.proofs.Common.{◌≡◌, ℕ, suc, ◌+◌, ◌-◌, ◌<◌, ◌⊎◌, inl, inr, List, [], ◌∷◌, ◌++◌, Option, Ok, Err, refl, sym, ap, ◌∙◌, append_assoc, append-nil, subst, arith}
 use Rattle.std.specs.Io.KnownBytes.{Consumes, Keeps, IsAtEnd}
 use Rattle.std.proofs.KnownBytes.{Consumes-nil, Consumes-trans, Consumes-kept}
 use Rattle.std.specs.List.{flat_map}
@@ -9,33 +9,20 @@ use Rattle.texts.proofs.Growth.{wrote_then, cut_then, cut_more}
 use Rattle.sync_types.specs.States.{State}
 use Rattle.construction.specs.Plans.{Plan, plan_nodes}
 use Rattle.node_stepper.specs.declared.faults.NodeFault.TheVariants as fault
-use Rattle.node_stepper.specs.Packets.{cells_of, Ending, whole, cut, beyond, Packets, onto_packet, packets_of}
+use Rattle.node_stepper.specs.Packets.{cells_of, Ending, whole, cut, beyond, Packets, packets_of}
 use Rattle.node_stepper.specs.Nodes.{Standing, own, nobody, state_cell, state_after, state_behind, states_of, node_text, stepped, forgetting}
 use Rattle.node_stepper.specs.Hearing.{IsSame, PacketFed, PacketCut}
 use Rattle.node_stepper.specs.Serving.{StandsBehind, served, answer, Served, ServedCut, Serves}
+use Rattle.node_stepper.proofs.Packets.{after, after_one_more, packets_next, packets_cut, within_if}
 use Rattle.node_stepper.proofs.PacketByPacket.{own_stepped}
-
--- ---- packets of bytes
-
-abbrev pub after : List (List (List ℕ)) → Packets → Packets
-after packets r = record { cells = packets ++ r.cells; ending = r.ending }
-
-after_one_more : (packets : List (List (List ℕ))) (packet : List (List ℕ)) (r : Packets) → after packets (onto_packet packet r) ≡ after (packets ++ packet ∷ []) r
-after_one_more packets packet r = ap (λ (l : List (List (List ℕ))). let p : Packets = record { cells = l; ending = r.ending } in p) (sym (append_assoc packets (packet ∷ []) r.cells))
-
-pub packets_next : (nodes m from : ℕ) (bytes rest : List ℕ) (packet : List (List ℕ)) → 0 < length bytes → cells_of nodes 0 (bytes ++ rest) ≡ Ok (packet, rest) → packets_of nodes (suc m) from (bytes ++ rest) ≡ onto_packet packet (packets_of nodes m (from + 1) rest)
-packets_next nodes m from [] rest packet some e = absurd (omega arith)
-packets_next nodes m from (b ∷ bytes) rest packet some e = rw (packets_of, e) refl
-
-packets_cut : (nodes m from sender : ℕ) (bytes : List ℕ) → 0 < length bytes → cells_of nodes 0 bytes ≡ Err sender → packets_of nodes (suc m) from bytes ≡ record { cells = []; ending = cut from sender }
-packets_cut nodes m from sender [] some e = absurd (omega arith)
-packets_cut nodes m from sender (b ∷ bytes) some e = rw (packets_of, e) refl
 
 -- ---- what is written
 
 module _ (plan : Plan) (v : ℕ) where
-  state_push : (s : State) (packets : List (List (List ℕ))) (packet : List (List ℕ))
-      → state_behind plan v s (packets ++ packet ∷ []) ≡ state_after plan v (state_behind plan v s packets) packet
+  -- its state behind one packet more
+  pub state_push : (s : State) (packets : List (List (List ℕ))) (packet : List (List ℕ))
+      → state_behind plan v s (packets ++ packet ∷ [])
+      ≡ state_after plan v (state_behind plan v s packets) packet
   state_push s [] packet = refl
   state_push s (p ∷ packets) packet = state_push (state_after plan v s p) packets packet
 
@@ -48,7 +35,8 @@ module _ (plan : Plan) (v : ℕ) where
 
   text_push : (s : State) (packets : List (List (List ℕ))) (packet : List (List ℕ))
       → node_text plan v s (packets ++ packet ∷ [])
-      ≡ node_text plan v s packets ++ state_cell plan v (state_after plan v (state_behind plan v s packets) packet)
+      ≡ node_text plan v s packets ++ state_cell plan v
+      (state_after plan v (state_behind plan v s packets) packet)
   text_push s packets packet =
       let next = state_after plan v (state_behind plan v s packets) packet in
       ap (flat_map (state_cell plan v)) (states_push s packets packet)
@@ -60,23 +48,28 @@ module _ (plan : Plan) (v : ℕ) where
   replies s [] = []
   replies s (p ∷ packets) = state_after plan v s p ∷ replies (state_after plan v s p) packets
 
-  states_are : (s : State) (packets : List (List (List ℕ))) → states_of plan v s packets ≡ s ∷ replies s packets
+  states_are : (s : State) (packets : List (List (List ℕ)))
+      → states_of plan v s packets ≡ s ∷ replies s packets
   unfolding replies
   states_are s [] = refl
-  states_are s (p ∷ packets) = ap (λ (l : List State). s ∷ l) (states_are (state_after plan v s p) packets)
+  states_are s (p ∷ packets) =
+      ap (λ (l : List State). s ∷ l) (states_are (state_after plan v s p) packets)
 
   states_more : (s : State) (packets more : List (List (List ℕ)))
-      → states_of plan v s (packets ++ more) ≡ states_of plan v s packets ++ replies (state_behind plan v s packets) more
+      → states_of plan v s (packets ++ more)
+      ≡ states_of plan v s packets ++ replies (state_behind plan v s packets) more
   states_more s [] more = states_are s more
   states_more s (p ∷ packets) more =
       ap (λ (l : List State). s ∷ l) (states_more (state_after plan v s p) packets more)
 
   text_more : (s : State) (packets more : List (List (List ℕ)))
       → node_text plan v s (packets ++ more)
-      ≡ node_text plan v s packets ++ flat_map (state_cell plan v) (replies (state_behind plan v s packets) more)
+      ≡ node_text plan v s packets ++ flat_map (state_cell plan v)
+      (replies (state_behind plan v s packets) more)
   text_more s packets more =
       ap (flat_map (state_cell plan v)) (states_more s packets more)
-      ∙ flat_map-append (state_cell plan v) (states_of plan v s packets) (replies (state_behind plan v s packets) more)
+      ∙ flat_map-append (state_cell plan v) (states_of plan v s packets)
+      (replies (state_behind plan v s packets) more)
 
   text_none : (s : State) → node_text plan v s [] ≡ state_cell plan v s
   text_none s = append-nil (state_cell plan v s)
@@ -84,7 +77,8 @@ module _ (plan : Plan) (v : ℕ) where
 -- the engine has forgotten who was heard, before the first packet
 pub forgotten : (before after : Standing) → after ≡ forgetting before → StandsBehind before after []
 forgotten before after is =
-    subst (λ e. StandsBehind before e []) (sym is) (record { plan = refl; id = refl; state = refl; none = refl })
+    subst (λ e. StandsBehind before e []) (sym is)
+    (record { plan = refl; id = refl; state = refl; none = refl })
 
 -- ---- the loop
 
@@ -98,12 +92,14 @@ module _ (before : Standing) where
   abbrev cell : State → List ℕ
   cell s = state_cell before.plan before.id s
 
-  pub record ServedSoFar (now : Standing) (s t : Option (List ℕ)) (w x : Told) (count : ℕ) : Type 0 where
+  pub record ServedSoFar (now : Standing) (s t : Option (List ℕ)) (w x : Told)
+      (count : ℕ) : Type 0 where
     pub bytes : List ℕ
     pub packets : List (List (List ℕ))
     pub read : Consumes s t bytes
     pub are : (rest : List ℕ)
-        → packets_of size 1000000 0 (bytes ++ rest) ≡ after packets (packets_of size (1000000 - count) count rest)
+        → packets_of size 1000000 0 (bytes ++ rest)
+        ≡ after packets (packets_of size (1000000 - count) count rest)
     pub stands : StandsBehind before now packets
     pub wrote : Wrote (answer before packets) w x
 
@@ -123,9 +119,11 @@ module _ (before : Standing) where
     read = Consumes-nil s;
     cut = λ rest.
         let packets = (served before rest).cells in
-        let first : Cut (answer before []) w x = rw (text_none before.plan before.id (own before), ← cell_is now [] stands) is in
+        let first : Cut (answer before []) w x =
+        rw (text_none before.plan before.id (own before), ← cell_is now [] stands) is in
         rw (text_more before.plan before.id (own before) [] packets)
-        (cut_more w x (answer before []) (flat_map cell (replies before.plan before.id (own before) packets)) first);
+        (cut_more w x (answer before [])
+        (flat_map cell (replies before.plan before.id (own before) packets)) first);
     late = inl refl;
     stands = stands;
   }
@@ -141,18 +139,24 @@ module _ (before : Standing) where
     wrote = rw (text_none before.plan before.id (own before), ← cell_is now [] stands) wrote;
   }
 
-  module _ (now : Standing) (s t u : Option (List ℕ)) (w x : Told) (count : ℕ) (h : ServedSoFar now s t w x count) where
+  module _ (now : Standing) (s t u : Option (List ℕ)) (w x : Told) (count : ℕ)
+      (h : ServedSoFar now s t w x count) where
     all_of : (rest : List ℕ) (ending : Ending)
         → packets_of size (1000000 - count) count rest ≡ record { cells = []; ending = ending }
-        → packets_of size 1000000 0 (h.bytes ++ rest) ≡ record { cells = h.packets; ending = ending }
+        → packets_of size 1000000 0 (h.bytes ++ rest)
+        ≡ record { cells = h.packets; ending = ending }
     all_of rest ending is =
         h.are rest ∙ ap (after h.packets) is
-        ∙ ap (λ (l : List (List (List ℕ))). let p : Packets = record { cells = l; ending = ending } in p) (append-nil h.packets)
+        ∙ ap (λ (l : List (List (List ℕ))). let p : Packets =
+        record { cells = l; ending = ending } in p) (append-nil h.packets)
 
     -- all packets of what was read, where no further one is whole
-    module _ (new : Standing) (stands : StandsBehind before new h.packets) (rest : List ℕ) (ending : Ending) (read : Consumes t u rest)
-        (is : packets_of size (1000000 - count) count rest ≡ record { cells = []; ending = ending }) where
-      all : packets_of size 1000000 0 (h.bytes ++ rest) ≡ record { cells = h.packets; ending = ending }
+    module _ (new : Standing) (stands : StandsBehind before new h.packets) (rest : List ℕ)
+        (ending : Ending) (read : Consumes t u rest)
+        (is : packets_of size (1000000 - count) count rest
+        ≡ record { cells = []; ending = ending }) where
+      all : packets_of size 1000000 0 (h.bytes ++ rest)
+          ≡ record { cells = h.packets; ending = ending }
       all = all_of rest ending is
 
       pub stops : Served before new s u w x
@@ -170,18 +174,28 @@ module _ (before : Standing) where
     left_some lt = omega arith
 
     inside : (sender : ℕ) → count < 1000000 → (p : PacketCut (plan_nodes now.plan) sender t u)
-        → packets_of size (1000000 - count) count p.bytes ≡ record { cells = []; ending = cut count sender }
+        → packets_of size (1000000 - count) count p.bytes
+        ≡ record { cells = []; ending = cut count sender }
     inside sender lt p =
         let same : plan_nodes now.plan ≡ size = ap plan_nodes h.stands.plan in
         ap (λ n. packets_of size n count p.bytes) (left_some lt)
-        ∙ packets_cut size (1000000 - (count + 1)) count sender p.bytes p.some (ap (λ n. cells_of n 0 p.bytes) (sym same) ∙ p.cut)
+        ∙ packets_cut size (1000000 - (count + 1)) count sender p.bytes p.some
+        (ap (λ n. cells_of n 0 p.bytes) (sym same) ∙ p.cut)
+
+    -- what was read so far ends with its packets
+    so_far : (served before h.bytes).ending ≡ whole count
+    so_far =
+        ap (λ (l : List ℕ). (served before l).ending) (sym (append-nil h.bytes))
+        ∙ ap (λ (p : Packets). p.ending) (all_of [] (whole count) refl)
 
     past : (b : ℕ) (rest : List ℕ) → count ≡ 1000000
-        → packets_of size (1000000 - count) count (b ∷ rest) ≡ record { cells = []; ending = beyond }
+        → packets_of size (1000000 - count) count (b ∷ rest)
+        ≡ record { cells = []; ending = beyond }
     past b rest e = let none : 1000000 - count ≡ 0 = omega (arith, e) in rw none refl
 
     -- the engine as it stood, where it forgets who was heard of a packet that was not whole
-    pub again : (mid new : Standing) → IsSame now mid → new ≡ forgetting mid → StandsBehind before new h.packets
+    pub again : (mid new : Standing) → IsSame now mid → new ≡ forgetting mid
+        → StandsBehind before new h.packets
     again mid new same is =
         let stands = h.stands in
         subst (λ e. StandsBehind before e h.packets) (sym is) (record {
@@ -195,7 +209,8 @@ module _ (before : Standing) where
     unmoved new is = subst (λ e. StandsBehind before e h.packets) (sym is) h.stands
 
     -- one packet more
-    module _ (mid new : Standing) (node : now.id < plan_nodes now.plan) (lt : count < 1000000) (fed : PacketFed now mid t u) (is_new : new ≡ stepped mid) where
+    module _ (mid new : Standing) (node : now.id < plan_nodes now.plan) (lt : count < 1000000)
+        (fed : PacketFed now mid t u) (is_new : new ≡ stepped mid) where
       same_nodes : plan_nodes now.plan ≡ size
       same_nodes = ap plan_nodes h.stands.plan
 
@@ -203,12 +218,17 @@ module _ (before : Standing) where
       whole_here rest = ap (λ n. cells_of n 0 (fed.bytes ++ rest)) (sym same_nodes) ∙ fed.whole rest
 
       are_more : (rest : List ℕ) → packets_of size 1000000 0 ((h.bytes ++ fed.bytes) ++ rest)
-          ≡ after (h.packets ++ fed.packet ∷ []) (packets_of size (1000000 - (count + 1)) (count + 1) rest)
+          ≡ after (h.packets ++ fed.packet ∷ [])
+          (packets_of size (1000000 - (count + 1)) (count + 1) rest)
       are_more rest =
-          ap (packets_of size 1000000 0) (append_assoc h.bytes fed.bytes rest) ∙ h.are (fed.bytes ++ rest)
-          ∙ ap (after h.packets) (ap (λ n. packets_of size n count (fed.bytes ++ rest)) (left_some lt)
-          ∙ packets_next size (1000000 - (count + 1)) count fed.bytes rest fed.packet fed.some (whole_here rest))
-          ∙ after_one_more h.packets fed.packet (packets_of size (1000000 - (count + 1)) (count + 1) rest)
+          ap (packets_of size 1000000 0) (append_assoc h.bytes fed.bytes rest)
+          ∙ h.are (fed.bytes ++ rest)
+          ∙ ap (after h.packets) (ap (λ n. packets_of size n count (fed.bytes ++ rest))
+          (left_some lt)
+          ∙ packets_next size (1000000 - (count + 1)) count fed.bytes rest fed.packet fed.some
+          (whole_here rest))
+          ∙ after_one_more h.packets fed.packet (packets_of size (1000000 - (count + 1)) (count + 1)
+          rest)
 
       stands_more : StandsBehind before new (h.packets ++ fed.packet ∷ [])
       stands_more =
@@ -232,7 +252,8 @@ module _ (before : Standing) where
           cell_is new (h.packets ++ fed.packet ∷ []) stands_more
           ∙ ap cell (state_push before.plan before.id (own before) h.packets fed.packet)
 
-      pub served_more : (y : Told) → Wrote (state_cell new.plan new.id (own new)) x y → ServedSoFar new s u w y (count + 1)
+      pub served_more : (y : Told) → Wrote (state_cell new.plan new.id (own new)) x y
+          → ServedSoFar new s u w y (count + 1)
       served_more y wrote = record {
         bytes = h.bytes ++ fed.bytes;
         packets = h.packets ++ fed.packet ∷ [];
@@ -240,17 +261,20 @@ module _ (before : Standing) where
         are = are_more;
         stands = stands_more;
         wrote = rw (text_push before.plan before.id (own before) h.packets fed.packet, ← new_cell)
-            (wrote_then w x y (answer before h.packets) (state_cell new.plan new.id (own new)) h.wrote wrote);
+            (wrote_then w x y (answer before h.packets) (state_cell new.plan new.id (own new))
+            h.wrote wrote);
       }
 
       last_packets : served before (h.bytes ++ fed.bytes)
           ≡ record { cells = h.packets ++ fed.packet ∷ []; ending = whole (count + 1) }
       last_packets =
           ap (packets_of size 1000000 0) (sym (append-nil (h.bytes ++ fed.bytes))) ∙ are_more []
-          ∙ ap (λ (l : List (List (List ℕ))). let p : Packets = record { cells = l; ending = whole (count + 1) } in p)
+          ∙ ap (λ (l : List (List (List ℕ))). let p : Packets =
+          record { cells = l; ending = whole (count + 1) } in p)
           (append-nil (h.packets ++ fed.packet ∷ []))
 
-      pub served_cut : (y : Told) → Cut (state_cell new.plan new.id (own new)) x y → ServedCut before new s u w y
+      pub served_cut : (y : Told) → Cut (state_cell new.plan new.id (own new)) x y
+          → ServedCut before new s u w y
       served_cut y is = record {
         bytes = h.bytes ++ fed.bytes;
         read = Consumes-trans s t u h.bytes fed.bytes h.read fed.read;
@@ -258,9 +282,15 @@ module _ (before : Standing) where
             let all = packets_of size (1000000 - (count + 1)) (count + 1) rest in
             let text : Cut (answer before (h.packets ++ fed.packet ∷ [])) w y =
             rw (text_push before.plan before.id (own before) h.packets fed.packet, ← new_cell)
-            (cut_then w x y (answer before h.packets) (state_cell new.plan new.id (own new)) h.wrote is) in
-            rw (are_more rest, text_more before.plan before.id (own before) (h.packets ++ fed.packet ∷ []) all.cells)
-            (cut_more w y (answer before (h.packets ++ fed.packet ∷ [])) (flat_map cell (replies before.plan before.id (behind (h.packets ++ fed.packet ∷ [])) all.cells)) text);
+            (cut_then w x y (answer before h.packets) (state_cell new.plan new.id (own new)) h.wrote
+            is) in
+            rw (
+              are_more rest,
+              text_more before.plan before.id (own before) (h.packets ++ fed.packet ∷ []) all.cells,
+            )
+            (cut_more w y (answer before (h.packets ++ fed.packet ∷ []))
+            (flat_map cell (replies before.plan before.id (behind (h.packets ++ fed.packet ∷ []))
+            all.cells)) text);
         late = inr (record {
           done = h.packets;
           packet = fed.packet;
@@ -274,46 +304,78 @@ module _ (before : Standing) where
       }
 
     -- the end, a packet that is cut, a read that failed, and a byte too many
-    pub served_end : (new : Standing) → new ≡ now → Consumes t u [] → IsAtEnd u → Serves before new s u w x (Ok count)
+    pub served_end : (new : Standing) → new ≡ now → Consumes t u [] → IsAtEnd u
+        → Serves before new s u w x (Ok count)
     unfolding stops
     served_end new is read end =
-        let stands = unmoved new is in
-        (stops new stands [] (whole count) read refl, stops_so new stands [] (whole count) read refl, end)
+        let stands = unmoved new is in (
+          stops new stands [] (whole count) read refl,
+          stops_so new stands [] (whole count) read refl,
+          end,
+        )
 
-    pub served_inside : (sender : ℕ) (mid new : Standing) → count < 1000000 → PacketCut (plan_nodes now.plan) sender t u → IsAtEnd u
-        → IsSame now mid → new ≡ forgetting mid → Serves before new s u w x (Err (fault.Cut count sender))
+    pub served_inside : (sender : ℕ) (mid new : Standing) → count < 1000000
+        → PacketCut (plan_nodes now.plan) sender t u → IsAtEnd u
+        → IsSame now mid → new ≡ forgetting mid
+        → Serves before new s u w x (Err (fault.Cut count sender))
     unfolding stops
     served_inside sender mid new lt p end same is =
         let stands = again mid new same is in
-        let ends = inside sender lt p in
-        (stops new stands p.bytes (cut count sender) p.read ends, stops_so new stands p.bytes (cut count sender) p.read ends, end)
+        let ends = inside sender lt p in (
+          stops new stands p.bytes (cut count sender) p.read ends,
+          stops_so new stands p.bytes (cut count sender) p.read ends,
+          end,
+        )
 
     pub served_fault : (mid new : Standing) → count < 1000000
         → Consumes t u [] ⊎ ((sender : ℕ) × PacketCut (plan_nodes now.plan) sender t u)
-        → IsSame now mid → new ≡ forgetting mid → Served before new s u w x
-    served_fault mid new lt (inl read) same is = stops new (again mid new same is) [] (whole count) read refl
+        → IsSame now mid → new ≡ forgetting mid → Serves before new s u w x (Err fault.ReadFault)
+    unfolding stops
+    served_fault mid new lt (inl read) same is =
+        let stands = again mid new same is in (
+          stops new stands [] (whole count) read refl,
+          within_if (stops_so new stands [] (whole count) read refl) tt,
+        )
     served_fault mid new lt (inr (sender, p)) same is =
-        stops new (again mid new same is) p.bytes (cut count sender) p.read (inside sender lt p)
+        let stands = again mid new same is in
+        let ends = inside sender lt p in (
+          stops new stands p.bytes (cut count sender) p.read ends,
+          within_if (stops_so new stands p.bytes (cut count sender) p.read ends) tt,
+        )
 
-    pub served_beyond : (b : ℕ) → count ≡ 1000000 → Consumes t u (b ∷ []) → Serves before now s u w x (Err fault.TooLong)
+    pub served_beyond : (b : ℕ) → count ≡ 1000000 → Consumes t u (b ∷ [])
+        → Serves before now s u w x (Err fault.TooLong)
     unfolding stops
     served_beyond b e read = (
       stops now h.stands (b ∷ []) beyond read (past b [] e),
       λ rest.
-          ap (packets_of size 1000000 0) (append_assoc h.bytes (b ∷ []) rest) ∙ all_of (b ∷ rest) beyond (past b rest e)
-          ∙ ap (λ (l : List (List (List ℕ))). let p : Packets = record { cells = l; ending = beyond } in p)
+          ap (packets_of size 1000000 0) (append_assoc h.bytes (b ∷ []) rest)
+          ∙ all_of (b ∷ rest) beyond (past b rest e)
+          ∙ ap (λ (l : List (List (List ℕ))). let p : Packets =
+          record { cells = l; ending = beyond } in p)
           (sym (ap (λ (p : Packets). p.cells) (all_of (b ∷ []) beyond (past b [] e)))),
+      record { front = h.bytes; last = b; parts = refl; pending = within_if so_far tt },
     )
 
     -- the end behind the last packet
-    last : count ≡ 1000000 → packets_of size (1000000 - count) count [] ≡ record { cells = []; ending = whole 1000000 }
+    last : count ≡ 1000000 → packets_of size (1000000 - count) count []
+        ≡ record { cells = []; ending = whole 1000000 }
     last e = ap (λ n. let p : Packets = record { cells = []; ending = whole n } in p) e
 
-    pub served_full : count ≡ 1000000 → Keeps t u → IsAtEnd u → Serves before now s u w x (Ok 1000000)
+    pub served_full : count ≡ 1000000 → Keeps t u → IsAtEnd u
+        → Serves before now s u w x (Ok 1000000)
     unfolding stops
     served_full e keeps end =
-        let read = Consumes-kept t t u [] (Consumes-nil t) keeps in
-        (stops now h.stands [] (whole 1000000) read (last e), stops_so now h.stands [] (whole 1000000) read (last e), end)
+        let read = Consumes-kept t t u [] (Consumes-nil t) keeps in (
+          stops now h.stands [] (whole 1000000) read (last e),
+          stops_so now h.stands [] (whole 1000000) read (last e),
+          end,
+        )
 
-    pub served_lost : Keeps t u → Served before now s u w x
-    served_lost keeps = stops now h.stands [] (whole count) (Consumes-kept t t u [] (Consumes-nil t) keeps) refl
+    pub served_lost : Keeps t u → Serves before now s u w x (Err fault.ReadFault)
+    unfolding stops
+    served_lost keeps =
+        let read = Consumes-kept t t u [] (Consumes-nil t) keeps in (
+          stops now h.stands [] (whole count) read refl,
+          within_if (stops_so now h.stands [] (whole count) read refl) tt,
+        )

@@ -1,5 +1,5 @@
 -- One cell after another.
-use Rattle.std.proofs.Common.{◌*◌, ◌<◌, ◌≢◌, Bool, true, false, eqb, drop, Option, Some, None, Result, Ok, Err, length-append, sym, ◌-◌, ◌/◌, ◌%◌, ◌≡◌, ℕ, ◌+◌, ◌≤◌, List, [], ◌∷◌, ◌++◌, length, take, set, refl, ap, ◌∙◌, arith}
+use Rattle.std.proofs.Common.{◌*◌, ◌<◌, ◌≢◌, Bool, true, false, drop, Option, Some, None, Result, Ok, Err, length-append, sym, ◌-◌, ◌/◌, ◌%◌, ◌≡◌, ℕ, ◌+◌, ◌≤◌, List, [], ◌∷◌, ◌++◌, length, take, set, refl, ap, ◌∙◌, arith}
 use Rattle.std.specs.Prelude.{◌==◌, if◌then◌else◌, slice_set}
 use Rattle.std.specs.Io.KnownBytes.{Consumes}
 use Rattle.std.proofs.KnownBytes.{Consumes-trans}
@@ -7,13 +7,14 @@ use Rattle.std.proofs.Math.Seq.{take-append_seam, drop-append_seam}
 use Rattle.std.proofs.lemmas.Bool.{le-leb, lt-leb, ne_eqb}
 use Rattle.std.proofs.lemmas.List.{length-set}
 use Rattle.std.proofs.lemmas.Slice.{take-put_mid}
-use Rattle.bit_lists.proofs.Bytes.{length-bytes_of_bits}
+use Rattle.state_codec.proofs.Bytes.{length-bytes_of_bits}
 use Rattle.sync_types.specs.States.{State, zero_state}
-use Rattle.state_codec.specs.Shapes.{Fields, bytes_in}
+use Rattle.construction.specs.Plans.{Plan}
+use Rattle.state_codec.specs.Shapes.{Fields, Shape, shape_of, fields_at, bytes_in}
 use Rattle.state_codec.specs.Writing.{written, bits_of_state, padding}
 use Rattle.state_codec.specs.Reading.{read}
 use Rattle.node_stepper.specs.Packets.{cell_at}
-use Rattle.node_stepper.specs.Nodes.{Standing, IsOther, fields_of, hearing, cell_text}
+use Rattle.node_stepper.specs.Nodes.{Standing, IsOther, fields_of, hearing, cell_text, state_cell}
 use Rattle.node_stepper.specs.Hearing.{BodyFed, CellFed}
 use borrow.Rule.Slice.PartMut.{put_mid}
 
@@ -30,7 +31,8 @@ long2 h l out = length-set (set out 0 h) 1 l ∙ length-set out 0 h
 pub front_is : (h l n : ℕ) (out bytes : List ℕ) → 2 + n ≤ length out → length bytes ≡ n
     → take (2 + n) (put_mid 2 n (set (set out 0 h) 1 l) bytes) ≡ h ∷ l ∷ bytes
 front_is h l n out bytes room size =
-    take-put_mid 2 n (set (set out 0 h) 1 l) bytes (2 + n) (omega (arith, size)) (omega (arith, long2 h l out, room))
+    take-put_mid 2 n (set (set out 0 h) 1 l) bytes (2 + n) (omega (arith, size))
+    (omega (arith, long2 h l out, room))
     ∙ ap (λ (xs : List ℕ). xs ++ bytes) (first_two h l out (omega (arith, room)))
 
 pub cell_front : (n : ℕ) (out bytes new : List ℕ) → 2 + n ≤ length out → new ≡ bytes
@@ -39,7 +41,8 @@ pub cell_front : (n : ℕ) (out bytes new : List ℕ) → 2 + n ≤ length out �
     ≡ cell_text bytes
 cell_front n out bytes new room is size =
     let mid : 2 + n - 2 ≡ n = omega arith in
-    ap (λ (l : List ℕ). take (2 + n) (put_mid 2 (2 + n - 2) (set (set out 0 (n / 256)) 1 (n % 256)) l)) is
+    ap (λ (l : List ℕ). take (2 + n) (put_mid 2 (2 + n - 2) (set (set out 0 (n / 256)) 1 (n % 256))
+    l)) is
     ∙ ap (λ (k : ℕ). take (2 + n) (put_mid 2 k (set (set out 0 (n / 256)) 1 (n % 256)) bytes)) mid
     ∙ front_is (n / 256) (n % 256) n out bytes room size
     ∙ ap (λ (k : ℕ). k / 256 ∷ k % 256 ∷ bytes) (sym size)
@@ -47,6 +50,13 @@ cell_front n out bytes new room is size =
 pub written_size : (fields : Fields) (s : State) → length (written fields s) ≡ bytes_in fields
 written_size fields s =
     length-bytes_of_bits (bytes_in fields) (bits_of_state fields s ++ padding fields)
+
+-- the cell of a node's state, over the shape of its plan
+pub own_cell : (plan : Plan) (shape : Shape) (id : ℕ) (s t : State) → shape ≡ shape_of plan → s ≡ t
+    → cell_text (written (fields_at shape id) s) ≡ state_cell plan id t
+own_cell plan shape id s t shaped is =
+    ap (λ (x : Shape). cell_text (written (fields_at x id) s)) shaped
+    ∙ ap (λ (u : State). state_cell plan id u) is
 
 -- ---- cells that are read
 
@@ -76,12 +86,26 @@ pub rest_fed : {E : Type 0} (high low sender : ℕ) (before after : Standing)
     (s t u : Option (List ℕ)) (result : Result Bool E) → Consumes s t (low ∷ [])
     → BodyFed (256 * high + low) sender before after t u result
     → CellFed (high ∷ []) sender before after s u result
-rest_fed high low sender before after s t u (Ok true) first (body, fed, heard) =
-    (low ∷ body, body, Consumes-trans s t u (low ∷ []) body first fed.0, λ rest. whole_cell high low body rest fed.1, heard)
-rest_fed high low sender before after s t u (Ok false) first (body, fed, heard) =
-    (low ∷ body, Consumes-trans s t u (low ∷ []) body first fed.0, cut_cell high low body fed.1, fed.2, heard)
-rest_fed high low sender before after s t u (Err e) first (body, fed, heard) =
-    (low ∷ body, Consumes-trans s t u (low ∷ []) body first fed.0, cut_cell high low body fed.1, heard)
+rest_fed high low sender before after s t u (Ok true) first (body, fed, heard) = (
+  low ∷ body,
+  body,
+  Consumes-trans s t u (low ∷ []) body first fed.0,
+  λ rest. whole_cell high low body rest fed.1,
+  heard,
+)
+rest_fed high low sender before after s t u (Ok false) first (body, fed, heard) = (
+  low ∷ body,
+  Consumes-trans s t u (low ∷ []) body first fed.0,
+  cut_cell high low body fed.1,
+  fed.2,
+  heard,
+)
+rest_fed high low sender before after s t u (Err e) first (body, fed, heard) = (
+  low ∷ body,
+  Consumes-trans s t u (low ∷ []) body first fed.0,
+  cut_cell high low body fed.1,
+  heard,
+)
 
 -- its first byte was read, and then the others
 pub cell_fed : {E : Type 0} (high sender : ℕ) (before after : Standing)
@@ -95,7 +119,8 @@ cell_fed high sender before after s t u (Err e) first (bytes, read, is, heard) =
     (high ∷ bytes, Consumes-trans s t u (high ∷ []) bytes first read, is, heard)
 
 -- bytes that are no state's are read as none are
-zero_by : (fields : Fields) (bytes : List ℕ) (test : Bool) → (length bytes == bytes_in fields) ≡ test
+zero_by : (fields : Fields) (bytes : List ℕ) (test : Bool)
+    → (length bytes == bytes_in fields) ≡ test
     → test ≡ false → read fields bytes ≡ zero_state (length fields.moduli)
 zero_by fields bytes test is none = rw (is, none) refl
 
@@ -109,5 +134,9 @@ other_read fields a b first second =
 pub other_heard : (e : Standing) (sender : ℕ) (a b : List ℕ) → IsOther e.plan sender (length a)
     → IsOther e.plan sender (length b) → hearing e sender a ≡ hearing e sender b
 other_heard e sender a b first second =
-    ap (λ (s : State). if sender == e.id then e else record e { states = slice_set e.states sender s; since = slice_set e.since sender true })
+    ap (λ (s : State). if sender == e.id then e else record e {
+      states = slice_set e.states sender
+          s;
+      since = slice_set e.since sender true;
+    })
     (other_read (fields_of e.plan sender) a b first second)

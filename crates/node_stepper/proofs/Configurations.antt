@@ -1,5 +1,5 @@
 -- The states that an engine keeps are a configuration.
-use Rattle.std.proofs.Common.{Bool, true, ◌≡◌, ℕ, zero, suc, ◌<◌, ◌≤◌, inl, inr, List, [], ◌∷◌, ◌++◌, length, drop, replicate, get_or, set, slice_index_or, All, refl, sym, ap, ap₂, ◌∙◌, subst, arith}
+use Rattle.std.proofs.Common.{Bool, true, ◌≡◌, ℕ, zero, suc, ◌<◌, ◌≤◌, inl, inr, List, [], ◌∷◌, ◌++◌, length, replicate, get_or, set, slice_index_or, All, refl, sym, ap, ap₂, ◌∙◌, subst, arith}
 use Rattle.std.proofs.lemmas.Bool.{cases_eq}
 use Rattle.std.proofs.lemmas.List.{append-nil, drop_all, length-set, get_or-set_same, get_or-set_other, get_or-replicate, length-replicate}
 use Rattle.sync_types.specs.declared.states.Reg.{Reg}
@@ -32,14 +32,17 @@ within (state ∷ states) (suc v) d e lt = within states v d e (omega arith)
 
 module _ (plan : Plan) (states : List State) (is : IsConfiguration plan states) where
   -- what holds of each node's states holds of all
-  all_of : (P : State → Type 0) → ((v : ℕ) → v < plan_nodes plan → (s : State) → IsState plan v s → P s)
+  all_of : (P : State → Type 0) → ((v : ℕ) → v < plan_nodes plan → (s : State) → IsState plan v s
+      → P s)
       → All P states
   all_of P holds = λ k d lt.
       let node : k < plan_nodes plan = omega (arith, lt, is.size) in
-      subst P (within states k (zero_state 0) d lt) (holds k node (state_of states k) (is.states k node))
+      subst P (within states k (zero_state 0) d lt)
+      (holds k node (state_of states k) (is.states k node))
 
   pub deep_enough : All (λ s. plan_depth plan ≤ length s.registers) states
-  deep_enough = all_of (λ s. plan_depth plan ≤ length s.registers) (λ v node s has. let d = has.depth in omega (arith, d))
+  deep_enough = all_of (λ s. plan_depth plan ≤ length s.registers)
+      (λ v node s has. let d = has.depth in omega (arith, d))
 
   pub in_range : IsAccepted plan → All (IsInRange plan) states
   in_range accepted =
@@ -53,8 +56,11 @@ module _ (plan : Plan) (states : List State) (is : IsConfiguration plan states) 
     size = length-set states v s ∙ is.size;
     states = λ u lt. elim (cases_eq u v) [
       | inl at ↦ subst (λ (w : ℕ). IsState plan w (state_of (set states v s) w)) (sym at)
-          (subst (IsState plan v) (sym (get_or-set_same states v s (zero_state 0) (omega (arith, node, is.size)))) has)
-      | inr other ↦ subst (IsState plan u) (sym (get_or-set_other states v u s (zero_state 0) other)) (is.states u lt)
+          (subst (IsState plan v)
+          (sym (get_or-set_same states v s (zero_state 0) (omega (arith, node, is.size)))) has)
+      | inr other ↦
+          subst (IsState plan u) (sym (get_or-set_other states v u s (zero_state 0) other))
+          (is.states u lt)
     ];
   }
 
@@ -74,7 +80,8 @@ module _ (plan : Plan) (accepted : IsAccepted plan) where
   zeros_are = record {
     size = length-replicate (plan_nodes plan) (zero_state (plan_depth plan));
     states = λ v lt. subst (IsState plan v)
-        (sym (get_or-replicate (plan_nodes plan) v (zero_state (plan_depth plan)) (zero_state 0) lt))
+        (sym (get_or-replicate (plan_nodes plan) v (zero_state (plan_depth plan)) (zero_state 0)
+        lt))
         (zero_is_state v lt);
   }
 
@@ -87,7 +94,8 @@ module _ (plan : Plan) (accepted : IsAccepted plan) where
 pub whole_state : (d : ℕ) (s out : State) → length out.registers ≤ d → written d s out ≡ s
 whole_state d s out short =
     ap (λ (l : List Reg). let t : State = record { x = s.x; registers = l } in t)
-    (ap (λ (l : List Reg). s.registers ++ l) (drop_all d out.registers short) ∙ append-nil s.registers)
+    (ap (λ (l : List Reg). s.registers ++ l) (drop_all d out.registers short)
+    ∙ append-nil s.registers)
 
 -- ---- what an engine keeps
 
@@ -109,17 +117,20 @@ module _ (plan : Plan) (shape : Shape) (id : ℕ) (states : List State) (since :
       → InRange (fields_at shape v) s
   range_of v lt s is =
       subst (λ (x : Shape). InRange (fields_at x v) s) (sym kept.shaped)
-      (in_range_of_node plan kept.accepted v lt s (subst (IsState plan v) (sym is) (kept.among.states v lt)))
+      (in_range_of_node plan kept.accepted v lt s
+      (subst (IsState plan v) (sym is) (kept.among.states v lt)))
 
   pub state_is : (v : ℕ) → v < plan_nodes plan → (s : State) → InRange (fields_at shape v) s
       → IsState plan v s
   state_is v lt s range =
-      state_of_node plan kept.accepted v lt s (subst (λ (x : Shape). InRange (fields_at x v) s) kept.shaped range)
+      state_of_node plan kept.accepted v lt s (subst (λ (x : Shape). InRange (fields_at x v) s)
+      kept.shaped range)
 
   -- a state that is read at a place
   pub place_of : (v : ℕ) → v < plan_nodes plan → (s : State) → s ≡ get_or states v s
       → s ≡ state_of states v
-  place_of v lt s is = is ∙ within states v s (zero_state 0) (let e = kept.among.size in omega (arith, e, lt))
+  place_of v lt s is = is
+      ∙ within states v s (zero_state 0) (let e = kept.among.size in omega (arith, e, lt))
 
   -- it hears a node
   pub kept_hearing : (v : ℕ) → v < plan_nodes plan → (s : State) → InRange (fields_at shape v) s
@@ -135,11 +146,13 @@ module _ (plan : Plan) (shape : Shape) (id : ℕ) (states : List State) (since :
   }
 
   -- it steps
-  pub kept_stepping : (marks : List Bool) → length marks ≡ plan_nodes plan → (out : State) → out ≡ step_of plan id states
+  pub kept_stepping : (marks : List Bool) → length marks ≡ plan_nodes plan → (out : State)
+      → out ≡ step_of plan id states
       → (roomy : Work) → IsFor (plan_nodes plan) roomy
       → IsKept plan shape id (set states id out) marks out roomy
   kept_stepping marks size out is roomy ready =
-      let own : IsState plan id out = subst (IsState plan id) (sym is) (step_is plan kept.accepted id states) in
+      let own : IsState plan id out = subst (IsState plan id) (sym is)
+      (step_is plan kept.accepted id states) in
       record {
         accepted = kept.accepted;
         shaped = kept.shaped;
@@ -154,7 +167,8 @@ module _ (plan : Plan) (shape : Shape) (id : ℕ) (states : List State) (since :
   out_is : (heard : List State) → heard ≡ states → (out : State)
       → out ≡ written (plan_depth plan) (step_of plan id heard) next → out ≡ step_of plan id states
   out_is heard same out is =
-      is ∙ whole_state (plan_depth plan) (step_of plan id heard) next (let r = kept.room in omega (arith, r))
+      is ∙ whole_state (plan_depth plan) (step_of plan id heard) next
+      (let r = kept.room in omega (arith, r))
       ∙ ap (step_of plan id) same
 
   pub room_again : (heard : List State) → heard ≡ states → (out : State)
@@ -185,11 +199,13 @@ module _ (plan : Plan) (shape : Shape) (id : ℕ) (states : List State) (since :
 pub begun_kept : (plan : Plan) (shape : Shape) (id nodes depth : ℕ) (state own : State)
     (states : List State) (since : List Bool) (next : State) (work : Work)
     → IsAccepted plan → shape ≡ shape_of plan → id < plan_nodes plan
-    → InRange (fields_at (shape_of plan) id) state → nodes ≡ plan_nodes plan → depth ≡ plan_depth plan
+    → InRange (fields_at (shape_of plan) id) state → nodes ≡ plan_nodes plan
+    → depth ≡ plan_depth plan
     → states ≡ replicate nodes (zero_state depth) → own ≡ state → length since ≡ plan_nodes plan
     → next ≡ zero_state depth → IsFor (plan_nodes plan) work
     → IsKept plan shape id (set states id own) since next work
-begun_kept plan shape id nodes depth state own states since next work accepted shaped node range count deep zeros own_is marks next_is ready =
+begun_kept plan shape id nodes depth state own states since next work accepted shaped node range
+    count deep zeros own_is marks next_is ready =
     let is : IsState plan id state = state_of_node plan accepted id node state range in
     let all : states ≡ replicate (plan_nodes plan) (zero_state (plan_depth plan)) =
     zeros ∙ ap₂ (λ (n d : ℕ). replicate n (zero_state d)) count deep in
@@ -197,10 +213,12 @@ begun_kept plan shape id nodes depth state own states since next work accepted s
       accepted = accepted;
       shaped = shaped;
       node = node;
-      among = set_state plan states (subst (IsConfiguration plan) (sym all) (zeros_are plan accepted)) id own node
+      among = set_state plan states
+          (subst (IsConfiguration plan) (sym all) (zeros_are plan accepted)) id own node
           (subst (IsState plan id) (sym own_is) is);
       marks = marks;
-      room = ap (λ (s : State). length s.registers) next_is ∙ length-replicate depth zero_register ∙ deep;
+      room = ap (λ (s : State). length s.registers) next_is ∙ length-replicate depth zero_register
+          ∙ deep;
       ready = ready;
     }
 
@@ -215,4 +233,5 @@ begun_room plan id nodes depth state own states accepted node range count deep z
     let zero : own ≡ zero_state depth =
     own_is ∙ ap (λ (l : List State). get_or l id own) zeros
     ∙ get_or-replicate nodes id (zero_state depth) own (omega (arith, node, count)) in
-    is.depth ∙ sym (ap (λ (s : State). length s.registers) zero ∙ length-replicate depth zero_register ∙ deep)
+    is.depth ∙ sym (ap (λ (s : State). length s.registers) zero
+    ∙ length-replicate depth zero_register ∙ deep)

@@ -2,4 +2,5 @@ pub mod Answering
 pub mod CellByCell
 pub mod Configurations
 pub mod PacketByPacket
+pub mod Packets
 pub mod ReadBack

@@ -1,17 +1,16 @@
 -- The cells of a packet, one after another.
-use Rattle.std.proofs.Common.{◌⊎◌, ◌≡◌, ◌≢◌, ℕ, zero, suc, ◌+◌, ◌-◌, ◌<◌, ◌≤◌, inl, inr, Bool, true, false, eqb, List, [], ◌∷◌, ◌++◌, length, map, get_or, set, slice_index_or, Option, Some, None, Result, Ok, Err, refl, sym, ap, ◌∙◌, append_assoc, append-nil, length-append, subst, arith}
+use Rattle.std.proofs.Common.{◌⊎◌, ◌≡◌, ◌≢◌, ℕ, suc, ◌+◌, ◌-◌, ◌<◌, ◌≤◌, inl, inr, Bool, true, false, List, [], ◌∷◌, ◌++◌, length, set, slice_index_or, Option, Some, None, Result, Ok, Err, refl, sym, ap, ◌∙◌, append_assoc, append-nil, length-append, subst, arith}
 use Rattle.std.specs.Io.KnownBytes.{Consumes}
 use Rattle.std.proofs.KnownBytes.{Consumes-trans}
-use Rattle.std.specs.List.{range_with_len}
 use Rattle.std.proofs.lemmas.Bool.{cases_eq, eq-eqb, ne_eqb}
 use Rattle.std.proofs.lemmas.List.{length_push, length-set, get_or-set_same, get_or-set_other, get_or_append_left, get_or-append-add}
 use Rattle.std.proofs.lemmas.List.FromFn.{fill_by_all}
-use Rattle.sync_types.specs.States.{State, zero_state}
-use Rattle.construction.specs.Plans.{Plan, plan_nodes}
+use Rattle.sync_types.specs.States.{zero_state}
+use Rattle.construction.specs.Plans.{plan_nodes}
 use Rattle.construction.specs.Steps.{state_of, step_of}
 use Rattle.state_codec.specs.Reading.{read}
 use Rattle.node_stepper.specs.Packets.{cell_at, onto_cell, cells_of}
-use Rattle.node_stepper.specs.Nodes.{Standing, own, nobody, fields_of, heard_of, heard_in, state_after, hearing, stepped, AllHeard}
+use Rattle.node_stepper.specs.Nodes.{Standing, own, fields_of, heard_of, heard_in, state_after, hearing, stepped, AllHeard}
 use Rattle.node_stepper.specs.Hearing.{IsSame, HeardCells, CellFed, PacketFed, PacketCut}
 
 -- the packet's cells behind others
@@ -26,7 +25,9 @@ onto_none (Err u) = refl
 
 onto_one_more : (cells : List (List ℕ)) (cell : List ℕ) (r : Result (List (List ℕ) × List ℕ) ℕ)
     → onto_cells cells (onto_cell cell r) ≡ onto_cells (cells ++ cell ∷ []) r
-onto_one_more cells cell (Ok x) = ap (λ (l : List (List ℕ)). let r : Result (List (List ℕ) × List ℕ) ℕ = Ok (l, x.1) in r) (sym (append_assoc cells (cell ∷ []) (x.0)))
+onto_one_more cells cell (Ok x) =
+    ap (λ (l : List (List ℕ)). let r : Result (List (List ℕ) × List ℕ) ℕ = Ok (l, x.1) in r)
+    (sym (append_assoc cells (cell ∷ []) (x.0)))
 onto_one_more cells cell (Err u) = refl
 
 pub cells_next : (left count : ℕ) (rest cell behind : List ℕ) → cell_at rest ≡ Some (cell, behind)
@@ -48,7 +49,8 @@ cell_last : (cells : List (List ℕ)) (cell : List ℕ)
     → slice_index_or (cells ++ cell ∷ []) (length cells) [] ≡ cell
 cell_last cells cell =
     let at : length cells ≡ length cells + 0 = omega arith in
-    ap (λ (n : ℕ). slice_index_or (cells ++ cell ∷ []) n []) at ∙ get_or-append-add cells (cell ∷ []) 0 []
+    ap (λ (n : ℕ). slice_index_or (cells ++ cell ∷ []) n []) at
+    ∙ get_or-append-add cells (cell ∷ []) 0 []
 
 last_or_before : (n u : ℕ) → u < n + 1 → (u ≡ n) ⊎ (u < n)
 last_or_before n u lt = elim (cases_eq u n) [
@@ -62,18 +64,21 @@ module _ (before mid : Standing) (cells : List (List ℕ)) (cell : List ℕ)
   own_at : (P : ℕ → Type 0) → length cells ≡ mid.id
       → ((u : ℕ) → u < length cells → u ≢ before.id → P u)
       → (u : ℕ) → u < length (cells ++ cell ∷ []) → u ≢ before.id → P u
-  own_at P at holds u within other = elim (last_or_before (length cells) u (omega (arith, within, length_push cells cell))) [
-    | inl last ↦ absurd (other (last ∙ at ∙ h.same.id))
-    | inr inside ↦ holds u inside other
-  ]
+  own_at P at holds u within other =
+      elim (last_or_before (length cells) u (omega (arith, within, length_push cells cell))) [
+        | inl last ↦ absurd (other (last ∙ at ∙ h.same.id))
+        | inr inside ↦ holds u inside other
+      ]
 
   heard_own : length cells ≡ mid.id → HeardCells before mid (cells ++ cell ∷ [])
   heard_own at = record {
     same = h.same;
     states = h.states;
     marks = h.marks;
-    heard = own_at (λ u. state_of mid.states u ≡ read (fields_of before.plan u) (slice_index_or (cells ++ cell ∷ []) u [])) at
-        (λ u inside other. h.heard u inside other ∙ ap (read (fields_of before.plan u)) (sym (cell_before cells cell u inside)));
+    heard = own_at (λ u. state_of mid.states u ≡ read (fields_of before.plan u)
+        (slice_index_or (cells ++ cell ∷ []) u [])) at
+        (λ u inside other. h.heard u inside other
+        ∙ ap (read (fields_of before.plan u)) (sym (cell_before cells cell u inside)));
     since = own_at (λ u. slice_index_or mid.since u false ≡ true) at h.since;
   }
 
@@ -92,26 +97,38 @@ module _ (before mid : Standing) (cells : List (List ℕ)) (cell : List ℕ)
         same = record {
           plan = h.same.plan;
           id = h.same.id;
-          own = get_or-set_other mid.states (length cells) mid.id (read (fields_of mid.plan (length cells)) cell) (zero_state 0) (λ e. apart (sym e)) ∙ h.same.own;
+          own = get_or-set_other mid.states (length cells) mid.id
+              (read (fields_of mid.plan (length cells)) cell) (zero_state 0) (λ e. apart (sym e))
+              ∙ h.same.own;
         };
-        states = length-set mid.states (length cells) (read (fields_of mid.plan (length cells)) cell) ∙ h.states;
+        states = length-set mid.states (length cells)
+            (read (fields_of mid.plan (length cells)) cell) ∙ h.states;
         marks = length-set mid.since (length cells) true ∙ h.marks;
-        heard = λ u within other. elim (last_or_before (length cells) u (omega (arith, within, length_push cells cell))) [
-          | inl last ↦ subst (λ w. state_of with_cell.states w ≡ read (fields_of before.plan w) (slice_index_or (cells ++ cell ∷ []) w [])) (sym last)
-              (get_or-set_same mid.states (length cells) (read (fields_of mid.plan (length cells)) cell) (zero_state 0) place
-              ∙ ap (λ p. read (fields_of p (length cells)) cell) h.same.plan
-              ∙ ap (read (fields_of before.plan (length cells))) (sym (cell_last cells cell)))
-          | inr inside ↦
-              get_or-set_other mid.states (length cells) u (read (fields_of mid.plan (length cells)) cell) (zero_state 0) (λ e. absurd (omega (arith, e, inside)))
-              ∙ h.heard u inside other ∙ ap (read (fields_of before.plan u)) (sym (cell_before cells cell u inside))
-        ];
-        since = λ u within other. elim (last_or_before (length cells) u (omega (arith, within, length_push cells cell))) [
-          | inl last ↦ subst (λ w. slice_index_or with_cell.since w false ≡ true) (sym last)
-              (get_or-set_same mid.since (length cells) true false mark)
-          | inr inside ↦
-              get_or-set_other mid.since (length cells) u true false (λ e. absurd (omega (arith, e, inside)))
-              ∙ h.since u inside other
-        ];
+        heard = λ u within other. elim
+            (last_or_before (length cells) u (omega (arith, within, length_push cells cell))) [
+              | inl last ↦
+                  subst (λ w. state_of with_cell.states w ≡ read (fields_of before.plan w)
+                  (slice_index_or (cells ++ cell ∷ []) w [])) (sym last)
+                  (get_or-set_same mid.states (length cells)
+                  (read (fields_of mid.plan (length cells)) cell) (zero_state 0) place
+                  ∙ ap (λ p. read (fields_of p (length cells)) cell) h.same.plan
+                  ∙ ap (read (fields_of before.plan (length cells))) (sym (cell_last cells cell)))
+              | inr inside ↦
+                  get_or-set_other mid.states (length cells) u
+                  (read (fields_of mid.plan (length cells)) cell) (zero_state 0)
+                  (λ e. absurd (omega (arith, e, inside)))
+                  ∙ h.heard u inside other
+                  ∙ ap (read (fields_of before.plan u)) (sym (cell_before cells cell u inside))
+            ];
+        since = λ u within other. elim
+            (last_or_before (length cells) u (omega (arith, within, length_push cells cell))) [
+              | inl last ↦ subst (λ w. slice_index_or with_cell.since w false ≡ true) (sym last)
+                  (get_or-set_same mid.since (length cells) true false mark)
+              | inr inside ↦
+                  get_or-set_other mid.since (length cells) u true false
+                  (λ e. absurd (omega (arith, e, inside)))
+                  ∙ h.since u inside other
+            ];
       }
 
   pub heard_more : (after : Standing) → after ≡ hearing mid (length cells) cell
@@ -208,7 +225,8 @@ cells_all before now s t h =
       read = h.read;
       whole = λ rest.
           h.cells_are rest ∙ ap (onto_cells h.cells) (ap (λ n. cells_of n nodes rest) none_left)
-          ∙ ap (λ l. let r : Result (List (List ℕ) × List ℕ) ℕ = Ok (l, rest) in r) (append-nil h.cells);
+          ∙ ap (λ l. let r : Result (List (List ℕ) × List ℕ) ℕ = Ok (l, rest) in r)
+          (append-nil h.cells);
       some = h.some;
       size = h.long;
       heard = h.heard;
@@ -243,11 +261,13 @@ first_end nodes high s t u bytes lt first read none =
       bytes = high ∷ bytes;
       read = Consumes-trans s t u (high ∷ []) bytes first read;
       some = omega arith;
-      cut = ap (λ n. cells_of n 0 (high ∷ bytes)) left ∙ cells_cut (nodes - 1) 0 (high ∷ bytes) none;
+      cut = ap (λ n. cells_of n 0 (high ∷ bytes)) left
+          ∙ cells_cut (nodes - 1) 0 (high ∷ bytes) none;
     }
 
 pub unchanged : (before after : Standing) → after ≡ before → IsSame before after
-unchanged before after is = subst (IsSame before) (sym is) (record { plan = refl; id = refl; own = refl })
+unchanged before after is =
+    subst (IsSame before) (sym is) (record { plan = refl; id = refl; own = refl })
 
 pub same_as : (before mid after : Standing) → IsSame before mid → after ≡ mid → IsSame before after
 same_as before mid after same is = subst (IsSame before) (sym is) same
@@ -255,18 +275,22 @@ same_as before mid after same is = subst (IsSame before) (sym is) same
 -- ---- a packet that was heard
 
 module _ (before mid : Standing) (packet : List (List ℕ)) (h : HeardCells before mid packet)
-    (size : length packet ≡ plan_nodes before.plan) (node : before.id < plan_nodes before.plan) where
+    (size : length packet ≡ plan_nodes before.plan)
+    (node : before.id < plan_nodes before.plan) where
   pub all_heard : AllHeard mid
   all_heard u within other =
       let same = h.same in
-      h.since u (rw size (subst (λ p. u < plan_nodes p) same.plan within)) (λ e. other (e ∙ sym same.id))
+      h.since u (rw size (subst (λ p. u < plan_nodes p) same.plan within)) (λ e. other (e
+      ∙ sym same.id))
 
   -- the states are what the packet says
   states_are : mid.states ≡ heard_in before.plan before.id (own before) packet
   states_are =
-      fill_by_all (heard_of before.plan before.id (own before) packet) mid.states (plan_nodes before.plan) (zero_state 0) h.states
+      fill_by_all (heard_of before.plan before.id (own before) packet) mid.states
+      (plan_nodes before.plan) (zero_state 0) h.states
       (λ u within. elim (cases_eq u before.id) [
-        | inl at ↦ rw (eq-eqb u before.id at) (ap (state_of mid.states) (at ∙ sym h.same.id) ∙ h.same.own)
+        | inl at ↦ rw (eq-eqb u before.id at) (ap (state_of mid.states) (at ∙ sym h.same.id)
+            ∙ h.same.own)
         | inr other ↦ rw (ne_eqb u before.id other) (h.heard u (rw size within) other)
       ])
 
@@ -274,5 +298,6 @@ module _ (before mid : Standing) (packet : List (List ℕ)) (h : HeardCells befo
   pub own_stepped : own (stepped mid) ≡ state_after before.plan before.id (own before) packet
   own_stepped =
       let same = h.same in
-      get_or-set_same mid.states mid.id (step_of mid.plan mid.id mid.states) (zero_state 0) (rw (same.id, h.states) node)
+      get_or-set_same mid.states mid.id (step_of mid.plan mid.id mid.states) (zero_state 0)
+      (rw (same.id, h.states) node)
       ∙ rw (same.plan, same.id) (ap (step_of before.plan before.id) states_are)

@@ -1,5 +1,5 @@
 -- What reading and hearing cells and packets did.
-use Rattle.std.specs.Prelude.{◌≡◌, ◌≢◌, ℕ, ◌+◌, ◌<◌, Bool, true, false, List, [], ◌∷◌, ◌++◌, length, slice_index_or, Option, Some, None, ◌⊎◌, Result, Ok, Err}
+use Rattle.std.specs.Prelude.{◌≡◌, ◌≢◌, ℕ, ◌<◌, Bool, true, false, List, [], ◌++◌, length, slice_index_or, Option, Some, None, ◌⊎◌, Result, Ok, Err}
 use Rattle.std.specs.Io.KnownBytes.{Consumes, IsAtEnd}
 use Rattle.construction.specs.Plans.{plan_nodes}
 use Rattle.construction.specs.Steps.{state_of}
@@ -58,7 +58,8 @@ pub record PacketFed (before after : Standing) (old new : Option (List ℕ)) : T
   pub bytes : List ℕ
   pub packet : List (List ℕ)
   pub read : Consumes old new bytes
-  pub whole : (rest : List ℕ) → cells_of (plan_nodes before.plan) 0 (bytes ++ rest) ≡ Ok (packet, rest)
+  pub whole : (rest : List ℕ)
+      → cells_of (plan_nodes before.plan) 0 (bytes ++ rest) ≡ Ok (packet, rest)
   pub some : 0 < length bytes
   pub size : length packet ≡ plan_nodes before.plan
   pub heard : HeardCells before after packet

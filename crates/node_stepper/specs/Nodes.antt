@@ -24,8 +24,8 @@ IsOther plan v n = n ≢ bytes_in (fields_of plan v)
 abbrev pub state_cell : Plan → (v : ℕ) → State → List ℕ
 state_cell plan v s = cell_text (written (fields_of plan v) s)
 
--- What node v in a state s hears of node u by a packet, which has a cell of each node: of itself its
--- own state, and of another node the state that the bytes of its cell stand for.
+-- What node v in a state s hears of node u by a packet, which has a cell of each node: of itself
+-- its own state, and of another node the state that the bytes of its cell stand for.
 abbrev pub heard_of : Plan → (v : ℕ) → (s : State) → (packet : List (List ℕ)) → (u : ℕ) → State
 heard_of plan v s packet u =
     if u == v then s else read (fields_of plan u) (slice_index_or packet u [])

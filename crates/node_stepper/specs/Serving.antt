@@ -3,10 +3,11 @@ use Rattle.std.specs.Prelude.{◌≡◌, ℕ, List, [], ◌∷◌, ◌++◌, Opt
 use Rattle.std.specs.Io.KnownBytes.{Consumes, IsAtEnd}
 use Rattle.texts.specs.Causes.{Counted}
 use Rattle.texts.specs.Growth.{Told, Wrote, Cut}
+use Rattle.texts.specs.Pending.{AllButLast}
 use Rattle.construction.specs.Plans.{plan_nodes}
 use Rattle.node_stepper.specs.declared.faults.NodeFault.{NodeFault}
 use Rattle.node_stepper.specs.declared.faults.NodeFault.TheVariants as fault
-use Rattle.node_stepper.specs.Packets.{packets_of, Packets, whole, cut, beyond}
+use Rattle.node_stepper.specs.Packets.{packets_of, Packets, IsWithin, whole, cut, beyond}
 use Rattle.node_stepper.specs.Nodes.{Standing, own, nobody, state_cell, state_behind, node_text}
 
 -- the engine is the same node, behind these packets, and has heard nobody since
@@ -20,6 +21,10 @@ module _ (before : Standing) where
   -- the packets of an input
   abbrev pub served : List ℕ → Packets
   served bytes = packets_of (plan_nodes before.plan) 1000000 0 bytes
+
+  -- these bytes do not decide that there are too many: none is of packet 1,000,001
+  abbrev pub ServicePending : List ℕ → Type 0
+  ServicePending bytes = IsWithin (served bytes).ending
 
   -- what the node writes
   abbrev pub answer : List (List (List ℕ)) → List ℕ
@@ -56,6 +61,8 @@ module _ (before : Standing) where
     pub late : (bytes ≡ []) ⊎ LastCut bytes s t
     pub stands : StandsBehind before after (served bytes).cells
 
+  -- What serving did. `TooLong` is answered at the first byte of packet 1,000,001, and a read fault
+  -- comes only before it.
   abbrev pub Serves : (after : Standing) (old new : Option (List ℕ)) (s t : Told)
       → Result ℕ NodeFault → Type 0
   Serves after old new s t (Ok n) =
@@ -64,8 +71,11 @@ module _ (before : Standing) where
       (d : Served after old new s t) × ((served d.bytes).ending ≡ cut packet sender) × IsAtEnd new
   Serves after old new s t (Err fault.TooLong) =
       (d : Served after old new s t)
-      × ((rest : List ℕ) → served (d.bytes ++ rest) ≡ record { cells = (served d.bytes).cells; ending = beyond })
-  Serves after old new s t (Err fault.ReadFault) = Served after old new s t
+      × ((rest : List ℕ)
+      → served (d.bytes ++ rest) ≡ record { cells = (served d.bytes).cells; ending = beyond })
+      × AllButLast ServicePending d.bytes
+  Serves after old new s t (Err fault.ReadFault) =
+      (d : Served after old new s t) × ServicePending d.bytes
   Serves after old new s t (Err fault.WriteFault) = ServedCut after old new s t
 
 -- only a read fault is counted; `Dry` holds after it

@@ -61,7 +61,8 @@ impl NodeEngine {
     ghost use Rattle.construction.specs.Runs.{IsState};
     ghost use Rattle.state_codec.specs.Shapes.{shape_of, bytes_in};
     ghost use Rattle.state_codec.specs.Ranges.{InRange};
-    ghost use Rattle.node_stepper.specs.Nodes.{begun, hearing, stepped, forgetting, AllHeard, own, fields_of};
+    ghost use Rattle.node_stepper.specs.Nodes.{begun, hearing, stepped, forgetting};
+    ghost use Rattle.node_stepper.specs.Nodes.{AllHeard, own, fields_of};
 
     /// Node `id` in a state of its own, which has heard no other node: of each it has the zero
     /// state. It takes all the memory that it ever needs.
@@ -115,9 +116,9 @@ impl NodeEngine {
         self.shape.bytes_of(v)
     }
 
-    /// Hears a cell of a node, in place of an earlier one: the state that its bytes stand for, which
-    /// is the zero state where they are not just so many as a state of that node has. A cell of the
-    /// own id is dropped.
+    /// Hears a cell of a node, in place of an earlier one: the state that its bytes stand for,
+    /// which is the zero state where they are not just so many as a state of that node has. A cell
+    /// of the own id is dropped.
     pub fn hear(&mut self, sender: u32, bytes: &[u8])
         requires { sender < plan_nodes self.old.plan }
         ensures { self.new ≡ hearing self.old sender bytes.now }

@@ -6,29 +6,37 @@ use edge_io::{Feed, ReadFault, Source, skip_bytes, take_bytes};
 const MOST_BYTES: usize = 128;
 
 impl NodeEngine {
-    ghost use Rattle.std.specs.Prelude.{◌≡◌, ◌<◌, ◌≤◌, [], ◌∷◌, OnErr};
+    ghost use Rattle.std.specs.Prelude.{◌≡◌, ◌<◌, [], ◌∷◌, OnErr};
     ghost use Rattle.texts.specs.Causes.{HasCause};
     ghost use Rattle.edge_io.specs.Feeds.{feed_left};
     ghost use Rattle.construction.specs.Plans.{plan_nodes};
     ghost use Rattle.node_stepper.specs.Hearing.{BodyFed, CellFed, PacketHeard};
-    ghost use Rattle.node_stepper.specs.Nodes.{IsOther, fields_of};
-    ghost use Rattle.state_codec.specs.Shapes.{bytes_in};
 
-    /// Hears a cell of so many bytes, as many as a state has.
-    fn hear_state<S: Source>(
+    /// Hears the bytes of a cell, of which there are to be so many. Bytes that are not just so many
+    /// as a state of that node has are not kept.
+    fn hear_body<S: Source>(
         &mut self,
         feed: &mut Feed<'_, S>,
         sender: u32,
         length: usize,
     ) -> Result<bool, ReadFault>
-        requires sender { sender < plan_nodes self.old.plan }
-        requires length { length ≡ bytes_in (fields_of self.old.plan sender) }
-        requires most { length ≤ 128 }
+        requires { sender < plan_nodes self.old.plan }
         ensures same_reference { feed.new.source.ghost_name ≡ feed.old.source.ghost_name }
-        ensures body { BodyFed length sender self.old self.new (feed_left S.left feed.old) (feed_left S.left feed.new) result }
-        ensures cause { HasCause (S.faults feed.old.source.now) (S.faults feed.new.source.now) result }
+        ensures body { BodyFed length sender self.old self.new
+            (feed_left S.left feed.old) (feed_left S.left feed.new) result }
+        ensures cause { HasCause (S.faults feed.old.source.now)
+            (S.faults feed.new.source.now) result }
         ensures dry { OnErr result (feed.new.at ≡ feed.new.end) }
     {
+        if length != self.bytes_of(sender) {
+            match skip_bytes(feed, length) {
+                Ok(true) => {}
+                Ok(false) => return Ok(false),
+                Err(ReadFault) => return Err(ReadFault),
+            }
+            self.hear(sender, &[0; MOST_BYTES + 1]);
+            return Ok(true);
+        }
         let mut room = [0; MOST_BYTES + 8];
         match take_bytes(feed, &mut room[..length]) {
             Ok(true) => {}
@@ -39,51 +47,6 @@ impl NodeEngine {
         Ok(true)
     }
 
-    /// Hears a cell of so many bytes, which are not those of a state, and keeps none of them.
-    fn hear_other<S: Source>(
-        &mut self,
-        feed: &mut Feed<'_, S>,
-        sender: u32,
-        length: usize,
-    ) -> Result<bool, ReadFault>
-        requires sender { sender < plan_nodes self.old.plan }
-        requires other { IsOther self.old.plan sender length }
-        requires most { bytes_in (fields_of self.old.plan sender) ≤ 128 }
-        ensures same_reference { feed.new.source.ghost_name ≡ feed.old.source.ghost_name }
-        ensures body { BodyFed length sender self.old self.new (feed_left S.left feed.old) (feed_left S.left feed.new) result }
-        ensures cause { HasCause (S.faults feed.old.source.now) (S.faults feed.new.source.now) result }
-        ensures dry { OnErr result (feed.new.at ≡ feed.new.end) }
-    {
-        match skip_bytes(feed, length) {
-            Ok(true) => {}
-            Ok(false) => return Ok(false),
-            Err(ReadFault) => return Err(ReadFault),
-        }
-        self.hear(sender, &[0; MOST_BYTES + 1]);
-        Ok(true)
-    }
-
-    /// Hears the bytes of a cell, of which there are to be so many.
-    fn hear_body<S: Source>(
-        &mut self,
-        feed: &mut Feed<'_, S>,
-        sender: u32,
-        length: usize,
-    ) -> Result<bool, ReadFault>
-        requires sender { sender < plan_nodes self.old.plan }
-        ensures same_reference { feed.new.source.ghost_name ≡ feed.old.source.ghost_name }
-        ensures body { BodyFed length sender self.old self.new (feed_left S.left feed.old) (feed_left S.left feed.new) result }
-        ensures cause { HasCause (S.faults feed.old.source.now) (S.faults feed.new.source.now) result }
-        ensures dry { OnErr result (feed.new.at ≡ feed.new.end) }
-    {
-        let wanted = self.bytes_of(sender);
-        if length == wanted {
-            self.hear_state(feed, sender, length)
-        } else {
-            self.hear_other(feed, sender, length)
-        }
-    }
-
     /// Hears a cell whose first byte was read.
     fn hear_rest<S: Source>(
         &mut self,
@@ -91,10 +54,12 @@ impl NodeEngine {
         sender: u32,
         high: u8,
     ) -> Result<bool, ReadFault>
-        requires sender { sender < plan_nodes self.old.plan }
+        requires { sender < plan_nodes self.old.plan }
         ensures same_reference { feed.new.source.ghost_name ≡ feed.old.source.ghost_name }
-        ensures cell { CellFed (high ∷ []) sender self.old self.new (feed_left S.left feed.old) (feed_left S.left feed.new) result }
-        ensures cause { HasCause (S.faults feed.old.source.now) (S.faults feed.new.source.now) result }
+        ensures cell { CellFed (high ∷ []) sender self.old self.new
+            (feed_left S.left feed.old) (feed_left S.left feed.new) result }
+        ensures cause { HasCause (S.faults feed.old.source.now)
+            (S.faults feed.new.source.now) result }
         ensures dry { OnErr result (feed.new.at ≡ feed.new.end) }
     {
         let low = match feed.byte() {
@@ -111,10 +76,12 @@ impl NodeEngine {
         feed: &mut Feed<'_, S>,
         sender: u32,
     ) -> Result<bool, ReadFault>
-        requires sender { sender < plan_nodes self.old.plan }
+        requires { sender < plan_nodes self.old.plan }
         ensures same_reference { feed.new.source.ghost_name ≡ feed.old.source.ghost_name }
-        ensures cell { CellFed [] sender self.old self.new (feed_left S.left feed.old) (feed_left S.left feed.new) result }
-        ensures cause { HasCause (S.faults feed.old.source.now) (S.faults feed.new.source.now) result }
+        ensures cell { CellFed [] sender self.old self.new
+            (feed_left S.left feed.old) (feed_left S.left feed.new) result }
+        ensures cause { HasCause (S.faults feed.old.source.now)
+            (S.faults feed.new.source.now) result }
         ensures dry { OnErr result (feed.new.at ≡ feed.new.end) }
     {
         let high = match feed.byte() {
@@ -132,8 +99,10 @@ impl NodeEngine {
     ) -> Result<Amount, ReadFault>
         ensures same_reference { feed.new.source.ghost_name ≡ feed.old.source.ghost_name }
         ensures node { self.old.id < plan_nodes self.old.plan }
-        ensures packet { PacketHeard self.old self.new (feed_left S.left feed.old) (feed_left S.left feed.new) result }
-        ensures cause { HasCause (S.faults feed.old.source.now) (S.faults feed.new.source.now) result }
+        ensures packet { PacketHeard self.old self.new
+            (feed_left S.left feed.old) (feed_left S.left feed.new) result }
+        ensures cause { HasCause (S.faults feed.old.source.now)
+            (S.faults feed.new.source.now) result }
         ensures dry { OnErr result (feed.new.at ≡ feed.new.end) }
     {
         let nodes = self.nodes();

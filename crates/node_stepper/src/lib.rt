@@ -5,14 +5,11 @@
 //! its cell before the first and behind each. All memory is taken when the engine is made.
 #![tactic(auto)]
 
-mod cells;
 mod engine;
 mod faults;
 mod hearing;
 pub mod laws;
 mod serving;
-#[cfg(test)]
-mod tests;
 
 pub use engine::NodeEngine;
 pub use faults::NodeFault;

@@ -1,46 +1,63 @@
-use crate::cells::write_cell;
 use crate::faults::Amount;
 use crate::{NodeEngine, NodeFault};
 use edge_io::{Feed, ReadFault, Sink, Source, WriteFault, put_all};
 
 /// How many bytes a cell of a state has at most.
-const MOST_BYTES: usize = 130;
+const LONGEST_CELL: usize = 130;
 
 /// How many packets are answered at most.
 const MOST_PACKETS: u64 = 1_000_000;
 
 impl NodeEngine {
-    ghost use Rattle.std.specs.Prelude.{◌≡◌, ◌<◌, ◌≤◌, [], ◌∷◌, OnErr};
+    ghost use Rattle.std.specs.Prelude.{◌≡◌, ◌≤◌, length, take};
     ghost use Rattle.texts.specs.Growth.{Puts};
     ghost use Rattle.edge_io.specs.Feeds.{feed_left};
     ghost use Rattle.node_stepper.specs.Nodes.{own, state_cell};
     ghost use Rattle.node_stepper.specs.Serving.{Serves, HasServeCause};
 
+    /// Writes the cell of its own state to the front of `out`, and answers how many bytes it has:
+    /// two more than the state.
+    fn write_cell(&self, out: &mut [u8; LONGEST_CELL]) -> usize
+        ensures cell { take result out.new ≡ state_cell self.now.plan self.now.id (own self.now) }
+        ensures within { result ≤ length out.new }
+    {
+        let bytes = self.shape.bytes_of(self.id);
+        out[0] = (bytes / 256) as u8;
+        out[1] = (bytes % 256) as u8;
+        self.shape
+            .write_state(self.id, self.state(), &mut out[2..2 + bytes]);
+        2 + bytes
+    }
+
     /// Writes the cell of its own state.
     fn put_cell<K: Sink>(&self, sink: &mut K) -> Result<(), WriteFault>
-        ensures { Puts result (state_cell self.now.plan self.now.id (own self.now)) (K.told sink.old) (K.told sink.new) }
+        ensures { Puts result (state_cell self.now.plan self.now.id (own self.now))
+            (K.told sink.old) (K.told sink.new) }
     {
-        let mut room = [0; MOST_BYTES];
-        let size = write_cell(&self.shape, self.id, self.state(), &mut room);
+        let mut room = [0; LONGEST_CELL];
+        let size = self.write_cell(&mut room);
         put_all(sink, &room[..size])
     }
 
     /// Writes the cell of its state, and then hears packets, and writes the cell of its new state
-    /// behind each: the answer is how many these were. What was heard before is forgotten. Each cell
-    /// is written before any byte behind its packet is read of the feed.
+    /// behind each: the answer is how many these were. What was heard before is forgotten. Each
+    /// cell is written before any byte behind its packet is read of the feed.
     ///
-    /// `Cut` comes where the input ends inside a packet, and `TooLong` where there is a byte of packet
-    /// 1,000,001. `ReadFault` and `WriteFault` come only where the source, or the sink, counted a
-    /// fault. After an error the node stands behind the last whole packet, and has heard nobody
-    /// since. It takes no memory.
+    /// `Cut` comes where the input ends inside a packet, and `TooLong` at the first byte of packet
+    /// 1,000,001. `ReadFault` and `WriteFault` come only where the source, or the sink, counted one
+    /// fault, and the first only before that byte. After an error the node stands behind the last
+    /// whole packet, and has heard nobody since. It takes no memory.
     pub fn serve<S: Source, K: Sink>(
         &mut self,
         feed: &mut Feed<'_, S>,
         sink: &mut K,
     ) -> Result<u64, NodeFault>
         ensures same_reference { feed.new.source.ghost_name ≡ feed.old.source.ghost_name }
-        ensures served { Serves self.old self.new (feed_left S.left feed.old) (feed_left S.left feed.new) (K.told sink.old) (K.told sink.new) result }
-        ensures cause { HasServeCause (S.faults feed.old.source.now) (S.faults feed.new.source.now) (feed.new.at ≡ feed.new.end) result }
+        ensures served { Serves self.old self.new
+            (feed_left S.left feed.old) (feed_left S.left feed.new)
+            (K.told sink.old) (K.told sink.new) result }
+        ensures cause { HasServeCause (S.faults feed.old.source.now)
+            (S.faults feed.new.source.now) (feed.new.at ≡ feed.new.end) result }
     {
         self.forget();
         match self.put_cell(sink) {

@@ -1,4 +1,3 @@
-use Rattle.std.proofs.Common.{◌<◌}
 use Rattle.node_stepper.proofs.Configurations.{node_of_shape, place_of, depth_of, kept_hearing}
 use Rattle.node_stepper.proofs.engine.NodeEngine.hear.Goals as goal
 

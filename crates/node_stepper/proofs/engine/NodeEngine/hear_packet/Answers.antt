@@ -1,4 +1,4 @@
-use Rattle.std.proofs.Common.{ℕ, ◌≡◌, ◌<◌, ◌∙◌, ap, arith, inl, inr, subst, sym}
+use Rattle.std.proofs.Common.{ℕ, ◌≡◌, ◌<◌, ◌∙◌, arith, inr, subst, sym}
 use Rattle.construction.specs.Plans.{plan_nodes}
 use Rattle.node_stepper.proofs.PacketByPacket.{first_end, cells_first, cells_end, cells_more, cells_whole, unchanged, same_as}
 use Rattle.node_stepper.proofs.engine.NodeEngine.hear_packet.Goals as goal
@@ -28,14 +28,16 @@ loop-sender-init g c =
     record {
       same = c.in-Ok-true.ensures.same_reference ∙ c.in-Ok-Some.ensures.same_reference;
       still = c.in-Ok-true.ensures.cause ∙ c.in-Ok-Some.ensures.cause;
-      cells = cells_first ℕ _ _ _ _ _ _ some (nodes.states ∙ nodes.value) (nodes.marks ∙ nodes.value) first h;
+      cells = cells_first ℕ _ _ _ _ _ _ some (nodes.states ∙ nodes.value) (nodes.marks
+          ∙ nodes.value) first h;
     }
 
 pub returns-in-Ok-false-hear_cell-clause-packet : goal.returns-in-Ok-false-hear_cell-clause-packet
 returns-in-Ok-false-hear_cell-clause-packet g c =
     let h = rw c.in-Ok-false-hear_cell.field-0-test at c.in-Ok-false-hear_cell.ensures.cell in
     let nodes = c.nodes-nodes.ensures in
-    let less : c.loop-sender.sender < plan_nodes c.args.self.now.plan = omega (arith, nodes.value, c.loop-sender-test.true) in
+    let less : c.loop-sender.sender < plan_nodes c.args.self.now.plan =
+    omega (arith, nodes.value, c.loop-sender-test.true) in
     let cells = c.loop-sender.invariant.cells in
     (cells_end _ _ _ _ _ _ _ less cells h.1 h.2, h.3, same_as _ _ _ cells.heard.same h.4)
 
@@ -43,7 +45,8 @@ pub returns-in-Err-hear_cell-clause-packet : goal.returns-in-Err-hear_cell-claus
 returns-in-Err-hear_cell-clause-packet g c =
     let h = c.in-Err-hear_cell.ensures.cell in
     let nodes = c.nodes-nodes.ensures in
-    let less : c.loop-sender.sender < plan_nodes c.args.self.now.plan = omega (arith, nodes.value, c.loop-sender-test.true) in
+    let less : c.loop-sender.sender < plan_nodes c.args.self.now.plan =
+    omega (arith, nodes.value, c.loop-sender-test.true) in
     let cells = c.loop-sender.invariant.cells in
     (inr (_, cells_end _ _ _ _ _ _ _ less cells h.1 h.2), same_as _ _ _ cells.heard.same h.3)
 
@@ -51,15 +54,15 @@ pub hear_cell-requires : goal.hear_cell-requires
 hear_cell-requires g c =
     let nodes = c.nodes-nodes.ensures in
     let same = c.loop-sender.invariant.cells.heard.same in
-    record {
-      sender = subst (λ p. c.loop-sender.sender < plan_nodes p) (sym same.plan) (omega (arith, nodes.value, c.loop-sender-test.true));
-    }
+    subst (λ p. c.loop-sender.sender < plan_nodes p) (sym same.plan)
+    (omega (arith, nodes.value, c.loop-sender-test.true))
 
 pub loop-sender-preserved : goal.loop-sender-preserved
 loop-sender-preserved g c =
     let h = rw c.in-Ok-true-hear_cell.field-0-test at c.in-Ok-true-hear_cell.ensures.cell in
     let nodes = c.nodes-nodes.ensures in
-    let less : c.loop-sender.sender < plan_nodes c.args.self.now.plan = omega (arith, nodes.value, c.loop-sender-test.true) in
+    let less : c.loop-sender.sender < plan_nodes c.args.self.now.plan =
+    omega (arith, nodes.value, c.loop-sender-test.true) in
     record {
       same = c.in-Ok-true-hear_cell.ensures.same_reference ∙ c.loop-sender.invariant.same;
       still = c.in-Ok-true-hear_cell.ensures.cause ∙ c.loop-sender.invariant.still;
@@ -70,5 +73,6 @@ pub returns-clause-packet : goal.returns-clause-packet
 returns-clause-packet g c =
     let nodes = c.nodes-nodes.ensures in
     let end = c.loop-sender.auto.sender-end (omega (arith, nodes.id)) in
-    let full : c.loop-sender.sender ≡ plan_nodes c.args.self.now.plan = omega (arith, nodes.value, c.loop-sender-test.false, end) in
+    let full : c.loop-sender.sender ≡ plan_nodes c.args.self.now.plan =
+    omega (arith, nodes.value, c.loop-sender-test.false, end) in
     cells_whole _ _ _ _ _ full c.loop-sender.invariant.cells

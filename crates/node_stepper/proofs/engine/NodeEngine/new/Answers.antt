@@ -12,5 +12,6 @@ invariant_of-result c =
 
 pub copy_from-requires : goal.copy_from-requires
 copy_from-requires c =
-    begun_room c.args.tower c.args.id _ _ c.args.state _ _ c.tell.ensures c.requires.id c.requires.state
+    begun_room c.args.tower c.args.id _ _ c.args.state _ _ c.tell.ensures c.requires.id
+    c.requires.state
     c.nodes.ensures c.depth-depth.ensures c.in_ok-states.ensures c.index_mut.ensures.value

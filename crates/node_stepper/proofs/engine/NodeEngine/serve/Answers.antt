@@ -1,4 +1,4 @@
-use Rattle.std.proofs.Common.{◌≡◌, ◌<◌, ◌∙◌, ap, refl, arith, inl, inr}
+use Rattle.std.proofs.Common.{◌≡◌, ◌∙◌, refl, arith}
 use Rattle.node_stepper.proofs.PacketByPacket.{all_heard}
 use Rattle.node_stepper.proofs.Answering.{forgotten, first_cut, served_none, served_more, served_cut, served_end, served_inside, served_fault, served_beyond, served_full, served_lost}
 use Rattle.node_stepper.proofs.engine.NodeEngine.serve.Goals as goal
@@ -18,12 +18,14 @@ returns-in-Ok-Nothing-clause-served g c =
 pub returns-in-Ok-Cut-clause-served : goal.returns-in-Ok-Cut-clause-served
 returns-in-Ok-Cut-clause-served g c =
     let h = rw c.in-Ok-Cut.field-0-is at c.in-Ok-Cut.ensures.packet in
-    served_inside _ _ _ _ _ _ _ _ c.loop-packet.invariant.so_far _ _ _ c.loop-packet-test.true h.0 h.1 h.2 c.forget-in-Ok-Cut.ensures
+    served_inside _ _ _ _ _ _ _ _ c.loop-packet.invariant.so_far _ _ _ c.loop-packet-test.true h.0
+    h.1 h.2 c.forget-in-Ok-Cut.ensures
 
 pub returns-in-Err-hear_packet-clause-served : goal.returns-in-Err-hear_packet-clause-served
 returns-in-Err-hear_packet-clause-served g c =
     let h = c.in-Err-hear_packet.ensures.packet in
-    served_fault _ _ _ _ _ _ _ _ c.loop-packet.invariant.so_far _ _ c.loop-packet-test.true h.0 h.1 c.forget-in-Err-hear_packet.ensures
+    served_fault _ _ _ _ _ _ _ _ c.loop-packet.invariant.so_far _ _ c.loop-packet-test.true h.0 h.1
+    c.forget-in-Err-hear_packet.ensures
 
 pub packet-requires : goal.packet-requires
 packet-requires g c =
@@ -42,19 +44,22 @@ loop-packet-preserved g c =
     record {
       same = c.in-Ok-Whole.ensures.same_reference ∙ c.loop-packet.invariant.same;
       still = c.in-Ok-Whole.ensures.cause ∙ c.loop-packet.invariant.still;
-      so_far = served_more _ _ _ _ _ _ _ _ c.loop-packet.invariant.so_far _ _ c.in-Ok-Whole.ensures.node
+      so_far = served_more _ _ _ _ _ _ _ _ c.loop-packet.invariant.so_far _ _
+          c.in-Ok-Whole.ensures.node
           c.loop-packet-test.true h c.packet.ensures _ c.in-Ok-put_cell.ensures;
     }
 
 pub returns-in-Ok-None-clause-served : goal.returns-in-Ok-None-clause-served
 returns-in-Ok-None-clause-served g c =
-    let full : c.loop-packet.packet ≡ 1000000 = omega (arith, c.loop-packet-test.false, c.loop-packet.auto.packet-end) in
+    let full : c.loop-packet.packet ≡ 1000000 =
+    omega (arith, c.loop-packet-test.false, c.loop-packet.auto.packet-end) in
     let h = rw c.in-Ok-None.field-0-is at c.in-Ok-None.ensures.bytes in
     served_full _ _ _ _ _ _ _ _ c.loop-packet.invariant.so_far full h.1 h.0
 
 pub returns-in-Ok-Some-clause-served : goal.returns-in-Ok-Some-clause-served
 returns-in-Ok-Some-clause-served g c =
-    let full : c.loop-packet.packet ≡ 1000000 = omega (arith, c.loop-packet-test.false, c.loop-packet.auto.packet-end) in
+    let full : c.loop-packet.packet ≡ 1000000 =
+    omega (arith, c.loop-packet-test.false, c.loop-packet.auto.packet-end) in
     let h = rw c.in-Ok-Some.field-0-is at c.in-Ok-Some.ensures.bytes in
     served_beyond _ _ _ _ _ _ _ _ c.loop-packet.invariant.so_far _ full h
 
@@ -63,4 +68,5 @@ returns-in-Err-byte-clause-served g c =
     served_lost _ _ _ _ _ _ _ _ c.loop-packet.invariant.so_far c.in-Err-byte.ensures.bytes
 
 pub returns-in-Err-clause-served : goal.returns-in-Err-clause-served
-returns-in-Err-clause-served g c = first_cut _ _ _ _ _ (forgotten _ _ c.forget.ensures) c.in-Err.ensures
+returns-in-Err-clause-served g c = first_cut _ _ _ _ _ (forgotten _ _ c.forget.ensures)
+    c.in-Err.ensures
