@@ -3,7 +3,8 @@ ghost use Rattle.std.specs.Option.{option_map};
 ghost use Rattle.state_codec.specs.Shapes.{fields_at};
 ghost use Rattle.state_codec.specs.Ranges.{InRange};
 ghost use Rattle.adversary_script.specs.Scripts.{AreInRange};
-ghost use Rattle.adversary_script.specs.Eras.{era_of, first_of_era, faulty_of_era, faulty_at, starts_of_era};
+ghost use Rattle.adversary_script.specs.Eras.{era_of, first_of_era, faulty_of_era, faulty_at};
+ghost use Rattle.adversary_script.specs.Eras.{starts_of_era};
 ghost use Rattle.adversary_script.specs.Lookup.{start_in};
 
 use crate::lies::Start;
@@ -80,7 +81,8 @@ impl Script {
         ensures found { option_map (λ state. state.now) result
             ≡ start_in (starts_of_era self.now j) v }
         ensures range { IfSome result (λ state. InRange (fields_at self.now.shape v) state.now) }
-        ensures depth { IfSome result (λ state. length state.now.registers ≡ length self.now.shape.moduli) }
+        ensures depth { IfSome result (λ state. length state.now.registers
+            ≡ length self.now.shape.moduli) }
     {
         for start in self.era_starts(j) {
             if start.node == u64::from(v) {

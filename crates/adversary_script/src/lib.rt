@@ -33,8 +33,6 @@ mod scripts;
 mod shifting;
 mod single_lines;
 mod start_lines;
-#[cfg(test)]
-mod tests;
 mod word_tests;
 
 pub use noise::Noise;

@@ -28,7 +28,8 @@ pub fn state_of_digits(
 ) -> Result<Option<NodeState>, TakeError<Rule>>
     requires { v < length shape.now.lows }
     ensures value { Gives (state_of_digits (fields_at shape.now v) word.now) result }
-    ensures range { IfOk result (λ found. IfSome found (λ state. InRange (fields_at shape.now v) state)) }
+    ensures range { IfOk result (λ found. IfSome found (λ state. InRange (fields_at shape.now v)
+        state)) }
 {
     match NodeState::zero(alloc, shape.depth()) {
         Err(NoMemory) => Err(TakeError::NoMemory),

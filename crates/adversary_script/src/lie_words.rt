@@ -1,6 +1,7 @@
 ghost use Rattle.std.specs.Prelude.{◌≡◌};
 ghost use Rattle.std.specs.Option.{option_map};
-ghost use Rattle.adversary_script.specs.LieWords.{WhoRead, what_words, what_seen, lie_words, lie_seen};
+ghost use Rattle.adversary_script.specs.LieWords.{WhoRead, what_words, what_seen, lie_words};
+ghost use Rattle.adversary_script.specs.LieWords.{lie_seen};
 
 use edge_io::{Words, number};
 

@@ -6,12 +6,8 @@ use rand_chacha::ChaCha8Rng;
 use rand_core::SeedableRng;
 use rand_core::utils::NextWord;
 use std::alloc::Global;
-use std::array;
 use std::marker::Model;
 use sync_types::{FaultSet, NoMemory};
-
-/// How many generators are kept for all streams.
-const GENERATORS: usize = 256;
 
 /// A state has 128 bytes at most, which are 32 words.
 const MOST_WORDS: usize = 32;
@@ -19,34 +15,36 @@ const MOST_WORDS: usize = 32;
 /// A generator that is so many words or more behind is not led there word by word.
 const MOST_BEHIND: u64 = 64;
 
-/// The row of a node that is never faulty.
-const NO_ROW: u32 = u32::MAX;
+/// The row of a node that is never faulty, and the place of a generator that is not made yet.
+const NONE: u32 = u32::MAX;
 
 /// The noise of a script. Each word of it is given by the script's key, a stream and a place.
 ///
 /// It keeps generators that stand where streams were last read, since the next words of a stream
-/// cost little there: one for each pair of a faulty node and a receiver, where it has room for
-/// them, and some that all other streams share.
+/// cost little there: one for each pair of a faulty node and a receiver that was asked for, where
+/// it has room for them, and one that all other streams share.
 #[derive(Drop)]
 pub struct Noise {
-    generators: [ChaCha8Rng; GENERATORS],
-    // Where the generators of a faulty node's pairs begin, counted in rows of all receivers.
-    rows: [u32; GENERATORS],
-    pairs: Vec<ChaCha8Rng>,
+    shared: ChaCha8Rng,
+    // Those of pairs, in the order in which they were first asked for.
+    generators: Vec<ChaCha8Rng>,
+    // Where the generator of a pair stands among these, by row and receiver.
+    places: Vec<u32>,
+    // The rows of the nodes that are faulty in some era, by id.
+    rows: Vec<u32>,
     key: [u8; 32],
     nodes: u32,
 }
 
 impl Model for Noise {
-    ghost use Rattle.std.specs.Prelude.{ℕ, List, ◌≡◌, length};
-    ghost use Rattle.adversary_script.specs.Noise.{AreOfKey};
+    ghost use Rattle.std.specs.Prelude.{ℕ, List, ◌≡◌};
+    ghost use Rattle.adversary_script.specs.Noise.{AreOfKey, key_in};
 
     ghost Value = { List ℕ };
 
     ghost view = { λ n. n.key };
 
-    ghost invariant = { λ n. AreOfKey n.key n.generators × (length n.generators ≡ 256)
-        × AreOfKey n.key n.pairs.items };
+    ghost invariant = { λ n. (n.shared.key ≡ key_in n.key) × AreOfKey n.key n.generators.items };
 }
 
 /// A generator of a key, at the first word of stream 0.
@@ -121,7 +119,7 @@ fn give_rows(rows: &mut [u32], given: u32, faulty: &FaultSet) -> u32 {
     let mut given = given;
     for i in 0..faulty.len() {
         if let Some(row) = rows.get_mut(faulty.at(i) as usize) {
-            if *row == NO_ROW {
+            if *row == NONE {
                 *row = given;
                 given = given.wrapping_add(1);
             }
@@ -139,23 +137,18 @@ fn give_all_rows(script: &Script, rows: &mut [u32]) -> u32 {
     given
 }
 
-/// So many generators of a key.
-fn generators(alloc: Global, key: [u8; 32], count: u64) -> Result<Vec<ChaCha8Rng>, NoMemory>
-    ensures { IfOk result (λ made. All (λ g. g.key ≡ key_in key) made.items) }
-{
-    Ok(vec![in alloc; generator_of(key); count as usize]?)
-}
-
 impl Noise {
     /// The noise of a script. It takes no memory.
     pub fn new(script: &Script) -> Noise
         ensures { result ≡ script.now.key }
     {
         let key = script.key();
+        let alloc = script.alloc();
         Noise {
-            generators: array::repeat(generator_of(key)),
-            rows: [NO_ROW; GENERATORS],
-            pairs: Vec::new(script.alloc()),
+            shared: generator_of(key),
+            generators: Vec::new(alloc),
+            places: Vec::new(alloc),
+            rows: Vec::new(alloc),
             key,
             nodes: script.faulty().nodes(),
         }
@@ -163,21 +156,20 @@ impl Noise {
 
     /// The noise of a script, with room for a generator for each pair of a node that is faulty in
     /// some era and a receiver: a round's lies cost the less. It takes all the memory that it ever
-    /// needs.
+    /// needs, and makes a generator where its pair is first asked for.
     pub fn with_room(alloc: Global, script: &Script) -> Result<Noise, NoMemory>
         ensures { IfOk result (λ noise. noise ≡ script.now.key) }
     {
         let mut noise = Noise::new(script);
+        noise.rows = vec![in alloc; NONE; noise.nodes as usize]?;
         let given = give_all_rows(script, &mut noise.rows);
-        noise.pairs = generators(
-            alloc,
-            noise.key,
-            u64::from(given).wrapping_mul(u64::from(noise.nodes)),
-        )?;
+        let pairs = u64::from(given).wrapping_mul(u64::from(noise.nodes)) as usize;
+        noise.places = vec![in alloc; NONE; pairs]?;
+        noise.generators = Vec::with_capacity(alloc, pairs)?;
         Ok(noise)
     }
 
-    /// Where the generator of a stream is kept among those of pairs, if it is one of a pair.
+    /// The number of a pair, by its stream, if it is one.
     fn pair_of(&self, stream: u64) -> usize {
         match self.rows.get((stream / 256) as usize) {
             Some(row) => {
@@ -188,14 +180,20 @@ impl Noise {
         }
     }
 
-    /// Where the generator of a stream is kept among those that streams share.
-    fn place_of(&self, stream: u64) -> usize
-        ensures { result < 256 }
+    /// Where the generator of a stream stands among those of pairs, if it is one of a pair. It is
+    /// made where there is none yet, and room for it.
+    fn place_of(&mut self, stream: u64) -> usize
+        ensures { self.new ≡ self.old }
     {
-        (stream / 256)
-            .wrapping_mul(u64::from(self.nodes))
-            .wrapping_add(stream % 256) as usize
-            % 256
+        let pair = self.pair_of(stream);
+        if pair >= self.places.len() {
+            return usize::MAX;
+        }
+        if self.places[pair] == NONE && self.generators.len() < self.generators.capacity() {
+            self.places[pair] = u32::try_from(self.generators.len()).unwrap_or(NONE);
+            self.generators.push(generator_of(self.key)).unwrap();
+        }
+        self.places[pair] as usize
     }
 
     /// Fills `words` with those of a stream from a place on.
@@ -204,12 +202,11 @@ impl Noise {
         ensures words { words.new ≡ noise_words (key_in self.old) stream first (length words.old) }
         ensures same { self.new ≡ self.old }
     {
-        let pair = self.pair_of(stream);
-        if pair < self.pairs.len() {
-            fill_words(&mut self.pairs[pair], stream, first, words);
+        let place = self.place_of(stream);
+        if place < self.generators.len() {
+            fill_words(&mut self.generators[place], stream, first, words);
         } else {
-            let at = self.place_of(stream);
-            fill_words(&mut self.generators[at], stream, first, words);
+            fill_words(&mut self.shared, stream, first, words);
         }
     }
 

@@ -18,10 +18,10 @@ use sync_types::Rule;
 /// of `bytes` has the number `first_line`, which is at least 1 and whose sum with the length of
 /// `bytes` is below 2^64.
 ///
-/// A script of version 1 has no further eras. `Refused` is the first line that fails, with the first
-/// rule that it fails. A script that lacks its `end` is refused `Form` at the line after the last,
-/// and so is the first line behind `end` that is not skipped. `NoMemory` comes where memory was
-/// refused.
+/// A script of version 1 has no further eras. `Refused` is the first line that fails, with the
+/// first rule that it fails. A script that lacks its `end` is refused `Form` at the line after the
+/// last, and so is the first line behind `end` that is not skipped. `NoMemory` comes where memory
+/// was refused.
 pub fn read_script(
     alloc: Global,
     plan: &Plan,

@@ -75,7 +75,8 @@ pub fn fit_into(config: &Packed, v: u32, w: u32, out: &mut NodeState)
     requires node { v < length config.now.shape.lows }
     requires from { w < length config.now.current }
     requires depth { length out.old.registers ≡ length config.now.shape.moduli }
-    ensures value { out.new ≡ fitted (fields_at config.now.shape v) (state_of config.now.current w) }
+    ensures value { out.new
+        ≡ fitted (fields_at config.now.shape v) (state_of config.now.current w) }
     ensures range { InRange (fields_at config.now.shape v) out.new }
 {
     config.tell();

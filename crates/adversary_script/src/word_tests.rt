@@ -2,7 +2,9 @@ ghost use Rattle.std.specs.Prelude.{◌≡◌};
 ghost use Rattle.std.specs.List.{list_all};
 ghost use Rattle.std.specs.Option.{option_map};
 ghost use Rattle.adversary_script.specs.LieWords.{who_seen, what_seen};
-ghost use Rattle.adversary_script.specs.WordTests.{is_letter, is_name, are_below, is_rising, numbers_in, only, both, who_below, what_below, is_crossed};
+ghost use Rattle.adversary_script.specs.WordTests.{is_letter, is_name, are_below, is_rising};
+ghost use Rattle.adversary_script.specs.WordTests.{numbers_in, only, both, who_below, what_below};
+ghost use Rattle.adversary_script.specs.WordTests.{is_crossed};
 ghost use Rattle.adversary_script.specs.Answers.{GivesSeen};
 
 use crate::lie_words::{WhatWords, WhoWords};
