@@ -6,7 +6,7 @@ use Rattle.sync_types.specs.FaultSets.{is_in}
 use Rattle.sync_types.specs.States.{State}
 use Rattle.construction.specs.Plans.{Plan}
 use Rattle.construction.specs.Steps.{state_of, step_of}
-use Rattle.shared_laws.specs.Sharing.{Shares, place_among, heard_with, stands_for, Tells}
+use Rattle.shared_board.specs.Sharing.{Shares, place_among, heard_with, stands_for, Tells}
 use Rattle.adversary_script.specs.Scripts.{Script}
 use Rattle.adversary_script.specs.Eras.{faulty_at}
 use Rattle.round_runner.specs.Hearing.{heard_from, AreOfNodes}

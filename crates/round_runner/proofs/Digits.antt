@@ -2,7 +2,7 @@
 use Rattle.std.proofs.Common.{◌≡◌, ◌++◌, length, Result, Ok, Err, sym}
 use Rattle.std.specs.Prelude.{OnOk, IsOk}
 use Rattle.std.proofs.lemmas.Bool.{true≢false}
-use Rattle.bit_lists.proofs.Bytes.{length-bytes_of_bits}
+use Rattle.state_codec.proofs.Bytes.{length-bytes_of_bits}
 use Rattle.sync_types.specs.States.{State}
 use Rattle.state_codec.specs.Shapes.{Fields, bytes_in}
 use Rattle.state_codec.specs.Writing.{bits_of_state, padding, written}

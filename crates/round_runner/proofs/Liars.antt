@@ -7,7 +7,7 @@ use Rattle.construction.specs.Steps.{state_of, step_of}
 use Rattle.plan_laws.specs.PlanMeaning.{IsInRange}
 use Rattle.state_codec.specs.Shapes.{fields_at}
 use Rattle.state_codec.specs.Ranges.{InRange}
-use Rattle.shared_laws.specs.Sharing.{Shares, heard_with, Tells}
+use Rattle.shared_board.specs.Sharing.{Shares, heard_with, Tells}
 use Rattle.adversary_script.specs.Scripts.{Script}
 use Rattle.adversary_script.proofs.LiesInRange.{depth_of_node}
 use Rattle.round_runner.specs.Hearing.{IsOfSome, AreOfNodes}

@@ -23,6 +23,7 @@ pub mod Places
 pub mod Playing
 pub mod ScenesLock
 pub mod ScenesRun
+pub mod SetOn
 pub mod Stepped
 pub mod Told
 pub mod ToldBelow

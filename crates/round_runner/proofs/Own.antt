@@ -7,8 +7,8 @@ use Rattle.std.proofs.lemmas.List.{get_or-set_same}
 use Rattle.sync_types.specs.FaultSets.{is_in}
 use Rattle.sync_types.specs.States.{State, zero_state}
 use Rattle.construction.specs.Steps.{state_of}
-use Rattle.shared_laws.specs.Sharing.{place_among}
-use Rattle.shared_laws.proofs.Ids.{place_of_id}
+use Rattle.shared_board.specs.Sharing.{place_among}
+use Rattle.shared_board.proofs.Ids.{place_of_id}
 use Rattle.round_runner.specs.Hearing.{TellsItself}
 use Rattle.round_runner.proofs.Heard.{is_among}
 

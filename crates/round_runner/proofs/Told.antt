@@ -12,9 +12,9 @@ use Rattle.construction.specs.Plans.{Plan, plan_depth}
 use Rattle.construction.specs.Steps.{state_of, step_of}
 use Rattle.plan_laws.proofs.Ranges.{state_of-cut, step_of-cut}
 use Rattle.counter_core.specs.Meanings.{cut}
-use Rattle.shared_laws.specs.Sharing.{place_among, heard_with, stands_for, Tells}
-use Rattle.shared_laws.specs.Sharing as sharing
-use Rattle.shared_laws.proofs.Ids.{place_of_id}
+use Rattle.shared_board.specs.Sharing.{place_among, heard_with, stands_for, Tells}
+use Rattle.shared_board.specs.Sharing as sharing
+use Rattle.shared_board.proofs.Ids.{place_of_id}
 use Rattle.adversary_script.specs.Scripts.{Script}
 use Rattle.adversary_script.specs.Eras.{faulty_at}
 use Rattle.adversary_script.specs.Lies.{lie_of}

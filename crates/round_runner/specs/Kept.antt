@@ -8,13 +8,14 @@ use Rattle.state_codec.specs.Shapes.{IsShape}
 use Rattle.state_codec.specs.Packs.{Pack}
 use Rattle.counter_core.specs.Overlays.{Layer}
 use Rattle.adversary_script.specs.Scripts.{Script, IsScript}
+use Rattle.adversary_script.specs.Eras.{era_of}
 use Rattle.round_runner.specs.declared.stepping.Room.{Room}
 use Rattle.round_runner.specs.Fits.{Fits}
 use Rattle.round_runner.specs.Rooms.{IsReady}
 use Rattle.round_runner.specs.Runners.{IsFor}
 
 pub record IsKept {Kept : Type 0} (plan : Plan) (script : Script) (layer : Layer Kept) (room : Room)
-    (states : Pack) (locks : List (Option ℕ)) (at : ℕ) : Type 0 where
+    (states : Pack) (locks : List (Option ℕ)) (at era : ℕ) : Type 0 where
   pub accepted : IsAccepted plan
   pub right : IsFor plan layer script
   pub sound : IsShape script.shape
@@ -24,4 +25,5 @@ pub record IsKept {Kept : Type 0} (plan : Plan) (script : Script) (layer : Layer
   pub shape : states.shape ≡ script.shape
   pub size : length states.current ≡ script.nodes
   pub within : at ≤ script.rounds
+  pub here : era ≡ era_of script at
   pub eras : length locks ≡ length script.eras + 1

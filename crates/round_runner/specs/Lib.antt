@@ -8,3 +8,4 @@ pub mod Played
 pub mod Rooms
 pub mod Runners
 pub mod Scenes
+pub mod Turns

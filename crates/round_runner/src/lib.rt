@@ -11,8 +11,7 @@ mod rounds;
 mod runners;
 mod stepping;
 mod telling;
-#[cfg(test)]
-mod tests;
+mod turns;
 
 pub use locks::is_locked;
 pub use rounds::beginning_at;

@@ -1,7 +1,6 @@
 ghost use Rattle.std.specs.Prelude.{◌≡◌, ◌<◌, ◌≤◌, length, replicate, IfOk};
 ghost use Rattle.sync_types.specs.States.{zero_state};
 ghost use Rattle.construction.specs.Plans.{plan_depth, plan_nodes};
-ghost use Rattle.adversary_script.specs.Scripts.{IsScript};
 ghost use Rattle.state_codec.specs.Shapes.{IsShape};
 ghost use Rattle.round_runner.specs.Hearing.{AreOfNodes};
 ghost use Rattle.round_runner.specs.Played.{starts};
@@ -9,8 +8,9 @@ ghost use Rattle.round_runner.specs.Rooms.{IsReady};
 ghost use Rattle.round_runner.specs.Runners.{begun_locks};
 
 use crate::locks::{lock_of, locked_so_far};
-use crate::rounds::step_all;
+use crate::rounds::{beginning_in, step_all};
 use crate::stepping::{Room, shown_at};
+use crate::turns::Round;
 use adversary_script::{Noise, Script};
 use counter_core::{Counter, Overlay};
 use majority_votes::Steps;
@@ -30,6 +30,8 @@ pub struct Runner<O: Overlay> {
     room: Room,
     states: Packed,
     at: u64,
+    // The era of `at`.
+    era: usize,
     // Of each era the first configuration so far that is locked.
     locks: Vec<Option<u64>>,
 }
@@ -50,7 +52,7 @@ impl<O: Overlay> Model for Runner<O> {
     } };
 
     ghost invariant = { λ r. IsKept r.tower r.script
-        (O.layer r.overlay) r.room r.states r.locks.items r.at };
+        (O.layer r.overlay) r.room r.states r.locks.items r.at r.era };
 }
 
 /// Of each era the first locked configuration so far, where configuration 0 is that one.
@@ -63,7 +65,8 @@ fn first_locks(
     requires nodes { script.now.nodes ≡ plan_nodes tower.now }
     requires size { length config.now.current ≡ script.now.nodes }
     requires deep { plan_depth tower.now ≤ length config.now.shape.moduli }
-    ensures { IfOk result (λ locks. locks.items ≡ begun_locks tower.now script.now config.now.current) }
+    ensures { IfOk result (λ locks. locks.items
+        ≡ begun_locks tower.now script.now config.now.current) }
 {
     let mut locks = vec![in alloc; None; script.eras()]?;
     locks[0] = lock_of(tower, script.faulty(), config, 0);
@@ -183,6 +186,7 @@ impl<O: Overlay> Runner<O> {
             room,
             states,
             at: 0,
+            era: 0,
             locks,
         })
     }
@@ -213,8 +217,8 @@ impl<O: Overlay> Runner<O> {
         self.round_counted(&mut steps);
     }
 
-    /// Makes the next configuration, as [`round`](Runner::round) does, and counts its steps: each is
-    /// the placing of one pointer, part or register value that is heard in a tally. There are at
+    /// Makes the next configuration, as [`round`](Runner::round) does, and counts its steps: each
+    /// is the placing of one pointer, part or register value that is heard in a tally. There are at
     /// most three a level for each node, as sender and as receiver of each faulty one. What the
     /// layer takes is not counted.
     pub fn round_counted<G: Ledger>(&mut self, steps: &mut Steps<G>)
@@ -226,18 +230,24 @@ impl<O: Overlay> Runner<O> {
             * plan_nodes self.old.plan * (plan_faults self.old.plan + 1) }
     {
         self.overlay.begin(self.at);
+        let era = self.script.era_of(self.at + 1);
+        let round = Round {
+            tower: &self.tower,
+            script: &self.script,
+            faulty: self.script.era_faulty(self.era),
+            t: self.at,
+            begins: beginning_in(&self.script, era, self.at + 1),
+        };
         step_all(
-            &self.tower,
+            &round,
             &mut self.overlay,
-            &self.script,
-            self.at,
             &mut self.room,
             &mut self.states,
             steps,
         );
         self.states.flip();
         self.at += 1;
-        let era = self.script.era_of(self.at);
+        self.era = era;
         self.locks[era] = locked_so_far(
             self.locks[era],
             &self.tower,
@@ -266,6 +276,13 @@ impl<O: Overlay> Runner<O> {
         ensures { result ≡ plan_nodes self.now.plan }
     {
         self.script.faulty().nodes()
+    }
+
+    /// The plan's bound.
+    pub fn bound(&self) -> u64
+        ensures { result ≡ plan_bound self.now.plan }
+    {
+        self.tower.bound()
     }
 
     /// What node `v` shows.
@@ -352,8 +369,7 @@ impl<O: Overlay> Runner<O> {
 
     /// The first configuration of era `j` so far that is locked, None exactly where there is none.
     /// Where the runner plays its script and has reached the plan's bound in that era, there is
-    /// one,
-    /// at the bound or before.
+    /// one, at the bound or before.
     pub fn locked_in(&self, j: usize) -> Option<u64>
         requires { j ≤ length self.now.script.eras }
         ensures value { result ≡ slice_index_or self.now.locks j None }
@@ -370,8 +386,7 @@ impl<O: Overlay> Runner<O> {
     }
 
     /// The first locked configuration so far of the era of `at`, as
-    /// [`locked_in`](Runner::locked_in)
-    /// gives it.
+    /// [`locked_in`](Runner::locked_in) gives it.
     pub fn locked_at(&self) -> Option<u64>
         ensures value { result ≡ slice_index_or self.now.locks
             (era_of self.now.script self.now.at) None }
@@ -384,6 +399,6 @@ impl<O: Overlay> Runner<O> {
             → IsUpTo (first_of_era self.now.script
             (era_of self.now.script self.now.at) + plan_bound self.now.plan) result }
     {
-        self.locked_in(self.script.era_of(self.at))
+        self.locked_in(self.era)
     }
 }

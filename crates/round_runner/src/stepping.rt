@@ -4,22 +4,22 @@ ghost use Rattle.sync_types.specs.States.{State};
 ghost use Rattle.construction.specs.Plans.{plan_nodes, plan_depth};
 ghost use Rattle.construction.specs.Shown.{shown};
 ghost use Rattle.construction.specs.Steps.{state_of, step_of};
-ghost use Rattle.plan_laws.specs.PlanMeaning.{plan_meaning, IsInRange};
+ghost use Rattle.plan_laws.specs.PlanMeaning.{plan_meaning};
 ghost use Rattle.state_codec.specs.Shapes.{fields_at};
 ghost use Rattle.state_codec.specs.Ranges.{InRange};
-ghost use Rattle.shared_laws.specs.Sharing.{heard_with, stands_for, Tells};
+ghost use Rattle.shared_board.specs.Sharing.{heard_with, stands_for, Tells};
 ghost use Rattle.counter_core.specs.Meanings.{written};
-ghost use Rattle.counter_core.specs.Overlays.{StandsOver, layered};
+ghost use Rattle.counter_core.specs.Overlays.{layered};
 ghost use Rattle.counter_core.specs.Working.{IsFor};
-ghost use Rattle.adversary_script.specs.Scripts.{IsScript};
 ghost use Rattle.adversary_script.specs.Eras.{faulty_at};
-ghost use Rattle.round_runner.specs.Fits.{Fits, IsDeaf};
-ghost use Rattle.round_runner.specs.Hearing.{heard_from, HasRoom, AreHonest, AreOfNodes};
+ghost use Rattle.round_runner.specs.Hearing.{heard_from, HasRoom, AreOfNodes};
 ghost use Rattle.round_runner.specs.Played.{heard_at};
 ghost use Rattle.round_runner.specs.Rooms.{IsReady};
 ghost use Rattle.round_runner.specs.Scenes.{layer_step, new_state};
+ghost use Rattle.round_runner.specs.Turns.{IsConfiguration, IsGathered, IsRound, IsSet, TakesStates};
 
 use crate::telling::tell;
+use crate::turns::Round;
 use adversary_script::{Noise, Script};
 use counter_core::{Counter, Heard, Overlay, Work};
 use majority_votes::Steps;
@@ -78,53 +78,41 @@ fn stretch_for(tower: &Tower, v: u32, all: bool, liars: usize, shared: &Shared) 
     tower.heeded(v, shared)
 }
 
-/// The counter's step of node `v` in round `t`, by what is shared and what the faulty nodes tell
-/// it: those that it heeds, or all.
+/// The counter's step of node `v` in a round, by what is shared and what the faulty nodes tell it:
+/// those that it heeds, or all.
 fn step_shared<G: Ledger>(
-    tower: &Tower,
-    script: &Script,
-    faulty: &FaultSet,
-    t: u64,
+    round: &Round<'_>,
     v: u32,
     all: bool,
     states: &Packed,
-    noise: &mut Noise,
-    lies: &mut [NodeState],
-    shared: &mut Shared,
-    out: &mut NodeState,
+    room: &mut Room,
     steps: &mut Steps<G>,
 )
-    requires faulty { faulty.now ≡ record { nodes = script.now.nodes; ids = faulty_at script.now t } }
-    requires noise { noise.old ≡ script.now.key }
-    requires nodes { script.now.nodes ≡ plan_nodes tower.now }
-    requires round { t < script.now.rounds }
-    requires node { v < script.now.nodes }
-    requires shape { states.now.shape ≡ script.now.shape }
-    requires size { length states.now.current ≡ script.now.nodes }
-    requires deep { plan_depth tower.now ≤ length script.now.shape.moduli }
-    requires counts { (u : ℕ) → u < script.now.nodes → (s : State)
-        → InRange (fields_at script.now.shape u) s → IsInRange tower.now s }
-    requires told { length lies.old ≡ script.now.nodes }
-    requires lies { AreOfNodes script.now lies.old }
-    requires stands { shared.old
-        ≡ stands_for tower.now states.now.current (faulty_at script.now t) }
-    requires out { length out.old.registers ≡ length script.now.shape.moduli }
-    ensures out { out.new ≡ written (plan_depth tower.now)
-        (step_of tower.now v (heard_at script.now t states.now.current v)) out.old }
-    ensures told { all ≡ true → (j : ℕ) → j < length (faulty_at script.now t)
-        → state_of lies.new j
-        ≡ heard_from script.now t v states.now.current (slice_index (faulty_at script.now t) j) }
-    ensures lies { AreOfNodes script.now lies.new }
-    ensures noise { noise.new ≡ noise.old }
-    ensures shared { shared.new ≡ shared.old }
-    ensures cost { steps.new ≤ steps.old
-        + 3 * plan_depth tower.now * length (faulty_at script.now t) }
+    requires round { IsRound round.now }
+    requires node { v < round.now.script.now.nodes }
+    requires config { IsConfiguration round.now.script.now states.now }
+    requires takes { TakesStates round.now }
+    requires ready { IsReady round.now.tower.now round.now.script.now room.old }
+    requires stands { room.old.shared ≡ stands_for round.now.tower.now states.now.current
+        (faulty_at round.now.script.now round.now.t) }
+    ensures out { room.new.out ≡ written (plan_depth round.now.tower.now)
+        (step_of round.now.tower.now v
+        (heard_at round.now.script.now round.now.t states.now.current v)) room.old.out }
+    ensures told { all ≡ true → (j : ℕ) → j < length (faulty_at round.now.script.now round.now.t)
+        → state_of room.new.lies.items j ≡ heard_from round.now.script.now round.now.t v
+        states.now.current (slice_index (faulty_at round.now.script.now round.now.t) j) }
+    ensures lies { (length room.new.lies.items ≡ round.now.script.now.nodes)
+        × AreOfNodes round.now.script.now room.new.lies.items }
+    ensures same { room.new ≡ record room.old { lies = room.new.lies; out = room.new.out } }
+    ensures cost { steps.new ≤ steps.old + 3 * plan_depth round.now.tower.now
+        * length (faulty_at round.now.script.now round.now.t) }
 {
-    faulty.tell();
-    let liars = faulty.len();
-    let stretch = stretch_for(tower, v, all, liars, shared);
-    tell(script, faulty, t, v, stretch, noise, states, lies);
-    tower.advance_shared(v, states, &lies[..liars], shared, out, steps);
+    let tower = round.tower;
+    let liars = round.faulty.len();
+    let stretch = stretch_for(tower, v, all, liars, &room.shared);
+    tell(round, v, stretch, &mut room.noise, states, &mut room.lies);
+    let lies = &room.lies[..liars];
+    tower.advance_shared(v, states, lies, &mut room.shared, &mut room.out, steps);
 }
 
 /// The counter's step of a node whose state is a number alone.
@@ -164,164 +152,100 @@ fn lay_lies(
     }
 }
 
-/// The layer's step of node `v` in round `t`, behind that of the counter, which stands in `out`.
+/// The layer's step of node `v` in a round, behind that of the counter, which stands in `out`.
 /// Where the layer has registers it hears what the node hears.
 fn step_layer<O: Overlay>(
-    tower: &Tower,
+    round: &Round<'_>,
     overlay: &mut O,
-    script: &Script,
-    t: u64,
     v: u32,
     states: &Packed,
-    heard: &[NodeState],
-    work: &mut Work,
-    out: &mut NodeState,
+    room: &mut Room,
 )
-    requires script { IsScript script.now }
-    requires fits { Fits script.now.shape (plan_meaning tower.now) (IsInRange tower.now)
-        (O.layer overlay.old) }
-    requires over { StandsOver (O.layer overlay.old) (plan_meaning tower.now) }
-    requires deaf { IsDeaf (O.layer overlay.old) }
-    requires nodes { script.now.nodes ≡ plan_nodes tower.now }
-    requires node { v < script.now.nodes }
-    requires shape { states.now.shape ≡ script.now.shape }
-    requires size { length states.now.current ≡ script.now.nodes }
-    requires hears { 0 < (O.layer overlay.old).extra
-        → heard.now ≡ heard_at script.now t states.now.current v }
-    requires work { IsFor script.now.nodes work.old }
-    requires out { length out.old.registers ≡ length script.now.shape.moduli }
+    requires round { IsRound round.now }
+    requires set { IsSet round.now (O.layer overlay.old) states.now room.old }
+    requires node { v < round.now.script.now.nodes }
+    requires hears { 0 < (O.layer overlay.old).extra → room.old.heard.items
+        ≡ heard_at round.now.script.now round.now.t states.now.current v }
     ensures layer { O.layer overlay.new ≡ O.layer overlay.old }
     ensures kept { O.kept overlay.new ≡ slice_set (O.kept overlay.old) v
-        (layer_step (plan_meaning tower.now) (O.layer overlay.old) (O.kept overlay.old) v
-        (heard_at script.now t states.now.current v)).kept }
-    ensures out { out.new ≡ layered (O.layer overlay.old)
-        (layer_step (plan_meaning tower.now) (O.layer overlay.old) (O.kept overlay.old) v
-        (heard_at script.now t states.now.current v)).registers out.old }
-    ensures work { IsFor script.now.nodes work.new }
+        (layer_step (plan_meaning round.now.tower.now) (O.layer overlay.old) (O.kept overlay.old) v
+        (heard_at round.now.script.now round.now.t states.now.current v)).kept }
+    ensures out { room.new.out ≡ layered (O.layer overlay.old)
+        (layer_step (plan_meaning round.now.tower.now) (O.layer overlay.old) (O.kept overlay.old) v
+        (heard_at round.now.script.now round.now.t states.now.current v)).registers room.old.out }
+    ensures work { IsFor round.now.script.now.nodes room.new.work }
+    ensures same { room.new ≡ record room.old { work = room.new.work; out = room.new.out } }
 {
     states.tell();
-    tower.tell();
-    let output = shown_at(states, v, tower.depth());
-    overlay.advance(v, output, &Heard::of(heard), work, out);
+    let output = shown_at(states, v, round.tower.depth());
+    let heard = Heard::of(&room.heard);
+    overlay.advance(v, output, &heard, &mut room.work, &mut room.out);
 }
 
-/// The step of node `v` in round `t` where states have registers, and behind it that of the layer
+/// The step of node `v` in a round where states have registers, and behind it that of the layer
 /// above.
 pub fn step_with<O: Overlay, G: Ledger>(
-    tower: &Tower,
+    round: &Round<'_>,
     overlay: &mut O,
-    script: &Script,
-    faulty: &FaultSet,
-    t: u64,
     v: u32,
     room: &mut Room,
     states: &Packed,
     steps: &mut Steps<G>,
 )
-    requires script { IsScript script.now }
-    requires faulty { faulty.now ≡ record { nodes = script.now.nodes; ids = faulty_at script.now t } }
-    requires fits { Fits script.now.shape (plan_meaning tower.now) (IsInRange tower.now)
-        (O.layer overlay.old) }
-    requires over { StandsOver (O.layer overlay.old) (plan_meaning tower.now) }
-    requires deaf { IsDeaf (O.layer overlay.old) }
-    requires nodes { script.now.nodes ≡ plan_nodes tower.now }
-    requires round { t < script.now.rounds }
-    requires node { v < script.now.nodes }
-    requires shape { states.now.shape ≡ script.now.shape }
-    requires size { length states.now.current ≡ script.now.nodes }
-    requires room { IsReady tower.now script.now room.old }
-    requires stands { room.old.shared
-        ≡ stands_for tower.now states.now.current (faulty_at script.now t) }
-    requires honest { 0 < (O.layer overlay.old).extra
-        → AreHonest script.now t states.now.current room.old.heard.items }
-    ensures out { room.new.out ≡ new_state (plan_meaning tower.now) (O.layer overlay.old)
-        (O.kept overlay.old) v (heard_at script.now t states.now.current v) }
-    ensures range { InRange (fields_at script.now.shape v) room.new.out }
+    requires round { IsRound round.now }
+    requires set { IsSet round.now (O.layer overlay.old) states.now room.old }
+    requires node { v < round.now.script.now.nodes }
+    requires gathered { IsGathered round.now (O.layer overlay.old) states.now.current room.old }
+    ensures out { room.new.out ≡ new_state (plan_meaning round.now.tower.now)
+        (O.layer overlay.old) (O.kept overlay.old) v
+        (heard_at round.now.script.now round.now.t states.now.current v) }
+    ensures range { InRange (fields_at round.now.script.now.shape v) room.new.out }
     ensures layer { O.layer overlay.new ≡ O.layer overlay.old }
     ensures kept { O.kept overlay.new ≡ slice_set (O.kept overlay.old) v
-        (layer_step (plan_meaning tower.now) (O.layer overlay.old) (O.kept overlay.old) v
-        (heard_at script.now t states.now.current v)).kept }
-    ensures room { IsReady tower.now script.now room.new }
-    ensures stands { room.new.shared ≡ room.old.shared }
-    ensures honest { 0 < (O.layer overlay.old).extra
-        → AreHonest script.now t states.now.current room.new.heard.items }
-    ensures cost { steps.new ≤ steps.old
-        + 3 * plan_depth tower.now * length (faulty_at script.now t) }
+        (layer_step (plan_meaning round.now.tower.now) (O.layer overlay.old) (O.kept overlay.old) v
+        (heard_at round.now.script.now round.now.t states.now.current v)).kept }
+    ensures room { IsReady round.now.tower.now round.now.script.now room.new }
+    ensures gathered { IsGathered round.now (O.layer overlay.old) states.now.current room.new }
+    ensures cost { steps.new ≤ steps.old + 3 * plan_depth round.now.tower.now
+        * length (faulty_at round.now.script.now round.now.t) }
 {
     states.tell();
-    tower.tell();
     let hears = overlay.extra() > 0;
-    step_shared(
-        tower,
-        script,
-        faulty,
-        t,
-        v,
+    step_shared(round, v, hears, states, room, steps);
+    lay_lies(
         hears,
-        states,
-        &mut room.noise,
-        &mut room.lies,
-        &mut room.shared,
-        &mut room.out,
-        steps,
+        round.script,
+        round.faulty,
+        &room.lies,
+        &mut room.heard,
     );
-    lay_lies(hears, script, faulty, &room.lies, &mut room.heard);
-    step_layer(
-        tower,
-        overlay,
-        script,
-        t,
-        v,
-        states,
-        &room.heard,
-        &mut room.work,
-        &mut room.out,
-    );
+    step_layer(round, overlay, v, states, room);
 }
 
-/// The step of node `v` in round `t` where states are numbers alone, and behind it that of the
-/// layer above, which has no registers.
+/// The step of node `v` in a round where states are numbers alone, and behind it that of the layer
+/// above, which has no registers.
 pub fn step_alone<O: Overlay>(
-    tower: &Tower,
+    round: &Round<'_>,
     overlay: &mut O,
-    script: &Script,
-    t: u64,
     v: u32,
     room: &mut Room,
     states: &Packed,
 )
-    requires script { IsScript script.now }
-    requires fits { Fits script.now.shape (plan_meaning tower.now) (IsInRange tower.now)
-        (O.layer overlay.old) }
-    requires over { StandsOver (O.layer overlay.old) (plan_meaning tower.now) }
-    requires deaf { IsDeaf (O.layer overlay.old) }
-    requires nodes { script.now.nodes ≡ plan_nodes tower.now }
-    requires node { v < script.now.nodes }
-    requires shape { states.now.shape ≡ script.now.shape }
-    requires size { length states.now.current ≡ script.now.nodes }
-    requires alone { length script.now.shape.moduli ≡ 0 }
-    requires room { IsReady tower.now script.now room.old }
-    ensures out { room.new.out ≡ new_state (plan_meaning tower.now) (O.layer overlay.old)
-        (O.kept overlay.old) v (heard_at script.now t states.now.current v) }
-    ensures range { InRange (fields_at script.now.shape v) room.new.out }
+    requires round { IsRound round.now }
+    requires set { IsSet round.now (O.layer overlay.old) states.now room.old }
+    requires node { v < round.now.script.now.nodes }
+    requires alone { length round.now.script.now.shape.moduli ≡ 0 }
+    ensures out { room.new.out ≡ new_state (plan_meaning round.now.tower.now)
+        (O.layer overlay.old) (O.kept overlay.old) v
+        (heard_at round.now.script.now round.now.t states.now.current v) }
+    ensures range { InRange (fields_at round.now.script.now.shape v) room.new.out }
     ensures layer { O.layer overlay.new ≡ O.layer overlay.old }
     ensures kept { O.kept overlay.new ≡ slice_set (O.kept overlay.old) v
-        (layer_step (plan_meaning tower.now) (O.layer overlay.old) (O.kept overlay.old) v
-        (heard_at script.now t states.now.current v)).kept }
-    ensures room { IsReady tower.now script.now room.new }
+        (layer_step (plan_meaning round.now.tower.now) (O.layer overlay.old) (O.kept overlay.old) v
+        (heard_at round.now.script.now round.now.t states.now.current v)).kept }
+    ensures room { IsReady round.now.tower.now round.now.script.now room.new }
 {
     states.tell();
-    tower.tell();
-    step_number(tower, v, states, &mut room.out);
-    step_layer(
-        tower,
-        overlay,
-        script,
-        t,
-        v,
-        states,
-        &room.heard,
-        &mut room.work,
-        &mut room.out,
-    );
+    step_number(round.tower, v, states, &mut room.out);
+    step_layer(round, overlay, v, states, room);
 }

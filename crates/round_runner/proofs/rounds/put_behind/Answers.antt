@@ -3,4 +3,4 @@ use Rattle.round_runner.proofs.rounds.put_behind.Goals as goal
 
 pub put_at-requires-clause-depth : goal.put_at-requires-clause-depth
 put_at-requires-clause-depth c =
-    depth_of_node c.args.script.now.shape c.args.v _ c.requires.range
+    depth_of_node c.args.round.now.script.now.shape c.args.v _ c.requires.range

@@ -11,6 +11,6 @@ returns-clause-room g c =
       lies = room.lies;
       shared = room.shared;
       work = room.work;
-      out = depth_of_node c.args.script.now.shape c.args.v _
+      out = depth_of_node c.args.round.now.script.now.shape c.args.v _
           c.put_alone_behind.ensures.range;
     }

@@ -1,12 +1,14 @@
-use Rattle.std.proofs.Common.{◌≡◌, ◌≤◌, ℕ, List, length, refl, sym, ap, ◌∙◌, subst, arith}
+use Rattle.std.proofs.Common.{◌≡◌, ◌≤◌, ℕ, List, length, sym, ap, ◌∙◌, subst, arith}
 use Rattle.std.specs.Prelude.{slice_index}
-use Rattle.std.proofs.lemmas.List.{length-map}
+use Rattle.std.specs.List.Sorted.{IsStrictlyIncreasing}
+use Rattle.std.proofs.lemmas.List.{length-map, with_items_is}
 use Rattle.sync_types.specs.FaultSets.{FaultIds}
 use Rattle.sync_types.specs.States.{State}
 use Rattle.construction.specs.Plans.{plan_depth}
+use Rattle.construction.specs.Steps.{state_of}
 use Rattle.counter_core.specs.Meanings.{cut, written}
-use Rattle.shared_laws.specs.Sharing.{Shares, stands_for}
-use Rattle.round_runner.specs.Hearing.{heard_from}
+use Rattle.shared_board.specs.Sharing.{Shares, place_among}
+use Rattle.round_runner.specs.Hearing.{heard_from, AreOfNodes}
 use Rattle.round_runner.proofs.Counted.{tells_taken, step_taken}
 use Rattle.round_runner.proofs.Liars.{taken_counts, taken_deep}
 use Rattle.round_runner.proofs.stepping.step_shared.Goals as goal
@@ -15,78 +17,121 @@ use Rattle.round_runner.proofs.stepping.step_shared.Goals as goal
 pub stretch_for-stretch-requires-clause-size : goal.stretch_for-stretch-requires-clause-size
 stretch_for-stretch-requires-clause-size g c =
     ap (λ (s : Shares). length s.states) c.requires.stands
-    ∙ length-map c.args.states.now.current (cut (plan_depth c.args.tower.now))
-    ∙ c.requires.size ∙ c.requires.nodes
+    ∙ length-map c.args.states.now.current (cut (plan_depth c.args.round.now.tower.now))
+    ∙ c.requires.config.size ∙ c.requires.round.nodes
 
 pub stretch_for-stretch-requires-clause-liars : goal.stretch_for-stretch-requires-clause-liars
 stretch_for-stretch-requires-clause-liars g c =
     c.len-liars.ensures.exact
-    ∙ ap (λ (s : FaultIds). length s.ids) c.requires.faulty
+    ∙ ap (λ (s : FaultIds). length s.ids) c.requires.round.faulty
     ∙ sym (ap (λ (s : Shares). length s.faulty) c.requires.stands)
 
-pub tell-requires-2-clause-stretch : goal.tell-requires-2-clause-stretch
-tell-requires-2-clause-stretch g c =
+pub tell-requires-clause-stretch : goal.tell-requires-clause-stretch
+tell-requires-clause-stretch g c =
     let within = c.stretch_for-stretch.ensures.within in
     let same = ap (λ (s : Shares). length s.faulty) c.requires.stands in
-    let ids = ap (λ (s : FaultIds). length s.ids) c.requires.faulty in
+    let ids = ap (λ (s : FaultIds). length s.ids) c.requires.round.faulty in
     omega (arith, within, same, ids)
 
-pub advance_shared-requires-clause-stands : goal.advance_shared-requires-clause-stands
-advance_shared-requires-clause-stands g c =
-    subst (λ (s : Shares). s ≡ stands_for c.args.tower.now c.args.states.now.current s.faulty)
-    (sym c.requires.stands) refl
+pub tell-requires-clause-lies : goal.tell-requires-clause-lies
+tell-requires-clause-lies g c = (
+  ap (λ (xs : List State). length xs) c.deref_mut.ensures.value ∙ c.requires.ready.told,
+  subst (AreOfNodes c.args.round.now.script.now) (sym c.deref_mut.ensures.value)
+      c.requires.ready.lies,
+)
 
 -- as many as lie stand in the list
-few : (set : FaultIds) (nodes q long now : ℕ) → set.nodes ≡ nodes → q ≤ set.nodes → long ≡ nodes
-    → now ≡ long → q ≤ now
-few set nodes q long now same within size kept = omega (arith, same, within, size, kept)
+few : (set : FaultIds) (nodes q long lent : ℕ) → set.nodes ≡ nodes → q ≤ set.nodes → long ≡ nodes
+    → lent ≡ long → q ≤ lent
+few set nodes q long lent same within size kept = omega (arith, same, within, size, kept)
 
 pub advance_shared-requires-clause-tells : goal.advance_shared-requires-clause-tells
 advance_shared-requires-clause-tells g c =
-    tells_taken c.args.tower.now c.args.script.now c.args.t c.args.v c.args.states.now.current
-    c.args.faulty.now.ids c.tell-2.new.lies c.requires.size c.requires.node
-    (ap (λ (s : FaultIds). s.ids) c.requires.faulty) c.tell.ensures.rising c.tell-2.ensures.lies
+    let script = c.args.round.now.script.now in
+    let ids = c.args.round.now.faulty.now.ids in
+    let same = ap (λ (s : FaultIds). s.ids) c.requires.round.faulty in
+    let long = c.tell.auto.lies ∙ c.deref_mut.ensures.len in
+    let is : c.deref.result.now ≡ c.tell.new.lies = c.deref.ensures.value
+    ∙ with_items_is c.args.room.now.lies c.tell.new.lies long in
+    tells_taken c.args.round.now.tower.now script c.args.round.now.t c.args.v
+    c.args.states.now.current ids c.deref.result.now c.requires.config.size c.requires.node same
+    (subst IsStrictlyIncreasing (sym same) c.requires.round.borne.rising)
+    (subst (AreOfNodes script) (sym is) c.tell.ensures.lies)
     c.len-liars.result c.len-liars.ensures.exact
-    (few c.args.faulty.now c.args.script.now.nodes c.len-liars.result _ _
-    (ap (λ (s : FaultIds). s.nodes) c.requires.faulty) c.len-liars.ensures.within c.requires.told
-    c.tell-2.auto.lies) c.tell-2.ensures.own c.args.shared.now c.requires.stands
+    (few c.args.round.now.faulty.now script.nodes c.len-liars.result
+    (length c.args.room.now.lies.items) _ (ap (λ (s : FaultIds). s.nodes) c.requires.round.faulty)
+    c.len-liars.ensures.within c.requires.ready.told
+    (ap (λ (xs : List State). length xs) is ∙ c.tell.auto.lies
+    ∙ ap (λ (xs : List State). length xs) c.deref_mut.ensures.value))
+    (λ yes. ap (λ (xs : List State). state_of xs (place_among ids c.args.v)) is
+    ∙ c.tell.ensures.own yes) c.args.room.now.shared c.requires.stands
 
 pub advance_shared-requires-clause-range : goal.advance_shared-requires-clause-range
 advance_shared-requires-clause-range g c =
-    taken_counts c.args.script.now c.tell-2.new.lies c.tell-2.ensures.lies c.len-liars.result
-    (few c.args.faulty.now c.args.script.now.nodes c.len-liars.result _ _
-    (ap (λ (s : FaultIds). s.nodes) c.requires.faulty) c.len-liars.ensures.within c.requires.told
-    c.tell-2.auto.lies) c.args.tower.now c.requires.counts
+    let script = c.args.round.now.script.now in
+    let long = c.tell.auto.lies ∙ c.deref_mut.ensures.len in
+    let is : c.deref.result.now ≡ c.tell.new.lies = c.deref.ensures.value
+    ∙ with_items_is c.args.room.now.lies c.tell.new.lies long in
+    taken_counts script c.deref.result.now
+    (subst (AreOfNodes script) (sym is) c.tell.ensures.lies) c.len-liars.result
+    (few c.args.round.now.faulty.now script.nodes c.len-liars.result
+    (length c.args.room.now.lies.items) _ (ap (λ (s : FaultIds). s.nodes) c.requires.round.faulty)
+    c.len-liars.ensures.within c.requires.ready.told
+    (ap (λ (xs : List State). length xs) is ∙ c.tell.auto.lies
+    ∙ ap (λ (xs : List State). length xs) c.deref_mut.ensures.value))
+    c.args.round.now.tower.now c.requires.takes.counts
 
 pub advance_shared-requires-clause-deep : goal.advance_shared-requires-clause-deep
 advance_shared-requires-clause-deep g c =
-    taken_deep c.args.script.now c.tell-2.new.lies c.tell-2.ensures.lies c.len-liars.result
-    (few c.args.faulty.now c.args.script.now.nodes c.len-liars.result _ _
-    (ap (λ (s : FaultIds). s.nodes) c.requires.faulty) c.len-liars.ensures.within c.requires.told
-    c.tell-2.auto.lies) (plan_depth c.args.tower.now) c.requires.deep
+    let script = c.args.round.now.script.now in
+    let long = c.tell.auto.lies ∙ c.deref_mut.ensures.len in
+    let is : c.deref.result.now ≡ c.tell.new.lies = c.deref.ensures.value
+    ∙ with_items_is c.args.room.now.lies c.tell.new.lies long in
+    taken_deep script c.deref.result.now
+    (subst (AreOfNodes script) (sym is) c.tell.ensures.lies) c.len-liars.result
+    (few c.args.round.now.faulty.now script.nodes c.len-liars.result
+    (length c.args.room.now.lies.items) _ (ap (λ (s : FaultIds). s.nodes) c.requires.round.faulty)
+    c.len-liars.ensures.within c.requires.ready.told
+    (ap (λ (xs : List State). length xs) is ∙ c.tell.auto.lies
+    ∙ ap (λ (xs : List State). length xs) c.deref_mut.ensures.value))
+    (plan_depth c.args.round.now.tower.now) c.requires.takes.deep
 
 pub returns-clause-out : goal.returns-clause-out
 returns-clause-out g c =
+    let script = c.args.round.now.script.now in
+    let ids = c.args.round.now.faulty.now.ids in
+    let same = ap (λ (s : FaultIds). s.ids) c.requires.round.faulty in
     let within = c.stretch_for-stretch.ensures.within in
-    let same = ap (λ (s : Shares). length s.faulty) c.requires.stands in
-    let ids = ap (λ (s : FaultIds). length s.ids) c.requires.faulty in
+    let shared = ap (λ (s : Shares). length s.faulty) c.requires.stands in
+    let many = ap (λ (s : FaultIds). length s.ids) c.requires.round.faulty in
+    let long = c.tell.auto.lies ∙ c.deref_mut.ensures.len in
+    let is : c.deref.result.now ≡ c.tell.new.lies = c.deref.ensures.value
+    ∙ with_items_is c.args.room.now.lies c.tell.new.lies long in
     c.advance_shared.ensures.out
-    ∙ ap (λ (s : State). written (plan_depth c.args.tower.now) s c.args.out.now)
-    (step_taken c.args.tower.now c.args.script.now c.args.t c.args.v c.args.states.now.current
-    c.args.faulty.now.ids c.tell-2.new.lies c.requires.size c.requires.node
-    (ap (λ (s : FaultIds). s.ids) c.requires.faulty) c.tell.ensures.rising c.tell-2.ensures.lies
+    ∙ ap (λ (s : State). written (plan_depth c.args.round.now.tower.now) s c.args.room.now.out)
+    (step_taken c.args.round.now.tower.now script c.args.round.now.t c.args.v
+    c.args.states.now.current ids c.deref.result.now c.requires.config.size c.requires.node same
+    (subst IsStrictlyIncreasing (sym same) c.requires.round.borne.rising)
+    (subst (AreOfNodes script) (sym is) c.tell.ensures.lies)
     c.len-liars.result c.len-liars.ensures.exact
-    (few c.args.faulty.now c.args.script.now.nodes c.len-liars.result _ _
-    (ap (λ (s : FaultIds). s.nodes) c.requires.faulty) c.len-liars.ensures.within c.requires.told
-    c.tell-2.auto.lies) c.tell-2.ensures.own c.args.shared.now c.requires.stands
+    (few c.args.round.now.faulty.now script.nodes c.len-liars.result
+    (length c.args.room.now.lies.items) _ (ap (λ (s : FaultIds). s.nodes) c.requires.round.faulty)
+    c.len-liars.ensures.within c.requires.ready.told
+    (ap (λ (xs : List State). length xs) is ∙ c.tell.auto.lies
+    ∙ ap (λ (xs : List State). length xs) c.deref_mut.ensures.value))
+    (λ yes. ap (λ (xs : List State). state_of xs (place_among ids c.args.v)) is
+    ∙ c.tell.ensures.own yes) c.args.room.now.shared c.requires.stands
     c.stretch_for-stretch.result.0 c.stretch_for-stretch.result.1
-    (omega (arith, within, same, ids)) c.stretch_for-stretch.ensures.enough c.tell-2.ensures.told)
+    (omega (arith, within, shared, many)) c.stretch_for-stretch.ensures.enough
+    (λ j low high. ap (λ (xs : List State). state_of xs j) is ∙ c.tell.ensures.told j low high))
 
 pub returns-clause-told : goal.returns-clause-told
-returns-clause-told g c = λ is j lt.
-    let all = c.stretch_for-stretch.ensures.all is in
-    let ids = ap (λ (s : FaultIds). s.ids) c.requires.faulty in
+returns-clause-told g c = λ yes j lt.
+    let all = c.stretch_for-stretch.ensures.all yes in
+    let ids = ap (λ (s : FaultIds). s.ids) c.requires.round.faulty in
     let same = ap (λ (s : Shares). length s.faulty) c.requires.stands in
-    c.tell-2.ensures.told j (omega (arith, all.0)) (omega (arith, lt, all.1, same))
-    ∙ ap (λ (xs : List ℕ). heard_from c.args.script.now c.args.t c.args.v
-    c.args.states.now.current (slice_index xs j)) ids
+    ap (λ (xs : List State). state_of xs j) (with_items_is c.args.room.now.lies c.tell.new.lies
+    (c.tell.auto.lies ∙ c.deref_mut.ensures.len))
+    ∙ (c.tell.ensures.told j (omega (arith, all.0)) (omega (arith, lt, all.1, same))
+    ∙ ap (λ (xs : List ℕ). heard_from c.args.round.now.script.now c.args.round.now.t c.args.v
+    c.args.states.now.current (slice_index xs j)) ids)

@@ -41,5 +41,6 @@ invariant_of-self g c =
       shape = kept.shape;
       size = kept.size;
       within = kept.within;
+      here = kept.here;
       eras = kept.eras;
     }

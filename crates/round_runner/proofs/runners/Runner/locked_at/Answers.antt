@@ -10,9 +10,9 @@ use Rattle.round_runner.proofs.runners.Runner.locked_at.Goals as goal
 
 pub returns-clause-first : goal.returns-clause-first
 returns-clause-first g c = λ began plays.
-    let era : c.era_of.result ≡ era_of c.args.self.now.script c.args.self.now.at =
-    subst (λ (r : Running _). c.era_of.result ≡ era_of r.script r.at) c.self.view_is
-    c.era_of.ensures.value in
+    let era : c.self.inside.era ≡ era_of c.args.self.now.script c.args.self.now.at =
+    subst (λ (r : Running _). c.self.inside.era ≡ era_of r.script r.at) c.self.view_is
+    c.self.invariant.here in
     subst (λ (j : ℕ). IsFirstLocked c.args.self.now.plan c.args.self.now.script
     (configuration_of g.O.Overlay.layer began c.args.self.now) j c.args.self.now.at
     c.locked_in.result) era
@@ -26,11 +26,11 @@ returns-clause-by_bound g c = λ began plays reached.
     c.self.invariant.whole in
     let within = subst (λ (r : Running _). r.at ≤ r.script.rounds) c.self.view_is
     c.self.invariant.within in
-    let era : c.era_of.result ≡ era_of script c.args.self.now.at =
-    subst (λ (r : Running _). c.era_of.result ≡ era_of r.script r.at) c.self.view_is
-    c.era_of.ensures.value in
+    let era : c.self.inside.era ≡ era_of script c.args.self.now.at =
+    subst (λ (r : Running _). c.self.inside.era ≡ era_of r.script r.at) c.self.view_is
+    c.self.invariant.here in
     let before = era_before script whole.formed.rising c.args.self.now.at within in
-    let known : (j : ℕ) → c.era_of.result ≡ j → first_of_era script j + bound < end_of_era script j
+    let known : (j : ℕ) → c.self.inside.era ≡ j → first_of_era script j + bound < end_of_era script j
     → first_of_era script j + bound ≤ c.args.self.now.at
     → IsUpTo (first_of_era script j + bound) c.locked_in.result = λ j is reaches reached.
     subst (λ j. first_of_era script j + bound < end_of_era script j

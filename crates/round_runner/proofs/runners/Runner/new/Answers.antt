@@ -1,9 +1,10 @@
-use Rattle.std.proofs.Common.{ℕ, List, length, Option, sym, ap, ap₂, ◌∙◌, subst, arith}
+use Rattle.std.proofs.Common.{ℕ, List, length, Option, refl, sym, ap, ap₂, ◌∙◌, subst, arith}
 use Rattle.std.proofs.lemmas.List.FromFn.{length-map-range_with_len}
 use Rattle.sync_types.specs.States.{State}
 use Rattle.state_codec.specs.Shapes.{Shape, IsShape}
 use Rattle.adversary_script.specs.Lies.{start_of}
 use Rattle.round_runner.specs.Runners.{Running, IsPlaying, begun_locks}
+use Rattle.round_runner.proofs.Firsts.{begun_era}
 use Rattle.round_runner.proofs.Fitting.{layer_fits}
 use Rattle.round_runner.proofs.Playing.{begins, begun_long}
 use Rattle.round_runner.proofs.runners.Runner.new.Goals as goal
@@ -40,6 +41,8 @@ invariant_of-result g c =
       size = ap (λ (states : List State). length states) c.in_ok-states.ensures.states
           ∙ length-map-range_with_len (start_of c.args.script) 0 c.args.script.nodes;
       within = omega (arith);
+      here = sym (begun_era c.args.script c.rounds-rounds.ensures.script.formed.rising 0 0
+          (omega (arith)) refl);
       eras = ap (λ (locks : List (Option ℕ)). length locks) c.in_ok-locks.ensures
           ∙ begun_long c.args.tower c.args.script c.in_ok-states.states.current;
     }

@@ -1,11 +1,14 @@
-use Rattle.std.proofs.Common.{◌≡◌, ℕ, ◌+◌, sym, ap, ◌∙◌, refl}
+use Rattle.std.proofs.Common.{◌≡◌, ℕ, ◌+◌, ◌<◌, sym, ap, ◌∙◌, refl, subst}
 use Rattle.std.specs.Prelude.{[]}
 use Rattle.std.proofs.Common.{arith}
 use Rattle.std.proofs.lemmas.List.{length-map}
 use Rattle.std.proofs.lemmas.List.Elements.{All-get_or}
 use Rattle.construction.specs.Runs.{IsBorne}
 use Rattle.adversary_script.specs.Scripts.{Era, faulty_sets}
-use Rattle.adversary_script.specs.Eras.{era_of}
+use Rattle.adversary_script.specs.Eras.{era_of, faulty_of_era}
+use Rattle.sync_types.specs.FaultSets.{FaultIds}
+use Rattle.round_runner.specs.Runners.{Running}
+use Rattle.round_runner.proofs.SetOn.{set_on}
 use Rattle.round_runner.proofs.Firsts.{era_within}
 use Rattle.state_codec.specs.Packs.{Pack}
 use Rattle.plan_laws.specs.PlanMeaning.{plan_meaning}
@@ -39,23 +42,46 @@ returns-clause-advances g c =
           (c.step_all.ensures.kept ∙ ap (λ (s : Scene _). s.kept) scene);
       locks = locks_are c.self.inside.tower c.self.inside.script c.self.inside.locks.items
           (c.self.inside.at + 1) c.flip.new.self.current c.era_of-era.result c.index.result.now
-          c.era_faulty.result.now c.flip.new.self.current c.locked_so_far.result
+          c.era_faulty-2.result.now c.flip.new.self.current c.locked_so_far.result
           c.self.invariant.eras c.era_of-era.ensures.value c.era_of-era.ensures.most c.index.ensures
-          c.era_faulty.ensures refl c.locked_so_far.ensures;
+          c.era_faulty-2.ensures refl c.locked_so_far.ensures;
     })
 
 -- how many may be faulty in each era is what the plan bears
-pub step_all-requires-clause-borne : goal.step_all-requires-clause-borne
-step_all-requires-clause-borne g c =
+pub step_all-requires-clause-round : goal.step_all-requires-clause-round
+step_all-requires-clause-round g c =
     let script = c.self.inside.script in
-    let era = era_of script c.self.inside.at in
-    All-get_or (IsBorne c.self.inside.tower) (faulty_sets script) era []
-    (omega (
-      arith,
-      era_within script c.self.inside.at,
-      length-map script.eras
-          (λ (era : Era). era.faulty),
-    )) c.self.invariant.right.borne
+    let kept = c.self.invariant in
+    record {
+      accepted = kept.accepted;
+      script = kept.whole;
+      nodes = kept.right.nodes;
+      borne = All-get_or (IsBorne c.self.inside.tower) (faulty_sets script)
+          (era_of script c.self.inside.at) []
+          (omega (
+            arith,
+            era_within script c.self.inside.at,
+            length-map script.eras (λ (era : Era). era.faulty),
+          )) kept.right.borne;
+      faulty = c.era_faulty.ensures ∙ ap (λ (j : ℕ). let set : FaultIds =
+          record { nodes = script.nodes; ids = faulty_of_era script j } in set) kept.here;
+      round = subst (λ (r : Running _). r.at < r.script.rounds) (sym c.self.view_is) c.requires;
+      begins = c.beginning_in.ensures;
+    }
+
+pub step_all-requires-clause-set : goal.step_all-requires-clause-set
+step_all-requires-clause-set g c =
+    let kept = c.self.invariant in
+    set_on _ (g.O.Overlay.layer c.self.inside.overlay) _ c.begin.ensures.layer
+    c.self.inside.states c.self.inside.states c.self.inside.room c.self.inside.room refl refl
+    kept.ready (record {
+      fits = kept.fits;
+      over = kept.right.over;
+      deaf = kept.right.deaf;
+      shape = kept.shape;
+      size = kept.size;
+      ready = kept.ready;
+    })
 
 pub returns-clause-played : goal.returns-clause-played
 returns-clause-played g c = λ began is. plays_on g.O.Overlay.layer g.O.Overlay.kept began _ _ is

@@ -1,0 +1,61 @@
+-- A round of a script on the counter of its plan, and what goes through it.
+use Rattle.std.specs.Prelude.{◌≡◌, ℕ, ◌+◌, ◌<◌, ◌≤◌, List, length}
+use Rattle.sync_types.specs.States.{State}
+use Rattle.construction.specs.Plans.{plan_nodes, plan_depth}
+use Rattle.construction.specs.Runs.{IsBorne}
+use Rattle.plan_numbers.specs.Premises.{IsAccepted}
+use Rattle.plan_laws.specs.PlanMeaning.{plan_meaning, IsInRange}
+use Rattle.state_codec.specs.Shapes.{fields_at}
+use Rattle.state_codec.specs.Packs.{Pack}
+use Rattle.state_codec.specs.Ranges.{InRange}
+use Rattle.shared_board.specs.Sharing.{stands_for}
+use Rattle.counter_core.specs.Overlays.{Layer, StandsOver}
+use Rattle.adversary_script.specs.Scripts.{Script, IsScript}
+use Rattle.adversary_script.specs.Eras.{faulty_at}
+use Rattle.round_runner.specs.declared.stepping.Room.{Room}
+use Rattle.round_runner.specs.declared.turns.Round.{Round}
+use Rattle.round_runner.specs.Beginnings.{BeginsAt}
+use Rattle.round_runner.specs.Fits.{Fits, IsDeaf}
+use Rattle.round_runner.specs.Hearing.{AreHonest}
+use Rattle.round_runner.specs.Rooms.{IsReady}
+
+-- It is one of the script, which bears no more faulty nodes than the plan.
+pub record IsRound (r : Round) : Type 0 where
+  pub accepted : IsAccepted r.tower.now
+  pub script : IsScript r.script.now
+  pub nodes : r.script.now.nodes ≡ plan_nodes r.tower.now
+  pub borne : IsBorne r.tower.now (faulty_at r.script.now r.t)
+  pub faulty : r.faulty.now
+      ≡ record { nodes = r.script.now.nodes; ids = faulty_at r.script.now r.t }
+  pub round : r.t < r.script.now.rounds
+  pub begins : BeginsAt r.script.now (r.t + 1) r.begins
+
+-- a configuration of the script's nodes, of its shape
+pub record IsConfiguration (script : Script) (states : Pack) : Type 0 where
+  pub shape : states.shape ≡ script.shape
+  pub size : length states.current ≡ script.nodes
+
+-- the counter takes states of the script's shape
+pub record TakesStates (round : Round) : Type 0 where
+  pub deep : plan_depth round.tower.now ≤ length round.script.now.shape.moduli
+  pub counts : (u : ℕ) → u < round.script.now.nodes → (s : State)
+      → InRange (fields_at round.script.now.shape u) s → IsInRange round.tower.now s
+
+-- the layer, the configuration and the room are those of the round
+pub record IsSet {Kept : Type 0} (round : Round) (layer : Layer Kept) (states : Pack)
+    (room : Room) : Type 0 where
+  pub fits : Fits round.script.now.shape (plan_meaning round.tower.now)
+      (IsInRange round.tower.now) layer
+  pub over : StandsOver layer (plan_meaning round.tower.now)
+  pub deaf : IsDeaf layer
+  pub shape : states.shape ≡ round.script.now.shape
+  pub size : length states.current ≡ round.script.now.nodes
+  pub ready : IsReady round.tower.now round.script.now room
+
+-- What all receivers share is counted, and where a layer hears, the states of the correct nodes
+-- stand in their places.
+pub record IsGathered {Kept : Type 0} (round : Round) (layer : Layer Kept) (config : List State)
+    (room : Room) : Type 0 where
+  pub stands : room.shared
+      ≡ stands_for round.tower.now config (faulty_at round.script.now round.t)
+  pub honest : 0 < layer.extra → AreHonest round.script.now round.t config room.heard.items
