@@ -124,5 +124,6 @@ impl Overlay for Agreement {
         self.decisions[v] = agreed.decided.unwrap_or(self.decisions[v]);
     }
 
-    ghost keeps_range = { λ a. agree_keeps a.nodes a.faults a.modulus a.depth a.values a.inputs.items a.quorum a.inputs_of_nodes a.range };
+    ghost keeps_range = { λ a. agree_keeps a.nodes a.faults a.modulus a.depth a.values
+        a.inputs.items a.quorum a.inputs_of_nodes a.range };
 }

@@ -14,8 +14,6 @@ mod input_lines;
 pub mod laws;
 mod reading;
 mod refusals;
-#[cfg(test)]
-mod tests;
 
 pub use agree_lines::{AgreeLines, AgreeStage};
 pub use agree_parts::AgreePart;

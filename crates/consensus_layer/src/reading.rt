@@ -16,8 +16,8 @@ use sync_types::Rule;
 /// `bytes` is below 2^64.
 ///
 /// `Refused` is the first line that fails, with the first rule that it fails: `Form`, also for
-/// inputs that are not as many as the nodes, `Limit` above 65536 values, `Range` below two values or
-/// for an input that is not below them, `Slot` on the first line where the plan's modulus is no
+/// inputs that are not as many as the nodes, `Limit` above 65536 values, `Range` below two values
+/// or for an input that is not below them, `Slot` on the first line where the plan's modulus is no
 /// multiple of a slot's length. A part that lacks its `end` is refused `Form` at the line after the
 /// last. `NoMemory` comes where memory was refused.
 pub fn read_agree(

@@ -8,8 +8,6 @@ pub mod laws;
 mod reading;
 mod refusals;
 mod requests;
-#[cfg(test)]
-mod tests;
 
 pub use fire_lines::FireLines;
 pub use fires::Fire;

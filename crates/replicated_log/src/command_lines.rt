@@ -16,7 +16,8 @@ const MOST_COMMANDS: usize = 16;
 
 /// The numbers of all words, or none where one of them is no number.
 fn numbers(alloc: Global, words: Words) -> Result<Option<Vec<u64>>, TakeError<Rule>>
-    ensures { GivesSeen (λ found. found.items) (numbers_of (length words.entry) words.entry) result }
+    ensures { GivesSeen (λ found. found.items) (numbers_of (length words.entry) words.entry)
+        result }
 {
     let mut numbers = Vec::new(alloc);
     for word in words {

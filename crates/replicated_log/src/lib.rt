@@ -10,8 +10,6 @@ mod log_parts;
 mod reading;
 mod refusals;
 mod replica;
-#[cfg(test)]
-mod tests;
 
 pub use commands::Commands;
 pub use entries::{Entries, Entry};

@@ -2,7 +2,8 @@ ghost use Rattle.std.specs.Prelude.{◌≡◌, codes};
 ghost use Rattle.texts.specs.Shapes.{numbers_after};
 ghost use Rattle.texts.specs.Lines.{words_of};
 ghost use Rattle.replicated_log.specs.EntryLength.{entry_length};
-ghost use Rattle.replicated_log.specs.LogPart.{nothing_read, behind_head, values_tested, keep_tested, end_step};
+ghost use Rattle.replicated_log.specs.LogPart.{nothing_read, behind_head, values_tested};
+ghost use Rattle.replicated_log.specs.LogPart.{keep_tested, end_step};
 
 use crate::command_lines::read_commands;
 use crate::commands::Commands;

@@ -1,4 +1,5 @@
-ghost use Rattle.std.specs.Prelude.{◌≡◌, ◌+◌, ◌*◌, ◌^◌, ◌<◌, ◌≤◌, List, [], ◌∷◌, length, map, replicate, take, slice_set, slice_index_or, All, MatchResult};
+ghost use Rattle.std.specs.Prelude.{◌≡◌, ◌+◌, ◌*◌, ◌^◌, ◌<◌, ◌≤◌, List, [], ◌∷◌, length, map};
+ghost use Rattle.std.specs.Prelude.{replicate, take, slice_set, slice_index_or, All, MatchResult};
 ghost use Rattle.circular_buffer.specs.Buffer.{buffer};
 ghost use Rattle.counter_core.specs.Working.{IsFor, IsAsRoomy};
 ghost use Rattle.replicated_log.specs.EntryLength.{entry_length, owner_at, command_at};
@@ -86,9 +87,9 @@ impl Replica {
     ghost use Rattle.replicated_log.specs.Logs.{log_in, log_layer};
     ghost use Rattle.replicated_log.specs.LogsSeen.{layer_seen, logs_seen};
 
-    /// A log over the counter of a plan, as it is said of it: for as many nodes, each with a command
-    /// below the values. All logs are empty. `NoMemory` comes where memory was refused, and nothing
-    /// else is an error.
+    /// A log over the counter of a plan, as it is said of it: for as many nodes, each with a
+    /// command below the values. All logs are empty. `NoMemory` comes where memory was refused, and
+    /// nothing else is an error.
     pub fn new(alloc: Global, plan: &Plan, said: LogPart) -> Result<Replica, LogError>
         requires { IsForPlan plan.now said }
         ensures layer { IfOk result (λ replica. layer_seen replica ≡ log_layer plan.now said) }

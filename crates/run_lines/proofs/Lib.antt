@@ -7,3 +7,11 @@ pub mod SlotShift
 pub mod LowestCorrect
 pub mod SlotEnds
 pub mod LaterOutputs
+pub mod ShownLaws
+pub mod HoldLaws
+pub mod DecisionLaws
+pub mod Rooms
+pub mod Ending
+pub mod FireLaws
+pub mod Owners
+pub mod EntryLaws

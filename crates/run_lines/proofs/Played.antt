@@ -3,7 +3,7 @@ use Rattle.std.proofs.Common.{◌≡◌, ℕ, ◌+◌, ◌<◌, List, Bool, fals
 use Rattle.std.specs.Prelude.{OnOk}
 use Rattle.std.specs.List.{flat_map, range_with_len}
 use Rattle.sync_types.specs.FaultSets.{FaultIds}
-use Rattle.construction.specs.Plans.{Plan, plan_bound}
+use Rattle.construction.specs.Plans.{Plan}
 use Rattle.plan_numbers.specs.Premises.{IsAccepted}
 use Rattle.plan_laws.specs.PlanMeaning.{plan_meaning}
 use Rattle.texts.specs.Growth.{Told, Wrote, Cut, Puts}
@@ -66,12 +66,11 @@ module _ {O Kept : Type 0} (layer : O → Layer Kept) (kept : O → List Kept) (
         ∙ (ap₂ (λ (plan : Plan) (script : Script). line_if_shown wording plan script r.at (scene_at (plan_meaning plan) script (layer start.overlay) (kept start.overlay) r.at)) p.plan p.script
         ∙ ap line p.at))
 
-    pub over_still : (bound : ℕ) → IsOver layer bound start → IsOver layer bound r
-    over_still bound over =
+    pub over_still : IsOver layer start → IsOver layer r
+    over_still over =
         let p = so_far.played in
         record {
           accepted = subst IsAccepted (sym p.plan) over.accepted;
-          bound_is = over.bound_is ∙ ap (λ (plan : Plan). plan_bound plan) (sym p.plan);
           over = subst (λ (l : Layer Kept). StandsOver l (plan_meaning r.plan)) (sym p.layer) (subst (λ (plan : Plan). StandsOver (layer start.overlay) (plan_meaning plan)) (sym p.plan) over.over);
         }
 

@@ -2,3 +2,12 @@ pub mod RunTexts
 pub mod PlayedTexts
 pub mod Playing
 pub mod SlotTexts
+pub mod ShownTexts
+pub mod HoldTexts
+pub mod RowTexts
+pub mod DecisionTexts
+pub mod LayerLaws
+pub mod FireTexts
+pub mod EntryTexts
+pub mod LengthSeen
+pub mod LogLaws

@@ -3,6 +3,7 @@
 use Rattle.std.specs.Prelude.{ℕ, ◌+◌, List, [], ◌∷◌, Bool, if◌then◌else◌, codes}
 use Rattle.std.specs.List.{concat, flat_map, range_with_len}
 use Rattle.sync_types.specs.States.{State}
+use Rattle.edge_io.specs.Rising.{Labelled}
 use Rattle.construction.specs.Plans.{Plan, plan_bound}
 use Rattle.plan_laws.specs.PlanMeaning.{plan_meaning}
 use Rattle.counter_core.specs.Overlays.{Layer}
@@ -12,9 +13,15 @@ use Rattle.layer_laws.specs.Scenes.{Scene}
 use Rattle.round_runner.specs.Scenes.{scene_at}
 use Rattle.run_lines.specs.RunTexts.{bound_line, words_of_nodes, lock_lines}
 
--- The lines of a word: of which configurations one is written, each by the plan, the script, its
--- number and its scene; the front of a line; and in it the word of a node that is correct there.
+-- a number behind a label
+abbrev pub numbered : (label : List ℕ) → (value : ℕ) → Labelled
+numbered label value = record { label = label; value = value }
+
+-- The lines of a word: what stands before the number of a configuration, where a front is that
+-- number; of which configurations a line is written, each by the plan, the script, its number and
+-- its scene; the front of a line; and in it the word of a node that is correct there.
 pub record Wording (Kept : Type 0) : Type 0 where
+  pub label : List ℕ
   pub shows : Plan → Script → (c : ℕ) → Scene Kept → Bool
   pub front : Plan → Script → (c : ℕ) → Scene Kept → List ℕ
   pub word : Plan → Scene Kept → (v : ℕ) → List ℕ

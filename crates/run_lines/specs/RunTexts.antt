@@ -1,6 +1,6 @@
 -- Lines that are written of each run: the bound, words of nodes, and which configuration of each
 -- era is the first locked one.
-use Rattle.std.specs.Prelude.{ℕ, ◌+◌, List, [], ◌∷◌, length, Option, Some, None, position}
+use Rattle.std.specs.Prelude.{ℕ, ◌+◌, List, [], ◌∷◌, ◌++◌, length, Option, Some, None, position}
 use Rattle.std.specs.Prelude.{codes, decimal, ◌==◌, if◌then◌else◌}
 use Rattle.std.specs.List.{concat, flat_map, range_with_len}
 use Rattle.sync_types.specs.States.{State}
@@ -11,13 +11,13 @@ use Rattle.adversary_script.specs.Eras.{first_of_era}
 use Rattle.round_runner.specs.Locks.{era_locked}
 
 abbrev pub bound_line : ℕ → List ℕ
-bound_line bound = concat (codes "bound " ∷ decimal bound ∷ codes "\n" ∷ [])
+bound_line bound = (codes "bound " ++ decimal bound) ++ codes "\n"
 
 -- ---- words
 
 -- a word that is a number
 abbrev pub number_word : ℕ → List ℕ
-number_word n = concat (codes " " ∷ decimal n ∷ [])
+number_word n = codes " " ++ decimal n
 
 -- the word of a node, or a star where it is faulty
 abbrev pub word_or_star : (word : ℕ → List ℕ) → (faulty : List ℕ) → (v : ℕ) → List ℕ
@@ -31,7 +31,7 @@ words_of_nodes plan word faulty =
 -- ---- locked configurations
 
 abbrev pub locked_line : Option ℕ → List ℕ
-locked_line (Some t) = concat (codes "locked " ∷ decimal t ∷ codes "\n" ∷ [])
+locked_line (Some t) = (codes "locked " ++ decimal t) ++ codes "\n"
 locked_line None = codes "locked none\n"
 
 module _ (plan : Plan) (script : Script) (config_at : ℕ → List State) where
@@ -43,7 +43,7 @@ module _ (plan : Plan) (script : Script) (config_at : ℕ → List State) where
 
   -- the front of the line of era j
   abbrev pub era_front : (j : ℕ) → List ℕ
-  era_front j = concat (codes "era " ∷ decimal (first_of_era script j) ∷ codes " " ∷ [])
+  era_front j = (codes "era " ++ decimal (first_of_era script j)) ++ codes " "
 
   abbrev pub era_line : (j : ℕ) → List ℕ
   era_line j = concat (era_front j ∷ locked_line (lock_of_era j) ∷ [])

@@ -4,28 +4,24 @@ ghost use Rattle.round_runner.specs.Runners.{IsPlaying, configuration_of};
 ghost use Rattle.run_lines.specs.RunTexts.{locked_line, era_line, lock_lines};
 
 use counter_core::Overlay;
-use edge_io::{Piece, Sink, WriteFault, put_all, put_pieces};
+use edge_io::{TextSink, WriteFault};
 use round_runner::Runner;
 
 /// Writes which configuration is the first locked one.
-fn put_locked<K: Sink>(sink: &mut K, locked: Option<u64>) -> Result<(), WriteFault>
-    ensures { Puts result (locked_line locked) (K.told sink.old) (K.told sink.new) }
+fn put_locked<K: TextSink>(sink: &mut K, locked: Option<u64>) -> Result<(), WriteFault>
+    ensures { Puts result (locked_line locked) (K.Sink.told sink.old) (K.Sink.told sink.new) }
 {
     match locked {
-        Some(t) => put_pieces(
-            sink,
-            &[
-                Piece::Text(b"locked "),
-                Piece::Number(t),
-                Piece::Text(b"\n"),
-            ],
-        ),
-        None => put_all(sink, b"locked none\n"),
+        Some(t) => {
+            sink.labelled(b"locked ", t)?;
+            sink.byte(b'\n')
+        }
+        None => sink.text(b"locked none\n"),
     }
 }
 
 /// Writes the line of an era, of a runner at the end.
-fn put_era<K: Sink, O: Overlay>(
+fn put_era<K: TextSink, O: Overlay>(
     sink: &mut K,
     runner: &Runner<O>,
     era: usize,
@@ -35,16 +31,10 @@ fn put_era<K: Sink, O: Overlay>(
     ensures { (began : List O.Kept) → IsPlaying O.layer O.kept began runner.now
         → Puts result (era_line runner.now.plan runner.now.script
         (configuration_of O.layer began runner.now) era)
-        (K.told sink.old) (K.told sink.new) }
+        (K.Sink.told sink.old) (K.Sink.told sink.new) }
 {
-    put_pieces(
-        sink,
-        &[
-            Piece::Text(b"era "),
-            Piece::Number(runner.script().era_start(era)),
-            Piece::Text(b" "),
-        ],
-    )?;
+    sink.labelled(b"era ", runner.script().era_start(era))?;
+    sink.byte(b' ')?;
     put_locked(sink, runner.locked_in(era))
 }
 
@@ -53,12 +43,15 @@ fn put_era<K: Sink, O: Overlay>(
 ///
 /// The runner has played all rounds of its script, with any layer. `WriteFault` comes where the
 /// sink counted one; a front of the lines was then taken.
-pub fn put_locks<K: Sink, O: Overlay>(sink: &mut K, runner: &Runner<O>) -> Result<(), WriteFault>
+pub fn put_locks<K: TextSink, O: Overlay>(
+    sink: &mut K,
+    runner: &Runner<O>,
+) -> Result<(), WriteFault>
     requires { runner.now.at ≡ runner.now.script.rounds }
     ensures { (began : List O.Kept) → IsPlaying O.layer O.kept began runner.now
         → Puts result (lock_lines runner.now.plan runner.now.script
         (configuration_of O.layer began runner.now))
-        (K.told sink.old) (K.told sink.new) }
+        (K.Sink.told sink.old) (K.Sink.told sink.new) }
 {
     if runner.script().version() == 1 {
         return put_locked(sink, runner.locked_in(0));

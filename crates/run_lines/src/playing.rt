@@ -8,81 +8,74 @@ use crate::lines::Lines;
 use crate::locks::put_locks;
 use crate::words::put_if_shown;
 use counter_core::Overlay;
-use edge_io::{Gathered, Piece, Sink, WriteFault, put_pieces};
+use edge_io::{Gathered, RisingText, Sink, TextSink, WriteFault};
 use round_runner::Runner;
 
 /// Plays all rounds of a script, and writes the lines that there are.
-fn put_lines<K: Sink, O: Overlay, L: Lines<O>>(
+fn put_lines<K: TextSink, O: Overlay, L: Lines<O>>(
     sink: &mut K,
-    bound: u64,
     runner: &mut Runner<O>,
     lines: &L,
 ) -> Result<(), WriteFault>
-    requires { IsToPlay O.layer O.kept bound runner.old }
+    requires { IsToPlay O.layer O.kept runner.old }
     ensures lines { Puts result (lines_text runner.old.plan runner.old.script
         (O.layer runner.old.overlay) (O.kept runner.old.overlay) (L.wording lines.now))
-        (K.told sink.old) (K.told sink.new) }
+        (K.Sink.told sink.old) (K.Sink.told sink.new) }
     ensures played { OnOk result
         (HasPlayed O.layer O.kept runner.old runner.old.script.rounds runner.new) }
 {
     let rounds = runner.script().rounds();
+    let mut number = RisingText::new(lines.label(), 0);
     for _ in 0..rounds {
-        match put_if_shown(sink, bound, runner, lines) {
+        match put_if_shown(sink, runner, lines, &number) {
             Ok(()) => {}
             Err(WriteFault) => return Err(WriteFault),
         }
         runner.round();
+        number.rise();
     }
-    put_if_shown(sink, bound, runner, lines)
+    put_if_shown(sink, runner, lines, &number)
 }
 
 /// Writes the line of a plan's bound. `WriteFault` comes where the sink counted one; a front of the
 /// line was then taken.
-pub fn put_bound<K: Sink>(sink: &mut K, bound: u64) -> Result<(), WriteFault>
-    ensures { Puts result (bound_line bound) (K.told sink.old) (K.told sink.new) }
+pub fn put_bound<K: TextSink>(sink: &mut K, bound: u64) -> Result<(), WriteFault>
+    ensures { Puts result (bound_line bound) (K.Sink.told sink.old) (K.Sink.told sink.new) }
 {
-    put_pieces(
-        sink,
-        &[
-            Piece::Text(b"bound "),
-            Piece::Number(bound),
-            Piece::Text(b"\n"),
-        ],
-    )
+    sink.labelled(b"bound ", bound)?;
+    sink.byte(b'\n')
 }
 
 /// Writes the bound, the lines that there are, and the first locked configurations.
-fn put_all_lines<K: Sink, O: Overlay, L: Lines<O>>(
+fn put_all_lines<K: TextSink, O: Overlay, L: Lines<O>>(
     sink: &mut K,
-    bound: u64,
     runner: &mut Runner<O>,
     lines: &L,
 ) -> Result<(), WriteFault>
-    requires { IsToPlay O.layer O.kept bound runner.old }
+    requires { IsToPlay O.layer O.kept runner.old }
     ensures { Puts result (text_of O.layer O.kept (L.wording lines.now) runner.old)
-        (K.told sink.old) (K.told sink.new) }
+        (K.Sink.told sink.old) (K.Sink.told sink.new) }
 {
-    put_bound(sink, bound)?;
-    put_lines(sink, bound, runner, lines)?;
+    put_bound(sink, runner.bound())?;
+    put_lines(sink, runner, lines)?;
     put_locks(sink, runner)
 }
 
 /// Plays all rounds of a script, and writes the bound, a line of each configuration that has one,
 /// and the first locked configuration of each era. It takes no memory.
 ///
-/// The runner is at configuration 0, its layer stands over the counter of its plan, and `bound` is
-/// the plan's. `WriteFault` comes where the sink counted one; a front of the text was then taken.
+/// The runner is at configuration 0, and its layer stands over the counter of its plan. `WriteFault`
+/// comes where the sink counted one; a front of the text was then taken.
 pub fn put_played<K: Sink, O: Overlay, L: Lines<O>>(
     sink: &mut K,
-    bound: u64,
     runner: &mut Runner<O>,
     lines: &L,
 ) -> Result<(), WriteFault>
-    requires { IsToPlay O.layer O.kept bound runner.old }
+    requires { IsToPlay O.layer O.kept runner.old }
     ensures { Puts result (text_of O.layer O.kept (L.wording lines.now) runner.old)
         (K.told sink.old) (K.told sink.new) }
 {
     let mut gathered = Gathered::new(sink);
-    let written = put_all_lines(&mut gathered, bound, runner, lines);
+    let written = put_all_lines(&mut gathered, runner, lines);
     gathered.finish(written)
 }

@@ -21,8 +21,8 @@ fn lowest_correct(nodes: u32, faulty: &FaultSet) -> u32
 }
 
 /// What the correct node of the lowest id shows in the runner's configuration.
-pub fn lead_output<O: Overlay>(bound: u64, runner: &Runner<O>) -> u64
-    requires { IsOver O.layer bound runner.now }
+pub fn lead_output<O: Overlay>(runner: &Runner<O>) -> u64
+    requires { IsOver O.layer runner.now }
     ensures { result ≡
         lead_output runner.now.plan runner.now.script runner.now.at runner.now.states }
 {
@@ -60,12 +60,13 @@ fn may_end(script: &Script, bound: u64, length: u64, at: u64) -> bool
 /// Whether a slot of `length` rounds ends in the runner's configuration of which a line is written:
 /// it began in a configuration that is shown, later than the bound after the begin of its era, and
 /// ends in that era. `length` is at least 1 and at most 1000, and divides the plan's modulus.
-pub fn slot_ends<O: Overlay>(bound: u64, runner: &Runner<O>, length: u64) -> bool
-    requires over { IsOver O.layer bound runner.now }
+pub fn slot_ends<O: Overlay>(runner: &Runner<O>, length: u64) -> bool
+    requires over { IsOver O.layer runner.now }
     requires some { 1 ≤ length }
     requires short { length ≤ 1000 }
     ensures { result ≡
         ends_at runner.now.plan runner.now.script length runner.now.at runner.now.states }
 {
-    may_end(runner.script(), bound, length, runner.at()) && lead_output(bound, runner) % length == 0
+    may_end(runner.script(), runner.bound(), length, runner.at())
+        && lead_output(runner) % length == 0
 }

@@ -13,8 +13,8 @@ pub fn one_holder()
     ensures is_one { HolderIsOne }
 {}
 
-/// In each configuration of a run of an accepted plan, from the plan's bound on, at most one correct
-/// node holds at the output that it shows, whatever the table and the lies.
+/// In each configuration of a run of an accepted plan, from the plan's bound on, at most one
+/// correct node holds at the output that it shows, whatever the table and the lies.
 pub fn at_most_one_holds()
     ensures { AtMostOneHolds }
 {}

@@ -10,8 +10,6 @@ mod reading;
 mod refusals;
 mod slot_lines;
 mod tables;
-#[cfg(test)]
-mod tests;
 
 pub use lines::SlotLine;
 pub use reading::read_slots;

@@ -16,9 +16,9 @@ use sync_types::Rule;
 ///
 /// `Refused` is the first line that fails, with the first rule that it fails: `Form`, `Limit` for
 /// the 257th line, `Node` for an id that is not that of a node, `Range` for outputs that end before
-/// they begin or are not below the plan's modulus, `Overlap` for an output that stands in an earlier
-/// line. A part that lacks its `end` is refused `Form` at the line after the last. `NoMemory` comes
-/// where memory was refused.
+/// they begin or are not below the plan's modulus, `Overlap` for an output that stands in an
+/// earlier line. A part that lacks its `end` is refused `Form` at the line after the last.
+/// `NoMemory` comes where memory was refused.
 pub fn read_slots(
     alloc: Global,
     plan: &Plan,

@@ -6,11 +6,11 @@ use Rattle.run_lines.proofs.playing.put_all_lines.Goals as goal
 pub returns-in_err-put_bound : goal.returns-in_err-put_bound
 returns-in_err-put_bound g c =
     puts_exit _ _ _ _ _ c.from_residual.ensures.1
-    (cut_more _ _ _ _ (rw c.requires.over.bound_is at c.in_err-put_bound.ensures))
+    (cut_more _ _ _ _ (rw c.bound.ensures at c.in_err-put_bound.ensures))
 
 pub returns-in_err-put_lines : goal.returns-in_err-put_lines
 returns-in_err-put_lines g c =
-    let bound = rw c.requires.over.bound_is at c.in_ok-put_bound.ensures in
+    let bound = rw c.bound.ensures at c.in_ok-put_bound.ensures in
     puts_exit _ _ _ _ _ c.from_residual-in_err-put_lines.ensures.1
     (cut_then _ _ _ _ _ bound (cut_more _ _ _ _ c.in_err-put_lines.ensures.lines))
 
@@ -19,7 +19,7 @@ put_locks-requires g c = end_at _ _ (g.L.Lines.wording c.args.lines.now) _ _ c.i
 
 pub returns : goal.returns
 returns g c =
-    let bound = rw c.requires.over.bound_is at c.in_ok-put_bound.ensures in
+    let bound = rw c.bound.ensures at c.in_ok-put_bound.ensures in
     let lines = c.in_ok-put_lines.ensures in
     puts_then _ _ _ _ _ _ bound
     (puts_then _ _ _ _ _ _ lines.lines

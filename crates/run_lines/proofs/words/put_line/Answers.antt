@@ -17,4 +17,4 @@ pub returns : goal.returns
 returns g c =
     let faulty = faulty_ids _ _ _ _ _ c.faulty_at.ensures c.script.ensures c.at.ensures in
     let words = rw faulty at c.in_ok-put_words.ensures in
-    puts_then _ _ _ _ _ _ c.in_ok-put_front.ensures (puts_then _ _ _ _ _ _ words c.put_all.ensures)
+    puts_then _ _ _ _ _ _ c.in_ok-put_front.ensures (puts_then _ _ _ _ _ _ words c.byte.ensures)

@@ -1,3 +1,0 @@
-pub mod HoldTexts
-pub mod DecisionTexts
-pub mod Laws

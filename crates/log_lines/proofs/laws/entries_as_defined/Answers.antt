@@ -1,5 +1,0 @@
-use Rattle.log_lines.proofs.laws.entries_as_defined.Goals as goal
-use Rattle.log_lines.proofs.EntryLaws as law
-
-pub returns : goal.returns
-returns c = law.entries_as_defined

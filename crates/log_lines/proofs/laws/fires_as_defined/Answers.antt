@@ -1,5 +1,0 @@
-use Rattle.log_lines.proofs.laws.fires_as_defined.Goals as goal
-use Rattle.log_lines.proofs.FireLaws as law
-
-pub returns : goal.returns
-returns c = law.fires_as_defined

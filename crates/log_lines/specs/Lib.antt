@@ -1,4 +1,0 @@
-pub mod FireTexts
-pub mod EntryTexts
-pub mod LengthSeen
-pub mod Laws

@@ -1,0 +1,114 @@
+ghost use Rattle.std.specs.Prelude.{◌≡◌, ◌<◌, ◌≤◌, ◌^◌};
+ghost use Rattle.texts.specs.Growth.{Puts};
+ghost use Rattle.replicated_log.specs.EntryLength.{entry_length};
+ghost use Rattle.replicated_log.specs.Logs.{log_in};
+ghost use Rattle.replicated_log.specs.LogsSeen.{layer_seen, logs_seen};
+ghost use Rattle.run_lines.specs.EntryTexts.{newest_value, output_before, entry_front};
+
+use crate::{Lines, lead_output, slot_ends};
+use edge_io::{RisingText, TextSink, WriteFault};
+use plan_numbers::Plan;
+use replicated_log::{Replica, entry_length, owner_at};
+use round_runner::Runner;
+
+/// The lines of the word `log`: of each slot that counts, when it ends, its owner and the newest
+/// values in the logs.
+#[derive(Clone, Copy, Debug, Drop)]
+pub struct Logged {
+    nodes: u32,
+    faults: u32,
+    modulus: u64,
+    ghost some: { 0 < nodes },
+    ghost few: { faults ≤ 85 },
+    ghost room: { entry_length faults ≤ modulus },
+    ghost most: { modulus ≤ 2 ^ 40 },
+}
+
+/// The output that came so many rounds before this one.
+fn output_before(modulus: u64, rounds: u64, output: u64) -> u64
+    requires modulus { modulus ≤ 2 ^ 40 }
+    requires rounds { rounds ≤ modulus }
+    ensures { result ≡ output_before modulus rounds output }
+{
+    if output < rounds {
+        output + modulus - rounds
+    } else {
+        output - rounds
+    }
+}
+
+/// The value of the newest entry in the log of node `v`, 0 where there is none.
+fn newest_value(replica: &Replica, v: u32) -> u64
+    requires { v < (layer_seen replica.now).nodes }
+    ensures { result ≡ newest_value (log_in (logs_seen replica.now) v) }
+{
+    if replica.entries(v) == 0 {
+        0
+    } else {
+        replica.entry(v, 0).value
+    }
+}
+
+/// Writes the front of the line of a slot that begins in configuration `t` and is of this owner.
+fn put_slot<K: TextSink>(sink: &mut K, t: u64, owner: u32) -> Result<(), WriteFault>
+    ensures { Puts result (entry_front t owner) (K.Sink.told sink.old) (K.Sink.told sink.new) }
+{
+    sink.labelled(b"entry ", t)?;
+    sink.labelled(b" owner ", u64::from(owner))
+}
+
+impl Logged {
+    ghost use Rattle.construction.specs.Plans.{plan_nodes, plan_faults, plan_modulus};
+    ghost use Rattle.replicated_log.specs.PutEntries.{HasEntries};
+    ghost use Rattle.run_lines.specs.LengthSeen.{IsLoggedFor};
+
+    /// The lines of a log over the counter of a plan, whose modulus is a multiple of an entry of
+    /// each node.
+    pub fn new(plan: &Plan) -> Logged
+        requires { HasEntries plan.now }
+        ensures { IsLoggedFor plan.now result }
+    {
+        plan.tell();
+        Logged {
+            nodes: plan.nodes(),
+            faults: plan.faults(),
+            modulus: plan.modulus(),
+        }
+    }
+}
+
+impl Lines<Replica> for Logged {
+    ghost use Rattle.run_lines.specs.EntryTexts.{entry_wording};
+
+    ghost wording = { λ l. entry_wording l.nodes l.faults l.modulus };
+
+    fn label(&self) -> &'static [u8] {
+        b""
+    }
+
+    fn shows(&self, runner: &Runner<Replica>) -> bool {
+        slot_ends(runner, entry_length(self.faults))
+    }
+
+    fn put_front<K: TextSink>(
+        &self,
+        sink: &mut K,
+        runner: &Runner<Replica>,
+        _number: &RisingText,
+    ) -> Result<(), WriteFault> {
+        let length = entry_length(self.faults);
+        let output = output_before(self.modulus, length, lead_output(runner));
+        let owner = owner_at(self.nodes, self.faults, output);
+        put_slot(sink, runner.at() - length, owner)
+    }
+
+    fn put_word<K: TextSink>(
+        &self,
+        sink: &mut K,
+        runner: &Runner<Replica>,
+        v: u32,
+    ) -> Result<(), WriteFault> {
+        let value = newest_value(runner.overlay(), v);
+        sink.labelled(b" ", value)
+    }
+}

@@ -1,0 +1,41 @@
+use crate::Lines;
+use counter_core::NoOverlay;
+use edge_io::{RisingText, TextSink, WriteFault};
+use round_runner::Runner;
+
+/// The rows of the word `run`: of each configuration that is shown, what its nodes show.
+#[derive(Clone, Copy, Debug, Drop)]
+pub struct Rows;
+
+impl Lines<NoOverlay> for Rows {
+    ghost use Rattle.run_lines.specs.RowTexts.{row_wording};
+
+    ghost wording = { λ _. row_wording };
+
+    fn label(&self) -> &'static [u8] {
+        b"row "
+    }
+
+    fn shows(&self, runner: &Runner<NoOverlay>) -> bool {
+        let (first, last) = runner.script().shown();
+        first <= runner.at() && runner.at() <= last
+    }
+
+    fn put_front<K: TextSink>(
+        &self,
+        sink: &mut K,
+        _runner: &Runner<NoOverlay>,
+        number: &RisingText,
+    ) -> Result<(), WriteFault> {
+        sink.rising(number)
+    }
+
+    fn put_word<K: TextSink>(
+        &self,
+        sink: &mut K,
+        runner: &Runner<NoOverlay>,
+        v: u32,
+    ) -> Result<(), WriteFault> {
+        sink.labelled(b" ", runner.output(v))
+    }
+}

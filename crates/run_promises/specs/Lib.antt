@@ -1,0 +1,4 @@
+pub mod Promises
+pub mod Locks
+pub mod LayeredEras
+pub mod Columns

@@ -1,0 +1,49 @@
+//! The laws of what is played and written of a script. Each function is empty, or calls another
+//! law: its clause is the law.
+
+ghost use Rattle.counter_core.specs.Overlays.{Layer};
+ghost use Rattle.run_promises.specs.LayeredEras.{ErasAreLayerRuns};
+ghost use Rattle.run_promises.specs.Promises.{LinesDecide, LinesFireTogether, LinesPutOne};
+ghost use Rattle.run_promises.specs.Columns.{NodesMakeColumns, EraPacketsAreRead};
+
+use counter_core::Overlay;
+use node_stepper::laws::packets_read_back;
+
+/// What is played of each era of a script with a layer whose step keeps values in range is a run
+/// with the layer, with the era's faulty nodes, whose first round is that of the era's first
+/// configuration.
+pub fn eras_are_layer_runs<O: Overlay>()
+    ensures { (layer : Layer O.Kept) → ErasAreLayerRuns layer }
+{}
+
+/// In each line of a slot of consensus the words of all correct nodes are one number, which is
+/// their common input where they have one.
+pub fn lines_decide()
+    ensures { LinesDecide }
+{}
+
+/// In each line of a slot of firing all words of correct nodes say that they fire, or all that they
+/// don't: as the correct nodes requested in the round before the slot, where they did the same.
+pub fn lines_fire_together()
+    ensures { LinesFireTogether }
+{}
+
+/// In each line of a slot of the log the words of all correct nodes are one number, the value of
+/// the slot's own entry, which stands newest in the log of each of them. Where the owner that the
+/// line names is correct, it is what the owner commands at the output with which the slot begins.
+pub fn lines_put_one()
+    ensures { LinesPutOne }
+{}
+
+/// A node that begins in its state of an era's first configuration, and is given the packets of the
+/// era's rounds, writes its column of that era: the cell of its state in each configuration.
+pub fn nodes_make_columns()
+    ensures { NodesMakeColumns }
+{}
+
+/// The bytes of the packets of an era's rounds are read as these packets, each of them whole.
+pub fn era_packets_are_read()
+    ensures { EraPacketsAreRead }
+{
+    packets_read_back();
+}
