@@ -7,15 +7,15 @@ use Rattle.std.proofs.lemmas.List.Elements.{All-head, All-tail, All-append}
 use Rattle.texts.specs.Parts.{goes, ends, refuses, Found, At}
 use Rattle.run_certificates.specs.declared.Verdict.{Verdict}
 use Rattle.texts.specs.Lines.{whole_lines}
-use Rattle.line_words.specs.Words.{text_of, open_rest}
+use Rattle.texts.specs.Words.{text_of, open_rest}
 use Rattle.run_certificates.specs.Items.{Item, HasLine, item_words, item_line}
 use Rattle.run_certificates.specs.Certificates.{Certificate, items_of, certificate_text}
 use Rattle.run_certificates.specs.Grammar.{IsCertificate, AreFirstLines}
 use Rattle.run_certificates.specs.Stated.{verdict_of}
 use Rattle.run_certificates.specs.Checking.{Stage, unread, Onward, step, line_step, accepts, unless_followed, alone, checked}
 use Rattle.run_certificates.specs.Laws.{IsOf, IsRefusedAt, IsAnswer, Stops}
-use Rattle.line_words.proofs.Texts.{IsOneLine, whole_text, cut_again}
-use Rattle.line_words.proofs.LineWords.{joined_is_one}
+use Rattle.texts.proofs.Texts.{IsOneLine, whole_text, cut_again}
+use Rattle.texts.proofs.LineWords.{joined_is_one}
 use Rattle.run_certificates.proofs.Lexical.{item_is_words}
 use Rattle.run_certificates.proofs.Complete.{following, followed}
 use Rattle.run_certificates.proofs.Head.{opened, certificate_read, read_whole}

@@ -1,7 +1,7 @@
 -- Worked certificates: by computation, as text, as value, and as what they come to.
 use Rattle.std.proofs.Common.{◌≡◌, ℕ, List, [], ◌∷◌, Option, Some, None, Ok, Err, codes, refl}
 use Rattle.construction.specs.Widths.{width}
-use Rattle.bit_lists.specs.Bits.{bits, number_of, bytes_of_bits}
+use Rattle.state_codec.specs.Bits.{bits, number_of, bytes_of_bits}
 use Rattle.state_codec.specs.Shapes.{moduli_of, registers_bits, shape_of}
 use Rattle.state_codec.specs.Reading.{registers_from}
 use Rattle.hex.specs.Hex.{decode_pairs}

@@ -5,8 +5,8 @@ use Rattle.std.proofs.lemmas.List.Elements.{All-nil, All-cons}
 use Rattle.std.proofs.lemmas.Bool.Decides.{nat_tests}
 use Rattle.state_codec.specs.Texts.{is_lower_digit}
 use Rattle.texts.specs.Lines.{words_of}
-use Rattle.line_words.specs.Words.{joined}
-use Rattle.line_words.proofs.LineWords.{is_solid, all_weaker, IsWord, words_there, words_back, decimal_word, number_back, number_there}
+use Rattle.texts.specs.Words.{joined}
+use Rattle.texts.proofs.LineWords.{is_solid, all_weaker, IsWord, words_there, words_back, decimal_word, number_back, number_there}
 use Rattle.std.proofs.Common.{codes, bytes_eq, option_map}
 use Rattle.texts.specs.Shapes.{onto_numbers}
 use Rattle.std.proofs.lemmas.Option.{same_Some}

@@ -1,7 +1,7 @@
 -- A run certificate as a value, and its text.
 use Rattle.std.specs.Prelude.{ℕ, ◌+◌, List, [], ◌∷◌, ◌++◌, map, reverse, Option, Some, None, ◌==◌, if◌then◌else◌}
 use Rattle.construction.specs.Plans.{Level, Plan}
-use Rattle.line_words.specs.Words.{text_of}
+use Rattle.texts.specs.Words.{text_of}
 use Rattle.run_certificates.specs.Items.{Item, run_item, base_item, level_item, faulty_item, start_item, row_item, lie_item, era_item, end_item, item_line}
 
 -- a node is put into the state of these hex digits

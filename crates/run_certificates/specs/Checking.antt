@@ -14,7 +14,7 @@ use Rattle.adversary_script.specs.WordTests.{are_below, is_rising}
 use Rattle.round_runner.specs.Locks.{is_locked, first_of}
 use Rattle.run_certificates.specs.declared.Verdict.{Verdict}
 use Rattle.texts.specs.Lines.{whole_lines}
-use Rattle.line_words.specs.Words.{open_rest}
+use Rattle.texts.specs.Words.{open_rest}
 use Rattle.run_certificates.specs.Items.{Item, run_item, base_item, level_item, faulty_item, start_item, row_item, lie_item, era_item, end_item, said}
 use Rattle.run_certificates.specs.Grammar.{pairs_of, plan_version, most_eras}
 use Rattle.run_certificates.specs.Stated.{Stand, Told, stepped, unless_faulty, shown_row, same_rows, verdict_by}

@@ -7,7 +7,7 @@ use Rattle.texts.specs.Lines.{words_of}
 use Rattle.texts.specs.Numbers.{number_of}
 use Rattle.state_codec.specs.Texts.{is_lower_digit}
 use Rattle.adversary_script.specs.WordTests.{numbers_in}
-use Rattle.line_words.specs.Words.{joined}
+use Rattle.texts.specs.Words.{joined}
 
 pub data Item : Type 0 where
   run_item : ℕ → Item

@@ -5,9 +5,7 @@ use Rattle.std.proofs.lemmas.List.{length-replicate}
 use Rattle.std.proofs.lemmas.List.Elements.{All-push, All-nil, All-cons, All-head, All-tail}
 use Rattle.sync_types.specs.States.{State, zero_state, zero_register}
 use Rattle.sync_types.specs.FaultSets.{FaultIds, is_in}
-use Rattle.state_codec.specs.Packs.{Pack}
 use Rattle.run_certificates.specs.Grammar.{pairs_of}
-use Rattle.run_checker.specs.Hearing.{IsRound}
 use Rattle.construction.specs.Plans.{Plan, plan_nodes, plan_depth}
 use Rattle.plan_numbers.specs.Premises.{IsAccepted}
 use Rattle.plan_laws.specs.PlanMeaning.{IsInRange}
@@ -28,7 +26,7 @@ use Rattle.std.proofs.lemmas.List.FromFn.{length-map-range_with_len}
 use Rattle.construction.specs.Plans.{plan_low}
 use Rattle.std.specs.List.{flat_map}
 use Rattle.std.proofs.lemmas.Bool.{and_parts, eqb-true, ltb-true, lt-ltb, le-ltb, ne_eqb}
-use Rattle.run_checker.specs.Rounds.{AreStates}
+use Rattle.run_checker.specs.Rounds.{AreStates, IsTold}
 
 module _ (plan : Plan) (accepted : IsAccepted plan) where
   -- a state of a node's fields is one of the counter
@@ -143,16 +141,14 @@ told_whole : (b : Bool) (m n : ℕ) → (b && eqb m n) ≡ true → m ≡ n
 told_whole b m n e = eqb-true m n (and_parts b (eqb m n) e).1
 
 -- where all of a round was told, it may be played
-pub round_of : (plan : Plan) (faulty : FaultIds) (pack : Pack) (told : List State)
-    → faulty.nodes ≡ plan_nodes plan → AreStates plan told
-    → length pack.current ≡ plan_nodes plan → pack.shape ≡ shape_of plan → (b : Bool)
-    → (b && eqb (length told) (length (pairs_of (plan_nodes plan) faulty.ids))) ≡ true
-    → IsRound plan faulty told pack
-round_of plan faulty pack told nodes states size shape b e = record {
+pub told_of : (plan : Plan) (faulty : FaultIds) (told : Telling) → faulty.nodes ≡ plan_nodes plan
+    → AreStates plan told.states → told.shape ≡ shape_of plan → (b : Bool)
+    → (b && eqb (length told.states) (length (pairs_of (plan_nodes plan) faulty.ids))) ≡ true
+    → IsTold plan faulty told
+told_of plan faulty told nodes states shape b e = record {
   nodes = nodes;
-  whole = told_whole b (length told) (length (pairs_of (plan_nodes plan) faulty.ids)) e;
+  whole = told_whole b (length told.states) (length (pairs_of (plan_nodes plan) faulty.ids)) e;
   states = states;
-  size = size;
   shape = shape;
 }
 

@@ -11,8 +11,8 @@ use Rattle.sync_types.specs.FaultSets.{is_in}
 use Rattle.construction.specs.Plans.{Plan, plan_nodes, plan_depth}
 use Rattle.construction.specs.Steps.{state_of}
 use Rattle.plan_laws.specs.PlanMeaning.{IsInRange}
-use Rattle.shared_laws.specs.Sharing.{place_among}
-use Rattle.shared_laws.proofs.Ids.{place_of_id}
+use Rattle.shared_board.specs.Sharing.{place_among}
+use Rattle.shared_board.proofs.Ids.{place_of_id}
 use Rattle.round_runner.specs.Locks.{correct_nodes}
 use Rattle.round_runner.proofs.Heard.{is_among}
 use Rattle.round_runner.proofs.Own.{same_place}

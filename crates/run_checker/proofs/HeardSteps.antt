@@ -12,8 +12,8 @@ use Rattle.construction.specs.Plans.{Plan, plan_nodes, plan_depth}
 use Rattle.construction.specs.Steps.{state_of, step_of}
 use Rattle.plan_laws.proofs.Ranges.{state_of-cut}
 use Rattle.counter_core.specs.Meanings.{cut}
-use Rattle.shared_laws.specs.Sharing.{Shares, place_among, heard_with, stands_for, Tells}
-use Rattle.shared_laws.specs.Sharing as sharing
+use Rattle.shared_board.specs.Sharing.{Shares, place_among, heard_with, stands_for, Tells}
+use Rattle.shared_board.specs.Sharing as sharing
 use Rattle.round_runner.proofs.Counted.{HangsOn}
 use Rattle.round_runner.proofs.Heard.{heard_is}
 use Rattle.round_runner.proofs.Told.{stands_at, step_cut}

@@ -6,7 +6,9 @@ mod HeardLaid
 mod HeardSteps
 mod LevelLines
 mod LineTexts
+mod MoreRoom
 mod NextIds
+mod PendingTexts
 mod Ranges
 mod RecordTexts
 mod Recording

@@ -7,7 +7,7 @@ use Rattle.construction.specs.Plans.{Level, Plan, plan_nodes, plan_depth}
 use Rattle.construction.specs.Shown.{shown}
 use Rattle.construction.specs.Steps.{state_of}
 use Rattle.construction.specs.Runs.{is_in}
-use Rattle.line_words.specs.Words.{joined, ended}
+use Rattle.texts.specs.Words.{joined, ended}
 use Rattle.run_certificates.specs.Items.{Item, run_item, base_item, level_item, faulty_item, start_item, row_item, lie_item, era_item, row_word, item_line}
 use Rattle.run_certificates.specs.Certificates.{level_of}
 use Rattle.run_checker.specs.RunLines.{number_word, version_line, base_line, level_line, node_word, row_text, faulty_text, era_text}

@@ -13,7 +13,7 @@ use Rattle.adversary_script.specs.Scripts as scripts
 use Rattle.adversary_script.specs.Scripts.{Script, IsScript}
 use Rattle.adversary_script.specs.Eras.{faulty_at}
 use Rattle.adversary_script.specs.Lies.{lie_of}
-use Rattle.line_words.specs.Words.{text_of}
+use Rattle.texts.specs.Words.{text_of}
 use Rattle.round_runner.specs.Locks.{correct_nodes}
 use Rattle.round_runner.specs.Played.{played_at}
 use Rattle.run_certificates.specs.Items.{Item, item_line, faulty_item, row_item}

@@ -1,16 +1,20 @@
 -- What is written of a script while a runner plays it.
 use Rattle.std.proofs.Common.{◌≡◌, ℕ, ◌+◌, ◌<◌, ◌≤◌, Bool, true, false, cond, List, [], ◌++◌, append-nil, Result, refl, sym, ap, ap₂, ◌∙◌, subst, arith}
+use Rattle.std.specs.Prelude.{OnErr, OnOk, Ok, Err}
 use Rattle.sync_types.specs.FaultSets.{FaultIds}
+use Rattle.sync_types.specs.States.{State}
 use Rattle.adversary_script.specs.Eras.{faulty_at}
-use Rattle.texts.specs.Growth.{Told, Wrote, Cut, Puts}
-use Rattle.texts.proofs.Growth.{wrote_none}
+use Rattle.texts.specs.Growth.{Told, Wrote, Cut, Puts, gathering}
+use Rattle.texts.proofs.Growth.{wrote_none, puts_lent}
 use Rattle.construction.specs.Plans.{Plan, plan_nodes}
 use Rattle.state_codec.specs.Shapes.{shape_of}
 use Rattle.counter_core.specs.declared.overlays.NoOverlay.{NoOverlay}
 use Rattle.adversary_script.specs.Scripts.{Script, IsScript}
+use Rattle.round_runner.specs.Played.{played_at}
 use Rattle.round_runner.specs.Runners.{Running}
+use Rattle.round_runner.proofs.Playing.{bare_is_played}
 use Rattle.run_checker.specs.RunLines.{turn_text, turns_text}
-use Rattle.run_checker.specs.Playing.{IsToRecord, HasPlayedOne}
+use Rattle.run_checker.specs.Playing.{IsToRecord, StillPlays, HasPlayedOne, HasPlayedAll}
 use Rattle.run_checker.proofs.WordsBefore.{words_before, words_more, words_cut, words_all}
 
 -- a runner that has played a round more still plays a script that was read for its plan
@@ -22,16 +26,58 @@ still_records old new h p = record {
   shape = ap (λ (s : Script). s.shape) p.script ∙ (h.shape ∙ sym (ap shape_of p.plan));
 }
 
+-- ---- where a runner stops
+
+pub on_err : {T E : Type 0} (P : Type 0) (r : Result T E) → P → OnErr r P
+on_err P (Ok x) p = tt
+on_err P (Err e) p = p
+
+pub on_ok : {T E : Type 0} (P : Type 0) (r : Result T E) → P → OnOk r P
+on_ok P (Ok x) p = p
+on_ok P (Err e) p = tt
+
+-- a cut of a gathering sink is one of the sink that was lent to it
+abbrev one_fault : Result (Unit {0}) (Unit {0})
+one_fault = Err tt
+
+pub cut_lent : {K : Type 0} (told : K → Told) (lent other : ℕ) (held text : List ℕ) (s : Told)
+    (now final : K) → (lent ≡ other → final ≡ now)
+    → Cut text (gathering lent [] s) (gathering other held (told now)) → Cut text s (told final)
+cut_lent told lent other held text s now final ends cut =
+    puts_lent told one_fault lent other held text s now final ends cut tt
+
+-- before the next round, and behind it
+pub stops_here : (old new : Running NoOverlay) → old.at ≤ old.script.rounds → IsToRecord old
+    → new ≡ old → StillPlays old new
+stops_here old new le h same = subst (StillPlays old) (sym same)
+    (record { plan = refl; script = refl; within = le; plays = h.plays })
+
+pub stops_behind : (old new now : Running NoOverlay) → old.at < old.script.rounds
+    → HasPlayedOne old new → now ≡ new → StillPlays old now
+stops_behind old new now lt one same =
+    let at = one.at in
+    subst (StillPlays old) (sym same)
+    (record { plan = one.plan; script = one.script; within = omega (arith, lt, at); plays = one.plays })
+
+-- one that is where another was stops where that does
+pub stops_as : (old mid new : Running NoOverlay) → mid ≡ old → StillPlays mid new → StillPlays old new
+stops_as old mid new same stops = subst (λ (r : Running NoOverlay). StillPlays r new) same stops
+
+pub ends_as : (old mid new : Running NoOverlay) → mid ≡ old → HasPlayedAll mid new → HasPlayedAll old new
+ends_as old mid new same ends = subst (λ (r : Running NoOverlay). HasPlayedAll r new) same ends
+
 -- the rounds before this one are written, by a runner of this plan and script that is at it
 pub record TurnsSoFar (plan : Plan) (script : Script) (t : ℕ) (r : Running NoOverlay) (old now : Told) : Type 0 where
   pub plan_is : r.plan ≡ plan
   pub script_is : r.script ≡ script
   pub at : r.at ≡ t
+  pub within : t ≤ script.rounds
   pub records : IsToRecord r
   pub wrote : Wrote (words_before (turn_text plan script) script.rounds t) old now
 
 pub turns_begin : (r : Running NoOverlay) (sink : Told) → r.at ≡ 0 → IsToRecord r → TurnsSoFar r.plan r.script 0 r sink sink
-turns_begin r sink at h = record { plan_is = refl; script_is = refl; at = at; records = h; wrote = wrote_none sink }
+turns_begin r sink at h =
+    record { plan_is = refl; script_is = refl; at = at; within = omega arith; records = h; wrote = wrote_none sink }
 
 module _ (plan : Plan) (script : Script) (t : ℕ) (r : Running NoOverlay) (old mid : Told)
     (so_far : TurnsSoFar plan script t r old mid) where
@@ -50,6 +96,7 @@ module _ (plan : Plan) (script : Script) (t : ℕ) (r : Running NoOverlay) (old 
     plan_is = played.plan ∙ so_far.plan_is;
     script_is = played.script ∙ so_far.script_is;
     at = played.at ∙ ap (λ (i : ℕ). i + 1) so_far.at;
+    within = omega (arith, lt);
     records = still_records r new so_far.records played;
     wrote = words_more (turn_text plan script) script.rounds t old mid now lt so_far.wrote
         (subst (λ (text : List ℕ). Wrote text mid now) turn_is wrote);
@@ -59,6 +106,41 @@ module _ (plan : Plan) (script : Script) (t : ℕ) (r : Running NoOverlay) (old 
   turns_cut now lt cut =
       words_cut (turn_text plan script) script.rounds t old mid now lt so_far.wrote
       (subst (λ (text : List ℕ). Cut text mid now) turn_is cut)
+
+  -- a runner that began with this plan and script
+  module _ (began : Running NoOverlay) (plan_is : began.plan ≡ plan) (script_is : began.script ≡ script) where
+    pub turns_stopped : (new : Running NoOverlay) → StillPlays r new → StillPlays began new
+    turns_stopped new stops =
+        let within = stops.within in
+        record {
+          plan = stops.plan ∙ so_far.plan_is ∙ sym plan_is;
+          script = stops.script ∙ so_far.script_is ∙ sym script_is;
+          within = omega (
+            arith,
+            within,
+            ap (λ (s : Script). s.rounds) so_far.script_is,
+            ap (λ (s : Script). s.rounds) script_is,
+          );
+          plays = stops.plays;
+        }
+
+    pub turns_played : script.rounds ≤ t → HasPlayedAll began r
+    turns_played le =
+        let rounds = ap (λ (s : Script). s.rounds) script_is in
+        let last : r.at ≡ began.script.rounds = omega (arith, le, so_far.at, so_far.within, rounds) in
+        record {
+          still = record {
+            plan = so_far.plan_is ∙ sym plan_is;
+            script = so_far.script_is ∙ sym script_is;
+            within = omega (arith, last);
+            plays = so_far.records.plays;
+          };
+          at = last;
+          states = bare_is_played r so_far.records.plays
+              ∙ ap (λ (p : Plan). played_at p r.script r.at) (so_far.plan_is ∙ sym plan_is)
+              ∙ ap (λ (s : Script). played_at began.plan s r.at) (so_far.script_is ∙ sym script_is)
+              ∙ ap (played_at began.plan began.script) last;
+        }
 
   pub turns_end : script.rounds ≤ t → Wrote (turns_text plan script) old mid
   turns_end le = words_all (turn_text plan script) script.rounds t old mid le so_far.wrote

@@ -9,8 +9,8 @@ use Rattle.sync_types.specs.FaultSets.{FaultIds, AreFaulty, is_in}
 use Rattle.construction.specs.Plans.{Plan, plan_nodes, plan_faults}
 use Rattle.plan_numbers.specs.Premises.{IsAccepted}
 use Rattle.plan_laws.proofs.PlanCounter.{plan_sizes}
-use Rattle.shared_laws.specs.Sharing.{place_among}
-use Rattle.shared_laws.proofs.Ids.{places_of_all}
+use Rattle.shared_board.specs.Sharing.{place_among}
+use Rattle.shared_board.proofs.Ids.{places_of_all}
 use Rattle.state_codec.specs.Shapes.{Shape, shape_of, fields_at, bits_in, bytes_in}
 use Rattle.round_runner.specs.Locks.{correct_nodes}
 use Rattle.run_certificates.specs.Grammar.{pairs_of}

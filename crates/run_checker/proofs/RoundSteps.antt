@@ -19,7 +19,8 @@ use Rattle.adversary_script.proofs.LiesInRange.{zero_of_node}
 use Rattle.counter_core.specs.Meanings.{written}
 use Rattle.run_certificates.specs.Grammar.{pairs_of}
 use Rattle.round_runner.proofs.Places.{all_places, set_has}
-use Rattle.run_checker.specs.Rounds.{stepped_at, stepped_all, state_next, AreStates}
+use Rattle.run_checker.specs.declared.rounds.Room.{Room}
+use Rattle.run_checker.specs.Rounds.{stepped_at, stepped_all, state_next, AreStates, IsGathered}
 use Rattle.run_checker.proofs.BodyKept.{node_range, node_deep}
 
 -- ---- a step
@@ -87,6 +88,48 @@ out_long plan accepted v heard out new long is =
     ap (λ (s : State). length s.registers)
     (is ∙ written_over (plan_depth plan) (step_of plan v heard) out long)
     ∙ (step_is_state plan some.0 some.1 v heard).depth
+
+-- ---- a configuration whose next one is being written
+
+module _ (plan : Plan) (ids : List ℕ) (told : List State) (config : Pack) (next : List State)
+    (now : Pack) (room : Room) (fixed : now ≡ record config { next = next }) where
+  pub gathered_in : IsGathered plan ids told config room → IsGathered plan ids told now room
+  gathered_in h = subst (λ (p : Pack). IsGathered plan ids told p room) (sym fixed) (record {
+    said = h.said;
+    is = record { size = h.is.size; shape = h.is.shape };
+    ready = h.ready;
+    stands = h.stands;
+  })
+
+  pub gathered_out : IsGathered plan ids told now room → IsGathered plan ids told config room
+  gathered_out h = same_current (subst (λ (p : Pack). IsGathered plan ids told p room) fixed h) where
+    same_current : IsGathered plan ids told (record config { next = next }) room → IsGathered plan ids told config room
+    same_current k = record {
+      said = k.said;
+      is = record { size = k.is.size; shape = k.is.shape };
+      ready = k.ready;
+      stands = k.stands;
+    }
+
+-- a room in which lies were laid
+pub gathered_laid : (plan : Plan) (ids : List ℕ) (told : List State) (config : Pack) (old new : Room)
+    → new ≡ record old { lies = new.lies } → IsGathered plan ids told config old
+    → length new.lies.items ≡ length old.lies.items → AreStates plan new.lies.items
+    → IsGathered plan ids told config new
+gathered_laid plan ids told config old new same h size states =
+    let ready = h.ready in
+    subst (IsGathered plan ids told config) (sym same) (record {
+      said = h.said;
+      is = h.is;
+      ready = record {
+        size = size ∙ ready.size;
+        lies = states;
+        zero = ready.zero;
+        shared = ready.shared;
+        out = ready.out;
+      };
+      stands = h.stands;
+    })
 
 -- ---- all steps
 

@@ -7,8 +7,8 @@ use Rattle.texts.specs.Limits.{Limited, by, with_limit, with_rest, behind_lines}
 use Rattle.texts.specs.EndedTexts as texts
 use Rattle.texts.specs.EndedTexts.{with_length, then_alone}
 use Rattle.texts.proofs.Lines.{lines_of_first}
-use Rattle.line_words.specs.Words.{text_of, open_from, open_rest}
-use Rattle.line_words.proofs.Texts.{whole_text}
+use Rattle.texts.specs.Words.{text_of, open_from, open_rest}
+use Rattle.texts.proofs.Texts.{whole_text}
 use Rattle.run_certificates.specs.declared.Verdict.{Verdict}
 use Rattle.run_certificates.specs.Items.{item_of}
 use Rattle.run_certificates.specs.Checking.{Stage, Onward, unread, refused, step_by, line_step, alone, checked}
@@ -19,9 +19,9 @@ use Rattle.run_checker.specs.Checks.{checked_by, checked_within, unlimited, Limi
 -- ---- lines
 
 -- behind so many whole lines stand the others, and what has no newline
-record Behind (front text : List ℕ) (n : ℕ) : Type 0 where
-  lines : whole_lines (behind_lines (suc n) text) ≡ drop (suc n) (whole_from front text)
-  rest : open_rest (behind_lines (suc n) text) ≡ open_from front text
+pub record Behind (front text : List ℕ) (n : ℕ) : Type 0 where
+  pub lines : whole_lines (behind_lines (suc n) text) ≡ drop (suc n) (whole_from front text)
+  pub rest : open_rest (behind_lines (suc n) text) ≡ open_from front text
 
 behind_by : (newline : Bool) (front : List ℕ) (b : ℕ) (bs : List ℕ) (n : ℕ) → eqb b 10 ≡ newline
     → suc n ≤ length (cond newline (front ∷ whole_from [] bs) (whole_from (front ++ b ∷ []) bs))
@@ -34,7 +34,7 @@ behind_by true front b bs (suc m) is le line more =
 behind_by false front b bs n is le line more =
     let h = more le in record { lines = rw is h.lines; rest = rw is h.rest }
 
-behind : (front text : List ℕ) (n : ℕ) → suc n ≤ length (whole_from front text) → Behind front text n
+pub behind : (front text : List ℕ) (n : ℕ) → suc n ≤ length (whole_from front text) → Behind front text n
 behind front [] n le = absurd (omega arith)
 behind front (b ∷ bs) n le =
     behind_by (eqb b 10) front b bs n refl le (λ m e. behind [] bs m) (behind (front ++ b ∷ []) bs n)

@@ -32,16 +32,20 @@ Puts v digits old new true = (is_state_text (fields_of old.known.plan v) digits 
     × (new ≡ record old { known = put_state old.known v digits; from = v + 1 })
 Puts v digits old new false = is_state_text (fields_of old.known.plan v) digits ≡ false
 
+-- the pairs of its round
+abbrev pub pairs_in : BodySeen → List (ℕ × ℕ)
+pairs_in b = pairs_of (plan_nodes b.known.plan) b.known.stand.faulty
+
 -- whether the next state that is told may be of these two, whatever its digits
 abbrev pub may_tell : BodySeen → (u v : ℕ) → Bool
 may_tell b u v =
     has_round b.known
-    && is_next u v (drop (length b.told) (pairs_of (plan_nodes b.known.plan) b.known.stand.faulty))
+    && is_next u v (drop (length b.told) (pairs_in b))
 
 -- the sender of the next pair
 abbrev pub next_sender : BodySeen → ℕ
 next_sender b =
-    (slice_index_or (pairs_of (plan_nodes b.known.plan) b.known.stand.faulty) (length b.told) (0, 0)).0
+    (slice_index_or (pairs_in b) (length b.told) (0, 0)).0
 
 -- a state more was told, or the digits are those of no state
 abbrev pub Tells : (u : ℕ) → (digits : List ℕ) → (old new : BodySeen) → Bool → Type 0
@@ -56,7 +60,8 @@ played_on b = record b { known = moved b.known b.known.stand.faulty b.told; told
 -- whether an era may begin at configuration t, whatever its faulty nodes
 abbrev pub may_begin : BodySeen → (t : ℕ) → Bool
 may_begin b t =
-    all_told b.known b.told && nat_eq t (b.known.at + 1) && nat_lt b.known.eras (most_eras b.known.version)
+    all_told b.known b.told && nat_eq t (b.known.at + 1)
+    && nat_lt b.known.eras (most_eras b.known.version)
 
 -- an era more was counted
 abbrev pub era_more : BodySeen → BodySeen
@@ -81,7 +86,8 @@ abbrev pub marked_by : BodySeen → (same : Bool) → BodySeen
 marked_by b same = record b {
   known = record b.known {
     differs = first_of b.known.differs (not same) b.known.at;
-    locked = first_of b.known.locked (is_locked b.known.plan b.known.stand.faulty b.known.stand.config) b.known.at;
+    locked = first_of b.known.locked
+        (is_locked b.known.plan b.known.stand.faulty b.known.stand.config) b.known.at;
   };
   is_putting = false;
   told = [];

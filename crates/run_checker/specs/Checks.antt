@@ -1,11 +1,13 @@
 -- A text under a limit, and what checking it did to its source.
-use Rattle.std.specs.Prelude.{◌≡◌, ℕ, ◌<◌, ◌≤◌, List, ◌++◌, length, Bool, true, nat_lt, Option, Result, Ok, Err}
+use Rattle.std.specs.Prelude.{◌≡◌, ℕ, ◌<◌, ◌≤◌, List, ◌++◌, length, Bool, true, false, nat_lt, Option, Result, Ok, Err}
 use Rattle.std.specs.Io.KnownBytes.{Consumes, IsAtEnd}
 use Rattle.texts.specs.Causes.{Counted}
 use Rattle.texts.specs.Parts.{At}
 use Rattle.texts.specs.Limits.{Limited, by, beyond}
+use Rattle.texts.specs.Pending.{AtOnce}
 use Rattle.texts.specs.EndedTexts.{ended_text}
 use Rattle.edge_io.specs.FedParts.{MayFollow}
+use Rattle.edge_io.specs.EndedReads.{TextPending}
 use Rattle.run_certificates.specs.declared.Verdict.{Verdict}
 use Rattle.run_certificates.specs.Checking.{unread, line_step, checked}
 use Rattle.run_checker.specs.declared.checks.CheckError.{CheckError}
@@ -14,7 +16,8 @@ use Rattle.run_checker.specs.declared.checks.CheckError.TheVariants as check
 -- What a text comes to, of which at most so many bytes may be read, and of which there are more or
 -- not. A text that is longer than its limit is refused at its first line that is refused up to
 -- there, or is too long.
-abbrev pub checked_by : (limit : ℕ) → (longer : Bool) → List ℕ → Result Verdict (At (Limited (Unit {0})))
+abbrev pub checked_by : (limit : ℕ) → (longer : Bool) → List ℕ
+    → Result Verdict (At (Limited (Unit {0})))
 checked_by limit longer text = ended_text line_step tt unread limit longer text
 
 -- the same of a text
@@ -30,6 +33,20 @@ unlimited (Err line) = Err (record { line = line; rule = by tt })
 abbrev pub LimitsMatterBeyond : Type 0
 LimitsMatterBeyond = (limit : ℕ) (text : List ℕ) → length text ≤ limit
     → checked_within limit text ≡ unlimited (checked text)
+
+-- These bytes do not decide a text: if it ended behind them, it would be whole, or be refused at
+-- the line that is open, and so at none of their whole lines; and none of them is behind the limit.
+abbrev pub Pending : (limit : ℕ) → List ℕ → Type 0
+Pending limit bytes = TextPending line_step tt unread limit bytes
+
+-- Of these bytes the last ones, a buffer at most, were read behind what decides. That is the last
+-- of the others, and no byte before it; or, where the end was met, the end, and no byte.
+pub record DecidesAtOnce (limit : ℕ) (ended : Bool) (bytes : List ℕ) : Type 0 where
+  pub front : List ℕ
+  pub ahead : List ℕ
+  pub parts : bytes ≡ front ++ ahead
+  pub few : length ahead ≤ 4096
+  pub at_once : AtOnce ended (Pending limit) front
 
 -- the whole text was read, and comes to this verdict
 pub record IsChecked (limit : ℕ) (old new : Option (List ℕ)) (verdict : Verdict) : Type 0 where
@@ -47,6 +64,7 @@ pub record IsRefused (limit : ℕ) (old new : Option (List ℕ)) (line : ℕ) : 
   pub read : Consumes old new bytes
   pub at_end : ended ≡ true → IsAtEnd new
   pub within : ended ≡ true → length bytes ≤ limit
+  pub at_once : DecidesAtOnce limit ended bytes
   pub decides : (longer : Bool) (rest : List ℕ) → MayFollow ended longer rest
       → checked_by limit longer (bytes ++ rest) ≡ Err (record { line = line; rule = by tt })
 
@@ -56,18 +74,33 @@ pub record IsTooLong (limit : ℕ) (old new : Option (List ℕ)) : Type 0 where
   pub line : ℕ
   pub read : Consumes old new bytes
   pub past : limit < length bytes
+  pub at_once : DecidesAtOnce limit false bytes
   pub decides : (rest : List ℕ)
       → checked_by limit true (bytes ++ rest) ≡ Err (record { line = line; rule = beyond })
+
+-- these bytes were read, and do not decide the text
+pub record IsLost (limit : ℕ) (old new : Option (List ℕ)) : Type 0 where
+  pub bytes : List ℕ
+  pub read : Consumes old new bytes
+  pub pending : Pending limit bytes
+
+-- These bytes were read before memory was refused: at the line that one of them ends, or, where
+-- none was read, before the first.
+pub record IsHalted (limit : ℕ) (old new : Option (List ℕ)) : Type 0 where
+  pub bytes : List ℕ
+  pub none : Bool
+  pub read : Consumes old new bytes
+  pub at_once : DecidesAtOnce limit none bytes
 
 -- what checking a text did: what its source had left, and has left
 abbrev pub Checks : (limit : ℕ) → (old new : Option (List ℕ)) → Result Verdict CheckError → Type 0
 Checks limit old new (Ok verdict) = IsChecked limit old new verdict
 Checks limit old new (Err (check.Refused refusal)) = IsRefused limit old new refusal.line
 Checks limit old new (Err check.TooLong) = IsTooLong limit old new
-Checks limit old new (Err check.ReadFault) = (bytes : List ℕ) × Consumes old new bytes
-Checks limit old new (Err check.NoMemory) = (bytes : List ℕ) × Consumes old new bytes
+Checks limit old new (Err check.ReadFault) = IsLost limit old new
+Checks limit old new (Err check.NoMemory) = IsHalted limit old new
 
--- only a read fault is counted
+-- only a read fault is counted, and one
 abbrev pub HasCheckCause : (before now : ℕ) → Result Verdict CheckError → Type 0
 HasCheckCause before now (Err check.ReadFault) = Counted before now
 HasCheckCause before now (Ok verdict) = now ≡ before

@@ -1,12 +1,10 @@
 -- What a node hears of the faulty ones in a round, and the list in which it is laid.
 use Rattle.std.specs.Prelude.{◌≡◌, ℕ, ◌<◌, ◌≤◌, List, length, slice_index, true, ◌==◌, if◌then◌else◌}
 use Rattle.sync_types.specs.States.{State}
-use Rattle.sync_types.specs.FaultSets.{FaultIds, is_in}
+use Rattle.sync_types.specs.FaultSets.{is_in}
 use Rattle.construction.specs.Plans.{Plan, plan_nodes, plan_depth}
 use Rattle.construction.specs.Steps.{state_of}
-use Rattle.state_codec.specs.Packs.{Pack}
-use Rattle.state_codec.specs.Shapes.{shape_of}
-use Rattle.shared_laws.specs.Sharing.{place_among}
+use Rattle.shared_board.specs.Sharing.{place_among}
 use Rattle.run_certificates.specs.Grammar.{pairs_of}
 use Rattle.run_checker.specs.Rounds.{told_for, AreStates}
 
@@ -32,12 +30,3 @@ pub record LaysHeard (plan : Plan) (faulty : List ℕ) (said config : List State
       → state_of new j ≡ heard_from plan faulty said config v (slice_index faulty j)
   pub own : is_in faulty v ≡ true → state_of new (place_among faulty v) ≡ state_of config v
   pub states : AreStates plan new
-
--- a round of a plan: its faulty nodes, what they tell, and the configuration before it
-pub record IsRound (plan : Plan) (faulty : FaultIds) (told : List State) (config : Pack) : Type 0
-  where
-    pub nodes : faulty.nodes ≡ plan_nodes plan
-    pub whole : length told ≡ length (pairs_of (plan_nodes plan) faulty.ids)
-    pub states : AreStates plan told
-    pub size : length config.current ≡ plan_nodes plan
-    pub shape : config.shape ≡ shape_of plan

@@ -1,5 +1,5 @@
 -- The stage of the reader of a certificate, and what a line of the head makes of it.
-use Rattle.std.specs.Prelude.{◌≡◌, ◌≤◌, ⊤, Bool, true, false, Result, Ok, Err}
+use Rattle.std.specs.Prelude.{◌≡◌, ⊤, Bool, true, false, Result, Ok, Err}
 use Rattle.texts.specs.Parts.{goes, ends, refuses}
 use Rattle.edge_io.specs.declared.taking.TakeError.{TakeError}
 use Rattle.edge_io.specs.declared.taking.TakeError.TheVariants as take
@@ -11,20 +11,19 @@ use Rattle.run_checker.specs.declared.check_lines.Phase.TheVariants as phase
 
 abbrev pub phase_seen : Phase → Stage
 phase_seen phase.Unread = unread
-phase_seen (phase.Begun version) = begun version
-phase_seen (phase.Planned version plan) = planned version plan
+phase_seen (phase.Begun version) = begun version.number
+phase_seen (phase.Planned version plan) = planned version.number plan
 phase_seen (phase.Inside body) = stage_of body
 
 abbrev pub is_head : Phase → Bool
 is_head (phase.Inside body) = false
 is_head other = true
 
--- the version is 1 to 3, and the plan has the version that it gives
+-- the plan has the version that the certificate's gives
 abbrev pub HasVersion : Phase → Type 0
 HasVersion phase.Unread = ⊤
-HasVersion (phase.Begun version) = (1 ≤ version) × (version ≤ 3)
-HasVersion (phase.Planned version plan) =
-    (1 ≤ version) × (version ≤ 3) × (plan.version ≡ plan_version version)
+HasVersion (phase.Begun version) = ⊤
+HasVersion (phase.Planned version plan) = plan.version ≡ plan_version version.number
 HasVersion (phase.Inside body) = ⊤
 
 -- what a line of the head leads to; want of memory says nothing

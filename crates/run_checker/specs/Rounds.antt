@@ -1,14 +1,19 @@
 -- What is told in a round, by the order of the pairs, and the steps of all nodes from it.
-use Rattle.std.specs.Prelude.{◌≡◌, ℕ, ◌&&◌, ◌==◌, List, [], ◌∷◌, length, map, All, if◌then◌else◌}
+use Rattle.std.specs.Prelude.{◌≡◌, ℕ, ◌<◌, ◌&&◌, ◌==◌, List, [], ◌∷◌, length, map, All, if◌then◌else◌}
 use Rattle.std.specs.List.{range_with_len}
 use Rattle.sync_types.specs.States.{State, zero_state}
-use Rattle.sync_types.specs.FaultSets.{is_in}
+use Rattle.sync_types.specs.FaultSets.{FaultIds, is_in}
 use Rattle.construction.specs.Plans.{Plan, plan_nodes, plan_depth}
 use Rattle.construction.specs.Steps.{step_of}
 use Rattle.construction.specs.Runs.{heard_by}
+use Rattle.state_codec.specs.Shapes.{shape_of}
+use Rattle.state_codec.specs.Packs.{Pack}
+use Rattle.shared_board.specs.Sharing.{stands_for}
+use Rattle.round_runner.specs.Locks.{correct_nodes}
 use Rattle.run_certificates.specs.Grammar.{pairs_of}
 use Rattle.plan_laws.specs.PlanMeaning.{IsInRange}
 use Rattle.run_checker.specs.declared.rounds.Room.{Room}
+use Rattle.run_checker.specs.Tellings.{Telling}
 
 -- what u tells v: the state told for the first pair of both, or the zero state where there is none
 abbrev pub told_for : (depth : ℕ) → List (ℕ × ℕ) → List State → (u v : ℕ) → State
@@ -26,13 +31,15 @@ told_table n depth pairs told =
 abbrev pub stepped_at : Plan → (faulty : List ℕ) → List State → List (ℕ × ℕ) → List State → (v : ℕ)
     → State
 stepped_at plan faulty config pairs told v =
-    step_of plan v (heard_by (plan_nodes plan) faulty config (told_table (plan_nodes plan) (plan_depth plan) pairs told) v)
+    step_of plan v (heard_by (plan_nodes plan) faulty config
+    (told_table (plan_nodes plan) (plan_depth plan) pairs told) v)
 
 -- the configuration behind a round, with the new faulty nodes in the zero state
 abbrev pub stepped_all : Plan → (faulty new : List ℕ) → List State → List (ℕ × ℕ) → List State
     → List State
 stepped_all plan faulty new config pairs told =
-    map (λ v. if is_in new v then zero_state (plan_depth plan) else stepped_at plan faulty config pairs told v)
+    map (λ v. if is_in new v then zero_state (plan_depth plan)
+    else stepped_at plan faulty config pairs told v)
     (range_with_len 0 (plan_nodes plan))
 
 -- the state of node v in it, where its faulty nodes tell all that they have to
@@ -53,3 +60,28 @@ pub record IsReady (plan : Plan) (room : Room) : Type 0 where
   pub zero : room.zero ≡ zero_state (plan_depth plan)
   pub shared : room.shared.plan ≡ plan
   pub out : length room.out.registers ≡ plan_depth plan
+
+-- all that the faulty nodes of a round of a plan tell was told
+pub record IsTold (plan : Plan) (faulty : FaultIds) (telling : Telling) : Type 0 where
+  pub nodes : faulty.nodes ≡ plan_nodes plan
+  pub whole : length telling.states ≡ length (pairs_of (plan_nodes plan) faulty.ids)
+  pub states : AreStates plan telling.states
+  pub shape : telling.shape ≡ shape_of plan
+
+-- the current one of two configurations is one of the plan
+pub record IsConfig (plan : Plan) (config : Pack) : Type 0 where
+  pub size : length config.current ≡ plan_nodes plan
+  pub shape : config.shape ≡ shape_of plan
+
+-- and the room is ready, and has counted the correct nodes in it; what the others tell are states
+pub record IsGathered (plan : Plan) (faulty : List ℕ) (told : List State) (config : Pack)
+    (room : Room) : Type 0 where
+  pub said : AreStates plan told
+  pub is : IsConfig plan config
+  pub ready : IsReady plan room
+  pub stands : room.shared ≡ stands_for plan config.current faulty
+
+-- node v is one of the plan, and so many correct nodes stand before it
+pub record IsNext (plan : Plan) (faulty : List ℕ) (v before : ℕ) : Type 0 where
+  pub node : v < plan_nodes plan
+  pub correct : before ≡ length (correct_nodes v faulty)

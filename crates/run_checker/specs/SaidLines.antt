@@ -43,7 +43,8 @@ only_number other = None
 -- the spares that stand behind a level
 abbrev pub spares_in : List (List ℕ) → Option (Option ℕ)
 spares_in [] = Some None
-spares_in (key ∷ s ∷ []) = if bytes_eq key (codes "spare") then option_map Some (number_of s) else None
+spares_in (key ∷ s ∷ []) =
+    if bytes_eq key (codes "spare") then option_map Some (number_of s) else None
 spares_in other = None
 
 -- the one word

@@ -15,16 +15,16 @@ use Rattle.run_certificates.specs.Laws.{AreQuiet, StretchCounts, stand_after}
 use Rattle.run_certificates.specs.Checking.{checked}
 use Rattle.run_checker.specs.Checks.{checked_within}
 
--- A stretch of rounds behind which no era begins is a run of the plan, with the stated lies, and its
--- rows count from the plan's bound on, which is counted from its first configuration.
+-- A stretch of rounds behind which no era begins is a run of the plan, with the stated lies, and
+-- its rows count from the plan's bound on, which is counted from its first configuration.
 pub record IsTrueStretch (c : Certificate) (before stretch : List Turn) : Type 0 where
   pub run : Run c.plan (stand_after c.plan (first_stand c) before).faulty
       (map (λ stand. stand.config) (stand_after c.plan (first_stand c) before
       ∷ stands_behind c.plan (stand_after c.plan (first_stand c) before) stretch))
   pub counts : StretchCounts c before stretch
 
--- The text is that of a certificate with so many rows. Each of them is what its configuration of the
--- stated run shows.
+-- The text is that of a certificate with so many rows. Each of them is what its configuration of
+-- the stated run shows.
 pub record IsTrueText (rows : ℕ) (text : List ℕ) : Type 0 where
   pub certificate : Certificate
   pub is : IsCertificate certificate
@@ -54,8 +54,8 @@ abbrev pub ShortTextsAreChecked : Type 0
 ShortTextsAreChecked = (c : Certificate) → IsCertificate c
     → checked_within most_bytes (certificate_text c) ≡ Ok (verdict_of c)
 
--- the certificate of a script's run is checked true, with the first locked configuration of the last
--- era
+-- the certificate of a script's run is checked true, with the first locked configuration of the
+-- last era
 abbrev pub RecordsAreCheckedTrue : Type 0
 RecordsAreCheckedTrue = (plan : Plan) (s : Script) → IsReadFor plan s → HasItsEras s
     → checked_within most_bytes (certificate_text (certificate_of plan s))

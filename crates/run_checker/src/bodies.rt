@@ -73,12 +73,11 @@ impl Body {
     ghost use Rattle.construction.specs.Plans.{plan_nodes, plan_faults};
     ghost use Rattle.edge_io.specs.Taking.{Takes};
     ghost use Rattle.adversary_script.specs.WordTests.{numbers_in};
-    ghost use Rattle.run_certificates.specs.Grammar.{pairs_of};
     ghost use Rattle.run_certificates.specs.Items.{start_item, lie_item, end_item, era_by, row_by, values_said};
     ghost use Rattle.run_certificates.specs.Checking.{has_round, all_told, verdict_now, step, step_by};
     ghost use Rattle.run_checker.specs.Bodies.{stage_of};
     ghost use Rattle.run_checker.specs.Sets.{no_ids};
-    ghost use Rattle.run_checker.specs.Changes.{first_body, may_put, Puts, may_tell, next_sender, Tells, played_on, may_begin, era_more, played_into, has_states, Marks, ComesToRow, is_at_row};
+    ghost use Rattle.run_checker.specs.Changes.{first_body, may_put, Puts, pairs_in, may_tell, next_sender, Tells, played_on, may_begin, era_more, played_into, has_states, Marks, ComesToRow, is_at_row};
 
     /// What is known behind the head: the plan and its faulty nodes. It takes all the memory that
     /// the rounds of all eras need.
@@ -150,7 +149,8 @@ impl Body {
 
     /// Takes the state into which a node is put.
     pub fn take_start(&mut self, v: u64, digits: &[u8]) -> Result<Option<Verdict>, TakeError<()>>
-        ensures { Takes (step (stage_of self.old) (start_item v digits.now)) (stage_of self.new) result }
+        ensures { Takes (step (stage_of self.old) (start_item v digits.now))
+            (stage_of self.new) result }
     {
         if !self.is_putting() {
             return Err(TakeError::Refused(()));
@@ -176,7 +176,7 @@ impl Body {
         ensures value { result ≡ may_tell self.now sender receiver }
         ensures node { result ≡ true → sender < plan_nodes self.now.known.plan }
         ensures small { result ≡ true → sender < 256 }
-        ensures more { result ≡ true → length self.now.told < length (pairs_of (plan_nodes self.now.known.plan) self.now.known.stand.faulty) }
+        ensures more { result ≡ true → length self.now.told < length (pairs_in self.now) }
         ensures next { result ≡ true → next_sender self.now ≡ sender }
     {
         self.tower.tell();
@@ -187,7 +187,7 @@ impl Body {
     /// of it.
     fn tell_state(&mut self, digits: &[u8]) -> bool
         requires node { next_sender self.old < plan_nodes self.old.known.plan }
-        requires more { length self.old.told < length (pairs_of (plan_nodes self.old.known.plan) self.old.known.stand.faulty) }
+        requires more { length self.old.told < length (pairs_in self.old) }
         ensures { Tells (next_sender self.old) digits.now self.old self.new result }
     {
         self.tower.tell();
@@ -201,7 +201,8 @@ impl Body {
         receiver: u64,
         digits: &[u8],
     ) -> Result<Option<Verdict>, TakeError<()>>
-        ensures { Takes (step (stage_of self.old) (lie_item sender receiver digits.now)) (stage_of self.new) result }
+        ensures { Takes (step (stage_of self.old) (lie_item sender receiver digits.now))
+            (stage_of self.new) result }
     {
         if self.is_putting() {
             return Err(TakeError::Refused(()));
@@ -290,7 +291,8 @@ impl Body {
 
     /// Takes an era that begins behind the round that was told.
     pub fn take_era(&mut self, t: u64, words: Words<'_>) -> Result<Option<Verdict>, TakeError<()>>
-        ensures { Takes (step_by (stage_of self.old) (era_by (Some t) (numbers_in words.entry))) (stage_of self.new) result }
+        ensures { Takes (step_by (stage_of self.old) (era_by (Some t) (numbers_in words.entry)))
+            (stage_of self.new) result }
     {
         if self.is_putting() {
             return Err(TakeError::Refused(()));
@@ -344,7 +346,8 @@ impl Body {
 
     /// Takes a row.
     pub fn take_row(&mut self, t: u64, words: Words<'_>) -> Result<Option<Verdict>, TakeError<()>>
-        ensures { Takes (step_by (stage_of self.old) (row_by (Some t) (values_said words.entry))) (stage_of self.new) result }
+        ensures { Takes (step_by (stage_of self.old) (row_by (Some t) (values_said words.entry)))
+            (stage_of self.new) result }
     {
         if !self.come_to_row() {
             return Err(TakeError::Refused(()));

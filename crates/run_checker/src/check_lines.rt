@@ -1,4 +1,4 @@
-ghost use Rattle.std.specs.Prelude.{◌≡◌, ◌≤◌, true};
+ghost use Rattle.std.specs.Prelude.{◌≡◌, true};
 ghost use Rattle.edge_io.specs.Taking.{Takes};
 ghost use Rattle.adversary_script.specs.WordTests.{numbers_in};
 ghost use Rattle.std.specs.Option.{option_map};
@@ -12,6 +12,7 @@ ghost use Rattle.run_checker.specs.Phases.{phase_seen, HasVersion, is_head, Ente
 use crate::bodies::Body;
 use crate::id_lists::read_ids;
 use crate::said_lines::{Said, read_said};
+use crate::versions::Version;
 use edge_io::{LineReader, TakeError, Words};
 use plan_numbers::{Plan, PremiseError};
 use run_certificates::Verdict;
@@ -25,10 +26,10 @@ use sync_types::{FaultSet, NoMemory};
 pub enum Phase {
     /// No line of it.
     Unread,
-    /// Its first line, which says its version, 1 to 3.
-    Begun(u32),
+    /// Its first line, which says its version.
+    Begun(Version),
     /// Its base line, and as many lines of levels as the plan has levels.
-    Planned(u32, Plan),
+    Planned(Version, Plan),
     /// Its head, and lines behind it.
     Inside(Body),
 }
@@ -58,16 +59,15 @@ fn behind_run(version: u64) -> Result<Phase, TakeError<()>>
     if version < 1 || version > 3 {
         return Err(TakeError::Refused(()));
     }
-    Ok(Phase::Begun(version as u32))
+    let number = version as u32;
+    Ok(Phase::Begun(Version { number }))
 }
 
 /// What stands behind the base line.
-fn behind_base(alloc: Global, version: u32, base: u64) -> Result<Phase, TakeError<()>>
-    requires oldest { 1 ≤ version }
-    requires newest { version ≤ 3 }
-    ensures { Enters (base_step version base) result }
+fn behind_base(alloc: Global, version: Version, base: u64) -> Result<Phase, TakeError<()>>
+    ensures { Enters (base_step version.number base) result }
 {
-    let plan_version = if version == 3 { 2 } else { 1 };
+    let plan_version = if version.number == 3 { 2 } else { 1 };
     match Plan::base_of(alloc, plan_version, base) {
         Ok(plan) => Ok(Phase::Planned(version, plan)),
         Err(PremiseError::Refused(_)) => Err(TakeError::Refused(())),
@@ -77,19 +77,17 @@ fn behind_base(alloc: Global, version: u32, base: u64) -> Result<Phase, TakeErro
 
 /// What stands behind the line of a level.
 fn behind_level(
-    version: u32,
+    version: Version,
     mut plan: Plan,
     blocks: u64,
     faults: u64,
     modulus: u64,
     spares: Option<u64>,
 ) -> Result<Phase, TakeError<()>>
-    requires oldest { 1 ≤ version }
-    requires newest { version ≤ 3 }
-    requires plan { plan.version ≡ plan_version version }
-    ensures { Enters (level_step version plan blocks faults modulus spares) result }
+    requires { plan.version ≡ plan_version version.number }
+    ensures { Enters (level_step version.number plan blocks faults modulus spares) result }
 {
-    if spares.is_some() != (version == 3) {
+    if spares.is_some() != (version.number == 3) {
         return Err(TakeError::Refused(()));
     }
     match plan.push_with(blocks, faults, modulus, spares.unwrap_or(0)) {
@@ -101,17 +99,18 @@ fn behind_level(
 /// What stands behind the line of the nodes that are faulty at first.
 fn behind_faulty(
     alloc: Global,
-    version: u32,
+    version: Version,
     plan: &Plan,
     words: Words<'_>,
 ) -> Result<Phase, TakeError<()>>
-    ensures { Enters (step_by (planned version plan.now) (option_map faulty_item (numbers_in words.entry))) result }
+    ensures { Enters (step_by (planned version.number plan.now)
+        (option_map faulty_item (numbers_in words.entry))) result }
 {
     let mut faulty = FaultSet::new(alloc, plan.nodes()).map_err(|_| TakeError::NoMemory)?;
     if !read_ids(words, plan.faults(), &mut faulty) {
         return Err(TakeError::Refused(()));
     }
-    match Body::new(alloc, version, plan, faulty) {
+    match Body::new(alloc, version.number, plan, faulty) {
         Ok(body) => Ok(Phase::Inside(body)),
         Err(NoMemory) => Err(TakeError::NoMemory),
     }
@@ -138,7 +137,8 @@ fn behind_head(alloc: Global, phase: Phase, said: Said<'_>) -> Result<Phase, Tak
 
 /// Takes a line behind the head.
 fn take_inside(body: &mut Body, said: Said<'_>) -> Result<Option<Verdict>, TakeError<()>>
-    ensures { Takes (step_by (stage_of body.old) (item_seen said.entry)) (stage_of body.new) result }
+    ensures { Takes (step_by (stage_of body.old) (item_seen said.entry))
+        (stage_of body.new) result }
 {
     match said {
         Said::Row(t, words) => body.take_row(t, words),

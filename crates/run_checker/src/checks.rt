@@ -1,4 +1,3 @@
-ghost use Rattle.std.specs.Prelude.{◌<◌, ◌^◌, ◌-◌};
 ghost use Rattle.run_checker.specs.Checks.{Checks, HasCheckCause};
 
 use crate::check_lines::CheckLines;
@@ -6,6 +5,9 @@ use edge_io::{FedError, Feed, LineBuf, Source, read_ended};
 use run_certificates::Verdict;
 use std::alloc::Global;
 use thiserror::Error;
+
+/// More bytes than a certificate has and a line behind it.
+const MOST_BYTES: u64 = 1 << 45;
 
 /// The line of a certificate that is refused.
 #[derive(Clone, Copy, Debug, PartialEq, Eq)]
@@ -25,7 +27,7 @@ pub enum CheckError {
     /// The text is longer than the limit, and none of its lines up to there is refused.
     #[error("the certificate is too long")]
     TooLong,
-    /// A read failed, which the source has counted.
+    /// A read failed, which the source has counted, before the text was decided.
     #[error("a read failed")]
     ReadFault,
     /// Memory was refused.
@@ -38,10 +40,11 @@ pub enum CheckError {
 ///
 /// `Refused` names the first line at which its lines begin no certificate; a line that lacks its
 /// newline, is longer than 4096 bytes or stands behind the last one is refused so, and the line
-/// behind the last one where the text ends before the certificate does. The source may then have
-/// been read some way behind that line. `TooLong` comes where the byte behind the limit was read,
-/// and no line that is shown before it is refused. `ReadFault` comes only where the source counted
-/// a fault. Memory is taken with the line buffer and the head alone: for the plan, two
+/// behind the last one where the text ends before the certificate does. `TooLong` comes where the
+/// byte behind the limit was read, and no line that is shown before it is refused; no certificate
+/// has more than 2^44 bytes. Both come at once: at most 4096 bytes were read behind the one that
+/// decides. `ReadFault` comes only where the source counted a fault, and just one; nothing that was
+/// read before decides. Memory is taken with the line buffer and the head alone: for the plan, two
 /// configurations, and the most that the faulty nodes of any era tell in one round. No later line
 /// takes memory.
 pub fn check_run<S: Source>(
@@ -49,7 +52,6 @@ pub fn check_run<S: Source>(
     source: &mut S,
     limit: u64,
 ) -> Result<Verdict, CheckError>
-    requires { limit < 2 ^ 64 - 2 }
     ensures checks { Checks limit (S.left source.old) (S.left source.new) result }
     ensures cause { HasCheckCause (S.faults source.old) (S.faults source.new) result }
 {
@@ -58,6 +60,7 @@ pub fn check_run<S: Source>(
         Err(_) => return Err(CheckError::NoMemory),
     };
     let mut feed = Feed::new(source);
+    let limit = limit.min(MOST_BYTES);
     match read_ended(&mut feed, &mut line, CheckLines::new(alloc), (), limit) {
         Ok(verdict) => Ok(verdict),
         Err(FedError::Refused(refused)) => {

@@ -1,25 +1,17 @@
-ghost use Rattle.std.specs.Prelude.{◌≡◌, ◌<◌, ◌≤◌, ◌+◌, ◌*◌, length, take, All};
-ghost use Rattle.sync_types.specs.States.{zero_state};
-ghost use Rattle.construction.specs.Plans.{plan_nodes, plan_depth};
-ghost use Rattle.construction.specs.Steps.{state_of, step_of};
-ghost use Rattle.state_codec.specs.Shapes.{shape_of};
-ghost use Rattle.shared_laws.specs.Sharing.{Tells, heard_with, stands_for};
-ghost use Rattle.round_runner.specs.Locks.{correct_nodes};
-ghost use Rattle.run_certificates.specs.Grammar.{pairs_of};
-ghost use Rattle.run_checker.specs.Rounds.{stepped_at, AreStates};
-ghost use Rattle.run_checker.specs.Hearing.{Lays, LaysHeard, IsRound};
+ghost use Rattle.std.specs.Prelude.{◌≡◌, ◌<◌, ◌≤◌, ◌+◌, ◌*◌, length, All};
+ghost use Rattle.construction.specs.Steps.{state_of};
+ghost use Rattle.run_checker.specs.Hearing.{Lays};
 
+use crate::rounds::{Room, Round};
 use crate::tellings::Tellings;
 use counter_core::Counter;
 use round_runner::place_of;
 use state_codec::Packed;
-use sync_types::{FaultSet, NodeState};
-use tower::{Shared, Tower};
+use sync_types::NodeState;
 
 /// Lays the zero state into the places of a stretch.
 fn lay_zeros(stretch: (usize, usize), zero: &NodeState, lies: &mut Vec<NodeState>)
-    requires order { stretch.0 ≤ stretch.1 }
-    requires within { stretch.1 ≤ length lies.old.items }
+    requires stretch { (stretch.0 ≤ stretch.1) × (stretch.1 ≤ length lies.old.items) }
     requires deep { All (λ s. length s.registers ≡ length zero.now.registers) lies.old.items }
     ensures { Lays stretch.0 stretch.1 (λ j. zero.now) lies.old.items lies.new.items }
 {
@@ -37,8 +29,7 @@ fn lay_told(
     stretch: (usize, usize),
     lies: &mut Vec<NodeState>,
 )
-    requires order { stretch.0 ≤ stretch.1 }
-    requires within { stretch.1 ≤ length lies.old.items }
+    requires stretch { (stretch.0 ≤ stretch.1) × (stretch.1 ≤ length lies.old.items) }
     requires before { before < correct }
     requires whole { stretch.1 * correct ≤ length told.now.states }
     requires deep { All (λ s. length s.registers ≡ length told.now.shape.moduli) lies.old.items }
@@ -51,78 +42,62 @@ fn lay_told(
     }
 }
 
-/// Lays what node `v` hears of the faulty nodes of a stretch of places into these: what they tell
-/// it, or where it is faulty itself the zero state, and its own state in its place. `counts` is as
-/// in [`hear`].
-fn lay_heard(
-    tower: &Tower,
-    faulty: &FaultSet,
-    told: &Tellings,
-    counts: (usize, usize),
-    config: &Packed,
-    v: u32,
-    stretch: (usize, usize),
-    zero: &NodeState,
-    lies: &mut Vec<NodeState>,
-)
-    requires round { IsRound tower.now faulty.now told.now.states config.now }
-    requires shape { told.now.shape ≡ shape_of tower.now }
-    requires node { v < plan_nodes tower.now }
-    requires correct { counts.0 ≡ length (correct_nodes (plan_nodes tower.now) faulty.now.ids) }
-    requires before { counts.1 ≡ length (correct_nodes v faulty.now.ids) }
-    requires order { stretch.0 ≤ stretch.1 }
-    requires within { stretch.1 ≤ length faulty.now.ids }
-    requires few { length faulty.now.ids ≤ plan_nodes tower.now }
-    requires zero { zero.now ≡ zero_state (plan_depth tower.now) }
-    requires room { length lies.old.items ≡ plan_nodes tower.now }
-    requires lies { AreStates tower.now lies.old.items }
-    ensures { LaysHeard tower.now faulty.now.ids told.now.states config.now.current v stretch.0 stretch.1
-        lies.old.items lies.new.items }
-{
-    tower.tell();
-    faulty.tell();
-    config.tell();
-    if faulty.contains(v) {
-        lay_zeros(stretch, zero, lies);
-        let own = place_of(faulty, v);
-        config.old(v, &mut lies[own]);
-    } else {
-        lay_told(told, counts.0, counts.1, stretch, lies);
-    }
-}
+impl Round<'_> {
+    ghost use Rattle.std.specs.Prelude.{take};
+    ghost use Rattle.construction.specs.Plans.{plan_nodes};
+    ghost use Rattle.construction.specs.Steps.{step_of};
+    ghost use Rattle.shared_board.specs.Sharing.{Tells, heard_with};
+    ghost use Rattle.run_certificates.specs.Grammar.{pairs_of};
+    ghost use Rattle.run_checker.specs.Hearing.{LaysHeard};
+    ghost use Rattle.run_checker.specs.Rounds.{stepped_at, IsNext, IsGathered};
 
-/// Lays as much of what node `v` hears of the faulty nodes as its step hangs on into the first of
-/// `lies`. `counts` says how many correct nodes there are, and how many of them stand before `v`.
-pub fn hear(
-    tower: &Tower,
-    faulty: &FaultSet,
-    told: &Tellings,
-    counts: (usize, usize),
-    config: &Packed,
-    v: u32,
-    zero: &NodeState,
-    shared: &Shared,
-    lies: &mut Vec<NodeState>,
-)
-    requires round { IsRound tower.now faulty.now told.now.states config.now }
-    requires shape { told.now.shape ≡ shape_of tower.now }
-    requires node { v < plan_nodes tower.now }
-    requires correct { counts.0 ≡ length (correct_nodes (plan_nodes tower.now) faulty.now.ids) }
-    requires before { counts.1 ≡ length (correct_nodes v faulty.now.ids) }
-    requires few { length faulty.now.ids ≤ plan_nodes tower.now }
-    requires zero { zero.now ≡ zero_state (plan_depth tower.now) }
-    requires stands { shared.now ≡ stands_for tower.now config.now.current faulty.now.ids }
-    requires room { length lies.old.items ≡ plan_nodes tower.now }
-    requires lies { AreStates tower.now lies.old.items }
-    ensures room { length lies.new.items ≡ plan_nodes tower.now }
-    ensures lies { AreStates tower.now lies.new.items }
-    ensures tells { Tells shared.now v (take (length faulty.now.ids) lies.new.items) }
-    ensures step { step_of tower.now v (heard_with faulty.now.ids
-        (take (length faulty.now.ids) lies.new.items) config.now.current) ≡ stepped_at tower.now
-        faulty.now.ids config.now.current
-        (pairs_of (plan_nodes tower.now) faulty.now.ids) told.now.states v }
-{
-    faulty.tell();
-    let stretch = tower.heeded(v, shared);
-    lay_heard(tower, faulty, told, counts, config, v, stretch, zero, lies);
+    /// Lays what node `v` hears of the faulty nodes of a stretch of places into these: what they
+    /// tell it, or where it is faulty itself the zero state, and its own state in its place.
+    fn lay_heard(
+        &self,
+        config: &Packed,
+        v: u32,
+        before: usize,
+        stretch: (usize, usize),
+        room: &mut Room,
+    )
+        requires next { IsNext self.now.tower.now self.now.faulty.now.ids v before }
+        requires room { IsGathered self.now.tower.now self.now.faulty.now.ids
+            self.now.told.now.states config.now room.old }
+        requires stretch { (stretch.0 ≤ stretch.1) × (stretch.1 ≤ length self.now.faulty.now.ids) }
+        ensures laid { LaysHeard self.now.tower.now self.now.faulty.now.ids
+            self.now.told.now.states config.now.current v stretch.0 stretch.1
+            room.old.lies.items room.new.lies.items }
+        ensures same { room.new ≡ record room.old { lies = room.new.lies } }
+    {
+        self.tower.tell();
+        config.tell();
+        if self.faulty.contains(v) {
+            lay_zeros(stretch, &room.zero, &mut room.lies);
+            let own = place_of(self.faulty, v);
+            config.old(v, &mut room.lies[own]);
+        } else {
+            lay_told(self.told, self.correct, before, stretch, &mut room.lies);
+        }
+    }
+
+    /// Lays as much of what node `v` hears of the faulty nodes as its step hangs on into the first
+    /// of `room.lies`. So many correct nodes stand before it.
+    pub fn hear(&self, config: &Packed, v: u32, before: usize, room: &mut Room)
+        requires next { IsNext self.now.tower.now self.now.faulty.now.ids v before }
+        requires room { IsGathered self.now.tower.now self.now.faulty.now.ids
+            self.now.told.now.states config.now room.old }
+        ensures room { IsGathered self.now.tower.now self.now.faulty.now.ids
+            self.now.told.now.states config.now room.new }
+        ensures tells { Tells room.new.shared v
+            (take (length self.now.faulty.now.ids) room.new.lies.items) }
+        ensures step { step_of self.now.tower.now v (heard_with self.now.faulty.now.ids
+            (take (length self.now.faulty.now.ids) room.new.lies.items) config.now.current)
+            ≡ stepped_at self.now.tower.now self.now.faulty.now.ids config.now.current
+            (pairs_of (plan_nodes self.now.tower.now) self.now.faulty.now.ids)
+            self.now.told.now.states v }
+    {
+        let stretch = self.tower.heeded(v, &room.shared);
+        self.lay_heard(config, v, before, stretch, room);
+    }
 }

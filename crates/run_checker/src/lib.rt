@@ -16,8 +16,6 @@ mod hearing;
 mod id_lists;
 pub mod laws;
 mod lie_lines;
-#[cfg(test)]
-mod record_tests;
 mod records;
 mod rounds;
 mod row_lines;
@@ -25,8 +23,8 @@ mod rows;
 mod said_lines;
 mod start_lines;
 mod tellings;
-#[cfg(test)]
-mod tests;
+mod versions;
 
 pub use checks::{CertRefusal, CheckError, check_run};
 pub use records::write_run;
+pub use run_certificates::Verdict;

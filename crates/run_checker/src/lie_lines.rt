@@ -1,8 +1,7 @@
-ghost use Rattle.std.specs.Prelude.{◌≡◌, ◌≢◌, ◌<◌, length, true};
+ghost use Rattle.std.specs.Prelude.{◌≡◌, ◌≢◌, ◌<◌, length};
 ghost use Rattle.texts.specs.Growth.{Puts};
-ghost use Rattle.sync_types.specs.FaultSets.{is_in};
 ghost use Rattle.construction.specs.Plans.{plan_nodes};
-ghost use Rattle.adversary_script.specs.Eras.{faulty_at};
+ghost use Rattle.run_checker.specs.Playing.{HasLiar};
 ghost use Rattle.run_checker.specs.RunLines.{lie_text, lie_if, lies_from, lies_text};
 
 use counter_core::NoOverlay;
@@ -16,12 +15,9 @@ fn put_lie<K: Sink>(
     u: u32,
     v: u32,
 ) -> Result<(), WriteFault>
-    requires round { runner.old.at < runner.old.script.rounds }
-    requires sender { is_in (faulty_at runner.old.script runner.old.at) u ≡ true }
-    requires node { u < plan_nodes runner.old.plan }
+    requires liar { HasLiar runner.old u }
     requires other { v ≢ u }
     requires receiver { v < plan_nodes runner.old.plan }
-    requires lows { length runner.old.script.shape.lows ≡ plan_nodes runner.old.plan }
     ensures text { Puts result (lie_text runner.old.script runner.old.at runner.old.states u v)
         (K.told sink.old) (K.told sink.new) }
     ensures same { runner.new ≡ runner.old }
@@ -50,11 +46,8 @@ fn put_lie_if<K: Sink>(
     u: u32,
     v: u32,
 ) -> Result<(), WriteFault>
-    requires round { runner.old.at < runner.old.script.rounds }
-    requires sender { is_in (faulty_at runner.old.script runner.old.at) u ≡ true }
-    requires node { u < plan_nodes runner.old.plan }
+    requires liar { HasLiar runner.old u }
     requires receiver { v < plan_nodes runner.old.plan }
-    requires lows { length runner.old.script.shape.lows ≡ plan_nodes runner.old.plan }
     ensures text { Puts result (lie_if runner.old.script runner.old.at runner.old.states u v)
         (K.told sink.old) (K.told sink.new) }
     ensures same { runner.new ≡ runner.old }
@@ -71,10 +64,7 @@ fn put_lies_from<K: Sink>(
     runner: &mut Runner<NoOverlay>,
     u: u32,
 ) -> Result<(), WriteFault>
-    requires round { runner.old.at < runner.old.script.rounds }
-    requires sender { is_in (faulty_at runner.old.script runner.old.at) u ≡ true }
-    requires node { u < plan_nodes runner.old.plan }
-    requires lows { length runner.old.script.shape.lows ≡ plan_nodes runner.old.plan }
+    requires { HasLiar runner.old u }
     ensures text { Puts result
         (lies_from runner.old.script (plan_nodes runner.old.plan) runner.old.at runner.old.states u)
         (K.told sink.old) (K.told sink.new) }

@@ -1,11 +1,11 @@
-ghost use Rattle.std.specs.Prelude.{◌≡◌, ◌<◌, ◌+◌, length, OnOk};
+ghost use Rattle.std.specs.Prelude.{◌≡◌, ◌<◌, ◌+◌, length, OnOk, OnErr};
 ghost use Rattle.texts.specs.Growth.{Puts};
 ghost use Rattle.construction.specs.Plans.{plan_nodes};
 ghost use Rattle.adversary_script.specs.Scripts.{IsScript};
 ghost use Rattle.run_certificates.specs.Certificates.{certificate_text};
 ghost use Rattle.run_certificates.specs.Recorded.{certificate_of, era_at};
 ghost use Rattle.run_checker.specs.RunLines.{era_lines, turn_text, turns_text, record_text};
-ghost use Rattle.run_checker.specs.Playing.{Plays, IsToRecord, HasPlayedOne};
+ghost use Rattle.run_checker.specs.Playing.{IsToRecord, StillPlays, HasPlayedOne, HasPlayedAll};
 
 use crate::head_lines::put_head;
 use crate::lie_lines::put_lies;
@@ -47,6 +47,7 @@ fn put_turn<K: Sink>(sink: &mut K, runner: &mut Runner<NoOverlay>) -> Result<(),
     ensures text { Puts result (turn_text runner.old.plan runner.old.script runner.old.at)
         (K.told sink.old) (K.told sink.new) }
     ensures played { OnOk result (HasPlayedOne runner.old runner.new) }
+    ensures stopped { OnErr result (StillPlays runner.old runner.new) }
 {
     let t = runner.at();
     put_lies(sink, runner)?;
@@ -59,8 +60,10 @@ fn put_turn<K: Sink>(sink: &mut K, runner: &mut Runner<NoOverlay>) -> Result<(),
 fn put_turns<K: Sink>(sink: &mut K, runner: &mut Runner<NoOverlay>) -> Result<(), WriteFault>
     requires start { runner.old.at ≡ 0 }
     requires plays { IsToRecord runner.old }
-    ensures { Puts result (turns_text runner.old.plan runner.old.script)
+    ensures text { Puts result (turns_text runner.old.plan runner.old.script)
         (K.told sink.old) (K.told sink.new) }
+    ensures played { OnOk result (HasPlayedAll runner.old runner.new) }
+    ensures stopped { OnErr result (StillPlays runner.old runner.new) }
 {
     let rounds = runner.script().rounds();
     for _ in 0..rounds {
@@ -81,8 +84,10 @@ fn put_record<K: Sink>(
     requires plan { runner.old.plan ≡ plan.now }
     requires start { runner.old.at ≡ 0 }
     requires plays { IsToRecord runner.old }
-    ensures { Puts result (record_text plan.now runner.old.script)
+    ensures text { Puts result (record_text plan.now runner.old.script)
         (K.told sink.old) (K.told sink.new) }
+    ensures played { OnOk result (HasPlayedAll runner.old runner.new) }
+    ensures stopped { OnErr result (StillPlays runner.old runner.new) }
 {
     put_head(sink, plan, runner.script())?;
     put_first_starts(sink, runner)?;
@@ -92,9 +97,11 @@ fn put_record<K: Sink>(
 }
 
 /// Writes the text of the certificate of a script's run. The runner is at configuration 0, and
-/// plays all rounds; `plan` is its plan. It takes no memory.
+/// plays all rounds, so that it ends at the script's last configuration; `plan` is its plan. It
+/// takes no memory.
 ///
-/// `WriteFault` comes only where the sink counted a fault; a front of the text was then taken.
+/// `WriteFault` comes only where the sink counted a fault; a front of the text was then taken, and
+/// the runner stopped at some configuration of the script.
 pub fn write_run<K: Sink>(
     plan: &Plan,
     runner: &mut Runner<NoOverlay>,
@@ -103,10 +110,14 @@ pub fn write_run<K: Sink>(
     requires plan { runner.old.plan ≡ plan.now }
     requires start { runner.old.at ≡ 0 }
     requires plays { IsToRecord runner.old }
-    ensures { Puts result (certificate_text (certificate_of plan.now runner.old.script))
+    ensures text { Puts result (certificate_text (certificate_of plan.now runner.old.script))
         (K.told sink.old) (K.told sink.new) }
+    ensures played { OnOk result (HasPlayedAll runner.old runner.new) }
+    ensures stopped { OnErr result (StillPlays runner.old runner.new) }
 {
     let mut lines = Gathered::new(sink);
-    let written = put_record(&mut lines, plan, runner);
-    lines.finish(written)
+    match put_record(&mut lines, plan, runner) {
+        Ok(()) => lines.finish(Ok(())),
+        Err(WriteFault) => Err(WriteFault),
+    }
 }

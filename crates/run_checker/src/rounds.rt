@@ -1,13 +1,11 @@
-ghost use Rattle.std.specs.Prelude.{◌≡◌, ◌<◌, ◌+◌, length, slice_set, IfOk};
+ghost use Rattle.std.specs.Prelude.{◌≡◌, ◌≤◌, ◌+◌, length, IfOk};
+ghost use Rattle.sync_types.specs.FaultSets.{AreFaulty};
 ghost use Rattle.construction.specs.Plans.{plan_nodes};
 ghost use Rattle.state_codec.specs.Shapes.{shape_of};
-ghost use Rattle.shared_laws.specs.Sharing.{stands_for};
 ghost use Rattle.round_runner.specs.Locks.{correct_nodes};
 ghost use Rattle.run_certificates.specs.Grammar.{pairs_of};
-ghost use Rattle.run_checker.specs.Rounds.{stepped_at, stepped_all, state_next, IsReady};
-ghost use Rattle.run_checker.specs.Hearing.{IsRound};
+ghost use Rattle.run_checker.specs.Rounds.{stepped_all, AreStates, IsReady, IsTold, IsConfig};
 
-use crate::hearing::hear;
 use crate::tellings::Tellings;
 use counter_core::Counter;
 use majority_votes::Steps;
@@ -68,142 +66,143 @@ fn count_correct(faulty: &FaultSet) -> usize
     count
 }
 
-/// Makes the step of node `v` into `room.out`.
-fn step<G: Ledger>(
-    tower: &Tower,
-    faulty: &FaultSet,
-    told: &Tellings,
-    counts: (usize, usize),
-    config: &Packed,
-    v: u32,
-    room: &mut Room,
-    steps: &mut Steps<G>,
-)
-    requires round { IsRound tower.now faulty.now told.now.states config.now }
-    requires shape { told.now.shape ≡ shape_of tower.now }
-    requires node { v < plan_nodes tower.now }
-    requires correct { counts.0 ≡ length (correct_nodes (plan_nodes tower.now) faulty.now.ids) }
-    requires before { counts.1 ≡ length (correct_nodes v faulty.now.ids) }
-    requires room { IsReady tower.now room.old }
-    requires stands { room.old.shared ≡ stands_for tower.now config.now.current faulty.now.ids }
-    ensures out { room.new.out ≡ stepped_at tower.now faulty.now.ids config.now.current
-        (pairs_of (plan_nodes tower.now) faulty.now.ids) told.now.states v }
-    ensures room { IsReady tower.now room.new }
-    ensures stands { room.new.shared ≡ room.old.shared }
-{
-    tower.tell();
-    let liars = faulty.len();
-    hear(
-        tower,
-        faulty,
-        told,
-        counts,
-        config,
-        v,
-        &room.zero,
-        &room.shared,
-        &mut room.lies,
-    );
-    let lies = &room.lies[..liars];
-    tower.advance_shared(v, config, lies, &mut room.shared, &mut room.out, steps);
+/// A round in which the faulty nodes have told all that they have to: whose counter makes its
+/// steps, who is faulty in it, and what these tell.
+#[derive(Drop)]
+pub struct Round<'a> {
+    /// The counter of the plan.
+    pub tower: &'a Tower,
+    /// The faulty nodes.
+    pub faulty: &'a FaultSet,
+    /// What they tell.
+    pub told: &'a Tellings,
+    /// How many nodes are correct.
+    pub correct: usize,
+    ghost nodes: { faulty.now.nodes ≡ plan_nodes tower.now },
+    ghost ids: { AreFaulty faulty.now },
+    ghost few: { length faulty.now.ids ≤ faulty.now.nodes },
+    ghost whole: { length told.now.states
+        ≡ length (pairs_of (plan_nodes tower.now) faulty.now.ids) },
+    ghost shape: { told.now.shape ≡ shape_of tower.now },
+    ghost count: { correct ≡ length (correct_nodes (plan_nodes tower.now) faulty.now.ids) },
 }
 
-/// Makes the next state of node `v`: its step, or the zero state where it is faulty then.
-fn step_one<G: Ledger>(
-    tower: &Tower,
-    faulty: &FaultSet,
-    new_faulty: &FaultSet,
-    told: &Tellings,
-    counts: (usize, usize),
-    v: u32,
-    config: &mut Packed,
-    room: &mut Room,
-    steps: &mut Steps<G>,
-)
-    requires round { IsRound tower.now faulty.now told.now.states config.old }
-    requires shape { told.now.shape ≡ shape_of tower.now }
-    requires node { v < plan_nodes tower.now }
-    requires correct { counts.0 ≡ length (correct_nodes (plan_nodes tower.now) faulty.now.ids) }
-    requires before { counts.1 ≡ length (correct_nodes v faulty.now.ids) }
-    requires room { IsReady tower.now room.old }
-    requires stands { room.old.shared ≡ stands_for tower.now config.old.current faulty.now.ids }
-    ensures config { config.new ≡ record config.old {
-      next = slice_set config.old.next v
-          (state_next tower.now faulty.now.ids new_faulty.now.ids config.old.current told.now.states v);
-    } }
-    ensures room { IsReady tower.now room.new }
-    ensures stands { room.new.shared ≡ room.old.shared }
-{
-    tower.tell();
-    config.tell();
-    if new_faulty.contains(v) {
-        config.put(v, &room.zero);
-    } else {
-        step(tower, faulty, told, counts, config, v, room, steps);
-        config.put(v, &room.out);
+impl<'a> Round<'a> {
+    ghost use Rattle.std.specs.Prelude.{◌<◌, slice_set};
+    ghost use Rattle.run_checker.specs.Rounds.{stepped_at, state_next, IsNext, IsGathered};
+
+    /// Makes the step of node `v` into `room.out`. So many correct nodes stand before it.
+    fn step<G: Ledger>(
+        &self,
+        config: &Packed,
+        v: u32,
+        before: usize,
+        room: &mut Room,
+        steps: &mut Steps<G>,
+    )
+        requires next { IsNext self.now.tower.now self.now.faulty.now.ids v before }
+        requires room { IsGathered self.now.tower.now self.now.faulty.now.ids
+            self.now.told.now.states config.now room.old }
+        ensures out { room.new.out ≡ stepped_at self.now.tower.now self.now.faulty.now.ids
+            config.now.current (pairs_of (plan_nodes self.now.tower.now) self.now.faulty.now.ids)
+            self.now.told.now.states v }
+        ensures room { IsGathered self.now.tower.now self.now.faulty.now.ids
+            self.now.told.now.states config.now room.new }
+    {
+        self.tower.tell();
+        let liars = self.faulty.len();
+        self.hear(config, v, before, room);
+        let lies = &room.lies[..liars];
+        self.tower
+            .advance_shared(v, config, lies, &mut room.shared, &mut room.out, steps);
     }
-}
 
-/// Makes the next configuration: the steps of all nodes that are correct in it, and the zero state
-/// for each that is faulty.
-fn step_all<G: Ledger>(
-    tower: &Tower,
-    faulty: &FaultSet,
-    new_faulty: &FaultSet,
-    told: &Tellings,
-    config: &mut Packed,
-    room: &mut Room,
-    steps: &mut Steps<G>,
-)
-    requires round { IsRound tower.now faulty.now told.now.states config.old }
-    requires shape { told.now.shape ≡ shape_of tower.now }
-    requires room { IsReady tower.now room.old }
-    ensures config { config.new ≡ record config.old {
-      next = stepped_all tower.now faulty.now.ids
-          new_faulty.now.ids config.old.current
-          (pairs_of (plan_nodes tower.now) faulty.now.ids) told.now.states;
-    } }
-    ensures room { IsReady tower.now room.new }
-{
-    tower.tell();
-    faulty.tell();
-    config.tell();
-    let correct = count_correct(faulty);
-    tower.gather(config, faulty, &mut room.shared, steps);
-    let mut before = 0;
-    for v in 0..tower.nodes() {
-        let counts = (correct, before);
-        step_one(
-            tower, faulty, new_faulty, told, counts, v, config, room, steps,
-        );
-        before = one_more(faulty, v, before);
+    /// Makes the next state of node `v`: its step, or the zero state where it is faulty then.
+    fn step_one<G: Ledger>(
+        &self,
+        new_faulty: &FaultSet,
+        config: &mut Packed,
+        v: u32,
+        before: usize,
+        room: &mut Room,
+        steps: &mut Steps<G>,
+    )
+        requires next { IsNext self.now.tower.now self.now.faulty.now.ids v before }
+        requires room { IsGathered self.now.tower.now self.now.faulty.now.ids
+            self.now.told.now.states config.old room.old }
+        ensures config { config.new ≡ record config.old {
+          next = slice_set config.old.next v (state_next self.now.tower.now self.now.faulty.now.ids
+              new_faulty.now.ids config.old.current self.now.told.now.states v);
+        } }
+        ensures room { IsGathered self.now.tower.now self.now.faulty.now.ids
+            self.now.told.now.states config.old room.new }
+    {
+        self.tower.tell();
+        config.tell();
+        if new_faulty.contains(v) {
+            config.put(v, &room.zero);
+        } else {
+            self.step(config, v, before, room, steps);
+            config.put(v, &room.out);
+        }
     }
-}
 
-/// Plays a round, and counts its steps in a ledger of its own.
-fn play_in<G: Ledger>(
-    tower: &Tower,
-    faulty: &FaultSet,
-    new_faulty: &FaultSet,
-    told: &Tellings,
-    config: &mut Packed,
-    room: &mut Room,
-    blank: Blank,
-)
-    requires name { blank.name ≡ G.name }
-    requires parts { blank.parts ≡ G.parts }
-    requires some { 0 < blank.parts }
-    requires round { IsRound tower.now faulty.now told.now.states config.old }
-    requires shape { told.now.shape ≡ shape_of tower.now }
-    requires room { IsReady tower.now room.old }
-    ensures shape { config.new.shape ≡ config.old.shape }
-    ensures current { config.new.current ≡ stepped_all tower.now faulty.now.ids new_faulty.now.ids
-        config.old.current (pairs_of (plan_nodes tower.now) faulty.now.ids) told.now.states }
-    ensures room { IsReady tower.now room.new }
-{
-    let mut steps = Steps::<G>::new(blank);
-    step_all(tower, faulty, new_faulty, told, config, room, &mut steps);
-    config.flip();
+    /// Makes the next configuration: the steps of all nodes that are correct in it, and the zero
+    /// state for each that is faulty.
+    fn step_all<G: Ledger>(
+        &self,
+        new_faulty: &FaultSet,
+        config: &mut Packed,
+        room: &mut Room,
+        steps: &mut Steps<G>,
+    )
+        requires said { AreStates self.now.tower.now self.now.told.now.states }
+        requires config { IsConfig self.now.tower.now config.old }
+        requires room { IsReady self.now.tower.now room.old }
+        ensures config { config.new ≡ record config.old {
+          next = stepped_all self.now.tower.now self.now.faulty.now.ids
+              new_faulty.now.ids config.old.current
+              (pairs_of (plan_nodes self.now.tower.now) self.now.faulty.now.ids)
+              self.now.told.now.states;
+        } }
+        ensures room { IsReady self.now.tower.now room.new }
+    {
+        self.tower.tell();
+        config.tell();
+        self.tower
+            .gather(config, self.faulty, &mut room.shared, steps);
+        let mut before = 0;
+        for v in 0..self.tower.nodes() {
+            self.step_one(new_faulty, config, v, before, room, steps);
+            before = one_more(self.faulty, v, before);
+        }
+    }
+
+    /// Plays the round, and counts its steps in a ledger of its own.
+    fn play_in<G: Ledger>(
+        &self,
+        new_faulty: &FaultSet,
+        config: &mut Packed,
+        room: &mut Room,
+        blank: Blank,
+    )
+        requires name { blank.name ≡ G.name }
+        requires parts { blank.parts ≡ G.parts }
+        requires some { 0 < blank.parts }
+        requires said { AreStates self.now.tower.now self.now.told.now.states }
+        requires config { IsConfig self.now.tower.now config.old }
+        requires room { IsReady self.now.tower.now room.old }
+        ensures shape { config.new.shape ≡ config.old.shape }
+        ensures current { config.new.current ≡ stepped_all self.now.tower.now
+            self.now.faulty.now.ids new_faulty.now.ids config.old.current
+            (pairs_of (plan_nodes self.now.tower.now) self.now.faulty.now.ids)
+            self.now.told.now.states }
+        ensures room { IsReady self.now.tower.now room.new }
+    {
+        let mut steps = Steps::<G>::new(blank);
+        self.step_all(new_faulty, config, room, &mut steps);
+        config.flip();
+    }
 }
 
 /// Plays a round: makes the configuration behind it the current one. The steps of all nodes that
@@ -216,14 +215,23 @@ pub fn play(
     config: &mut Packed,
     room: &mut Room,
 )
-    requires round { IsRound tower.now faulty.now told.now.states config.old }
-    requires shape { told.now.shape ≡ shape_of tower.now }
+    requires told { IsTold tower.now faulty.now told.now }
+    requires config { IsConfig tower.now config.old }
     requires room { IsReady tower.now room.old }
     ensures shape { config.new.shape ≡ config.old.shape }
     ensures current { config.new.current ≡ stepped_all tower.now faulty.now.ids new_faulty.now.ids
         config.old.current (pairs_of (plan_nodes tower.now) faulty.now.ids) told.now.states }
     ensures room { IsReady tower.now room.new }
 {
+    faulty.tell();
+    let _few = faulty.len();
+    let correct = count_correct(faulty);
+    let round = Round {
+        tower,
+        faulty,
+        told,
+        correct,
+    };
     let blank = Blank::new(1);
-    play_in::<Brand>(tower, faulty, new_faulty, told, config, room, blank);
+    round.play_in::<Brand>(new_faulty, config, room, blank);
 }

@@ -1,9 +1,8 @@
-ghost use Rattle.std.specs.Prelude.{◌≡◌, ◌<◌, ◌+◌, ◌&&◌, ◌||◌, not, length, Some};
+ghost use Rattle.std.specs.Prelude.{◌≡◌, ◌&&◌, ◌||◌, not, length};
 ghost use Rattle.texts.specs.Growth.{Puts};
 ghost use Rattle.construction.specs.Plans.{Plan, plan_nodes};
-ghost use Rattle.adversary_script.specs.Scripts.{IsScript};
-ghost use Rattle.round_runner.specs.Beginnings.{BeginsAt};
 ghost use Rattle.run_certificates.specs.Recorded.{is_put};
+ghost use Rattle.run_checker.specs.Playing.{HasNode, Begins};
 ghost use Rattle.run_checker.specs.RunLines.{start_text, first_start, first_starts, start_if, starts_text};
 
 use adversary_script::Script;
@@ -20,8 +19,7 @@ fn put_start<K: Sink>(
     runner: &mut Runner<NoOverlay>,
     v: u32,
 ) -> Result<(), WriteFault>
-    requires node { v < plan_nodes runner.old.plan }
-    requires lows { length runner.old.script.shape.lows ≡ plan_nodes runner.old.plan }
+    requires { HasNode runner.old v }
     ensures text { Puts result (start_text runner.old.script runner.old.states v)
         (K.told sink.old) (K.told sink.new) }
     ensures same { runner.new ≡ runner.old }
@@ -47,8 +45,7 @@ fn put_first_start<K: Sink>(
     runner: &mut Runner<NoOverlay>,
     v: u32,
 ) -> Result<(), WriteFault>
-    requires node { v < plan_nodes runner.old.plan }
-    requires lows { length runner.old.script.shape.lows ≡ plan_nodes runner.old.plan }
+    requires { HasNode runner.old v }
     ensures text { Puts result (first_start runner.old.script runner.old.states v)
         (K.told sink.old) (K.told sink.new) }
     ensures same { runner.new ≡ runner.old }
@@ -90,9 +87,7 @@ fn put_by(bad: bool, was: bool, hit: bool) -> bool
 /// Whether the state of node `v` is stated where era `j` begins at configuration `t + 1`: it is
 /// correct there, and was faulty before, or the era puts it into a state.
 fn is_put(script: &Script, t: u64, j: usize, v: u32) -> bool
-    requires script { IsScript script.now }
-    requires begins { BeginsAt script.now (t + 1) (Some j) }
-    requires small { t < 1000000 }
+    requires { Begins script.now t j }
     ensures { (plan : Plan) → result ≡ is_put plan script.now t v }
 {
     let bad = script.faulty_at(t + 1).contains(v);
@@ -110,11 +105,8 @@ fn put_start_if<K: Sink>(
     j: usize,
     v: u32,
 ) -> Result<(), WriteFault>
-    requires script { IsScript runner.old.script }
-    requires begins { BeginsAt runner.old.script (t + 1) (Some j) }
-    requires small { t < 1000000 }
-    requires node { v < plan_nodes runner.old.plan }
-    requires lows { length runner.old.script.shape.lows ≡ plan_nodes runner.old.plan }
+    requires begins { Begins runner.old.script t j }
+    requires node { HasNode runner.old v }
     ensures text { Puts result (start_if runner.old.plan runner.old.script t runner.old.states v)
         (K.told sink.old) (K.told sink.new) }
     ensures same { runner.new ≡ runner.old }
@@ -132,9 +124,7 @@ pub fn put_starts<K: Sink>(
     t: u64,
     j: usize,
 ) -> Result<(), WriteFault>
-    requires script { IsScript runner.old.script }
-    requires begins { BeginsAt runner.old.script (t + 1) (Some j) }
-    requires small { t < 1000000 }
+    requires begins { Begins runner.old.script t j }
     requires lows { length runner.old.script.shape.lows ≡ plan_nodes runner.old.plan }
     ensures text { Puts result (starts_text runner.old.plan runner.old.script t runner.old.states)
         (K.told sink.old) (K.told sink.new) }

@@ -221,8 +221,8 @@ impl Tellings {
         is_count(&self.pairs, self.count)
     }
 
-    /// Takes what the sender of the next pair tells: false where the digits are not those of a state
-    /// of it.
+    /// Takes what the sender of the next pair tells: false where the digits are not those of a
+    /// state of it.
     pub fn add(&mut self, digits: &[u8]) -> bool
         requires { length self.old.states < length self.old.pairs }
         ensures { AddsState digits.now self.old self.new result }

@@ -1,13 +1,15 @@
 -- A runner that plays a script without a layer, and what was found before its configuration.
-use Rattle.std.specs.Prelude.{◌≡◌, ℕ, ◌+◌, []}
+use Rattle.std.specs.Prelude.{◌≡◌, ℕ, ◌+◌, ◌-◌, []}
 use Rattle.counter_core.specs.declared.overlays.NoOverlay.{NoOverlay}
 use Rattle.counter_core.specs.NoLayers.{no_layer}
 use Rattle.construction.specs.Plans.{Plan}
 use Rattle.adversary_script.specs.Scripts.{Script}
 use Rattle.round_runner.specs.Runners.{Running, IsPlaying}
 use Rattle.run_explanations.specs.declared.explaining.Search.{Search}
+use Rattle.run_explanations.specs.declared.explanations.Explanation.{Explanation}
 use Rattle.run_explanations.specs.declared.tops.Top.{Top}
-use Rattle.run_explanations.specs.Explanations.{is_faulty, seen_at}
+use Rattle.run_explanations.specs.Checking.{Fits}
+use Rattle.run_explanations.specs.Explanations.{era_begin, is_faulty, seen_at}
 use Rattle.run_explanations.specs.Reading.{Reads}
 use Rattle.run_explanations.specs.Searching.{stretch_before, found_before}
 use Rattle.run_explanations.specs.Tops.{top_of}
@@ -41,3 +43,12 @@ pub record IsRead (top : Top) (r : Running NoOverlay) : Type 0 where
   pub reads : Reads top r
   pub top_is : top ≡ top_of r.plan
   pub plays : Plays r
+
+-- whether the window and the phase of an explanation fit into the last era of a script
+abbrev pub FitsEra : Plan → Script → Explanation → Type 0
+FitsEra plan script e = Fits (top_of plan).beat (era_begin script) script.rounds e
+
+-- it has played to the end of the window of an explanation that fits, and else nothing
+pub record HasTested (plan : Plan) (e : Explanation) (old new : Running NoOverlay) : Type 0 where
+  pub fits : FitsEra plan old.script e → HasPlayed old (e.window + (top_of plan).beat - 1) new
+  pub strays : (FitsEra plan old.script e → ⊥) → new ≡ old

@@ -1,6 +1,6 @@
 -- The search for an explanation, by what each configuration shows. A stretch tells for how many
--- configurations one leader has been seen, with a part that grows by one; where it is as long as the
--- beat, a window ends.
+-- configurations one leader has been seen, with a part that grows by one; where it is as long as
+-- the beat, a window ends.
 use Rattle.std.specs.Prelude.{ℕ, zero, suc, ◌+◌, ◌-◌, ◌/◌, ◌%◌, Bool, false, not, ◌==◌, ◌&&◌, nat_le, Option, Some, None, if◌then◌else◌}
 use Rattle.std.specs.Option.{option_map}
 use Rattle.run_explanations.specs.declared.explanations.Explanation.{Explanation}
@@ -47,7 +47,8 @@ module _ (beat : ℕ) (faulty : ℕ → Bool) (last : ℕ) where
   -- part is `start`, and ends by the last one.
   abbrev pub begins_phase : (t start x : ℕ) → Bool
   begins_phase t start x =
-      (start + x) % beat % 3 == 0 && not (faulty ((start + x) % beat / 3)) && nat_le (t + x + 3) last
+      (start + x) % beat % 3 == 0 && not (faulty ((start + x) % beat / 3))
+      && nat_le (t + x + 3) last
 
   -- the explanation of that phase, in the window of leader b from configuration t on
   abbrev pub explained_by : (t b start x : ℕ) → Explanation

@@ -70,4 +70,5 @@ module _ (top : Top) (faulty : ℕ → Bool) (outputs : ℕ → ℕ) where
     pub sound : faults_in top.nodes faulty b ≤ top.faults
     pub points : (i j : ℕ) → i < top.blocks → faults_in top.nodes faulty i ≤ top.faults
         → j < top.nodes → faulty (i * top.nodes + j) ≡ false → pointer_at top outputs i j ≡ b
-    pub parts : (j : ℕ) → j < top.nodes → faulty (b * top.nodes + j) ≡ false → part_at top outputs b j ≡ part
+    pub parts : (j : ℕ) → j < top.nodes → faulty (b * top.nodes + j) ≡ false
+        → part_at top outputs b j ≡ part

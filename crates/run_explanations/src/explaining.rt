@@ -5,7 +5,7 @@ ghost use Rattle.construction.specs.Runs.{is_in};
 ghost use Rattle.run_explanations.specs.Checking.{Fits, is_of};
 ghost use Rattle.run_explanations.specs.Searching.{stretch_before};
 ghost use Rattle.run_explanations.specs.Tops.{IsTop};
-ghost use Rattle.run_explanations.specs.Playing.{IsToPlay, IsRead, IsFound, HasPlayed};
+ghost use Rattle.run_explanations.specs.Playing.{IsToPlay, IsRead, IsFound, HasPlayed, HasTested};
 
 use crate::explanations::Explanation;
 use crate::laws::found_is_first;
@@ -147,11 +147,12 @@ fn is_of(
     top.beat <= stretch.count
         && seen.leader == explanation.leader
         && begins_phase(top.beat, faulty, rounds, explanation.window, start, x)
-        && (start + x) % top.beat / 3 == explanation.king
+        && (start + x) % top.beat / 3 == u64::from(explanation.king)
 }
 
 /// Plays a script up to the end of a window, and answers whether an explanation holds: exactly
-/// where it explains that the last era locks. Its numbers may be any. It takes no memory.
+/// where it explains that the last era locks. Its numbers may be any; where its window and phase do
+/// not fit into the last era, nothing is played. It takes no memory.
 ///
 /// The plan has a level, and the runner is one of this plan, at configuration 0.
 pub fn check_explanation(
@@ -161,7 +162,8 @@ pub fn check_explanation(
 ) -> bool
     requires level { 1 ≤ plan_depth plan.now }
     requires start { IsToPlay plan.now runner.old }
-    ensures { (result ≡ true) ↔ IsExplanation plan.now runner.old.script explanation.now }
+    ensures exact { (result ≡ true) ↔ IsExplanation plan.now runner.old.script explanation.now }
+    ensures played { HasTested plan.now explanation.now runner.old runner.new }
 {
     plan.tell();
     let script = runner.script();

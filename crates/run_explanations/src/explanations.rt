@@ -7,9 +7,9 @@ pub struct Explanation {
     /// The first configuration of the window.
     pub window: u64,
     /// The block to which all point.
-    pub leader: u64,
+    pub leader: u32,
     /// The configuration in which the phase begins.
     pub phase: u64,
     /// The node whose phase it is.
-    pub king: u64,
+    pub king: u32,
 }

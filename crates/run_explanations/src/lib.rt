@@ -10,8 +10,6 @@ mod explanations;
 pub mod laws;
 mod searching;
 mod seeing;
-#[cfg(test)]
-mod tests;
 mod tops;
 
 pub use explaining::{check_explanation, explain};

@@ -85,7 +85,7 @@ fn explained_in(
     faulty: &FaultSet,
     last: u64,
     t: u64,
-    b: u64,
+    b: u32,
     start: u64,
 ) -> Option<Explanation>
     requires beat { 6 ≤ beat }
@@ -105,7 +105,7 @@ fn explained_in(
             window: t,
             leader: b,
             phase: t + x,
-            king: (start + x) % beat / 3,
+            king: ((start + x) % beat / 3) as u32,
         }),
         None => None,
     }
@@ -123,7 +123,8 @@ pub(crate) fn explained_from(
     requires most { beat ≤ 261 }
     requires early { c ≤ 1000000 }
     requires within { stretch.count ≤ c + 1 }
-    ensures { result ≡ explained_from beat (is_in faulty.now.ids) last c stretch.count stretch.seen }
+    ensures { result
+        ≡ explained_from beat (is_in faulty.now.ids) last c stretch.count stretch.seen }
 {
     let seen = stretch.seen?;
     if stretch.count < beat {

@@ -29,7 +29,7 @@ pub(crate) enum Shared {
 #[derive(Clone, Copy, Debug, PartialEq, Eq)]
 pub(crate) struct Seen {
     /// The leader.
-    pub leader: u64,
+    pub leader: u32,
     /// The part of the beat.
     pub part: u64,
 }
@@ -126,11 +126,11 @@ pub(crate) fn see(top: Top, faulty: &FaultSet, runner: &Runner<NoOverlay>) -> Op
     let Shared::One(leader) = pointed(top, faulty, runner) else {
         return None;
     };
-    let b = leader as u32;
-    if !is_sound(top, faulty, b) {
+    let leader = leader as u32;
+    if !is_sound(top, faulty, leader) {
         return None;
     }
-    match parted(top, faulty, runner, b) {
+    match parted(top, faulty, runner, leader) {
         Shared::One(part) => Some(Seen { leader, part }),
         _ => None,
     }

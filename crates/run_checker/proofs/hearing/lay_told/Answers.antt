@@ -8,7 +8,7 @@ use Rattle.run_checker.proofs.hearing.lay_told.Goals as goal
 pub loop-j-init : goal.loop-j-init
 loop-j-init c = record {
   low = omega arith;
-  high = c.requires.order;
+  high = c.requires.stretch.0;
   laid = none_laid c.args.stretch.0
       (λ j. state_of c.args.told.now.states (j * c.args.correct + c.args.before)) c.args.lies.now.items;
 }
@@ -33,7 +33,7 @@ read-requires-clause-told c =
 pub read-requires-clause-depth : goal.read-requires-clause-depth
 read-requires-clause-depth c =
     let inside : c.loop-j.j < length c.args.lies.now.items =
-    omega (arith, c.loop-j-test.true, c.requires.within) in
+    omega (arith, c.loop-j-test.true, c.requires.stretch.1) in
     ap (λ (s : State). length s.registers) c.index_mut.ensures.value ∙ deep_at c.args.stretch.0
     (λ j. state_of c.args.told.now.states (j * c.args.correct + c.args.before)) c.args.lies.now.items
     c.loop-j.j c.loop-j.lies.items (length c.args.told.now.shape.moduli)
@@ -47,7 +47,7 @@ loop-j-preserved c = record {
       (λ j. state_of c.args.told.now.states (j * c.args.correct + c.args.before))
       c.args.lies.now.items c.loop-j.j c.loop-j.lies.items c.read.new.out
       c.loop-j.invariant.laid c.loop-j.invariant.low
-      (omega (arith, c.loop-j-test.true, c.requires.within)) c.read.ensures;
+      (omega (arith, c.loop-j-test.true, c.requires.stretch.1)) c.read.ensures;
 }
 
 pub returns : goal.returns

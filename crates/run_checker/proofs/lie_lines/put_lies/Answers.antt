@@ -2,14 +2,16 @@ use Rattle.std.proofs.Common.{◌≡◌, ◌<◌, ℕ, List, true, length, refl,
 use Rattle.std.specs.Prelude.{slice_index}
 use Rattle.std.specs.List.{flat_map}
 use Rattle.std.proofs.lemmas.List.{take_all}
-use Rattle.sync_types.specs.FaultSets.{is_in}
+use Rattle.sync_types.specs.FaultSets.{FaultIds, is_in}
 use Rattle.texts.specs.Growth.{Wrote, Cut}
 use Rattle.texts.proofs.Growth.{wrote_none, wrote_at, cut_at}
 use Rattle.construction.specs.Plans.{plan_nodes}
 use Rattle.counter_core.specs.declared.overlays.NoOverlay.{NoOverlay}
+use Rattle.adversary_script.specs.Scripts.{Script}
 use Rattle.adversary_script.specs.Eras.{faulty_at}
 use Rattle.round_runner.specs.Runners.{Running}
 use Rattle.round_runner.proofs.Heard.{is_among}
+use Rattle.run_checker.specs.Playing.{HasLiar}
 use Rattle.run_checker.specs.RunLines.{lies_from}
 use Rattle.run_checker.proofs.Recording.{faulty_ids}
 use Rattle.run_checker.proofs.lie_lines.put_lies.Goals as goal
@@ -17,8 +19,8 @@ use Rattle.run_checker.proofs.lie_lines.put_lies.Goals as goal
 pub loop-i-init : goal.loop-i-init
 loop-i-init g c = record { same = refl; wrote = wrote_none _ }
 
-pub put_lies_from-requires-clause-sender : goal.put_lies_from-requires-clause-sender
-put_lies_from-requires-clause-sender g c =
+pub put_lies_from-requires : goal.put_lies_from-requires
+put_lies_from-requires g c =
     let r = c.args.runner.now in
     let ids = faulty_at r.script r.at in
     let same = c.loop-i.invariant.same in
@@ -27,8 +29,18 @@ put_lies_from-requires-clause-sender g c =
     (c.at-in-loop-i.ensures ∙ ap (λ (x : Running NoOverlay). x.at) same) in
     let u = c.at-u.ensures.id ∙ ap (λ (l : List ℕ). slice_index l c.loop-i.i) two in
     let within : c.loop-i.i < length ids = omega (arith, c.loop-i-test.true, c.len-count.ensures.exact, ap (λ (l : List ℕ). length l) one) in
-    subst (λ (x : Running NoOverlay). is_in (faulty_at x.script x.at) c.at-u.result ≡ true) (sym same)
-    (subst (λ (w : ℕ). is_in ids w ≡ true) (sym u) (is_among ids c.loop-i.i within))
+    let node : c.at-u.result < plan_nodes r.plan = omega (
+      arith,
+      c.at-u.ensures.node,
+      ap (λ (s : FaultIds). s.nodes) c.faulty_at-in-loop-i.ensures,
+      ap (λ (s : Script). s.nodes) (c.script-in-loop-i.ensures ∙ ap (λ (x : Running NoOverlay). x.script) same),
+      c.requires.nodes,
+    ) in
+    subst (λ (x : Running NoOverlay). HasLiar x c.at-u.result) (sym same) (record {
+      round = c.requires.round;
+      sender = subst (λ (w : ℕ). is_in ids w ≡ true) (sym u) (is_among ids c.loop-i.i within);
+      has = record { node = node; lows = c.requires.lows };
+    })
 
 pub returns-in-Err-clause-text : goal.returns-in-Err-clause-text
 returns-in-Err-clause-text g c =

@@ -1,9 +1,8 @@
-use Rattle.std.proofs.Common.{◌≡◌, true, refl, sym, ◌∙◌, subst, arith}
-use Rattle.sync_types.specs.FaultSets.{is_in}
-use Rattle.adversary_script.specs.Eras.{faulty_at}
+use Rattle.std.proofs.Common.{refl, sym, ◌∙◌, subst, arith}
 use Rattle.texts.specs.Growth.{Wrote, Cut}
 use Rattle.counter_core.specs.declared.overlays.NoOverlay.{NoOverlay}
 use Rattle.round_runner.specs.Runners.{Running}
+use Rattle.run_checker.specs.Playing.{HasLiar}
 use Rattle.run_checker.specs.RunLines.{lie_if}
 use Rattle.texts.proofs.Growth.{wrote_none}
 use Rattle.construction.specs.Plans.{plan_nodes}
@@ -29,6 +28,6 @@ pub returns-clause-text : goal.returns-clause-text
 returns-clause-text g c =
     words_all _ (plan_nodes c.args.runner.now.plan) c.loop-v.v _ _ (omega (arith, c.loop-v-test.false, c.nodes-v-end.ensures)) c.loop-v.invariant.wrote
 
-pub put_lie_if-requires-clause-sender : goal.put_lie_if-requires-clause-sender
-put_lie_if-requires-clause-sender g c =
-    subst (λ (r : Running NoOverlay). is_in (faulty_at r.script r.at) c.args.u ≡ true) (sym c.loop-v.invariant.same) c.requires.sender
+pub put_lie_if-requires-clause-liar : goal.put_lie_if-requires-clause-liar
+put_lie_if-requires-clause-liar g c =
+    subst (λ (r : Running NoOverlay). HasLiar r c.args.u) (sym c.loop-v.invariant.same) c.requires

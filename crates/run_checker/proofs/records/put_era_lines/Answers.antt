@@ -33,3 +33,10 @@ returns-in_ok-put_era-in-Some-clause-text g c =
     let ids = faulty_ids _ _ r.script _ (c.args.t + 1) c.faulty_at.ensures c.script-in-Some.ensures refl in
     let wrote = subst (λ (ids : List ℕ). Wrote (era_text (c.args.t + 1) ids) (g.K.Sink.told c.args.sink.now) (g.K.Sink.told c.put_era.new.sink)) ids c.in_ok-put_era-in-Some.ensures in
     era_put r.plan r.script c.args.t r.states c.in-Some.j begins _ _ c.put_starts.result (g.K.Sink.told c.put_starts.new.sink) wrote c.put_starts.ensures.text
+
+pub put_starts-requires-clause-begins : goal.put_starts-requires-clause-begins
+put_starts-requires-clause-begins g c =
+    let r = c.args.runner.now in
+    let begins = subst (BeginsAt r.script (c.args.t + 1)) c.in-Some.is
+    (subst (λ (s : Script). BeginsAt s (c.args.t + 1) c.beginning_at.result) c.script.ensures c.beginning_at.ensures) in
+    record { script = c.requires.script; begins = begins; small = c.requires.small }

@@ -2,7 +2,7 @@ use Rattle.std.proofs.Common.{ℕ, List, length, replicate, sym, ap, ap₂, ◌�
 use Rattle.std.proofs.lemmas.List.{length-replicate}
 use Rattle.sync_types.specs.States.{State, zero_state, zero_register}
 use Rattle.construction.specs.Plans.{plan_nodes, plan_depth}
-use Rattle.shared_laws.specs.Sharing.{Shares}
+use Rattle.shared_board.specs.Sharing.{Shares}
 use Rattle.run_checker.specs.Rounds.{AreStates}
 use Rattle.run_checker.proofs.BodyKept.{zeros_are}
 use Rattle.run_checker.proofs.rounds.room_for.Goals as goal

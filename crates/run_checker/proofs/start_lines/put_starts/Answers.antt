@@ -1,10 +1,11 @@
-use Rattle.std.proofs.Common.{refl, ◌∙◌, subst, arith}
+use Rattle.std.proofs.Common.{◌<◌, refl, sym, ◌∙◌, subst, arith}
 use Rattle.texts.specs.Growth.{Wrote, Cut}
 use Rattle.counter_core.specs.declared.overlays.NoOverlay.{NoOverlay}
 use Rattle.round_runner.specs.Runners.{Running}
 use Rattle.run_checker.specs.RunLines.{start_if}
 use Rattle.texts.proofs.Growth.{wrote_none}
 use Rattle.construction.specs.Plans.{plan_nodes}
+use Rattle.run_checker.specs.Playing.{HasNode, Begins}
 use Rattle.run_checker.proofs.WordsBefore.{words_more, words_cut, words_all}
 use Rattle.run_checker.proofs.start_lines.put_starts.Goals as goal
 
@@ -26,3 +27,15 @@ loop-v-preserved g c = record {
 pub returns-clause-text : goal.returns-clause-text
 returns-clause-text g c =
     words_all _ (plan_nodes c.args.runner.now.plan) c.loop-v.v _ _ (omega (arith, c.loop-v-test.false, c.nodes-v-end.ensures)) c.loop-v.invariant.wrote
+
+pub put_start_if-requires-clause-begins : goal.put_start_if-requires-clause-begins
+put_start_if-requires-clause-begins g c =
+    subst (λ (r : Running NoOverlay). Begins r.script c.args.t c.args.j) (sym c.loop-v.invariant.same)
+    c.requires.begins
+
+pub put_start_if-requires-clause-node : goal.put_start_if-requires-clause-node
+put_start_if-requires-clause-node g c =
+    let lt : c.loop-v.v < plan_nodes c.args.runner.now.plan =
+    omega (arith, c.loop-v-test.true, c.nodes-v-end.ensures) in
+    subst (λ (r : Running NoOverlay). HasNode r c.loop-v.v) (sym c.loop-v.invariant.same)
+    (record { node = lt; lows = c.requires.lows })

@@ -1,16 +1,17 @@
-use Rattle.std.proofs.Common.{◌≡◌, ◌+◌, ◌-◌, ◌≤◌, ◌∙◌, ℕ, sym, ap, subst, arith}
+use Rattle.std.proofs.Common.{◌≡◌, ◌+◌, ◌-◌, ◌≤◌, ◌∙◌, ℕ, refl, sym, ap, subst, arith}
 use Rattle.std.proofs.lemmas.Bool.{false≢true}
 use Rattle.adversary_script.specs.Scripts.{Script}
 use Rattle.run_explanations.specs.declared.tops.Top.{Top}
 use Rattle.run_explanations.specs.Checking.{Fits}
+use Rattle.run_explanations.specs.Playing.{FitsEra, HasPlayed}
 use Rattle.run_explanations.specs.Explanations.{era_begin}
 use Rattle.run_explanations.specs.Tops.{IsTop}
 use Rattle.run_explanations.proofs.Checked.{check_passes, check_fits, result_is}
 use Rattle.run_explanations.proofs.Taking.{ids_are, begin_is}
 use Rattle.run_explanations.proofs.explaining.check_explanation.Goals as goal
 
-pub returns-then-not-fits : goal.returns-then-not-fits
-returns-then-not-fits c =
+pub returns-then-not-fits-clause-exact : goal.returns-then-not-fits-clause-exact
+returns-then-not-fits-clause-exact c =
     let plan = c.args.plan.now in
     let script = c.args.runner.now.script in
     let e = c.args.explanation.now in
@@ -27,8 +28,41 @@ returns-then-not-fits c =
           (check_fits plan script is e why)))),
     )
 
-pub returns : goal.returns
-returns c =
+pub returns-then-not-fits-clause-played : goal.returns-then-not-fits-clause-played
+returns-then-not-fits-clause-played c =
+    let script = c.args.runner.now.script in
+    let e = c.args.explanation.now in
+    let top = c.top_of-top.result in
+    let top_is = c.top_of-top.ensures.value in
+    let begin = begin_is _ _ script _ c.era_start-from.ensures c.eras.ensures.value c.script-script.ensures in
+    let rounds = c.rounds-rounds.ensures.value ∙ ap (λ (s : Script). s.rounds) c.script-script.ensures in
+    record {
+      fits = λ fits. absurd (false≢true (sym c.if-not-fits.true ∙ c.fits.ensures.1
+          (subst (λ (r : ℕ). Fits top.beat c.era_start-from.result r e) (sym rounds)
+          (subst (λ (from : ℕ). Fits top.beat from script.rounds e) (sym begin)
+          (subst (λ (t : Top). Fits t.beat (era_begin script) script.rounds e) (sym top_is) fits)))));
+      strays = λ no. refl;
+    }
+
+pub returns-clause-played : goal.returns-clause-played
+returns-clause-played c =
+    let script = c.args.runner.now.script in
+    let e = c.args.explanation.now in
+    let top = c.top_of-top.result in
+    let top_is = c.top_of-top.ensures.value in
+    let begin = begin_is _ _ script _ c.era_start-from.ensures c.eras.ensures.value c.script-script.ensures in
+    let rounds = c.rounds-rounds.ensures.value ∙ ap (λ (s : Script). s.rounds) c.script-script.ensures in
+    record {
+      fits = λ fits. subst (λ (t : Top). HasPlayed c.args.runner.now (e.window + t.beat - 1) c.look_for.new.runner) top_is c.look_for.ensures.played;
+      strays = λ no. absurd (no
+          (subst (λ (t : Top). Fits t.beat (era_begin script) script.rounds e) top_is
+          (subst (λ (from : ℕ). Fits top.beat from script.rounds e) begin
+          (subst (λ (r : ℕ). Fits top.beat c.era_start-from.result r e) rounds
+          (c.fits.ensures.0 c.if-not-fits.false)))));
+    }
+
+pub returns-clause-exact : goal.returns-clause-exact
+returns-clause-exact c =
     let plan = c.args.plan.now in
     let script = c.args.runner.now.script in
     let e = c.args.explanation.now in

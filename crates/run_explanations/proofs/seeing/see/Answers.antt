@@ -5,8 +5,8 @@ use Rattle.run_explanations.specs.Explanations.{outputs_in}
 use Rattle.run_explanations.proofs.SeenShown.{leader_below}
 use Rattle.run_explanations.proofs.seeing.see.Goals as goal
 
-pub overflow_cast-b : goal.overflow_cast-b
-overflow_cast-b c =
+pub overflow_cast-leader : goal.overflow_cast-leader
+overflow_cast-leader c =
     let is = c.requires.top_is in
     let leaders = is.leaders in
     let few = is.few_leaders in

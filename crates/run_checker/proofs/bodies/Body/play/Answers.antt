@@ -9,15 +9,18 @@ use Rattle.run_checker.specs.Bodies.{BodySeen}
 use Rattle.run_checker.specs.Rounds.{AreStates}
 use Rattle.run_checker.specs.Changes.{played_on}
 use Rattle.run_checker.proofs.Attributed.{stepped_is}
-use Rattle.run_checker.proofs.BodyKept.{Below, round_of, none_are, round_left}
+use Rattle.run_checker.proofs.BodyKept.{Below, told_of, none_are, round_left}
 use Rattle.run_checker.proofs.bodies.Body.play.Goals as goal
 
-pub play-requires-clause-round : goal.play-requires-clause-round
-play-requires-clause-round c =
-    round_of c.self.inside.tower c.self.inside.faulty
-    c.self.inside.config c.self.inside.tellings.states c.self.invariant.faulty
-    c.self.invariant.told c.self.invariant.size c.self.invariant.shape _
+pub play-requires-clause-told : goal.play-requires-clause-told
+play-requires-clause-told c =
+    told_of c.self.inside.tower c.self.inside.faulty c.self.inside.tellings c.self.invariant.faulty
+    c.self.invariant.told c.self.invariant.kept _
     (ap (λ (b : BodySeen). all_told b.known b.told) c.self.view_is ∙ c.requires)
+
+pub play-requires-clause-config : goal.play-requires-clause-config
+play-requires-clause-config c =
+    record { size = c.self.invariant.size; shape = c.self.invariant.shape }
 
 pub play-requires-clause-room : goal.play-requires-clause-room
 play-requires-clause-room c = c.self.invariant.room
