@@ -10,13 +10,13 @@ use Rattle.edge_io.specs.FedParts.{MayFollow}
 use Rattle.sync_types.specs.declared.status.Status.TheVariants as status
 use Rattle.run_certificates.specs.declared.Verdict.{Verdict}
 use Rattle.run_certificates.specs.declared.Verdict.TheVariants as verdict
-use Rattle.run_checker.specs.Checks.{checked_by, unlimited, LimitsMatterBeyond, IsChecked, IsRefused, IsTooLong}
-use Rattle.workbench.specs.declared.commands.Command.TheVariants as command
-use Rattle.workbench.specs.declared.refusals.Refusal.TheVariants as refusal
-use Rattle.workbench.specs.Refusals.{refusal_line}
-use Rattle.workbench.specs.Outcomes.{Outcome, outcome_of, too_long}
-use Rattle.workbench.specs.CheckAnswers.{verdict_outcome, checked_outcome, check_outcome}
-use Rattle.workbench.specs.Conduct.{ReadsFront, ReadsAll, Does}
+use Rattle.run_checker.specs.Checks.{checked_by, unlimited, LimitsMatterBeyond, IsChecked, IsRefused, IsTooLong, IsLost}
+use Rattle.outcomes.specs.declared.commands.Command.TheVariants as command
+use Rattle.outcomes.specs.declared.refusals.Refusal.TheVariants as refusal
+use Rattle.outcomes.specs.Refusals.{refusal_line}
+use Rattle.outcomes.specs.Outcomes.{Outcome, outcome_of, too_long}
+use Rattle.outcomes.specs.CheckAnswers.{verdict_outcome, checked_outcome, check_outcome}
+use Rattle.outcomes.specs.Conduct.{ReadsFront, ReadsAll, Does, LeavesUntouched}
 use Rattle.workbench.proofs.Unread.{left_of, holds_left}
 use Rattle.workbench.proofs.NodeReturns.{all_front}
 
@@ -40,10 +40,16 @@ input_of true s l bytes read end within =
     }
 input_of false s l bytes read end within = record { rest = left_of l; read = front_read s l bytes read; follows = tt }
 
+-- a verdict is written
+pub verdict_touches : {K : Type 0} (v : Verdict) (old new : K)
+    → LeavesUntouched (Some command.Check) (verdict_outcome v).status old new
+verdict_touches (verdict.True rows locked) old new = tt
+verdict_touches (verdict.False row) old new = tt
+
 module _ (s l : Option (List ℕ)) (before now : ℕ) where
   -- a read failed
-  pub check_lost : (t : Told) → ((bytes : List ℕ) × Consumes s l bytes) → Counted before now → Does (Some command.Check) status.ReadFault s l before now t t
-  check_lost t h cause = record { seen = h.0; read = h.1; cause = cause; wrote = wrote_none t }
+  pub check_lost : (t : Told) → IsLost (2 ^ 44) s l → Counted before now → Does (Some command.Check) status.ReadFault s l before now t t
+  check_lost t h cause = record { seen = h.bytes; read = h.read; pending = h.pending; cause = cause; wrote = wrote_none t }
 
   -- the text is too long
   pub check_long : (t : Told) → IsTooLong (2 ^ 44) s l → now ≡ before → Does (Some command.Check) status.TooLong s l before now t t

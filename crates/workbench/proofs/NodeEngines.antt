@@ -13,7 +13,7 @@ use Rattle.node_header.specs.Fits.{IsFit}
 use Rattle.node_header.specs.FedHeaders.{HeaderWhole}
 use Rattle.node_stepper.specs.Nodes.{Standing, own, begun, node_text}
 use Rattle.node_stepper.specs.Serving.{served, answer}
-use Rattle.workbench.specs.NodeAnswers.{packets_for}
+use Rattle.outcomes.specs.NodeAnswers.{packets_for}
 
 -- an engine hears and writes what is defined for a header
 pub record IsNodeOf (h : Header) (e : Standing) : Type 0 where

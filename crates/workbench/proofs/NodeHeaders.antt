@@ -1,5 +1,5 @@
 -- What the word `node` did whose header was not whole.
-use Rattle.std.proofs.Common.{◌≡◌, ℕ, ◌^◌, Bool, true, ltb, List, [], ◌++◌, length, Option, Some, Err, sym, ap, ◌∙◌, length-append, arith}
+use Rattle.std.proofs.Common.{◌≡◌, ℕ, ◌^◌, Bool, true, ltb, List, [], ◌++◌, length, Option, Some, Err, sym, ap, ◌∙◌, subst, length-append, arith}
 use Rattle.std.specs.Io.KnownBytes.{prepend_known, Keeps}
 use Rattle.std.proofs.lemmas.Bool.{lt-ltb}
 use Rattle.texts.specs.Causes.{Counted}
@@ -12,13 +12,19 @@ use Rattle.node_header.specs.declared.headers.HeaderRefusal.{HeaderRefusal}
 use Rattle.node_header.specs.declared.headers.HeaderRefusal.TheVariants as header
 use Rattle.node_header.specs.Headers.{header_in}
 use Rattle.node_header.specs.FedHeaders.{HeaderDecided, HeaderTooLong, HeaderLost}
-use Rattle.workbench.specs.declared.commands.Command.TheVariants as command
-use Rattle.workbench.specs.Refusals.{refusal_status, refusal_line}
-use Rattle.workbench.specs.Outcomes.{Outcome, outcome_of, too_long}
-use Rattle.workbench.specs.NodeAnswers.{header_refusal, behind_header, node_outcome, cells_so_far, node_so_far}
-use Rattle.workbench.specs.Conduct.{Does}
+use Rattle.outcomes.specs.declared.commands.Command.TheVariants as command
+use Rattle.outcomes.specs.Refusals.{refusal_status, refusal_line}
+use Rattle.outcomes.specs.Outcomes.{Outcome, outcome_of, too_long}
+use Rattle.outcomes.specs.NodeAnswers.{header_refusal, pending_behind, behind_header, node_outcome, cells_so_far, node_so_far}
+use Rattle.outcomes.specs.Conduct.{Does, LeavesUntouched}
 use Rattle.workbench.proofs.Unread.{left_of}
 use Rattle.workbench.proofs.NodeReturns.{read_dry, reads_front, Input, input_of}
+
+-- a refusal is written
+pub refusal_touches : {K : Type 0} (r : HeaderRefusal) (old new : K)
+    → LeavesUntouched (Some command.Node) (refusal_status (header_refusal r)) old new
+refusal_touches (header.Plan line premise) old new = tt
+refusal_touches (header.Node line rule) old new = tt
 
 module _ (s f l : Option (List ℕ)) (held : List ℕ) (before now : ℕ) (keeps : Keeps s f) where
   -- a read failed in the header
@@ -26,8 +32,9 @@ module _ (s f l : Option (List ℕ)) (held : List ℕ) (before now : ℕ) (keeps
   header_lost t h dry cause = record {
     seen = h.bytes;
     read = read_dry s f l held h.bytes keeps h.read dry;
+    pending = subst (pending_behind h.bytes) (sym h.lost.lines) h.lost;
     cause = cause;
-    wrote = let none : node_so_far h.bytes ≡ [] = ap (cells_so_far h.bytes) h.lost in rw none (wrote_none t);
+    wrote = let none : node_so_far h.bytes ≡ [] = ap (cells_so_far h.bytes) h.lost.lines in rw none (wrote_none t);
   }
 
   -- it is too long

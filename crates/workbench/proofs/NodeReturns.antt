@@ -5,8 +5,8 @@ use Rattle.std.proofs.lemmas.Bool.{le-ltb}
 use Rattle.texts.specs.Growth.{Told}
 use Rattle.edge_io.specs.FedParts.{MayFollow}
 use Rattle.sync_types.specs.declared.status.Status.{Status}
-use Rattle.workbench.specs.declared.commands.Command.{Command}
-use Rattle.workbench.specs.Conduct.{ReadsFront, ReadsAll, Does}
+use Rattle.outcomes.specs.declared.commands.Command.{Command}
+use Rattle.outcomes.specs.Conduct.{ReadsFront, ReadsAll, Does}
 use Rattle.workbench.proofs.Unread.{left_of, holds_left}
 
 -- bytes read of a feed and those in its buffer were read of its source

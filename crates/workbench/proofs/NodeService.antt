@@ -4,20 +4,22 @@ use Rattle.std.specs.Io.KnownBytes.{prepend_known, Consumes, Keeps, IsAtEnd}
 use Rattle.std.proofs.KnownBytes.{Consumes-trans}
 use Rattle.std.proofs.lemmas.Bool.{le-ltb}
 use Rattle.texts.specs.Causes.{Counted}
+use Rattle.texts.proofs.Causes.{never_counted}
+use Rattle.texts.specs.Limits.{behind_lines}
 use Rattle.texts.specs.Growth.{Told, Wrote, Cut}
 use Rattle.edge_io.specs.FedParts.{MayFollow}
 use Rattle.node_header.specs.declared.headers.HeaderRead.{HeaderRead}
 use Rattle.node_header.specs.FedHeaders.{HeaderWhole}
 use Rattle.node_stepper.specs.declared.faults.NodeFault.{NodeFault}
 use Rattle.node_stepper.specs.declared.faults.NodeFault.TheVariants as fault
-use Rattle.node_stepper.specs.Packets.{Packets, whole, cut, beyond}
+use Rattle.node_stepper.specs.Packets.{Packets, IsWithin, whole, cut, beyond}
 use Rattle.node_stepper.specs.Nodes.{Standing}
-use Rattle.node_stepper.specs.Serving.{served, answer, Serves, HasServeCause}
-use Rattle.workbench.specs.declared.commands.Command.TheVariants as command
-use Rattle.workbench.specs.Outcomes.{Outcome}
-use Rattle.workbench.specs.NodeAnswers.{ending_status, packets_for, served_outcome, behind_header, node_outcome, cells_so_far, node_so_far}
+use Rattle.node_stepper.specs.Serving.{served, answer, ServicePending, Serves, HasServeCause}
+use Rattle.outcomes.specs.declared.commands.Command.TheVariants as command
+use Rattle.outcomes.specs.Outcomes.{Outcome}
+use Rattle.outcomes.specs.NodeAnswers.{IsNodePending, pending_behind, ending_status, packets_for, served_outcome, behind_header, node_outcome, cells_so_far, node_so_far}
 use Rattle.workbench.specs.NodeService.{service_status}
-use Rattle.workbench.specs.Conduct.{ReadsFront, ReadsAll, Does}
+use Rattle.outcomes.specs.Conduct.{ReadsFront, ReadsAll, Does, LeavesUntouched}
 use Rattle.workbench.proofs.Unread.{left_of}
 use Rattle.workbench.proofs.NodeReturns.{read_dry, reads_front, reads_all, all_front, nothing_left}
 use Rattle.workbench.proofs.NodeEngines.{IsNodeOf}
@@ -50,6 +52,14 @@ module _ (s f m l : Option (List ℕ)) (held : List ℕ) (before now : ℕ) (kee
       ∙ (ap (λ (b : List ℕ). (served_outcome w.header (packets_for w.header b)).text) (w.behind false rest (anything false rest))
       ∙ (node.writes (packets_for w.header rest).cells ∙ ap (λ (p : Packets). answer e p.cells) (node.hears rest)))
 
+  pending_is : (rest : List ℕ) → ServicePending e rest → IsNodePending (w.decided.bytes ++ rest)
+  pending_is rest pending =
+      let seen = w.decided.bytes ++ rest in
+      let behind : behind_lines w.header.lines seen ≡ rest = w.behind false rest (anything false rest) in
+      subst (pending_behind seen) (sym (w.whole open_end rest))
+      (subst (λ (p : Packets). IsWithin p.ending)
+      (sym (ap (packets_for w.header) behind ∙ node.hears rest)) pending)
+
   all_of : (bytes : List ℕ) → Consumes m (prepend_known held l) bytes → IsAtEnd (prepend_known held l) → ReadsAll s l (w.decided.bytes ++ bytes)
   all_of bytes read end = reads_all s f l held (w.decided.bytes ++ bytes) keeps (Consumes-trans f m (prepend_known held l) w.decided.bytes bytes w.decided.read read) end
 
@@ -74,15 +84,16 @@ module _ (s f m l : Option (List ℕ)) (held : List ℕ) (before now : ℕ) (kee
     status = ap ending_status (sym ending) ∙ sym (status_is d.bytes);
     wrote = subst (λ (text : List ℕ). Wrote text t u) (sym (text_is d.bytes)) d.wrote;
   }
-  serves (Err fault.TooLong) (d, past) still = record {
+  serves (Err fault.TooLong) (d, past, at_once) still = record {
     input = w.decided.bytes ++ (d.bytes ++ more);
     read = front_of d.bytes d.read;
     still = still;
     status = ap (λ (p : Packets). ending_status p.ending) (sym (past more)) ∙ sym (status_is (d.bytes ++ more));
     wrote = subst (λ (text : List ℕ). Wrote text t u) (sym (text_is (d.bytes ++ more) ∙ ap (λ (p : Packets). answer e p.cells) (past more))) d.wrote;
   }
-  serves (Err fault.ReadFault) d (cause, dry) = record {
+  serves (Err fault.ReadFault) (d, pending) (cause, dry) = record {
     seen = w.decided.bytes ++ d.bytes;
+    pending = pending_is d.bytes pending;
     read = read_dry s f l held (w.decided.bytes ++ d.bytes) keeps (Consumes-trans f m (prepend_known held l) w.decided.bytes d.bytes w.decided.read d.read) dry;
     cause = cause;
     wrote = subst (λ (text : List ℕ). Wrote text t u) (sym (so_far_is d.bytes)) d.wrote;
@@ -137,11 +148,20 @@ module _ (s f l : Option (List ℕ)) (held : List ℕ) (before now : ℕ) (keeps
     wrote = subst (λ (text : List ℕ). Wrote text t u) (sym text_end) (subst (λ (b : List ℕ). Wrote (answer e (served e b).cells) t u) (no_bytes n m d.bytes none d.read) d.wrote);
   }
   serves_last n m Dry (Err (fault.Cut p v)) none (d, ending, end) cause = let h : whole 0 ≡ cut p v = subst (λ (b : List ℕ). (served e b).ending ≡ cut p v) (no_bytes n m d.bytes none d.read) ending in absurd cc
-  serves_last n m Dry (Err fault.TooLong) none (d, past) cause = let h : whole 0 ≡ beyond = subst (λ (b : List ℕ). (served e (b ++ [])).ending ≡ beyond) (no_bytes n m d.bytes none d.read) (ap (λ (p : Packets). p.ending) (past [])) in absurd cc
-  serves_last n m Dry (Err fault.ReadFault) none d cause = let rose = cause.0.rose in absurd (omega (arith, rose))
+  serves_last n m Dry (Err fault.TooLong) none (d, past, at_once) cause = let h : whole 0 ≡ beyond = subst (λ (b : List ℕ). (served e (b ++ [])).ending ≡ beyond) (no_bytes n m d.bytes none d.read) (ap (λ (p : Packets). p.ending) (past [])) in absurd cc
+  serves_last n m Dry (Err fault.ReadFault) none d cause = absurd (never_counted (cause.0))
   serves_last n m Dry (Err fault.WriteFault) none d cause = record {
     input = w.decided.bytes ++ [];
     read = all_front s l (w.decided.bytes ++ []) all_read;
     still = still;
     cut = subst (λ (text : List ℕ). Cut text t u) (sym text_end) (subst (λ (b : List ℕ). Cut (answer e (served e (b ++ [])).cells) t u) (no_bytes n m d.bytes none d.read) (d.cut []));
   }
+
+-- a service writes at its start, whatever becomes of it
+pub service_touches : {K : Type 0} (r : Result ℕ NodeFault) (old new : K)
+    → LeavesUntouched (Some command.Node) (service_status r) old new
+service_touches (Ok count) old new = tt
+service_touches (Err fault.ReadFault) old new = tt
+service_touches (Err fault.WriteFault) old new = tt
+service_touches (Err (fault.Cut packet sender)) old new = tt
+service_touches (Err fault.TooLong) old new = tt

@@ -2,9 +2,9 @@
 use Rattle.std.proofs.Common.{◌≡◌, ℕ, List, [], Option, Some, None, refl}
 use Rattle.texts.specs.Growth.{Told, Wrote, Cut}
 use Rattle.sync_types.specs.declared.status.Status.{Status}
-use Rattle.workbench.specs.Outcomes.{Outcome}
-use Rattle.workbench.specs.Commands.{nothing}
-use Rattle.workbench.specs.Conduct.{Holds, Answered, AnswerCut}
+use Rattle.outcomes.specs.Outcomes.{Outcome}
+use Rattle.outcomes.specs.Commands.{nothing}
+use Rattle.outcomes.specs.Conduct.{Holds, Answered, AnswerCut}
 
 -- what is left, where it is told
 pub left_of : Option (List ℕ) → List ℕ

@@ -1,30 +1,30 @@
--- What a command did that reads all of its input before it writes.
-use Rattle.std.proofs.Common.{◌≡◌, ℕ, ◌<◌, ◌≤◌, ◌^◌, Bool, cond, List, [], ◌++◌, length, Option, Some, None, Result, Ok, Err, refl, sym, ap, ◌∙◌, subst, length-append, arith}
+-- What a batch command did, which reads all of its input before it writes.
+use Rattle.std.proofs.Common.{◌≡◌, ℕ, ◌<◌, ◌≤◌, ◌^◌, Bool, cond, List, [], ◌++◌, length, Option, Some, None, Result, Ok, Err, refl, sym, ap, ◌∙◌, length-append, arith}
 use Rattle.std.proofs.lemmas.Bool.{lt-ltb, le-ltb}
 use Rattle.texts.specs.Causes.{Counted}
-use Rattle.texts.specs.Growth.{Told, Wrote}
-use Rattle.edge_io.specs.Reading.{LosesFront, LosesMore}
-use Rattle.edge_io.specs.declared.read.InputFault.{InputFault}
-use Rattle.edge_io.specs.declared.read.InputFault.TheVariants as fault
+use Rattle.texts.specs.Growth.{Told, Wrote, Cut}
+use Rattle.edge_io.specs.Reading.{LosesWithin, LosesMore}
 use Rattle.sync_types.specs.declared.status.Status.{Status}
 use Rattle.sync_types.specs.declared.status.Status.TheVariants as status
-use Rattle.workbench.specs.declared.commands.Command.{Command}
-use Rattle.workbench.specs.declared.ends.End.{End}
-use Rattle.workbench.specs.declared.ends.End.TheVariants as end
-use Rattle.workbench.specs.declared.refusals.Refusal.{Refusal}
-use Rattle.workbench.specs.declared.refusals.Refusal.TheVariants as refusal
-use Rattle.workbench.specs.Outcomes.{Outcome, outcome_of, too_long, of_whole}
-use Rattle.workbench.specs.Commands.{Manner, all_first, manner, defined, so_far}
-use Rattle.workbench.specs.Conduct.{ReadsFront, ReadsAll, Reads, Writes, Answered, AnswerCut, ReadFailed, IfReads, Does}
-use Rattle.workbench.specs.Ends.{Answers, fault_status, end_status}
+use Rattle.outcomes.specs.declared.commands.Batch.{Batch}
+use Rattle.outcomes.specs.declared.commands.Command.TheVariants as command
+use Rattle.outcomes.specs.declared.refusals.Refusal.{Refusal}
+use Rattle.outcomes.specs.declared.refusals.Refusal.TheVariants as refusal
+use Rattle.outcomes.specs.Outcomes.{Outcome, outcome_of, too_long, of_whole}
+use Rattle.outcomes.specs.Answers.{answer_of}
+use Rattle.outcomes.specs.Commands.{all_first, defined}
+use Rattle.outcomes.specs.Conduct.{ReadsFront, ReadsAll, Reads, Writes, Answered, Does, LeavesUntouched}
+use Rattle.answers.specs.Ends.{Ends}
+use Rattle.answers.proofs.Ended.{ends_by}
 
 -- a front of an input that is too long was read
-pub record ReadsBeyond (limit : ℕ) (left left' : Option (List ℕ)) : Type 0 where
-  pub input : List ℕ
-  pub read : ReadsFront left left' input
-  pub long : limit < length input
+record ReadsBeyond (limit : ℕ) (left left' : Option (List ℕ)) : Type 0 where
+  input : List ℕ
+  read : ReadsFront left left' input
+  long : limit < length input
 
-pub beyond_limit : (limit : ℕ) (left left' : Option (List ℕ)) → LosesMore limit left left' → ReadsBeyond limit left left'
+beyond_limit : (limit : ℕ) (left left' : Option (List ℕ)) → LosesMore limit left left'
+    → ReadsBeyond limit left left'
 beyond_limit limit left (Some rest) h = record {
   input = h.front ++ rest;
   read = record { front = h.front; behind = rest; parts = refl; read = h.read; rest = refl };
@@ -36,83 +36,113 @@ beyond_limit limit left None h = record {
   long = let past = h.past in omega (arith, length-append h.front [], past);
 }
 
--- the outcome of a long input, and of a short one
-of_long : (limit : ℕ) (answer : List ℕ → Result (List ℕ) Refusal) (input : List ℕ) → limit < length input → of_whole limit answer input ≡ too_long
-of_long limit answer input long = ap (λ (b : Bool). cond b too_long (outcome_of (answer input))) (lt-ltb limit (length input) long)
+module _ (b : Batch) (left left' : Option (List ℕ)) (before now : ℕ) where
+  abbrev Did : Status → Told → Told → Type 0
+  Did s old new = Does (Some (command.Batch b)) s left left' before now old new
 
-of_short : (limit : ℕ) (answer : List ℕ → Result (List ℕ) Refusal) (input : List ℕ) → length input ≤ limit → of_whole limit answer input ≡ outcome_of (answer input)
-of_short limit answer input short = ap (λ (b : Bool). cond b too_long (outcome_of (answer input))) (le-ltb limit (length input) short)
+  -- the outcome of a long input, and of a short one
+  of_long : (input : List ℕ) → 2 ^ 20 < length input
+      → defined (Some (command.Batch b)) input ≡ too_long
+  of_long input long = ap (λ (b' : Bool). cond b' too_long (outcome_of (answer_of b input)))
+      (lt-ltb (2 ^ 20) (length input) long)
 
--- a command that answers its input as a whole
-pub record AnswersWhole (c : Command) (answer : List ℕ → Result (List ℕ) Refusal) : Type 0 where
-  pub manner_is : manner (Some c) ≡ all_first
-  pub defined_is : (input : List ℕ) → defined (Some c) input ≡ of_whole (2 ^ 20) answer input
-  pub none_before : (seen : List ℕ) → so_far (Some c) seen ≡ []
-
-module _ (c : Command) (answer : List ℕ → Result (List ℕ) Refusal) (whole : AnswersWhole c answer) (left left' : Option (List ℕ)) (before now : ℕ) where
-  -- what is so of a command that reads all first is so of this one
-  by_manner : (P : Manner → Type 0) → P all_first → P (manner (Some c))
-  by_manner P holds = subst P (sym whole.manner_is) holds
+  of_short : (input : List ℕ) → length input ≤ 2 ^ 20
+      → defined (Some (command.Batch b)) input ≡ outcome_of (answer_of b input)
+  of_short input short = ap (λ (b' : Bool). cond b' too_long (outcome_of (answer_of b input)))
+      (le-ltb (2 ^ 20) (length input) short)
 
   -- ---- the input was not read
 
-  lost : (sink : Told) → LosesFront left left' → Counted before now → Does (Some c) status.ReadFault left left' before now sink sink
-  lost sink h cause = by_manner (λ m. IfReads m (ReadFailed m (so_far (Some c)) left left' before now sink sink)) (record {
+  pub lost : (sink : Told) → LosesWithin (2 ^ 20) left left' → Counted before now
+      → Did status.ReadFault sink sink
+  lost sink h cause = record {
     seen = h.front;
     read = h.read;
+    pending = h.within;
     cause = cause;
-    wrote = record { none = whole.none_before h.front; same = refl };
-  })
+    wrote = record { none = refl; same = refl };
+  }
 
-  beyond : (sink : Told) → ReadsBeyond (2 ^ 20) left left' → now ≡ before → Does (Some c) status.TooLong left left' before now sink sink
-  beyond sink h still =
-      let is : defined (Some c) h.input ≡ too_long = whole.defined_is h.input ∙ of_long (2 ^ 20) answer h.input h.long in
-      by_manner (λ m. Answered m (defined (Some c)) status.TooLong left left' before now sink sink) (record {
+  pub beyond : (sink : Told) → LosesMore (2 ^ 20) left left' → now ≡ before
+      → Did status.TooLong sink sink
+  beyond sink more still =
+      let h = beyond_limit (2 ^ 20) left left' more in
+      let is = of_long h.input h.long in
+      record {
         input = h.input;
         read = h.read;
         still = still;
         status = ap (λ (o : Outcome). o.status) (sym is);
         wrote = record { none = ap (λ (o : Outcome). o.text) is; same = refl };
-      })
-
-  pub unread : (f : InputFault) (sink : Told) → LosesFront left left'
-      → (f ≡ fault.ReadFault → Counted before now)
-      → (f ≡ fault.TooLong → LosesMore (2 ^ 20) left left')
-      → (f ≡ fault.TooLong → now ≡ before)
-      → (f ≡ fault.NoMemory → now ≡ before)
-      → Does (Some c) (fault_status f) left left' before now sink sink
-  unread fault.ReadFault sink h cause past still memory = lost sink h (cause refl)
-  unread fault.TooLong sink h cause past still memory = beyond sink (beyond_limit (2 ^ 20) left left' (past refl)) (still refl)
-  unread fault.NoMemory sink h cause past still memory = record { still = memory refl; none = refl }
+      }
 
   -- ---- the input was read
 
-  module _ (input : List ℕ) (read : ReadsAll left left' input) (still : now ≡ before) (short : length input ≤ 2 ^ 20) (old new : Told) where
-    is : defined (Some c) input ≡ outcome_of (answer input)
-    is = whole.defined_is input ∙ of_short (2 ^ 20) answer input short
-
-    given : (s : Status) (r : Result (List ℕ) Refusal) → answer input ≡ r → s ≡ (outcome_of r).status
-        → Reads all_first s left left' input → Writes all_first s (outcome_of r).text old new
-        → Answered (manner (Some c)) (defined (Some c)) s left left' before now old new
+  module _ (input : List ℕ) (read : ReadsAll left left' input) (still : now ≡ before)
+      (short : length input ≤ 2 ^ 20) (old new : Told) where
+    given : (s : Status) (r : Result (List ℕ) Refusal) → answer_of b input ≡ r
+        → s ≡ (outcome_of r).status → Reads all_first s left left' input
+        → Writes all_first s (outcome_of r).text old new
+        → Answered all_first (defined (Some (command.Batch b))) s left left' before now old new
     given s r here s_is reads writes =
-        let o : defined (Some c) input ≡ outcome_of r = is ∙ ap outcome_of here in
-        by_manner (λ m. Answered m (defined (Some c)) s left left' before now old new) (record {
+        let o : defined (Some (command.Batch b)) input ≡ outcome_of r =
+        of_short input short ∙ ap outcome_of here in
+        record {
           input = input;
           read = reads;
           still = still;
           status = s_is ∙ ap (λ (o : Outcome). o.status) (sym o);
           wrote = rw o writes;
-        })
+        }
 
-    by_answer : (r : Result (List ℕ) Refusal) → answer input ≡ r → Wrote (outcome_of r).text old new → Does (Some c) (outcome_of r).status left left' before now old new
+    by_answer : (r : Result (List ℕ) Refusal) → answer_of b input ≡ r
+        → Wrote (outcome_of r).text old new → Did (outcome_of r).status old new
     by_answer (Ok text) here wrote = given status.Ok (Ok text) here refl read wrote
-    by_answer (Err refusal.Usage) here wrote = given status.Usage (Err refusal.Usage) here refl read wrote
-    by_answer (Err (refusal.Plan line premise)) here wrote = given (status.PlanRefused line premise) (Err (refusal.Plan line premise)) here refl read wrote
-    by_answer (Err (refusal.Part part line rule)) here wrote = given (status.PartRefused part line rule) (Err (refusal.Part part line rule)) here refl read wrote
-    by_answer (Err (refusal.Certificate line)) here wrote = given (status.CertRefused line) (Err (refusal.Certificate line)) here refl read wrote
-    by_answer (Err (refusal.Table line cause)) here wrote = given (status.TableRefused line cause) (Err (refusal.Table line cause)) here refl read wrote
+    by_answer (Err refusal.Usage) here wrote =
+        given status.Usage (Err refusal.Usage) here refl read wrote
+    by_answer (Err (refusal.Plan line premise)) here wrote =
+        given (status.PlanRefused line premise) (Err (refusal.Plan line premise)) here refl read wrote
+    by_answer (Err (refusal.Part part line rule)) here wrote =
+        given (status.PartRefused part line rule) (Err (refusal.Part part line rule)) here refl read
+        wrote
+    by_answer (Err (refusal.Certificate line)) here wrote =
+        given (status.CertRefused line) (Err (refusal.Certificate line)) here refl read wrote
+    by_answer (Err (refusal.Table line cause)) here wrote =
+        given (status.TableRefused line cause) (Err (refusal.Table line cause)) here refl read wrote
 
-    pub answered : (result : Result Status End) → Answers result (answer input) old new → Does (Some c) (end_status result) left left' before now old new
-    answered (Ok s) h = subst (λ (s : Status). Does (Some c) s left left' before now old new) (sym (h.0)) (by_answer (answer input) refl h.1)
-    answered (Err end.Write) h = by_manner (λ m. AnswerCut m (defined (Some c)) left left' before now old new) (record { input = input; read = read; still = still; cut = rw is h })
-    answered (Err end.Memory) h = record { still = still; none = h }
+    by_cut : Cut (outcome_of (answer_of b input)).text old new → Did status.WriteFault old new
+    by_cut cut = record {
+      input = input;
+      read = read;
+      still = still;
+      cut = rw (of_short input short) cut;
+    }
+
+  -- by what became of a sink that tells what it took
+  module _ {K : Type 0} (told : K → Told) (input : List ℕ) (read : ReadsAll left left' input)
+      (still : now ≡ before) (short : length input ≤ 2 ^ 20) (old new : K) where
+    pub answered : (s : Status) → Ends told s (answer_of b input) old new
+        → Did s (told old) (told new)
+    answered = ends_by told (λ s. Did s (told old) (told new)) (answer_of b input) old new
+        (by_cut input read still short (told old) (told new))
+        (λ none. record { still = still; none = ap told none })
+        (by_answer input read still short (told old) (told new) (answer_of b input) refl)
+
+-- ---- what was not touched
+
+touches_any : {K : Type 0} (b : Batch) (old new : K) (r : Result (List ℕ) Refusal)
+    → LeavesUntouched (Some (command.Batch b)) (outcome_of r).status old new
+touches_any b old new (Ok text) = tt
+touches_any b old new (Err refusal.Usage) = tt
+touches_any b old new (Err (refusal.Plan line premise)) = tt
+touches_any b old new (Err (refusal.Part part line rule)) = tt
+touches_any b old new (Err (refusal.Certificate line)) = tt
+touches_any b old new (Err (refusal.Table line cause)) = tt
+
+-- where memory was refused the sink is as it was
+pub untouched : {K : Type 0} (told : K → Told) (b : Batch) (input : List ℕ) (old new : K)
+    (s : Status) → Ends told s (answer_of b input) old new
+    → LeavesUntouched (Some (command.Batch b)) s old new
+untouched told b input old new =
+    ends_by told (λ s. LeavesUntouched (Some (command.Batch b)) s old new) (answer_of b input) old
+    new (λ cut. tt) (λ none. none) (λ wrote. touches_any b old new (answer_of b input))

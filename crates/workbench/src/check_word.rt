@@ -2,12 +2,11 @@
 
 ghost use Rattle.std.specs.Prelude.{◌≡◌, Some};
 ghost use Rattle.texts.specs.Growth.{Puts};
-ghost use Rattle.workbench.specs.CheckAnswers.{verdict_outcome};
-ghost use Rattle.workbench.specs.Conduct.{Does};
+ghost use Rattle.outcomes.specs.CheckAnswers.{verdict_outcome};
+ghost use Rattle.outcomes.specs.Conduct.{Does, LeavesUntouched};
 
-use crate::commands::Command;
-use crate::refusals::{Refusal, put_refusal};
 use edge_io::{Piece, Sink, Source, WriteFault, put_pieces};
+use outcomes::{Command, Refusal, put_refusal};
 use run_certificates::Verdict;
 use run_checker::laws::limits_matter_beyond;
 use run_checker::{CertRefusal, CheckError, check_run};
@@ -66,9 +65,10 @@ fn put_verdict<K: Sink>(sink: &mut K, verdict: Verdict) -> Result<(), WriteFault
 
 /// The word `check`.
 pub fn check<S: Source, K: Sink>(alloc: Global, source: &mut S, sink: &mut K) -> Status
-    ensures { Does (Some Command.Check) result
+    ensures does { Does (Some Command.Check) result
         (S.left source.old) (S.left source.new) (S.faults source.old) (S.faults source.new)
         (K.told sink.old) (K.told sink.new) }
+    ensures untouched { LeavesUntouched (Some Command.Check) result sink.old sink.new }
 {
     limits_matter_beyond();
     let verdict = match check_run(alloc, source, LONGEST_CERTIFICATE) {

@@ -5,16 +5,16 @@ ghost use Rattle.std.specs.Prelude.{◌≡◌, Some, IfOk};
 ghost use Rattle.state_codec.specs.Shapes.{shape_of};
 ghost use Rattle.node_header.specs.Fits.{IsFit};
 ghost use Rattle.node_stepper.specs.Nodes.{begun};
+ghost use Rattle.outcomes.specs.NodeAnswers.{header_refusal};
 ghost use Rattle.workbench.specs.NodeService.{service_status};
-ghost use Rattle.workbench.specs.Conduct.{Does};
+ghost use Rattle.outcomes.specs.Conduct.{Does, LeavesUntouched};
 
-use crate::commands::Command;
-use crate::refusals::{Refusal, put_refusal};
 use edge_io::{Feed, LineBuf, PlainSource, Sink, Source, WriteFault};
-use node_header::{HeaderError, HeaderRead, read_header};
+use node_header::{HeaderError, HeaderRead, HeaderRefusal, read_header};
 use node_stepper::{NodeEngine, NodeFault};
+use outcomes::{Command, Refusal, put_refusal};
 use std::alloc::Global;
-use sync_types::{NoMemory, Status};
+use sync_types::{NoMemory, Part, Status};
 use tower::build;
 
 /// The node of a header, which has heard nobody.
@@ -25,6 +25,20 @@ fn engine_of(alloc: Global, read: HeaderRead) -> Result<NodeEngine, NoMemory>
 {
     let tower = build(alloc, &read.plan)?;
     NodeEngine::new(alloc, tower, read.shape, read.header.id, read.header.state)
+}
+
+/// The refusal of a line of a header.
+fn header_refusal(refused: HeaderRefusal) -> Refusal
+    ensures { result ≡ header_refusal refused }
+{
+    match refused {
+        HeaderRefusal::Plan { line, premise } => Refusal::Plan { line, premise },
+        HeaderRefusal::Node { line, rule } => Refusal::Part {
+            part: Part::Node,
+            line,
+            rule,
+        },
+    }
 }
 
 /// The status of a service.
@@ -42,9 +56,10 @@ fn service_status(served: Result<u64, NodeFault>) -> Status
 
 /// The word `node`.
 pub fn node<S: Source, K: Sink>(alloc: Global, source: &mut S, sink: &mut K) -> Status
-    ensures { Does (Some Command.Node) result
+    ensures does { Does (Some Command.Node) result
         (S.left source.old) (S.left source.new) (S.faults source.old) (S.faults source.new)
         (K.told sink.old) (K.told sink.new) }
+    ensures untouched { LeavesUntouched (Some Command.Node) result sink.old sink.new }
 {
     let mut line = match LineBuf::new(alloc) {
         Ok(line) => line,
@@ -57,7 +72,7 @@ pub fn node<S: Source, K: Sink>(alloc: Global, source: &mut S, sink: &mut K) -> 
         Err(HeaderError::TooLong) => return Status::TooLong,
         Err(HeaderError::NoMemory) => return Status::NoMemory,
         Err(HeaderError::Refused(refused)) => {
-            let refusal = Refusal::from(refused);
+            let refusal = header_refusal(refused);
             match put_refusal(sink, refusal) {
                 Ok(()) => return refusal.status(),
                 Err(WriteFault) => return Status::WriteFault,

@@ -1,42 +1,57 @@
-use Rattle.std.proofs.Common.{◌≡◌, ℕ, List, Option, Some, Result, Ok, Err, refl, sym, ◌∙◌, subst}
+use Rattle.std.proofs.Common.{◌≡◌, ℕ, List, Option, Some, refl, sym, ap, ◌∙◌, subst}
 use Rattle.texts.specs.Growth.{Told}
 use Rattle.sync_types.specs.declared.status.Status.{Status}
 use Rattle.sync_types.specs.declared.status.Status.TheVariants as status
-use Rattle.workbench.specs.declared.commands.Command.TheVariants as command
-use Rattle.workbench.specs.declared.ends.End.{End}
-use Rattle.workbench.specs.declared.ends.End.TheVariants as end
-use Rattle.workbench.specs.Outcomes.{outcome_of}
-use Rattle.workbench.specs.Answers.{run_answer}
-use Rattle.workbench.specs.Commands.{defined}
-use Rattle.workbench.specs.Conduct.{Does}
-use Rattle.workbench.specs.Ends.{Answers, end_status}
-use Rattle.workbench.specs.DemoText.{demo_text}
-use Rattle.workbench.proofs.DemoTexts.{demo_ends_well, demo_is_short}
+use Rattle.outcomes.specs.declared.commands.Command.TheVariants as command
+use Rattle.outcomes.specs.declared.commands.Batch.TheVariants as batch
+use Rattle.outcomes.specs.Outcomes.{outcome_of}
+use Rattle.outcomes.specs.Answers.{answer_of}
+use Rattle.outcomes.specs.Commands.{defined}
+use Rattle.outcomes.specs.Conduct.{Does, LeavesUntouched}
+use Rattle.outcomes.specs.DemoText.{demo_text}
+use Rattle.answers.specs.Ends.{Ends}
+use Rattle.answers.proofs.Ended.{ends_by}
+use Rattle.promises.proofs.DemoTexts.{demo_ends_well, demo_is_short}
 use Rattle.workbench.proofs.Unread.{unread_answered, unread_cut}
 use Rattle.workbench.proofs.demo_word.demo.Goals as goal
 
 -- what `demo` did, by what became of its text
-module _ (seed : ℕ) (left : Option (List ℕ)) (count : ℕ) (old new : Told) where
-  answered : (result : Result Status End) → Answers result (run_answer (demo_text seed)) old new
-      → Does (Some (command.Demo seed)) (end_status result) left left count count old new
-  answered (Ok s) h =
-      let ok : s ≡ status.Ok = h.0 ∙ demo_ends_well seed in
-      subst (λ (s : Status). Does (Some (command.Demo seed)) s left left count count old new)
-      (sym ok)
-      (unread_answered (defined (Some (command.Demo seed)))
-      (outcome_of (run_answer (demo_text seed))) (λ input. refl) left count old new status.Ok
-      (sym (demo_ends_well seed)) h.1)
-  answered (Err end.Write) h =
-      unread_cut (defined (Some (command.Demo seed))) (outcome_of (run_answer (demo_text seed)))
-      (λ input. refl) left count old new h
-  answered (Err end.Memory) h = record { still = refl; none = h }
+module _ {K : Type 0} (told : K → Told) (seed : ℕ) (left : Option (List ℕ)) (count : ℕ) (old new : K) where
+  abbrev Did : Status → Type 0
+  Did s = Does (Some (command.Demo seed)) s left left count count (told old) (told new)
 
-pub run_input-requires : goal.run_input-requires
-run_input-requires g c =
+  answered : (s : Status) → Ends told s (answer_of batch.Run (demo_text seed)) old new → Did s
+  answered =
+      let answer = answer_of batch.Run (demo_text seed) in
+      let outcome = outcome_of answer in
+      ends_by told Did answer old new
+      (λ cut. unread_cut (defined (Some (command.Demo seed))) outcome (λ input. refl) left count
+      (told old) (told new) cut)
+      (λ none. record { still = refl; none = ap told none })
+      (λ wrote. subst Did (sym (demo_ends_well seed))
+      (unread_answered (defined (Some (command.Demo seed))) outcome (λ input. refl) left count
+      (told old) (told new) status.Ok (sym (demo_ends_well seed)) wrote))
+
+-- where memory was refused the sink is as it was
+untouched : {K : Type 0} (told : K → Told) (seed : ℕ) (old new : K) (s : Status)
+    → Ends told s (answer_of batch.Run (demo_text seed)) old new
+    → LeavesUntouched (Some (command.Demo seed)) s old new
+untouched told seed old new =
+    ends_by told (λ s. LeavesUntouched (Some (command.Demo seed)) s old new)
+    (answer_of batch.Run (demo_text seed)) old new (λ cut. tt) (λ none. none)
+    (λ wrote. subst (λ s. LeavesUntouched (Some (command.Demo seed)) s old new)
+    (sym (demo_ends_well seed)) tt)
+
+pub answer-requires : goal.answer-requires
+answer-requires g c =
     let text = c.as_bytes.ensures.value ∙ c.in-Ok.ensures in rw text (demo_is_short c.args.seed)
 
 pub returns-clause-does : goal.returns-clause-does
 returns-clause-does g c =
     let text = c.as_bytes.ensures.value ∙ c.in-Ok.ensures in
-    rw c.end_status.ensures (answered c.args.seed _ _ _ _ c.run_input.result
-    (rw text at c.run_input.ensures))
+    answered g.K.Sink.told c.args.seed _ _ _ _ _ (rw text at c.answer.ensures)
+
+pub returns-clause-untouched : goal.returns-clause-untouched
+returns-clause-untouched g c =
+    let text = c.as_bytes.ensures.value ∙ c.in-Ok.ensures in
+    untouched g.K.Sink.told c.args.seed _ _ _ (rw text at c.answer.ensures)

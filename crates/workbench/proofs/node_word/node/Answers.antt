@@ -1,14 +1,14 @@
 use Rattle.std.proofs.Common.{◌∙◌, sym, Some, rules}
 use Rattle.sync_types.specs.declared.status.Status.TheVariants as status
-use Rattle.workbench.specs.declared.commands.Command.TheVariants as command
+use Rattle.outcomes.specs.declared.commands.Command.TheVariants as command
 use Rattle.workbench.proofs.NodeReturns.{does_end, none_held}
-use Rattle.workbench.proofs.NodeHeaders.{header_lost, header_long, header_cut, header_refused}
+use Rattle.workbench.proofs.NodeHeaders.{refusal_touches, header_lost, header_long, header_cut, header_refused}
 use Rattle.workbench.proofs.NodeEngines.{is_node_of}
-use Rattle.workbench.proofs.NodeService.{serves, serves_last, cause_of}
+use Rattle.workbench.proofs.NodeService.{service_touches, serves, serves_last, cause_of}
 use Rattle.workbench.proofs.node_word.node.Goals as goal
 
-pub returns-in-Err-ReadFault : goal.returns-in-Err-ReadFault
-returns-in-Err-ReadFault g c =
+pub returns-in-Err-ReadFault-clause-does : goal.returns-in-Err-ReadFault-clause-does
+returns-in-Err-ReadFault-clause-does g c =
     let same = c.new-feed.ensures.same_reference in
     let name = c.read_header.ensures.same_reference in
     let header = rw c.in-Err-ReadFault.field-0-is at c.in-Err-ReadFault.ensures.header in
@@ -16,8 +16,8 @@ returns-in-Err-ReadFault g c =
     does_end g.S.Source.left g.S.Source.faults (Some command.Node) status.ReadFault _ _ c.read_header.new.feed.source.now _ c.read_header.new.feed.source.ghost_name _ _ (search rules) (sym (name ∙ same))
     (header_lost _ _ _ _ _ _ c.new-feed.ensures.left _ header (none_held _ _ _ cause.1) cause.0)
 
-pub returns-in-Err-TooLong : goal.returns-in-Err-TooLong
-returns-in-Err-TooLong g c =
+pub returns-in-Err-TooLong-clause-does : goal.returns-in-Err-TooLong-clause-does
+returns-in-Err-TooLong-clause-does g c =
     let same = c.new-feed.ensures.same_reference in
     let name = c.read_header.ensures.same_reference in
     let header = rw c.in-Err-TooLong.field-0-is at c.in-Err-TooLong.ensures.header in
@@ -25,30 +25,30 @@ returns-in-Err-TooLong g c =
     does_end g.S.Source.left g.S.Source.faults (Some command.Node) status.TooLong _ _ c.read_header.new.feed.source.now _ c.read_header.new.feed.source.ghost_name _ _ (search rules) (sym (name ∙ same))
     (header_long _ _ _ _ _ _ c.new-feed.ensures.left _ header cause)
 
-pub returns-in-Ok-put_refusal : goal.returns-in-Ok-put_refusal
-returns-in-Ok-put_refusal g c =
+pub returns-in-Ok-put_refusal-clause-does : goal.returns-in-Ok-put_refusal-clause-does
+returns-in-Ok-put_refusal-clause-does g c =
     let same = c.new-feed.ensures.same_reference in
     let name = c.read_header.ensures.same_reference in
     let header = rw c.in-Err-Refused.field-0-is at c.in-Err-Refused.ensures.header in
     let cause = rw (c.in-Err-Refused.field-0-is, c.new-feed.ensures.faults) at c.in-Err-Refused.ensures.cause in
-    let refusal = rw c.in-Err-Refused.refused-is at c.from-refusal.ensures in
+    let refusal = rw c.in-Err-Refused.refused-is at c.header_refusal-refusal.ensures in
     let wrote = rw refusal at c.in-Ok-put_refusal.ensures in
     rw (c.status.ensures, refusal) (does_end g.S.Source.left g.S.Source.faults (Some command.Node) _ _ _ c.read_header.new.feed.source.now _ c.read_header.new.feed.source.ghost_name _ _ (search rules) (sym (name ∙ same))
     (header_refused _ _ _ _ _ _ c.new-feed.ensures.left _ header cause _ _ wrote))
 
-pub returns-in-Err-put_refusal : goal.returns-in-Err-put_refusal
-returns-in-Err-put_refusal g c =
+pub returns-in-Err-put_refusal-clause-does : goal.returns-in-Err-put_refusal-clause-does
+returns-in-Err-put_refusal-clause-does g c =
     let same = c.new-feed.ensures.same_reference in
     let name = c.read_header.ensures.same_reference in
     let header = rw c.in-Err-Refused.field-0-is at c.in-Err-Refused.ensures.header in
     let cause = rw (c.in-Err-Refused.field-0-is, c.new-feed.ensures.faults) at c.in-Err-Refused.ensures.cause in
-    let refusal = rw c.in-Err-Refused.refused-is at c.from-refusal.ensures in
+    let refusal = rw c.in-Err-Refused.refused-is at c.header_refusal-refusal.ensures in
     let part = rw refusal at c.in-Err-put_refusal.ensures in
     does_end g.S.Source.left g.S.Source.faults (Some command.Node) status.WriteFault _ _ c.read_header.new.feed.source.now _ c.read_header.new.feed.source.ghost_name _ _ (search rules) (sym (name ∙ same))
     (header_cut _ _ _ _ _ _ c.new-feed.ensures.left _ header cause _ _ part)
 
-pub returns-then-ended : goal.returns-then-ended
-returns-then-ended g c =
+pub returns-then-ended-clause-does : goal.returns-then-ended-clause-does
+returns-then-ended-clause-does g c =
     let same = c.new-feed.ensures.same_reference in
     let name = c.read_header.ensures.same_reference in
     let read = c.in-Ok-read_header.ensures in
@@ -57,8 +57,8 @@ returns-then-ended g c =
     rw c.service_status.ensures (does_end g.S.Source.left g.S.Source.faults (Some command.Node) _ _ _ c.read_header.new.feed.source.now _ c.read_header.new.feed.source.ghost_name _ _ (search rules) (sym (name ∙ same))
     (serves_last _ _ _ _ _ _ c.new-feed.ensures.left _ _ _ read.header _ _ node c.if-ended.true still _ _ _ _ (rw c.new-nothing.ensures at c.new-none.ensures.left) c.serve.ensures.served c.serve.ensures.cause))
 
-pub returns : goal.returns
-returns g c =
+pub returns-clause-does : goal.returns-clause-does
+returns-clause-does g c =
     let same = c.new-feed.ensures.same_reference in
     let name = c.serve-2.ensures.same_reference ∙ c.read_header.ensures.same_reference in
     let read = c.in-Ok-read_header.ensures in
@@ -66,3 +66,14 @@ returns g c =
     let still = read.cause ∙ c.new-feed.ensures.faults in
     rw c.service_status-2.ensures (does_end g.S.Source.left g.S.Source.faults (Some command.Node) _ _ _ c.serve-2.new.feed.source.now _ c.serve-2.new.feed.source.ghost_name _ _ (search rules) (sym (name ∙ same))
     (serves _ _ _ _ _ _ _ c.new-feed.ensures.left _ _ _ read.header _ _ node c.if-ended.false _ c.serve-2.ensures.served (cause_of _ _ _ _ _ _ (none_held _ _ _) still c.serve-2.ensures.cause)))
+
+pub returns-in-Ok-put_refusal-clause-untouched : goal.returns-in-Ok-put_refusal-clause-untouched
+returns-in-Ok-put_refusal-clause-untouched g c =
+    rw (c.status.ensures, rw c.in-Err-Refused.refused-is at c.header_refusal-refusal.ensures)
+    (refusal_touches _ _ _)
+
+pub returns-then-ended-clause-untouched : goal.returns-then-ended-clause-untouched
+returns-then-ended-clause-untouched g c = rw c.service_status.ensures (service_touches _ _ _)
+
+pub returns-clause-untouched : goal.returns-clause-untouched
+returns-clause-untouched g c = rw c.service_status-2.ensures (service_touches _ _ _)

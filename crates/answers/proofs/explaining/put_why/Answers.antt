@@ -1,0 +1,27 @@
+use Rattle.std.proofs.Common.{◌∙◌, sym, arith}
+use Rattle.answers.proofs.Explained.{puts_base, puts_why, explained_plays}
+use Rattle.answers.proofs.explaining.put_why.Goals as goal
+
+pub returns-then-depth-eq0-clause-lines : goal.returns-then-depth-eq0-clause-lines
+returns-then-depth-eq0-clause-lines g c =
+    puts_base _ c.args.plan.now _ _ _ (sym c.depth.ensures.value ∙ c.if-depth-eq0.true)
+    c.text.ensures
+
+pub explain-requires-clause-level : goal.explain-requires-clause-level
+explain-requires-clause-level g c = omega (arith, c.depth.ensures.value, c.if-depth-eq0.false)
+
+pub explain-requires-clause-start : goal.explain-requires-clause-start
+explain-requires-clause-start g c = record {
+  plan_is = c.requires.plan;
+  at = c.requires.start.at;
+  plays = c.requires.start.plays;
+}
+
+pub returns-clause-lines : goal.returns-clause-lines
+returns-clause-lines g c =
+    puts_why _ c.args.plan.now _ c.explain.result _ _
+    (λ none. c.if-depth-eq0.false (c.depth.ensures.value ∙ none)) c.explain.ensures.value
+    c.put_explanation.ensures
+
+pub returns-clause-played : goal.returns-clause-played
+returns-clause-played g c = explained_plays _ _ c.explain.ensures.played

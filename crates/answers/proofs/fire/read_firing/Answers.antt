@@ -1,0 +1,40 @@
+use Rattle.std.proofs.Common.{inr, ℕ, refl, sym, ap, ◌∙◌, subst, arith}
+use Rattle.sync_types.specs.declared.answers.Part.TheVariants as part
+use Rattle.adversary_script.specs.StateShapes.{HasFurther}
+use Rattle.firing.specs.FirePart.{part_of}
+use Rattle.firing.specs.FiringsSeen.{layer_seen, fires_seen}
+use Rattle.outcomes.specs.Layered.{fire_shape}
+use Rattle.answers.proofs.ReadLayers.{layered_is}
+use Rattle.answers.proofs.ReadFire.{fire_text_is}
+use Rattle.answers.proofs.fire.read_firing.Goals as goal
+
+pub read_script-requires-clause-shape : goal.read_script-requires-clause-shape
+read_script-requires-clause-shape c =
+    let further : HasFurther c.in_ok-plan.plan c.in_ok-shape.shape = record {
+      values = 2;
+      count = 1;
+      least = omega arith;
+      most = omega arith;
+      some = omega arith;
+      few = omega arith;
+      is = c.in_ok-shape.ensures;
+    } in inr further
+
+pub runner_of-requires-clause-deaf : goal.runner_of-requires-clause-deaf
+runner_of-requires-clause-deaf c = λ none. absurd (omega (arith, none))
+
+pub returns : goal.returns
+returns c =
+    let read = c.in_ok-firing.ensures.exact in
+    let begun = c.in_ok-runner.ensures in
+    let said = layered_is part.Fire part_of fire_shape c.args.input.now _ _ c.in_ok-plan.plan
+    c.in_ok-plan.bytes c.in_ok-plan.lines read.requests c.in_ok-firing.part_bytes
+    c.in_ok-firing.part_lines c.in_ok-shape.shape c.in_ok-script.script refl refl
+    c.in_ok-plan.ensures.exact read.part c.in_ok-shape.ensures c.in_ok-script.ensures.exact in
+    record {
+      plays = begun.plays;
+      text = fire_text_is c.args.input.now c.in_ok-plan.plan _ c.in_ok-script.script _
+          read.requests _ _ _ said begun.plan_is begun.script_is
+          (ap layer_seen begun.overlay_is ∙ read.fresh.layer)
+          (ap fires_seen begun.overlay_is ∙ read.fresh.kept) c.new.ensures;
+    }

@@ -1,0 +1,77 @@
+use Rattle.std.proofs.Common.{inr, ℕ, List, refl, sym, ap, ◌∙◌, subst, arith}
+use Rattle.sync_types.specs.declared.answers.Part.TheVariants as part
+use Rattle.counter_core.specs.Overlays.{Layer}
+use Rattle.state_codec.specs.Shapes.{shape_with}
+use Rattle.adversary_script.specs.StateShapes.{HasFurther}
+use Rattle.replicated_log.specs.declared.entries.Entry.{Entry}
+use Rattle.replicated_log.specs.LogPart.{part_of}
+use Rattle.replicated_log.specs.LogsSeen.{layer_seen, logs_seen}
+use Rattle.run_lines.specs.EntryTexts.{log_text}
+use Rattle.outcomes.specs.Layered.{log_shape}
+use Rattle.answers.specs.LogRuns.{IsLogRun}
+use Rattle.answers.proofs.ReadLayers.{layered_is}
+use Rattle.answers.proofs.RefusedScripts.{script_refused}
+use Rattle.answers.proofs.ReadLog.{log_is_for, log_values, log_text_is}
+use Rattle.answers.proofs.log.read_logging.Goals as goal
+
+pub with_registers-requires-clause-least : goal.with_registers-requires-clause-least
+with_registers-requires-clause-least c =
+    let range = log_values _ _ _ _ _ _ c.in_ok-replica.ensures.exact in
+    rw c.values.ensures range.0
+
+pub with_registers-requires-clause-most : goal.with_registers-requires-clause-most
+with_registers-requires-clause-most c =
+    let range = log_values _ _ _ _ _ _ c.in_ok-replica.ensures.exact in
+    rw c.values.ensures range.1
+
+pub read_script-requires-clause-shape : goal.read_script-requires-clause-shape
+read_script-requires-clause-shape c =
+    let range = log_values _ _ _ _ _ _ c.in_ok-replica.ensures.exact in
+    let further : HasFurther c.in_ok-plan.plan c.in_ok-shape.shape = record {
+      values = c.values.result;
+      count = 2;
+      least = rw c.values.ensures range.0;
+      most = rw c.values.ensures range.1;
+      some = omega arith;
+      few = omega arith;
+      is = c.in_ok-shape.ensures;
+    } in inr further
+
+pub runner_of-requires-clause-deaf : goal.runner_of-requires-clause-deaf
+runner_of-requires-clause-deaf c = λ none. absurd (omega (arith, none))
+
+pub returns-in_err-script : goal.returns-in_err-script
+returns-in_err-script c =
+    let read = c.in_ok-replica.ensures.exact in
+    script_refused part.Log part_of log_shape log_text (IsLogRun c.args.input.now)
+    c.args.input.now _ _ c.in_ok-plan.plan c.in_ok-plan.bytes c.in_ok-plan.lines read.said
+    c.in_ok-replica.part_bytes c.in_ok-replica.part_lines c.in_ok-shape.shape
+    c.in_err-script.field-0.0 c.from_residual-in_err-script.result refl refl
+    c.in_ok-plan.ensures.exact read.part
+    (c.in_ok-shape.ensures ∙ ap (λ (n : ℕ). shape_with c.in_ok-plan.plan n 2)
+    (c.values.ensures ∙ ap (λ (l : Layer (List Entry)). l.values) read.fresh.layer))
+    c.in_err-script.ensures.exact c.from_residual-in_err-script.ensures.1
+
+pub new-requires : goal.new-requires
+new-requires c = (log_is_for _ _ _ _ _ _ c.in_ok-replica.ensures.exact).whole
+
+pub returns : goal.returns
+returns c =
+    let read = c.in_ok-replica.ensures.exact in
+    let begun = c.in_ok-runner.ensures in
+    let lines = c.new.ensures in
+    let said = layered_is part.Log part_of log_shape c.args.input.now _ _ c.in_ok-plan.plan
+    c.in_ok-plan.bytes c.in_ok-plan.lines read.said c.in_ok-replica.part_bytes
+    c.in_ok-replica.part_lines c.in_ok-shape.shape c.in_ok-script.script refl refl
+    c.in_ok-plan.ensures.exact read.part
+    (c.in_ok-shape.ensures ∙ ap (λ (n : ℕ). shape_with c.in_ok-plan.plan n 2)
+    (c.values.ensures ∙ ap (λ (l : Layer (List Entry)). l.values) read.fresh.layer))
+    c.in_ok-script.ensures.exact in
+    record {
+      plays = begun.plays;
+      text = log_text_is c.args.input.now c.in_ok-plan.plan _ c.in_ok-script.script _
+          read.said _ _ _ _ _ said begun.plan_is begun.script_is
+          (ap layer_seen begun.overlay_is ∙ read.fresh.layer)
+          (ap logs_seen begun.overlay_is ∙ read.fresh.kept)
+          lines.nodes lines.faults lines.modulus;
+    }

@@ -1,0 +1,181 @@
+-- What is read of an input of a plan, a part and a script: a part that fits its plan, and a script
+-- for both.
+use Rattle.std.proofs.Common.{◌≡◌, ℕ, ◌+◌, ◌^◌, ◌≤◌, List, replicate, Result, Ok, Err, refl, ◌∙◌, sym, subst, arith}
+use Rattle.std.specs.Prelude.{IfOk}
+use Rattle.std.proofs.lemmas.List.Elements.{All-append, All-replicate}
+use Rattle.texts.specs.Parts.{At, Found}
+use Rattle.sync_types.specs.declared.answers.Premise.{Premise}
+use Rattle.sync_types.specs.declared.answers.Rule.{Rule}
+use Rattle.sync_types.specs.declared.answers.Part.{Part}
+use Rattle.sync_types.specs.declared.answers.Part.TheVariants as part
+use Rattle.construction.specs.Plans.{Plan}
+use Rattle.plan_numbers.specs.Premises.{IsAccepted}
+use Rattle.plan_laws.specs.PlanMeaning.{plan_meaning}
+use Rattle.plan_reader.specs.PlanPart.{plan_of}
+use Rattle.plan_reader.proofs.AcceptedPlans.{plan_accepted}
+use Rattle.counter_core.specs.Overlays.{Layer, StandsOver}
+use Rattle.state_codec.specs.Shapes.{Shape, IsShape, shape_of, shape_with}
+use Rattle.state_codec.proofs.Plans.{shape_of_accepted}
+use Rattle.adversary_script.specs.Scripts.{Script, IsScript}
+use Rattle.adversary_script.specs.ScriptPart as script
+use Rattle.adversary_script.specs.ScriptPart.{script_of}
+use Rattle.adversary_script.proofs.ReadScripts.{script_is_for, script_is_script}
+use Rattle.round_runner.specs.Fits.{IsDeaf}
+use Rattle.round_runner.specs.Runners as runner
+use Rattle.slot_table.specs.declared.lines.SlotLine.{SlotLine}
+use Rattle.slot_table.specs.SlotPart as slots
+use Rattle.slot_table.proofs.FitLines.{lines_fit}
+use Rattle.consensus_layer.specs.AgreeSaid.{AgreeSaid}
+use Rattle.consensus_layer.specs.AgreePart as agree
+use Rattle.consensus_layer.specs.Agreements.{agree_layer}
+use Rattle.consensus_layer.proofs.FitInputs.{inputs_fit}
+use Rattle.firing.specs.declared.requests.Request.{Request}
+use Rattle.firing.specs.FirePart as fire
+use Rattle.firing.specs.Firings.{fire_layer}
+use Rattle.firing.proofs.FitRequests.{requests_fit}
+use Rattle.replicated_log.specs.LogSaid.{LogSaid}
+use Rattle.replicated_log.specs.LogPart as log
+use Rattle.replicated_log.specs.Logs.{log_layer}
+use Rattle.replicated_log.proofs.FitLogs.{log_fits}
+use Rattle.outcomes.specs.declared.refusals.Refusal.{Refusal}
+use Rattle.outcomes.specs.Layered.{Layered, layered_with, behind_part, behind_plan, layered_of}
+use Rattle.outcomes.specs.Layered.{slots_shape, slotted_of, agree_shape, agreed_of, fire_shape, firing_of, log_shape, logging_of}
+
+-- what was read: a part that fits its plan, and a script for both
+pub record IsRead {Said : Type 0} (shape_for : Plan → Said → Shape) (Fits : Plan → Said → Type 0)
+    (read : Layered Said) : Type 0 where
+  pub accepted : IsAccepted read.plan
+  pub fits : Fits read.plan read.said
+  pub right : script.IsFor read.plan (shape_for read.plan read.said) read.script
+  pub whole : IsScript read.script
+  pub sound : IsShape (shape_for read.plan read.said)
+
+module _ {Said : Type 0} (name : Part)
+    (part_of : Plan → (number : ℕ) → List (List ℕ) → Result (Found Said) (At Rule))
+    (shape_for : Plan → Said → Shape) (Fits : Plan → Said → Type 0)
+    (fit : (plan : Plan) (number : ℕ) (lines : List (List ℕ))
+    → IfOk (part_of plan number lines) (λ found. Fits plan found.value))
+    (sound : (plan : Plan) (said : Said) → IsAccepted plan → Fits plan said
+    → IsShape (shape_for plan said)) where
+  script_read : (plan : Plan) (said : Said) → IsAccepted plan → Fits plan said
+      → (s : Result Script (At Rule))
+      → IfOk s (script.IsFor plan (shape_for plan said)) → IfOk s IsScript
+      → IfOk (layered_with name part_of shape_for plan said s) (IsRead shape_for Fits)
+  script_read plan said accepted fits (Err at) right whole = tt
+  script_read plan said accepted fits (Ok s) right whole = record {
+    accepted = accepted;
+    fits = fits;
+    right = right;
+    whole = whole;
+    sound = sound plan said accepted fits;
+  }
+
+  part_read : (plan : Plan) → IsAccepted plan → (number : ℕ) (found : Result (Found Said) (At Rule))
+      → IfOk found (λ f. Fits plan f.value)
+      → IfOk (behind_part name part_of shape_for plan number found) (IsRead shape_for Fits)
+  part_read plan accepted number (Err at) fits = tt
+  part_read plan accepted number (Ok found) fits =
+      let shape = shape_for plan found.value in
+      let is = sound plan found.value accepted fits in
+      script_read plan found.value accepted fits
+      (script_of plan shape (number + found.taken) found.behind)
+      (script_is_for plan shape is (number + found.taken) found.behind)
+      (script_is_script plan shape is (number + found.taken) found.behind)
+
+  plan_read : (plan : Result (Found Plan) (At Premise))
+      → IfOk plan (λ found. IsAccepted found.value)
+      → IfOk (behind_plan name part_of shape_for plan) (IsRead shape_for Fits)
+  plan_read (Err at) accepted = tt
+  plan_read (Ok found) accepted =
+      part_read found.value accepted (1 + found.taken)
+      (part_of found.value (1 + found.taken) found.behind)
+      (fit found.value (1 + found.taken) found.behind)
+
+  pub input_read : (input : List ℕ)
+      → IfOk (layered_of name part_of shape_for input) (IsRead shape_for Fits)
+  input_read input = plan_read (plan_of input) (plan_accepted input)
+
+-- what follows from it holds of the input
+pub so : {Said : Type 0} {A B : Layered Said → Type 0} (read : Result (Layered Said) Refusal)
+    → IfOk read A → ((l : Layered Said) → A l → B l) → IfOk read B
+so (Err refusal) is then = tt
+so (Ok l) is then = then l is
+
+-- further registers of 2 to 65536 values leave a shape sound
+pub further_sound : (plan : Plan) (values count : ℕ) → IsAccepted plan → 2 ≤ values → values ≤ 65536
+    → IsShape (shape_with plan values count)
+further_sound plan values count accepted two few =
+    let own = shape_of_accepted plan accepted in
+    record {
+      least = own.least;
+      most = own.most;
+      moduli = All-append (λ modulus. (2 ≤ modulus) × (modulus ≤ 2 ^ 40)) (shape_of plan).moduli
+          (replicate count values) own.moduli
+          (All-replicate (λ modulus. (2 ≤ modulus) × (modulus ≤ 2 ^ 40)) count values
+          (two, omega (arith, few)));
+    }
+
+-- A part that fits its plan, and a script to play with the part's layer.
+pub record IsToPlay {Said Kept : Type 0} (Fits : Plan → Said → Type 0)
+    (layer_of : Plan → Said → Layer Kept) (read : Layered Said) : Type 0 where
+  pub accepted : IsAccepted read.plan
+  pub fits : Fits read.plan read.said
+  pub right : runner.IsFor read.plan (layer_of read.plan read.said) read.script
+  pub whole : IsScript read.script
+  pub sound : IsShape read.script.shape
+
+-- a script for the shape with a layer's registers is one to play with the layer
+pub to_play : {Said Kept : Type 0} (shape_for : Plan → Said → Shape) (Fits : Plan → Said → Type 0)
+    (layer_of : Plan → Said → Layer Kept) (l : Layered Said)
+    → StandsOver (layer_of l.plan l.said) (plan_meaning l.plan)
+    → IsDeaf (layer_of l.plan l.said)
+    → shape_for l.plan l.said
+    ≡ shape_with l.plan (layer_of l.plan l.said).values (layer_of l.plan l.said).extra
+    → IsRead shape_for Fits l → IsToPlay Fits layer_of l
+to_play shape_for Fits layer_of l over deaf is read = record {
+  accepted = read.accepted;
+  fits = read.fits;
+  right = record {
+    nodes = read.right.nodes;
+    shape = read.right.states ∙ is;
+    over = over;
+    deaf = deaf;
+    borne = read.right.borne;
+  };
+  whole = read.whole;
+  sound = subst IsShape (sym read.right.states) read.sound;
+}
+
+-- ---- the four layers
+
+pub slots_read : (input : List ℕ) → IfOk (slotted_of input) (IsRead slots_shape slots.AreFor)
+slots_read input =
+    input_read part.Slots slots.part_of slots_shape slots.AreFor lines_fit
+    (λ plan table accepted fits. shape_of_accepted plan accepted) input
+
+abbrev pub agreed_layer : Plan → AgreeSaid → Layer ℕ
+agreed_layer plan said = agree_layer plan said.values said.inputs
+
+pub decisions_to_play : (input : List ℕ) → IfOk (agreed_of input) (IsToPlay agree.IsFor agreed_layer)
+decisions_to_play input =
+    so _ (input_read part.Agree agree.part_of agree_shape agree.IsFor inputs_fit
+    (λ plan said accepted fits. further_sound plan said.values 1 accepted fits.two fits.few) input)
+    (λ l. to_play agree_shape agree.IsFor agreed_layer l
+    (λ lt. record { nodes = refl; modulus = refl; depth = refl })
+    (λ none. absurd (omega (arith, none))) refl)
+
+pub fires_to_play : (input : List ℕ) → IfOk (firing_of input) (IsToPlay fire.AreFor fire_layer)
+fires_to_play input =
+    so _ (input_read part.Fire fire.part_of fire_shape fire.AreFor requests_fit
+    (λ plan requests accepted fits. further_sound plan 2 1 accepted (omega arith) (omega arith)) input)
+    (λ l. to_play fire_shape fire.AreFor fire_layer l
+    (λ lt. record { nodes = refl; modulus = refl; depth = refl })
+    (λ none. absurd (omega (arith, none))) refl)
+
+pub entries_to_play : (input : List ℕ) → IfOk (logging_of input) (IsToPlay log.IsFor log_layer)
+entries_to_play input =
+    so _ (input_read part.Log log.part_of log_shape log.IsFor log_fits
+    (λ plan said accepted fits. further_sound plan said.values 2 accepted fits.two fits.few) input)
+    (λ l. to_play log_shape log.IsFor log_layer l
+    (λ lt. record { nodes = refl; modulus = refl; depth = refl })
+    (λ none. absurd (omega (arith, none))) refl)

@@ -1,0 +1,3 @@
+pub mod ScriptedRead
+pub mod LayeredRead
+pub mod ExplainTexts

@@ -1,0 +1,11 @@
+pub mod Refusals
+pub mod Inputs
+pub mod Layered
+pub mod ExplainText
+pub mod Answers
+pub mod Outcomes
+pub mod CheckAnswers
+pub mod NodeAnswers
+pub mod DemoText
+pub mod Commands
+pub mod Conduct

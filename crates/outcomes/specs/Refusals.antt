@@ -1,0 +1,73 @@
+-- The line that a refusal writes, and its status.
+use Rattle.std.specs.Prelude.{ℕ, List, [], ◌∷◌, codes, decimal}
+use Rattle.std.specs.List.{concat}
+use Rattle.sync_types.specs.declared.answers.Premise.{Premise}
+use Rattle.sync_types.specs.declared.answers.Premise.TheVariants as premise
+use Rattle.sync_types.specs.declared.answers.Rule.{Rule}
+use Rattle.sync_types.specs.declared.answers.Rule.TheVariants as rule
+use Rattle.sync_types.specs.declared.answers.Cause.{Cause}
+use Rattle.sync_types.specs.declared.answers.Cause.TheVariants as cause
+use Rattle.sync_types.specs.declared.answers.Part.{Part}
+use Rattle.sync_types.specs.declared.answers.Part.TheVariants as part
+use Rattle.sync_types.specs.declared.status.Status.{Status}
+use Rattle.sync_types.specs.declared.status.Status.TheVariants as status
+use Rattle.outcomes.specs.declared.refusals.Refusal.{Refusal}
+use Rattle.outcomes.specs.declared.refusals.Refusal.TheVariants as refusal
+
+abbrev pub premise_word : Premise → List ℕ
+premise_word premise.Form = codes "form"
+premise_word premise.Limit = codes "limit"
+premise_word premise.Blocks = codes "blocks"
+premise_word premise.Modulus = codes "modulus"
+premise_word premise.Quorum = codes "quorum"
+premise_word premise.Share = codes "share"
+premise_word premise.Multiple = codes "multiple"
+
+abbrev pub cause_word : Cause → List ℕ
+cause_word (cause.Premise p) = premise_word p
+cause_word cause.Value = codes "value"
+
+abbrev pub rule_word : Rule → List ℕ
+rule_word rule.Form = codes "form"
+rule_word rule.Limit = codes "limit"
+rule_word rule.Node = codes "node"
+rule_word rule.Order = codes "order"
+rule_word rule.Faults = codes "faults"
+rule_word rule.Range = codes "range"
+rule_word rule.Hex = codes "hex"
+rule_word rule.Name = codes "name"
+rule_word rule.Slot = codes "slot"
+rule_word rule.Overlap = codes "overlap"
+
+abbrev pub part_word : Part → List ℕ
+part_word part.Script = codes "script"
+part_word part.Node = codes "node"
+part_word part.Agree = codes "agree"
+part_word part.Slots = codes "slots"
+part_word part.Find = codes "find"
+part_word part.Log = codes "log"
+part_word part.Fire = codes "fire"
+
+-- the line of what fails for a reason
+abbrev pub failed_line : (front : List ℕ) → (line : ℕ) → (kind reason : List ℕ) → List ℕ
+failed_line front line kind reason =
+    concat (front ∷ decimal line ∷ kind ∷ reason ∷ codes "\n" ∷ [])
+
+abbrev pub refusal_line : Refusal → List ℕ
+refusal_line refusal.Usage = codes "usage: counterlab COMMAND\n"
+refusal_line (refusal.Plan line p) =
+    failed_line (codes "refused plan line ") line (codes " premise ") (premise_word p)
+refusal_line (refusal.Part p line r) =
+    concat (codes "refused " ∷ part_word p ∷ codes " line " ∷ decimal line ∷ codes " rule "
+    ∷ rule_word r ∷ codes "\n" ∷ [])
+refusal_line (refusal.Certificate line) =
+    concat (codes "refused certificate line " ∷ decimal line ∷ codes "\n" ∷ [])
+refusal_line (refusal.Table line c) =
+    failed_line (codes "refused table line ") line (codes " cause ") (cause_word c)
+
+abbrev pub refusal_status : Refusal → Status
+refusal_status refusal.Usage = status.Usage
+refusal_status (refusal.Plan line p) = status.PlanRefused line p
+refusal_status (refusal.Part p line r) = status.PartRefused p line r
+refusal_status (refusal.Certificate line) = status.CertRefused line
+refusal_status (refusal.Table line c) = status.TableRefused line c

@@ -1,0 +1,108 @@
+-- What the word `explain` writes is true.
+use Rattle.std.proofs.Common.{◌≡◌, ℕ, ◌+◌, ◌<◌, ◌≤◌, inl, inr, Bool, List, [], ◌∷◌, length, Option, Some, None, IfSome, if◌then◌else◌, refl, ap, subst, arith}
+use Rattle.std.proofs.lemmas.Bool.{cases_lt, le-ltb}
+use Rattle.sync_types.specs.States.{State}
+use Rattle.construction.specs.Plans.{Level, Plan, plan_bound, plan_depth}
+use Rattle.construction.specs.Runs.{IsLocked}
+use Rattle.adversary_script.specs.Scripts.{Script}
+use Rattle.adversary_script.specs.Eras.{era_of, first_of_era, end_of_era, faulty_of_era}
+use Rattle.round_runner.specs.Laws.{IsUpTo, IsReadFor, EraStaysLocked, EachIsOfOneEra, ErasStayLocked}
+use Rattle.round_runner.specs.Locks.{IsFirstLocked}
+use Rattle.round_runner.specs.Played.{played_at}
+use Rattle.run_explanations.specs.declared.explanations.Explanation.{Explanation}
+use Rattle.run_explanations.specs.Explanations.{ExplainsIn, ExplainsEra, IsFirstOrNone, era_begin, explanation_of}
+use Rattle.run_explanations.specs.Laws.{ExplainedErasLock, IsExplainedByBound, LongErasAreExplained, FoundIsFirst}
+use Rattle.promises.specs.ExplainLaws.{LocksByPhase, IsSaidBefore, WhyIsTrue}
+use Rattle.run_lines.specs.RowTexts.{lock_played}
+use Rattle.outcomes.proofs.ExplainTexts.{levelled_is}
+
+-- a phase begins in its window, and ends by the last configuration
+within_in : (levels : List Level) (script : Script) (config_at : ℕ → List State) (t b s k : ℕ)
+    → ExplainsIn levels script config_at t b s k → (t ≤ s) × (s + 3 ≤ script.rounds)
+within_in [] script config_at t b s k why = absurd why
+within_in (level ∷ below) script config_at t b s k why = (why.begins, why.within)
+
+module _ (plan : Plan) (script : Script) (read : IsReadFor plan script) where
+  abbrev last : ℕ
+  last = length script.eras
+
+  -- the last era ends behind the last configuration
+  end_is : end_of_era script last ≡ script.rounds + 1
+  end_is = ap (λ (b : Bool). if b then first_of_era script (last + 1) else script.rounds + 1)
+      (le-ltb last last (omega arith))
+
+  -- the configuration in which the phase has ended
+  module _ (t b s k : ℕ) (why : ExplainsEra plan script t b s k) where
+    within : (t ≤ s) × (s + 3 ≤ script.rounds)
+    within = within_in plan.levels script (played_at plan script) t b s k why.explains
+
+    from : era_begin script ≤ s + 3
+    from = let begins = why.from in let phase = within.0 in omega (arith, begins, phase)
+
+    before : s + 3 < end_of_era script last
+    before = let ends = within.1 in omega (arith, ends, end_is)
+
+    module _ (locks : ExplainedErasLock) where
+      locked : IsLocked plan (faulty_of_era script last) (played_at plan script (s + 3))
+      locked = locks plan script read t b s k why
+
+      stays_locked : EachIsOfOneEra → ErasStayLocked → EraStaysLocked plan script last (s + 3)
+      stays_locked each stays =
+          let here : last ≡ era_of script (s + 3) =
+          (each script read.whole (s + 3) within.1).only last (omega arith) from before in
+          stays plan script read last (omega arith) (s + 3) from before
+          (subst (λ (j : ℕ). IsLocked plan (faulty_of_era script j) (played_at plan script (s + 3)))
+          here locked)
+
+      line_is : (known : Option ℕ)
+          → IsFirstLocked plan script (played_at plan script) last script.rounds known
+          → IsUpTo (s + 3) known
+      line_is None none =
+          let ends = within.1 in absurd (none (s + 3) from before (omega (arith, ends)) locked)
+      line_is (Some w) first = record {
+        number = w;
+        is = refl;
+        most = elim (cases_lt (s + 3) w) [
+          | inl lt ↦ absurd (first.1.first (s + 3) from before lt locked)
+          | inr le ↦ omega (arith, le)
+        ];
+      }
+
+  -- what is said locks
+  said_locks : EachIsOfOneEra → ErasStayLocked → ExplainedErasLock
+      → IsFirstLocked plan script (played_at plan script) last script.rounds
+      (lock_played plan script last)
+      → (said : Option Explanation) → IsFirstOrNone plan script said
+      → IfSome said (LocksByPhase plan script)
+  said_locks each stays locks known None none = tt
+  said_locks each stays locks known (Some e) first = record {
+    stays = stays_locked e.window e.leader e.phase e.king first.explains locks each stays;
+    line = line_is e.window e.leader e.phase e.king first.explains locks
+        (lock_played plan script last) known;
+  }
+
+-- the first one ends no later than any other
+said_before : (plan : Plan) (script : Script) (said : Option Explanation)
+    → IsFirstOrNone plan script said → IsExplainedByBound plan script
+    → IsSaidBefore plan (era_begin script + plan_bound plan) said
+said_before plan script None none other =
+    absurd (none other.t other.b other.s other.k other.explains)
+said_before plan script (Some e) first other =
+    let early = (first.first other.t other.b other.s other.k other.explains).0 in
+    let by_bound = other.by_bound in
+    record { explanation = e; is = refl; ends = omega (arith, early, by_bound) }
+
+pub why_is_true : EachIsOfOneEra → ErasStayLocked → ExplainedErasLock → LongErasAreExplained
+    → FoundIsFirst → (plan : Plan) (script : Script) → IsReadFor plan script
+    → IsFirstLocked plan script (played_at plan script) (length script.eras) script.rounds
+    (lock_played plan script (length script.eras))
+    → 1 ≤ plan_depth plan → WhyIsTrue plan script
+why_is_true each stays locks long found plan script read known some =
+    let first = found plan script read.accepted some in record {
+      said = explanation_of plan script;
+      lines = levelled_is plan.levels plan script (λ none. absurd (omega (arith, some, none)));
+      first = first;
+      locks = said_locks plan script read each stays locks known (explanation_of plan script) first;
+      by_bound = λ reaches. said_before plan script (explanation_of plan script) first
+          (long plan script read some reaches);
+    }

@@ -1,0 +1,15 @@
+pub mod Settled
+pub mod ExplainLaws
+pub mod Promise
+pub mod CheckLaws
+pub mod RecordLaws
+pub mod Complete
+pub mod LayerPromises
+pub mod LockPromises
+pub mod FindPromises
+pub mod PlanPromises
+pub mod Printed
+pub mod NodeCalls
+pub mod NodePromises
+pub mod NodeInputs
+pub mod DemoTexts

@@ -1,0 +1,5 @@
+use Rattle.promises.proofs.LayerPromises.{fires_kept}
+use Rattle.promises.proofs.layer_promises.fires_are_kept.Goals as goal
+
+pub returns : goal.returns
+returns c = fires_kept c.lines_fire_together.ensures

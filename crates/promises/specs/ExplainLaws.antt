@@ -1,0 +1,33 @@
+-- What the lines of the word `explain` promise, of a plan with levels.
+use Rattle.std.specs.Prelude.{◌≡◌, ℕ, ◌+◌, ◌≤◌, length, Option, Some, IfSome}
+use Rattle.construction.specs.Plans.{Plan, plan_bound}
+use Rattle.adversary_script.specs.Scripts.{Script}
+use Rattle.round_runner.specs.Laws.{IsUpTo, EraStaysLocked}
+use Rattle.run_explanations.specs.declared.explanations.Explanation.{Explanation}
+use Rattle.run_explanations.specs.Explanations.{IsFirstOrNone, era_begin}
+use Rattle.run_explanations.specs.Tops.{top_of}
+use Rattle.run_lines.specs.RowTexts.{lock_played}
+use Rattle.outcomes.specs.ExplainText.{explanation_lines, why_lines}
+
+-- From the end of the phase on the last era is locked, and counts. The W of the era's line
+-- `locked W` comes no later.
+pub record LocksByPhase (plan : Plan) (script : Script) (e : Explanation) : Type 0 where
+  pub stays : EraStaysLocked plan script (length script.eras) (e.phase + 3)
+  pub line : IsUpTo (e.phase + 3) (lock_played plan script (length script.eras))
+
+-- an explanation is said, and its window ends before configuration `end`
+pub record IsSaidBefore (plan : Plan) (end : ℕ) (said : Option Explanation) : Type 0 where
+  pub explanation : Explanation
+  pub is : said ≡ Some explanation
+  pub ends : explanation.window + (top_of plan).beat ≤ end
+
+-- What is written is the first explanation why the last era locks, or that there is none, exactly
+-- where there is none. What is explained locks when its phase has ended. Where the era goes on to
+-- the bound, which is counted from its first configuration, there is one within it.
+pub record WhyIsTrue (plan : Plan) (script : Script) : Type 0 where
+  pub said : Option Explanation
+  pub lines : why_lines plan script ≡ explanation_lines said
+  pub first : IsFirstOrNone plan script said
+  pub locks : IfSome said (LocksByPhase plan script)
+  pub by_bound : era_begin script + plan_bound plan ≤ script.rounds
+      → IsSaidBefore plan (era_begin script + plan_bound plan) said

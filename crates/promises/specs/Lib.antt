@@ -1,0 +1,14 @@
+pub mod CheckLaws
+pub mod RecordLaws
+pub mod Completeness
+pub mod ExplainLaws
+pub mod Laws
+pub mod PlanPromises
+pub mod EveryRun
+pub mod LayerPromises
+pub mod DemoLaws
+pub mod LockPromises
+pub mod FindPromises
+pub mod Printed
+pub mod NodeCalls
+pub mod NodePromises

@@ -1,0 +1,32 @@
+-- What the texts of plans and of tables that are written promise, whatever the input.
+use Rattle.std.specs.Prelude.{◌≡◌, ℕ, List, Result, Ok, IfOk}
+use Rattle.construction.specs.Plans.{Plan}
+use Rattle.plan_numbers.specs.Premises.{IsAccepted}
+use Rattle.plan_laws.specs.VersionLaws.{in_version, AreSame}
+use Rattle.plan_certificate.specs.Tables.{table_text}
+use Rattle.plan_certificate.specs.PlanTexts.{plan_text}
+use Rattle.outcomes.specs.declared.refusals.Refusal.{Refusal}
+use Rattle.outcomes.specs.declared.commands.Batch.TheVariants as batch
+use Rattle.outcomes.specs.Inputs.{plan_alone, tabled_of}
+use Rattle.outcomes.specs.Answers.{answer_of}
+
+-- What `plan` answers is the plan's table, which is read back as the plan, and what `upgrade`
+-- answers its text in version 2, which is read back as a plan of the same counter.
+pub record AreTextsOf (tabled upgraded : Result (List ℕ) Refusal) (plan : Plan) : Type 0 where
+  pub table : tabled ≡ Ok (table_text plan)
+  pub table_read : tabled_of (table_text plan) ≡ Ok plan
+  pub text : upgraded ≡ Ok (plan_text 2 plan)
+  pub text_read : plan_alone (plan_text 2 plan) ≡ Ok (in_version 2 plan)
+  pub same : AreSame plan (in_version 2 plan)
+
+-- it is the table of an accepted plan
+pub record IsTableOf (text : List ℕ) (plan : Plan) : Type 0 where
+  pub accepted : IsAccepted plan
+  pub is : text ≡ table_text plan
+
+-- Where an input is a plan, `plan` answers its table and `upgrade` its text in version 2. Where
+-- `table` answers that an input is the table of a plan, it is.
+pub record TextsAreKept : Type 0 where
+  pub plans : (input : List ℕ)
+      → IfOk (plan_alone input) (AreTextsOf (answer_of batch.Plan input) (answer_of batch.Upgrade input))
+  pub tables : (input : List ℕ) → IfOk (tabled_of input) (IsTableOf input)

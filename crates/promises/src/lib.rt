@@ -1,0 +1,13 @@
+//! What the answers of the command line promise, whatever the input. No code: each function is
+//! empty, and its clause is a law over the definitions of the crate `outcomes`.
+#![tactic(auto)]
+
+pub mod certificate_laws;
+pub mod every_run;
+pub mod find_promises;
+pub mod laws;
+pub mod layer_promises;
+pub mod lock_promises;
+pub mod node_promises;
+pub mod plan_promises;
+pub mod printed_promises;

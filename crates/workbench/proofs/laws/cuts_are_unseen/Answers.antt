@@ -1,5 +1,0 @@
-use Rattle.workbench.proofs.Complete as complete
-use Rattle.workbench.proofs.laws.cuts_are_unseen.Goals as goal
-
-pub returns : goal.returns
-returns c = complete.cuts_are_unseen

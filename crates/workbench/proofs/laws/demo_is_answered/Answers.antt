@@ -1,5 +1,0 @@
-use Rattle.workbench.proofs.DemoTexts.{demo_is_accepted, demo_is_answered}
-use Rattle.workbench.proofs.laws.demo_is_answered.Goals as goal
-
-pub returns : goal.returns
-returns c = record { accepted = demo_is_accepted; answered = demo_is_answered }

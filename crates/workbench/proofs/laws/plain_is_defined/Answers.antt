@@ -1,5 +1,0 @@
-use Rattle.workbench.proofs.Complete as complete
-use Rattle.workbench.proofs.laws.plain_is_defined.Goals as goal
-
-pub returns : goal.returns
-returns c = complete.plain_is_defined

@@ -1,5 +1,0 @@
-use Rattle.workbench.proofs.LayerPromises.{holds_kept}
-use Rattle.workbench.proofs.layer_promises.holds_are_kept.Goals as goal
-
-pub returns : goal.returns
-returns c = holds_kept c.at_most_one_in_a_line.ensures

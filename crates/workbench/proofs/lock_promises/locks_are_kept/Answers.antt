@@ -1,6 +1,0 @@
-use Rattle.workbench.proofs.LockPromises.{locks_kept}
-use Rattle.workbench.proofs.lock_promises.locks_are_kept.Goals as goal
-
-pub returns : goal.returns
-returns c = locks_kept c.plain_eras_lock.ensures c.layered_eras_lock.ensures
-    c.layered_eras_lock-2.ensures c.layered_eras_lock-3.ensures

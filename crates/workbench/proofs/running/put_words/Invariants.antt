@@ -1,8 +1,0 @@
-use Rattle.texts.specs.Growth.{Wrote}
-use Rattle.construction.specs.Plans.{plan_nodes}
-use Rattle.run_lines.proofs.WordsSoFar.{words_before}
-use Rattle.workbench.specs.RunText.{node_word}
-use Rattle.workbench.proofs.running.put_words.Given as goal
-
-abbrev pub invariant-loop-v : goal.invariant-loop-v
-invariant-loop-v g l = Wrote (words_before (node_word l.runner.plan l.faulty.ids l.runner.states) (plan_nodes l.runner.plan) l.v) (g.K.Sink.told l.fn.sink) (g.K.Sink.told l.sink)

@@ -1,0 +1,34 @@
+//! The batch commands: all of the input is read, and then it is answered.
+
+ghost use Rattle.std.specs.Prelude.{Some};
+ghost use Rattle.outcomes.specs.Conduct.{Does, LeavesUntouched};
+
+use answers::answer;
+use edge_io::{InputFault, Sink, Source, read_all};
+use outcomes::{Batch, Command};
+use std::alloc::Global;
+use sync_types::Status;
+
+/// How many bytes an input may have that is read whole first.
+const LONGEST_INPUT: usize = 1 << 20;
+
+/// A batch command.
+pub fn batch<S: Source, K: Sink>(
+    alloc: Global,
+    command: Batch,
+    source: &mut S,
+    sink: &mut K,
+) -> Status
+    ensures does { Does (Some (Command.Batch command)) result
+        (S.left source.old) (S.left source.new) (S.faults source.old) (S.faults source.new)
+        (K.told sink.old) (K.told sink.new) }
+    ensures untouched { LeavesUntouched (Some (Command.Batch command)) result sink.old sink.new }
+{
+    let input = match read_all(alloc, source, LONGEST_INPUT) {
+        Ok(input) => input,
+        Err(InputFault::ReadFault) => return Status::ReadFault,
+        Err(InputFault::TooLong) => return Status::TooLong,
+        Err(InputFault::NoMemory) => return Status::NoMemory,
+    };
+    answer(alloc, command, &input, sink)
+}
