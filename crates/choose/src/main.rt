@@ -20,34 +20,15 @@ mod writing;
 
 use crate::choosing::{ChooseError, choose};
 use edge_io::StdSink;
-use std::alloc::{AllocError, Global};
-use std::io::ErrorKind;
+use program_words::{arguments, exit_code, words};
+use std::io;
 use std::process::ExitCode;
-use std::{env, io};
-
-/// The words behind the program's own name. Arguments that are no text are no words.
-fn words(rt: &HostRuntime, alloc: Global) -> Result<Vec<String>, AllocError> {
-    let mut words = Vec::new(alloc);
-    match env::args(rt) {
-        Ok(args) => {
-            for word in args.skip(1) {
-                words.push(word)?;
-            }
-        }
-        Err(error) => {
-            if error.kind() == ErrorKind::OutOfMemory {
-                return Err(AllocError);
-            }
-        }
-    }
-    Ok(words)
-}
 
 /// Does what the words ask for.
 fn run(rt: &HostRuntime) -> Result<(), ChooseError> {
-    let words = words(rt, rt.alloc())?;
+    let arguments = arguments(rt)?;
     let mut sink = StdSink::new(io::writer(rt));
-    choose(rt.alloc(), &words, &mut sink)
+    choose(rt.alloc(), words(&arguments), &mut sink)
 }
 
 fn main(rt: HostRuntime) -> ExitCode {
@@ -56,7 +37,7 @@ fn main(rt: HostRuntime) -> ExitCode {
         Err(error) => {
             // Where standard error is closed, the code alone says it.
             let _ = eprintln!(rt; "{error}");
-            ExitCode::from(error.status().code())
+            exit_code(error.status())
         }
     }
 }

@@ -3,7 +3,8 @@
 ghost use Rattle.std.specs.List.{flat_map};
 ghost use Rattle.texts.specs.Growth.{Puts};
 ghost use Rattle.plan_numbers.specs.Numbers.{level_of};
-ghost use Rattle.choose.specs.FrontText.{numbers_part, base_part, level_part, levels_part, plan_part};
+ghost use Rattle.choose.specs.FrontText.{numbers_part, base_part, level_part, levels_part};
+ghost use Rattle.choose.specs.FrontText.{plan_part};
 ghost use Rattle.choose.specs.FrontText.{front_line, front_text, last_plan_text};
 ghost use Rattle.choose.specs.HelpText.{help_text, version_text};
 

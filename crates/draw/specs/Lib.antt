@@ -1,3 +1,4 @@
 pub mod Charts
 pub mod Pictures
 pub mod Drawn
+pub mod Asked

@@ -1,11 +1,15 @@
 //! Draws what `counterlab run` writes: a picture in SVG with a column for each row of the run and a
 //! line of cells for each node. It reads standard input and writes standard output. Where it reads
-//! anything else it writes one line to standard error, and ends with 1.
+//! anything else it writes one line to standard error, and ends with 1. With `--help` or
+//! `--version`, alone, it reads nothing and writes what these ask for; other words count for
+//! nothing.
 //!
 //! That each picture is the defined one of a chart, whose own text is just what was read, is proved
-//! ([`drawing::draw`]); that all that `run` writes is read is not.
+//! ([`drawing::draw`]), and so is what is written for words ([`asking::tell`]); that all that `run`
+//! writes is read is not.
 #![tactic(auto)]
 
+mod asking;
 mod charts;
 mod drawing;
 mod lines;
@@ -15,9 +19,11 @@ mod printing;
 mod reading;
 mod squares;
 
+use crate::asking::tell;
 use crate::drawing::{DrawError, draw};
 use crate::reading::ChartError;
 use edge_io::{StdSink, StdSource, first_line, read_all};
+use program_words::{arguments, words};
 use std::io;
 use std::process::ExitCode;
 
@@ -35,13 +41,17 @@ fn refusal(input: &[u8]) -> Option<&str> {
 }
 
 fn main(rt: HostRuntime) -> anyhow::Result<ExitCode> {
+    let arguments = arguments(&rt)?;
+    let mut sink = StdSink::new(io::writer(&rt));
+    if tell(words(&arguments), &mut sink)? {
+        return Ok(ExitCode::SUCCESS);
+    }
     let mut source = StdSource::new(rt.stdin());
     let input = read_all(rt.alloc(), &mut source, LONGEST_INPUT)?;
     if let Some(line) = refusal(&input) {
         eprintln!(rt; "no run to draw: {line}")?;
         return Ok(ExitCode::FAILURE);
     }
-    let mut sink = StdSink::new(io::writer(&rt));
     match draw(rt.alloc(), &input, &mut sink) {
         Ok(()) => Ok(ExitCode::SUCCESS),
         Err(error) => {

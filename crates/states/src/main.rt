@@ -2,13 +2,17 @@
 //! plan from standard input, a line `values V` behind it for each register of a layer, and then
 //! lines `node V H` or `node V number X registers R, R`, and writes the other form of each to
 //! standard output. Where a line is refused it writes one line to standard error, and ends with 1.
+//! With `--help` or `--version`, alone, it reads nothing and writes what these ask for; other words
+//! count for nothing.
 //!
 //! Digits are read and written by the crate `state_codec`, whose contracts say which state they
-//! are. That words are read and written as they are meant is tested, and not proved.
+//! are. What is written for `--help` and `--version` is proved ([`asking::tell`]). That states in
+//! words are read and written as they are meant is tested, and not proved.
 #![tactic(auto)]
 
 ghost use Rattle.std.specs.Prelude.{◌≤◌, ◌^◌, length};
 
+mod asking;
 mod faults;
 mod layers;
 mod ranges;
@@ -18,13 +22,16 @@ mod tests;
 mod turning;
 mod writing;
 
+use crate::asking::tell;
 use crate::faults::StateError;
 use crate::layers::read_layer;
 use crate::turning::turn;
-use edge_io::{Lines, StdSource, is_skipped, read_all};
+use edge_io::{Lines, StdSink, StdSource, is_skipped, read_all};
 use plan_reader::read_plan;
+use program_words::{arguments, words};
 use state_codec::StateShape;
 use std::alloc::Global;
+use std::io;
 use std::process::ExitCode;
 
 /// How many bytes are read at most.
@@ -72,6 +79,11 @@ fn answer(alloc: Global, input: &[u8]) -> Result<String, StateError>
 }
 
 fn main(rt: HostRuntime) -> anyhow::Result<ExitCode> {
+    let arguments = arguments(&rt)?;
+    let mut sink = StdSink::new(io::writer(&rt));
+    if tell(words(&arguments), &mut sink)? {
+        return Ok(ExitCode::SUCCESS);
+    }
     let mut source = StdSource::new(rt.stdin());
     let input = read_all(rt.alloc(), &mut source, LONGEST_INPUT)?;
     match answer(rt.alloc(), &input) {
