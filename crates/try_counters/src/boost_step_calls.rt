@@ -1,0 +1,65 @@
+ghost use Rattle.std.specs.Prelude.{◌≡◌, false};
+
+use boost_step::Boost;
+use counter_core::{Counter, Heard, Trivial, Work};
+use std::test::Fail;
+use sync_types::{NodeState, Premise, Reg};
+
+fn plain(a: Option<u64>) -> Reg
+    ensures { result ≡ record { a = a; d = false } }
+{
+    Reg { a, d: false }
+}
+
+/// Three blocks of one node, and a spare.
+#[test]
+fn a_spare_steps_at_its_level_alone(rt: HostRuntime) -> Result<(), Fail> {
+    let boost = Boost::new(Trivial::new(576), 3, 1, 10, 1).unwrap();
+    let mut work = Work::new(rt.alloc(), 4)?;
+    let mut out = NodeState::zero(rt.alloc(), 1)?;
+    let mut states = [
+        NodeState::zero(rt.alloc(), 1)?,
+        NodeState::zero(rt.alloc(), 1)?,
+        NodeState::zero(rt.alloc(), 1)?,
+        NodeState::zero(rt.alloc(), 1)?,
+    ];
+    states[3].set_reg(0, plain(Some(7)));
+    let heard = Heard::of(&states);
+    assert_eq!(rt; boost.output(3, heard.state(3)), 7);
+    boost.advance(0, &heard, &mut work, &mut out);
+    assert_eq!(rt; (out.x(), out.reg(0)), (1, plain(Some(1))));
+    boost.advance(3, &heard, &mut work, &mut out);
+    assert_eq!(rt; (out.x(), out.reg(0)), (0, plain(None)));
+    Ok(())
+}
+
+#[test]
+fn levels_stand_on_levels(rt: HostRuntime) {
+    let below = Boost::new(Trivial::new(576), 3, 1, 960, 1).unwrap();
+    let boost = Boost::new(below, 3, 3, 10, 1).unwrap();
+    assert_eq!(rt; (boost.nodes(), boost.faults(), boost.depth()), (13, 3, 2));
+    assert_eq!(rt; (boost.modulus(), boost.bound()), (10, 1536));
+    for (place, low) in [(0, 0), (3, 1), (6, 0), (7, 1), (11, 1), (12, 2)] {
+        assert_eq!(rt; boost.low(place), low, "node {place}");
+    }
+}
+
+#[test]
+fn a_level_that_fails_a_premise_is_refused(rt: HostRuntime) {
+    for (k, f, c, s, premise) in [
+        (17, 1, 10, 0, Premise::Limit),
+        (3, 1, 10, 254, Premise::Limit),
+        (2, 0, 10, 0, Premise::Blocks),
+        (4, 1, 1, 0, Premise::Modulus),
+        (3, 1, 10, 0, Premise::Quorum),
+        (4, 2, 10, 4, Premise::Share),
+        (5, 1, 10, 0, Premise::Multiple),
+    ] {
+        let refused = Boost::new(Trivial::new(2304), k, f, c, s).err();
+        assert_eq!(rt;
+            refused,
+            Some(premise),
+            "{k} blocks, {f} faults, {s} spares"
+        );
+    }
+}

@@ -1,0 +1,130 @@
+//! Tries the examples: what the workbench answers to each is compared with what is written beside
+//! it. It fails where one differs, or has no answer beside it.
+#![tactic(auto)]
+
+use edge_io::{MemSink, MemSource};
+use std::alloc::Global;
+use std::process::ExitCode;
+use std::rt::Files;
+use std::{env, fs, io};
+use workbench::counterlab;
+
+/// How many bytes an answer may have.
+const LONGEST_ANSWER: usize = 1 << 16;
+
+/// What the workbench answers to words, which are parted by points, and an input: the exit code,
+/// and the sink that it wrote to.
+fn answer(alloc: Global, line: &str, input: Vec<u8>) -> anyhow::Result<(u8, MemSink)> {
+    let mut source = MemSource::new(input, Vec::new(alloc), Vec::new(alloc));
+    let mut sink = MemSink::new(alloc, LONGEST_ANSWER, Vec::new(alloc), Vec::new(alloc))?;
+    let mut words = Vec::new(alloc);
+    for word in line.split('.') {
+        words.push(String::from_str(alloc, word)?)?;
+    }
+    let status = counterlab(alloc, &words, &mut source, &mut sink);
+    Ok((status.code(), sink))
+}
+
+/// Whether the answer of some words to an example is the one that is written in a file. Its name,
+/// the words and the exit code are printed.
+fn is_answered<R: Files + Print + AllocGlobal>(
+    rt: &R,
+    folder: &str,
+    name: &str,
+    line: &str,
+    file: &str,
+) -> anyhow::Result<bool> {
+    let alloc = rt.alloc();
+    let input = format!(in alloc; "{folder}/{name}.txt")?;
+    let output = format!(in alloc; "{folder}/{file}")?;
+    let wanted = fs::read(rt, output.as_str())?;
+    let (code, sink) = answer(alloc, line, fs::read(rt, input.as_str())?)?;
+    let same = sink.taken() == wanted.as_slice();
+    let but = if same { "" } else { ", with other bytes" };
+    println!(rt; "{name} {line} {code}{but}")?;
+    Ok(same)
+}
+
+/// The names of a folder's files, in order.
+fn names_of(rt: &HostRuntime, folder: &str) -> io::Result<Vec<String>> {
+    let mut names = Vec::new(rt.alloc());
+    for entry in fs::read_dir(rt, folder)? {
+        names.push(String::from_str(rt.alloc(), entry?.file_name())?)?;
+    }
+    names.sort()?;
+    Ok(names)
+}
+
+/// The words whose answer to an example is in a file of that name: of the example `NAME` and the
+/// file `NAME.WORD.out` it is `WORD`, and of `NAME.demo.7.out` they are `demo` and `7`.
+fn words_of<'a>(name: &str, file: &'a str) -> Option<&'a str> {
+    let (front, words) = file.strip_suffix(".out")?.split_once('.')?;
+    if front == name { Some(words) } else { None }
+}
+
+/// Tries an example: each of the files that is an answer to it. Whether there is one, and all are
+/// as they should be.
+fn try_example(
+    rt: &HostRuntime,
+    folder: &str,
+    name: &str,
+    files: &[String],
+) -> anyhow::Result<bool> {
+    let mut answers = false;
+    let mut same = true;
+    for file in files {
+        if let Some(words) = words_of(name, file.as_str()) {
+            answers = true;
+            same = is_answered(rt, folder, name, words, file.as_str())? && same;
+        }
+    }
+    if !answers {
+        println!(rt; "{name} has no answer beside it")?;
+    }
+    Ok(answers && same)
+}
+
+/// Whether a file is an answer to no example among these files.
+fn is_stray(files: &[String], file: &str) -> bool {
+    if !file.ends_with(".out") {
+        return false;
+    }
+    for other in files {
+        if let Some(name) = other.strip_suffix(".txt") {
+            if words_of(name, file).is_some() {
+                return false;
+            }
+        }
+    }
+    true
+}
+
+/// Tries the examples of a folder, which are its files `NAME.txt`. Whether all are as they should
+/// be.
+fn try_folder(rt: &HostRuntime, folder: &str) -> anyhow::Result<bool> {
+    println!(rt; "{folder}:")?;
+    let files = names_of(rt, folder)?;
+    let mut same = true;
+    for file in &files {
+        if let Some(name) = file.strip_suffix(".txt") {
+            same = try_example(rt, folder, name, &files)? && same;
+        }
+        if is_stray(&files, file.as_str()) {
+            println!(rt; "{file} is the answer to no example")?;
+            same = false;
+        }
+    }
+    Ok(same)
+}
+
+fn main(rt: HostRuntime) -> anyhow::Result<ExitCode> {
+    let mut same = true;
+    for folder in env::args(&rt)?.skip(1) {
+        same = try_folder(&rt, folder.as_str())? && same;
+    }
+    Ok(if same {
+        ExitCode::SUCCESS
+    } else {
+        ExitCode::FAILURE
+    })
+}

@@ -1,0 +1,80 @@
+//! How the trials of a word went.
+
+use reference::refusals::Refusal;
+use std::alloc::{AllocError, Global};
+
+/// How many inputs were refused by a rule of a part.
+#[derive(Drop)]
+struct Refused {
+    part: &'static str,
+    rule: &'static str,
+    inputs: u64,
+}
+
+/// How many inputs were tried, how many of them were accepted, and on how many the answers differ;
+/// and how many were refused by each rule.
+#[derive(Drop)]
+pub struct Counts {
+    tried: u64,
+    accepted: u64,
+    different: u64,
+    refused: Vec<Refused>,
+}
+
+impl Counts {
+    /// Nothing was tried.
+    pub fn new(alloc: Global) -> Counts {
+        Counts {
+            tried: 0,
+            accepted: 0,
+            different: 0,
+            refused: Vec::new(alloc),
+        }
+    }
+
+    /// Counts an input: whether the answers to it are the same, and by what it is refused, if at
+    /// all.
+    pub fn count(&mut self, is_same: bool, refusal: Option<Refusal>) -> Result<(), AllocError> {
+        self.tried = self.tried.wrapping_add(1);
+        if !is_same {
+            self.different = self.different.wrapping_add(1);
+        }
+        let Some(refusal) = refusal else {
+            self.accepted = self.accepted.wrapping_add(1);
+            return Ok(());
+        };
+        for refused in self.refused.iter_mut() {
+            if refused.part == refusal.part && refused.rule == refusal.rule {
+                refused.inputs = refused.inputs.wrapping_add(1);
+                return Ok(());
+            }
+        }
+        self.refused.push(Refused {
+            part: refusal.part,
+            rule: refusal.rule,
+            inputs: 1,
+        })?;
+        Ok(())
+    }
+
+    /// Prints what was counted of a word.
+    pub fn print(&self, rt: &HostRuntime, word: &str) -> anyhow::Result<()> {
+        let tried = self.tried;
+        let accepted = self.accepted;
+        let different = self.different;
+        let all_refused = tried.wrapping_sub(accepted);
+        print!(rt; "{word}: {tried} inputs, {accepted} accepted, {all_refused} refused, ")?;
+        if different == 0 {
+            println!(rt; "none different")?;
+        } else {
+            println!(rt; "{different} different")?;
+        }
+        for refused in &self.refused {
+            let part = refused.part;
+            let rule = refused.rule;
+            let inputs = refused.inputs;
+            println!(rt; "  {part} {rule}: {inputs}")?;
+        }
+        Ok(())
+    }
+}
