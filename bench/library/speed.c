@@ -2,7 +2,7 @@
  * cells have common bytes, and prints microseconds of processor time for a step with one packet a
  * call, for a step with all packets in one call, and for an output.
  *
- *   ./speed < crates/examples/data/plans/faults_2_nodes_12.txt
+ *   ./speed < crates/try_examples/data/plans/faults_2_nodes_12.txt
  */
 #include "counterlab.h"
 #include <stdio.h>

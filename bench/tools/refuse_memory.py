@@ -3,12 +3,12 @@
 
     python3 bench/tools/refuse_memory.py [--most N] [NAME.WORDS ..]
 
-A row is an input with its answer, NAME.txt and NAME.WORDS.out in crates/faults/data/short; without
-names all rows are taken. The program `faults` gives a row to the workbench over a source and a sink
-that never fail, behind so many allocations of its own. It is run by `rt try --fail-alloc N
---cases`, which refuses its Nth allocation and needs no proof: once for each of 0 to N - 1
-allocations before, so that each allocation of the row is refused in one run, if it has fewer than
-about N - 10.
+A row is an input with its answer, NAME.txt and NAME.WORDS.out in crates/try_faults/data/short;
+without names all rows are taken. The program `try_faults` gives a row to the workbench over a
+source and a sink that never fail, behind so many allocations of its own. It is run by `rt try
+--fail-alloc N --cases`, which refuses its Nth allocation and needs no proof: once for each of 0 to
+N - 1 allocations before, so that each allocation of the row is refused in one run, if it has fewer
+than about N - 10.
 
 Each run has to end with status 10 and no byte taken, or, where the allocation that is refused is
 none of the row's, as it does where nothing is refused. The status is 1 where one ends otherwise.
@@ -23,7 +23,7 @@ import sys
 import tempfile
 
 TOP = pathlib.Path(__file__).resolve().parents[2]
-CRATE = TOP / "crates" / "faults"
+CRATE = TOP / "crates" / "try_faults"
 ROWS = CRATE / "data" / "short"
 REFUSED = "10 0"
 

@@ -18,8 +18,8 @@ import subprocess
 import sys
 
 TOP = pathlib.Path(__file__).resolve().parent.parent.parent
-EXAMPLES = TOP / "crates" / "examples" / "data"
-FAULTS = TOP / "crates" / "faults" / "data"
+EXAMPLES = TOP / "crates" / "try_examples" / "data"
+FAULTS = TOP / "crates" / "try_faults" / "data"
 # How many bytes an input of `run` may have.
 LIMIT = 2**20
 # Less room than this is not asked for, and the steps in which it grows.

@@ -3,7 +3,7 @@
     python3 vectors.py steps [V ..] < CERTIFICATE          vectors of all nodes, or of some
     python3 vectors.py packets V [FROM] < CERTIFICATE      what `counterlab node` is to read
     python3 vectors.py cells V [FROM] < CERTIFICATE        and what it is to write
-    python3 vectors.py draw                                the vectors of crates/examples/data/
+    python3 vectors.py draw                                the vectors of crates/try_examples/data/
     python3 vectors.py check < VECTORS                     whether each step is that of counter.py
     python3 vectors.py cases FOLDER < VECTORS              of each vector such an input and answer
 
