@@ -1,17 +1,13 @@
--- Bytes that do not decide a part: what follows does.
-use Rattle.std.proofs.Common.{◌≡◌, ℕ, zero, suc, ◌+◌, ◌-◌, ◌≤◌, min, Bool, true, false, cond, eqb, not, List, [], ◌∷◌, ◌++◌, length, Option, Some, None, Result, Ok, Err, refl, sym, ap, ◌∙◌, subst, append_assoc, length-append, arith}
+-- Bytes that do not show what decides a part: what follows does.
+use Rattle.std.proofs.Common.{◌≡◌, ℕ, zero, suc, ◌+◌, ◌-◌, ◌≤◌, min, Bool, true, false, eqb, not, List, [], ◌∷◌, ◌++◌, length, Option, Some, None, Result, Ok, Err, refl, sym, ap, ◌∙◌, subst, append_assoc, length-append, arith}
 use Rattle.std.proofs.lemmas.Bool.{le-leb, eqb-true}
 use Rattle.std.proofs.lemmas.List.Folds.{list_all-append}
 use Rattle.texts.specs.Lines.{lines_of, is_one_line, whole_from, whole_lines}
 use Rattle.texts.specs.Parts.{Next, goes, ends, refuses, Found, At, part_from}
 use Rattle.texts.specs.Limits.{Limited, by, shows, less, room_of, with_rest, with_limit, behind_lines}
 use Rattle.texts.specs.Pending.{IsBehind}
+use Rattle.texts.specs.Words.{open_from}
 use Rattle.texts.proofs.LineByLine.{PartsLines, longer_line}
-
--- the line that is open, where so much of it was read before
-abbrev open_from : (acc bytes : List ℕ) → List ℕ
-open_from acc [] = acc
-open_from acc (b ∷ bs) = cond (eqb b 10) (open_from [] bs) (open_from (acc ++ b ∷ []) bs)
 
 -- a text is its whole lines, and the lines from the open one on
 module _ (split : List ℕ → List (List ℕ)) (parts : PartsLines split) (rest : List ℕ) where
