@@ -1,13 +1,15 @@
 -- The end behind the last line of a text whose lines all end with a newline.
-use Rattle.std.proofs.Common.{◌≡◌, ℕ, ◌+◌, ◌-◌, ◌≤◌, Bool, true, false, List, [], ◌∷◌, ◌++◌, length, Option, None, Result, Err, if◌then◌else◌, sym, ap, ◌∙◌, append_assoc, append-nil, length-append, subst, arith}
+use Rattle.std.proofs.Common.{◌≡◌, ◌⊎◌, ℕ, ◌+◌, ◌-◌, ◌≤◌, Bool, true, false, List, [], ◌∷◌, ◌++◌, length, Option, None, Result, Err, if◌then◌else◌, sym, ap, ◌∙◌, append_assoc, append-nil, length-append, subst, arith}
 use Rattle.std.specs.Io.KnownBytes.{Consumes, Keeps, IsAtEnd}
 use Rattle.std.proofs.KnownBytes.{Consumes-trans, Consumes-kept}
 use Rattle.texts.specs.Lines.{lines_of, whole_lines}
 use Rattle.texts.specs.Parts.{Next}
 use Rattle.texts.specs.Limits.{by, beyond, room_of, behind_lines}
-use Rattle.texts.specs.Pending.{open_line, AllButLast, AtOnce}
+use Rattle.texts.specs.Pending.{AllButLast, AtOnce}
+use Rattle.texts.specs.Words.{open_rest}
 use Rattle.texts.specs.EndedTexts.{alone, ended_text}
 use Rattle.texts.proofs.LineByLine.{whole_open}
+use Rattle.texts.proofs.OpenLines.{open_behind, open_alone}
 use Rattle.edge_io.specs.declared.fed_parts.FedError.{FedError}
 use Rattle.edge_io.specs.declared.fed_parts.FedError.TheVariants as fed
 use Rattle.edge_io.specs.EndedReads.{RefusedOnlyAt, TextPending, WholeText, RefusedText, LongText, LostText, TextRead, FirstIs, LinePending, LineBehind, LineBeyond, EndIs}
@@ -62,14 +64,19 @@ module _ {S V R : Type 0} (step : S → List ℕ → Next S V R) (form : R)
     alone_only n [] e = tt
     alone_only n (line ∷ lines) e = ap (λ k. record { line = k; rule = by form }) e
 
+    open_is : (more : List ℕ) → open_rest (h.bytes ++ more) ≡ open_rest more
+    open_is more =
+        let text = h.bytes ++ more in
+        open_behind text ∙ ap (λ n. behind_lines n text) (h.counts more)
+        ∙ h.behind (length (whole_lines more)) more ∙ sym (open_behind more)
+
     alone_pends : (more : List ℕ) → LinePending limit counted more
         → TextPending step form start limit (h.bytes ++ more)
     alone_pends more p =
         let text = h.bytes ++ more in
         let count : length (whole_lines text) ≡ h.lines + 0 =
         h.counts more ∙ ap (λ (ls : List (List ℕ)). h.lines + length ls) (whole_open more p.one) in
-        let is : open_line text ≡ more =
-        ap (λ n. behind_lines n text) count ∙ h.behind 0 more in
+        let is : open_rest text ≡ more = open_is more ∙ open_alone more p.one in
         record {
           lines = subst (λ o. RefusedOnlyAt (1 + length (whole_lines text)) form o)
               (sym (h.so_far false more))
@@ -95,7 +102,10 @@ module _ {S V R : Type 0} (step : S → List ℕ → Next S V R) (form : R)
         → AtOnce ended (λ bs. LinePending limit counted bs) bytes
         → AtOnce ended (λ bs. TextPending step form start limit bs) (h.bytes ++ bytes)
     alone_at_once true bytes p = alone_pends bytes p
-    alone_at_once false bytes p = alone_but bytes p
+    alone_at_once false bytes (p, shown) = (
+      alone_but bytes p,
+      subst (λ (l : List ℕ). (l ≡ []) ⊎ (length l ≡ 4097)) (sym (open_is bytes)) shown,
+    )
 
     pub line_met : LineBehind limit counted now new
         → RefusedText step form start limit old new number form

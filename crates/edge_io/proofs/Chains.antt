@@ -3,8 +3,10 @@ use Rattle.std.proofs.Common.{◌≡◌, ℕ, ◌+◌, ◌≤◌, Bool, true, fa
 use Rattle.texts.specs.Lines.{whole_lines}
 use Rattle.texts.specs.Parts.{Next}
 use Rattle.texts.specs.Limits.{by, with_limit, behind_lines}
-use Rattle.texts.specs.Pending.{open_line, MayGoOn}
+use Rattle.texts.specs.Pending.{MayGoOn}
+use Rattle.texts.specs.Words.{open_rest}
 use Rattle.texts.proofs.LineByLine.{behind_both}
+use Rattle.texts.proofs.OpenLines.{open_behind}
 use Rattle.texts.proofs.Parts.{counts_all}
 use Rattle.edge_io.specs.declared.fed_parts.FedPart.{FedPart}
 use Rattle.edge_io.specs.FedParts.{MayFollow, WholePart}
@@ -24,19 +26,21 @@ module _ {S V R : Type 0} (step : S → List ℕ → Next S V R) (form : R) (sta
       omega (arith, all)
 
   -- the line that is open is that of the second
-  pub open_behind : (bytes : List ℕ) → open_line (w.decided.bytes ++ bytes) ≡ open_line bytes
-  open_behind bytes =
+  pub open_second : (bytes : List ℕ) → open_rest (w.decided.bytes ++ bytes) ≡ open_rest bytes
+  open_second bytes =
       let count = length (whole_lines bytes) in
       let anything : MayFollow w.decided.ended true bytes =
       subst (λ (e : Bool). MayFollow e true bytes) (sym goes_on) tt in
-      ap (λ n. behind_lines n (w.decided.bytes ++ bytes)) (counts_behind bytes)
+      open_behind (w.decided.bytes ++ bytes)
+      ∙ ap (λ n. behind_lines n (w.decided.bytes ++ bytes)) (counts_behind bytes)
       ∙ behind_both x.lines count (w.decided.bytes ++ bytes)
       ∙ ap (behind_lines count) (w.behind true bytes anything)
+      ∙ sym (open_behind bytes)
 
   -- what may go on behind the first, may go on
   pub goes_on_behind : (bytes : List ℕ) → MayGoOn limit after bytes
       → MayGoOn limit before (w.decided.bytes ++ bytes)
   goes_on_behind bytes h = record {
-    short = subst (λ (l : List ℕ). length l ≤ 4096) (sym (open_behind bytes)) h.short;
+    short = subst (λ (l : List ℕ). length l ≤ 4096) (sym (open_second bytes)) h.short;
     within = omega (arith, length-append w.decided.bytes bytes, w.decided.count, h.within);
   }

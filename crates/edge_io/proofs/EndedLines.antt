@@ -7,7 +7,7 @@ use Rattle.std.proofs.lemmas.List.Folds.{list_all-append}
 use Rattle.texts.specs.Lines.{lines_of, whole_lines, is_one_line}
 use Rattle.texts.specs.Parts.{Next, goes, ends, refuses, Found, At, part_from}
 use Rattle.texts.specs.Limits.{Limited, by, with_limit, room_of, behind_lines}
-use Rattle.texts.specs.Pending.{AllButLast}
+use Rattle.texts.specs.Pending.{AllButLast, AtOnce}
 use Rattle.texts.specs.EndedTexts.{with_length, ended_lines, alone, then_alone, ended_text}
 use Rattle.texts.proofs.LineByLine.{PartsLines, lines_part, whole_part, whole_open, WholeLonger, longer_whole}
 use Rattle.edge_io.specs.declared.feed.Line.TheVariants as how
@@ -15,9 +15,9 @@ use Rattle.edge_io.specs.declared.feed.LineFault.TheVariants as fault
 use Rattle.edge_io.specs.Feeds.{LineIs}
 use Rattle.edge_io.specs.FedParts.{limited_part, fed_part}
 use Rattle.edge_io.specs.EndedReads.{RefusedOnlyAt, TextPending, RefusedText, LongText, LostText, HaltedText}
-use Rattle.edge_io.proofs.Standing.{Standing, stands_first, open_counts, may_go_on}
+use Rattle.edge_io.proofs.Standing.{Standing, stands_first, open_counts, may_go_on, newline_here}
 use Rattle.edge_io.proofs.FedLines.{stands_more, parted, size_more, then_made, behind_more, counts_more}
-use Rattle.edge_io.proofs.FedEnds.{RefusesLong, long_line, past_line, refused_long}
+use Rattle.edge_io.proofs.FedEnds.{RefusesLong, byte_shows, long_line, past_line, refused_long}
 use Rattle.edge_io.proofs.AloneLines.{Alone}
 
 parts_lines : (longer : Bool) → PartsLines (ended_lines longer)
@@ -113,6 +113,15 @@ module _ {S V R : Type 0} (step : S → List ℕ → Next S V R) (form : R)
       pending = text_pends within;
     }
 
+    -- the line shows at its newline
+    text_shown : counted + length line ≤ limit
+        → AtOnce false (λ bs. TextPending step form start limit bs)
+        (stands.bytes ++ (line ++ 10 ∷ []))
+    text_shown within = (
+      text_but 10 within,
+      newline_here full form start 1 limit 0 old now s number lines counted stands line,
+    )
+
     pub ended_here : (v : V) → LineIs limit counted after now new line (Ok how.Whole)
         → full s line ≡ ends v → Alone step form start limit old new v (number + 1) after
     ended_here v read is = record {
@@ -151,7 +160,7 @@ module _ {S V R : Type 0} (step : S → List ℕ → Next S V R) (form : R)
       read = Consumes-trans old now new stands.bytes (line ++ 10 ∷ []) stands.read read.0;
       at_end = λ e. absurd cc;
       within = omega (arith, size_is 10, read.1, read.2, stands.count);
-      at_once = text_but 10 (omega (arith, read.1, read.2));
+      at_once = text_shown (omega (arith, read.1, read.2));
       decides = λ longer rest follows.
           text_by ((stands.bytes ++ (line ++ 10 ∷ [])) ++ rest) longer _
           (then_made full form start 1 limit 0 old now new s number lines counted after line one
@@ -228,7 +237,11 @@ module _ {S V R : Type 0} (step : S → List ℕ → Next S V R) (form : R)
       read = Consumes-trans old now new stands.bytes (line ++ b ∷ []) stands.read read;
       at_end = λ e. absurd cc;
       within = omega (arith, size_is b, count, within, stands.count);
-      at_once = text_but b (omega (arith, count, within));
+      at_once = (
+        text_but b (omega (arith, count, within)),
+        byte_shows full form start 1 limit 0 old now new s number lines counted after line one
+            short stands b other size,
+      );
       decides = λ longer rest follows.
           text_by ((stands.bytes ++ (line ++ b ∷ [])) ++ rest) longer _
           (line_at b longer rest ∙ long_by longer b rest other size
@@ -277,5 +290,5 @@ module _ {S V R : Type 0} (step : S → List ℕ → Next S V R) (form : R)
     halted_line (read, count, within) = record {
       bytes = stands.bytes ++ (line ++ 10 ∷ []);
       read = Consumes-trans old now new stands.bytes (line ++ 10 ∷ []) stands.read read;
-      at_once = text_but 10 (omega (arith, count, within));
+      at_once = text_shown (omega (arith, count, within));
     }

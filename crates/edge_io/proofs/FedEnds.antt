@@ -7,13 +7,13 @@ use Rattle.std.proofs.lemmas.List.Folds.{list_all-append}
 use Rattle.texts.specs.Lines.{lines_of, is_one_line}
 use Rattle.texts.specs.Parts.{Next, refuses, with_skips, part_from}
 use Rattle.texts.specs.Limits.{by, beyond, shows, room_of}
-use Rattle.texts.specs.Pending.{AllButLast}
+use Rattle.texts.specs.Pending.{AllButLast, IsShown}
 use Rattle.texts.proofs.LineByLine.{lines_part, longer_line}
 use Rattle.edge_io.specs.declared.feed.Line.TheVariants as how
 use Rattle.edge_io.specs.declared.feed.LineFault.TheVariants as fault
 use Rattle.edge_io.specs.Feeds.{LineIs}
 use Rattle.edge_io.specs.FedParts.{limited_part, fed_part, PartPending, Decided, Undecided, refused_at}
-use Rattle.edge_io.proofs.Standing.{Standing, pending_end, but_last}
+use Rattle.edge_io.proofs.Standing.{Standing, pending_end, but_last, long_shows}
 use Rattle.edge_io.proofs.FedLines.{shown_by, parted, size_more}
 
 -- a step refuses each line that is too long
@@ -51,6 +51,19 @@ module _ {S V R : Type 0} (step : S → List ℕ → Next S V R) (form : R) wher
         short stands line b rest)
         ∙ stands.so_far lines_of lines_part longer (line ++ b ∷ rest)
 
+    one_more : (b : ℕ) → b ≢ 10 → is_one_line (line ++ b ∷ []) ≡ true
+    one_more b other =
+        let apart : eqb b 10 ≡ false = ne_eqb b 10 other in
+        list_all-append (λ c. not (eqb c 10)) line (b ∷ []) ∙ rw (one, apart) refl
+
+    -- a line shows at its byte 4097
+    pub byte_shows : (b : ℕ) → b ≢ 10 → length line ≡ 4096
+        → IsShown (stands.bytes ++ (line ++ b ∷ []))
+    byte_shows b other size =
+        long_shows step form start first limit before old now s number lines counted stands
+        (line ++ b ∷ []) (one_more b other)
+        (length-append line (b ∷ []) ∙ omega (arith, size))
+
     pub long_line : RefusesLong step form → (longer : Bool) (b : ℕ) (rest : List ℕ) → b ≢ 10
         → length line ≡ 4096 → counted + 4097 ≤ limit
         → limited_part step form s lines number (room_of longer (limit - counted))
@@ -58,9 +71,7 @@ module _ {S V R : Type 0} (step : S → List ℕ → Next S V R) (form : R) wher
         ≡ Err (record { line = number; rule = by form })
     long_line long longer b rest other size within =
         let more = line ++ b ∷ [] in
-        let apart : eqb b 10 ≡ false = ne_eqb b 10 other in
-        let all : is_one_line more ≡ true =
-        list_all-append (λ c. not (eqb c 10)) line (b ∷ []) ∙ rw (one, apart) refl in
+        let all = one_more b other in
         let length_is = length-append line (b ∷ []) in
         let h = longer_line more rest (omega (arith, length_is)) all in
         let text = more ++ h.more in
@@ -106,7 +117,7 @@ module _ {S V R : Type 0} (step : S → List ℕ → Next S V R) (form : R) wher
       at_end = λ e. absurd cc;
       count = omega (arith, more_size b, count, stands.count);
       within = within;
-      at_once = all_but b (omega (arith, count, within));
+      at_once = (all_but b (omega (arith, count, within)), byte_shows b other size);
       decides = λ longer rest follows.
           split_more b longer rest ∙ long_line long longer b rest other size
           (omega (arith, count, within, size));

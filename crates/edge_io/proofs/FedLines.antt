@@ -5,6 +5,7 @@ use Rattle.std.proofs.lemmas.Bool.{le-leb}
 use Rattle.texts.specs.Lines.{lines_of, is_one_line, whole_lines}
 use Rattle.texts.specs.Parts.{Next, goes, ends, refuses, part_from}
 use Rattle.texts.specs.Limits.{by, shows, less, room_of, behind_lines}
+use Rattle.texts.specs.Pending.{AtOnce}
 use Rattle.texts.proofs.LineByLine.{PartsLines, lines_part, whole_part, behind_line}
 use Rattle.edge_io.specs.declared.feed.Line.TheVariants as how
 use Rattle.edge_io.specs.declared.feed.LineFault.TheVariants as fault
@@ -12,8 +13,8 @@ use Rattle.edge_io.specs.declared.taking.TakeError.TheVariants as take
 use Rattle.edge_io.specs.declared.fed_parts.FedError.TheVariants as fed
 use Rattle.edge_io.specs.Taking.{Takes}
 use Rattle.edge_io.specs.Feeds.{LineIs}
-use Rattle.edge_io.specs.FedParts.{LimitedPart, limited_part, fed_part, Decided, refused_at, PartFed}
-use Rattle.edge_io.proofs.Standing.{Standing, pending, but_last}
+use Rattle.edge_io.specs.FedParts.{LimitedPart, limited_part, fed_part, PartPending, Decided, refused_at, PartFed}
+use Rattle.edge_io.proofs.Standing.{Standing, pending, but_last, newline_here}
 
 pub takes_goes : {S V R : Type 0} (next : Next S V R) (new : S) → Takes next new (Ok None)
     → next ≡ goes new
@@ -127,6 +128,16 @@ module _ {S V R : Type 0} (step : S → List ℕ → Next S V R) (form : R) wher
           ∙ stands.counts (line ++ 10 ∷ rest) in
           omega (arith, all, more)
 
+      -- the line shows at its newline, and no byte before it
+      shown_here : counted + length line ≤ limit
+          → AtOnce false (λ bs. PartPending step form start first limit before bs)
+          (stands.bytes ++ (line ++ 10 ∷ []))
+      shown_here within = (
+        but_last step form start first limit before old now s number lines counted stands line 10
+            one short within,
+        newline_here step form start first limit before old now s number lines counted stands line,
+      )
+
       module _ (next : Next S V R) (read : LineIs limit counted after now new line (Ok how.Whole))
           (is : step s line ≡ next) where
         -- what the line makes of the part
@@ -149,9 +160,7 @@ module _ {S V R : Type 0} (step : S → List ℕ → Next S V R) (form : R) wher
           at_end = λ e. absurd cc;
           count = omega (arith, size_more 10, read.1, stands.count);
           within = read.2;
-          at_once = but_last step form start first limit before old now s number lines counted
-              stands
-              line 10 one short (omega (arith, read.1, read.2));
+          at_once = shown_here (omega (arith, read.1, read.2));
           decides = λ longer rest follows. then_made lines_of lines_part longer rest;
         }
 
@@ -211,6 +220,5 @@ module _ {S V R : Type 0} (step : S → List ℕ → Next S V R) (form : R) wher
         ended = false;
         read = Consumes-trans old now new stands.bytes (line ++ 10 ∷ []) stands.read read.0;
         at_end = λ e. absurd cc;
-        at_once = but_last step form start first limit before old now s number lines counted stands
-            line 10 one short (omega (arith, read.1, read.2));
+        at_once = shown_here (omega (arith, read.1, read.2));
       }

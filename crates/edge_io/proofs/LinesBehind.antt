@@ -1,11 +1,12 @@
 -- What reading the line behind the last one did.
-use Rattle.std.proofs.Common.{◌≡◌, ℕ, ◌+◌, ◌≤◌, true, false, eqb, not, List, [], ◌∷◌, ◌++◌, length, Option, Ok, Err, refl, ap, ◌∙◌, append_assoc, append-nil, length-append, arith}
+use Rattle.std.proofs.Common.{◌≡◌, inr, ℕ, ◌+◌, ◌≤◌, true, false, eqb, not, List, [], ◌∷◌, ◌++◌, length, Option, Ok, Err, refl, ap, ◌∙◌, append_assoc, append-nil, length-append, arith}
 use Rattle.std.specs.Io.KnownBytes.{Consumes}
 use Rattle.std.proofs.lemmas.Bool.{lt-leb, ne_eqb}
 use Rattle.std.proofs.lemmas.List.Folds.{list_all-append}
 use Rattle.texts.specs.Lines.{lines_of, is_one_line}
 use Rattle.texts.specs.Pending.{AllButLast}
 use Rattle.texts.proofs.LineByLine.{line_first, line_last, longer_line}
+use Rattle.texts.proofs.OpenLines.{newline_shows, open_alone}
 use Rattle.edge_io.specs.declared.feed.Line.TheVariants as how
 use Rattle.edge_io.specs.declared.feed.LineFault.TheVariants as fault
 use Rattle.edge_io.specs.Feeds.{LineIs}
@@ -38,7 +39,7 @@ module _ (limit before after : ℕ) (old new : Option (List ℕ)) (line : List �
         read = read;
         at_end = λ e. absurd cc;
         within = omega (arith, size, count, within);
-        at_once = line_but 10 (omega (arith, count, within));
+        at_once = (line_but 10 (omega (arith, count, within)), newline_shows line);
         shown = λ longer rest follows. record {
           line = line;
           behind = lines_of rest;
@@ -81,7 +82,10 @@ module _ (limit before after : ℕ) (old new : Option (List ℕ)) (line : List �
         read = read;
         at_end = λ e. absurd cc;
         within = omega (arith, length_is, count, within);
-        at_once = line_but b (omega (arith, count, within));
+        at_once = (
+          line_but b (omega (arith, count, within)),
+          inr (ap length (open_alone more all) ∙ omega (arith, length_is, size)),
+        );
         shown = λ longer rest follows.
             let h = longer_line more rest (omega (arith, length_is)) all in
             record {

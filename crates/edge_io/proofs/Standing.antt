@@ -1,12 +1,14 @@
 -- The lines of a part that were read so far, and that what was read does not decide it.
-use Rattle.std.proofs.Common.{◌≡◌, ℕ, ◌+◌, ◌-◌, ◌≤◌, Bool, true, false, List, [], ◌∷◌, ◌++◌, length, Option, Err, refl, sym, ap, ◌∙◌, append_assoc, append-nil, length-append, subst, arith}
+use Rattle.std.proofs.Common.{◌≡◌, inr, ℕ, ◌+◌, ◌-◌, ◌≤◌, Bool, true, false, List, [], ◌∷◌, ◌++◌, length, Option, Err, refl, sym, ap, ◌∙◌, append_assoc, append-nil, length-append, subst, arith}
 use Rattle.std.specs.Io.KnownBytes.{Consumes}
 use Rattle.std.proofs.KnownBytes.{Consumes-nil}
 use Rattle.texts.specs.Lines.{is_one_line, whole_lines}
 use Rattle.texts.specs.Parts.{Next}
 use Rattle.texts.specs.Limits.{by, room_of, behind_lines}
-use Rattle.texts.specs.Pending.{open_line, MayGoOn, AllButLast}
+use Rattle.texts.specs.Pending.{MayGoOn, AllButLast, IsShown}
+use Rattle.texts.specs.Words.{open_rest}
 use Rattle.texts.proofs.LineByLine.{PartsLines, whole_part, whole_open}
+use Rattle.texts.proofs.OpenLines.{open_behind, newline_shows}
 use Rattle.edge_io.specs.FedParts.{limited_part, fed_part, PartPending}
 
 module _ {S V R : Type 0} (step : S → List ℕ → Next S V R) (form : R) (start : S)
@@ -49,18 +51,33 @@ module _ {S V R : Type 0} (step : S → List ℕ → Next S V R) (form : R) (sta
     open_counts line one =
         stands.counts line ∙ ap (λ (ls : List (List ℕ)). lines + length ls) (whole_open line one)
 
+    -- and that line stands behind the last newline
+    pub open_is : (line : List ℕ) → is_one_line line ≡ true
+        → open_rest (stands.bytes ++ line) ≡ line
+    open_is line one =
+        let text = stands.bytes ++ line in
+        open_behind text ∙ ap (λ n. behind_lines n text) (open_counts line one)
+        ∙ stands.behind 0 line
+
     pub may_go_on : (line : List ℕ) → is_one_line line ≡ true → length line ≤ 4096
         → counted + length line ≤ limit → MayGoOn limit before (stands.bytes ++ line)
     may_go_on line one short within =
-        let text = stands.bytes ++ line in
-        let is : open_line text ≡ line =
-        ap (λ n. behind_lines n text) (open_counts line one) ∙ stands.behind 0 line in
         record {
-          short = subst (λ (l : List ℕ). length l ≤ 4096) (sym is) short;
+          short = subst (λ (l : List ℕ). length l ≤ 4096) (sym (open_is line one)) short;
           within = omega (arith, length-append stands.bytes line, stands.count, within);
         }
 
-    -- they and the open line do not decide the part
+    -- a line shows at its newline, and at its byte 4097
+    pub newline_here : (line : List ℕ) → IsShown (stands.bytes ++ (line ++ 10 ∷ []))
+    newline_here line =
+        subst (λ (l : List ℕ). IsShown l) (append_assoc stands.bytes line (10 ∷ []))
+        (newline_shows (stands.bytes ++ line))
+
+    pub long_shows : (more : List ℕ) → is_one_line more ≡ true → length more ≡ 4097
+        → IsShown (stands.bytes ++ more)
+    long_shows more one size = inr (ap length (open_is more one) ∙ size)
+
+    -- they and the open line do not show what decides the part
     pub pending : (line : List ℕ) → is_one_line line ≡ true → length line ≤ 4096
         → counted + length line ≤ limit
         → PartPending step form start first limit before (stands.bytes ++ line)

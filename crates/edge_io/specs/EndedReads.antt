@@ -16,8 +16,8 @@ RefusedOnlyAt line form (Ok value) = Unit {0}
 RefusedOnlyAt line form (Err at) = at ≡ record { line = line; rule = by form }
 
 module _ {S V R : Type 0} (step : S → List ℕ → Next S V R) (form : R) where
-  -- These bytes do not decide the text: if it ended behind them, it would be whole, or be refused
-  -- at the line that is open, and so at none of their whole lines.
+  -- These bytes do not show what decides the text: if it ended behind them, it would be whole, or
+  -- be refused at the line that is open, and so at none of their whole lines.
   pub record TextPending (start : S) (limit : ℕ) (bytes : List ℕ) : Type 0 where
     pub lines : RefusedOnlyAt (1 + length (whole_lines bytes)) form
         (ended_text step form start limit false bytes)
@@ -32,7 +32,8 @@ module _ {S V R : Type 0} (step : S → List ℕ → Next S V R) (form : R) wher
     pub within : length bytes ≤ limit
     pub is : ended_text step form start limit false bytes ≡ Ok value
 
-  -- these bytes were read, and decide that a line is refused, whatever may follow
+  -- These bytes were read, and show that a line is refused, whatever may follow. What decides is
+  -- the last of them, with which a line shows, or the end.
   pub record RefusedText (start : S) (limit : ℕ)
       (old new : Option (List ℕ)) (line : ℕ) (rule : R) : Type 0 where
     pub bytes : List ℕ
@@ -45,7 +46,7 @@ module _ {S V R : Type 0} (step : S → List ℕ → Next S V R) (form : R) wher
         → ended_text step form start limit longer (bytes ++ rest)
         ≡ Err (record { line = line; rule = by rule })
 
-  -- these bytes were read, one of them behind the limit, and do not decide the text
+  -- these bytes were read, one of them behind the limit, and do not show what decides the text
   pub record LongText (start : S) (limit : ℕ) (old new : Option (List ℕ)) : Type 0 where
     pub bytes : List ℕ
     pub line : ℕ
@@ -56,17 +57,17 @@ module _ {S V R : Type 0} (step : S → List ℕ → Next S V R) (form : R) wher
         → ended_text step form start limit true (bytes ++ rest)
         ≡ Err (record { line = line; rule = beyond })
 
-  -- these bytes were read, and do not decide the text
+  -- these bytes were read, and do not show what decides the text
   pub record LostText (start : S) (limit : ℕ) (old new : Option (List ℕ)) : Type 0 where
     pub bytes : List ℕ
     pub read : Consumes old new bytes
     pub lost : TextPending start limit bytes
 
-  -- these bytes were read, and none but the last may decide the text
+  -- these bytes were read, and none but the last, with which a line shows, may decide the text
   pub record HaltedText (start : S) (limit : ℕ) (old new : Option (List ℕ)) : Type 0 where
     pub bytes : List ℕ
     pub read : Consumes old new bytes
-    pub at_once : AllButLast (λ bs. TextPending start limit bs) bytes
+    pub at_once : AtOnce false (λ bs. TextPending start limit bs) bytes
 
   -- what reading such a text did
   abbrev pub TextRead : (start : S) (limit : ℕ) (old new : Option (List ℕ)) → Result V (FedError R)

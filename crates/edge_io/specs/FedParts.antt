@@ -35,14 +35,15 @@ module _ {S V R : Type 0} (step : S → List ℕ → Next S V R) (form : R) wher
   fed_part start first limit before longer lines =
       limited_part start 0 first (room_of longer (limit - before)) lines
 
-  -- These bytes do not decide the part: none of their whole lines ends it or is refused, so that
-  -- they alone would be refused for want of an end.
+  -- These bytes do not show what decides the part: none of their whole lines ends it or is refused,
+  -- so that they alone would be refused for want of an end.
   pub record PartPending (start : S) (first limit before : ℕ) (bytes : List ℕ) : Type 0 where
     pub lines : limited_part start 0 first None (whole_lines bytes)
         ≡ Err (record { line = first + length (whole_lines bytes); rule = by form })
     pub room : MayGoOn limit before bytes
 
-  -- these bytes were read, and decide the part, whatever may follow
+  -- These bytes were read, and show what decides the part, whatever may follow. That is the last of
+  -- them, with which a line shows, or the end.
   pub record Decided (start : S) (first limit before after : ℕ) (old new : Option (List ℕ))
       (outcome : Option ℕ → List ℕ → LimitedPart V R) : Type 0 where
     pub bytes : List ℕ
@@ -56,7 +57,7 @@ module _ {S V R : Type 0} (step : S → List ℕ → Next S V R) (form : R) wher
         → fed_part start first limit before longer (lines_of (bytes ++ rest))
         ≡ outcome (room_of longer (limit - after)) rest
 
-  -- these bytes were read, one of them behind the limit, and do not decide the part
+  -- these bytes were read, one of them behind the limit, and do not show what decides the part
   pub record Undecided (start : S) (first limit before : ℕ)
       (old new : Option (List ℕ)) : Type 0 where
     pub bytes : List ℕ
@@ -87,14 +88,15 @@ module _ {S V R : Type 0} (step : S → List ℕ → Next S V R) (form : R) wher
         → limited_part start 0 first None (whole_lines (decided.bytes ++ rest))
         ≡ Ok (record { value = (None, x.value); taken = x.lines; behind = whole_lines rest })
 
-  -- these bytes were read, and do not decide the part
+  -- these bytes were read, and do not show what decides the part
   pub record LostPart (start : S) (first limit before : ℕ)
       (old new : Option (List ℕ)) : Type 0 where
     pub bytes : List ℕ
     pub read : Consumes old new bytes
     pub lost : PartPending start first limit before bytes
 
-  -- these bytes were read, and none but the last, or the end, may decide the part
+  -- these bytes were read, and none but the last, with which a line shows, or the end, may decide
+  -- the part
   pub record HaltedPart (start : S) (first limit before : ℕ)
       (old new : Option (List ℕ)) : Type 0 where
     pub bytes : List ℕ

@@ -16,6 +16,17 @@ buffered f = take (f.end - f.at) (drop f.at f.buffer)
 abbrev pub feed_left : {S : Type 0} → (S → Option (List ℕ)) → Feed S → Option (List ℕ)
 feed_left left f = prepend_known (buffered f) (left f.source.now)
 
+-- A read failed in a call: all bytes that the source gave were read, and the end was not met.
+abbrev pub IsDry : {S : Type 0} → (met : S → Bool) → (old new : Feed S) → Type 0
+IsDry met old new = (new.at ≡ new.end) × (met new.source.now ≡ met old.source.now)
+
+-- whether the end was met with a line
+abbrev pub meets_end : Line → Bool
+meets_end line.Whole = false
+meets_end line.Open = true
+meets_end line.Long = false
+meets_end line.End = true
+
 -- what reading a byte did: there is none only at the end, and after a fault the bytes are as before
 abbrev pub TakesByte : {E : Type 0} → Option (List ℕ) → Option (List ℕ) → Result (Option ℕ) E
     → Type 0

@@ -1,5 +1,5 @@
 -- Sources and sinks in memory: which calls fail, and how many bytes a call moves.
-use Rattle.std.specs.Prelude.{ℕ, suc, ◌+◌, ◌-◌, ◌^◌, ◌%◌, min, List, [], ◌++◌, length, drop, slice_index, Some, ◌==◌, if◌then◌else◌}
+use Rattle.std.specs.Prelude.{ℕ, suc, ◌+◌, ◌-◌, ◌^◌, ◌%◌, min, List, [], ◌++◌, length, drop, slice_index, Some, Bool, ◌||◌, ◌==◌, if◌then◌else◌}
 use Rattle.texts.specs.Growth.{Told}
 
 -- one more call or fault; a count stands still at 2 ^ 64 - 1
@@ -12,8 +12,9 @@ abbrev pub moved : List ℕ → ℕ → ℕ → ℕ
 moved cuts turn most = if length cuts == 0 then most else min
     (slice_index cuts (turn % length cuts)) most
 
--- A source in memory: the bytes that are left, the numbers of the calls that fail and the cuts; and
--- how many calls there were, how many of them moved bytes, and how many failed.
+-- A source in memory: the bytes that are left, the numbers of the calls that fail and the cuts; how
+-- many calls there were, how many of them moved bytes, and how many failed; and whether its end was
+-- met.
 pub record SourceState : Type 0 where
   pub left : List ℕ
   pub fails : List ℕ
@@ -21,6 +22,7 @@ pub record SourceState : Type 0 where
   pub calls : ℕ
   pub turn : ℕ
   pub faults : ℕ
+  pub met : Bool
 
 -- after a read of so many bytes
 abbrev pub after_read : SourceState → ℕ → SourceState
@@ -28,6 +30,7 @@ after_read s n = record s {
   left = drop n s.left;
   calls = counted s.calls;
   turn = if n == 0 then s.turn else s.turn + 1;
+  met = (n == 0) || s.met;
 }
 
 -- after a read that failed

@@ -1,4 +1,4 @@
--- That pending bytes decide nothing: what follows them does.
+-- That pending bytes do not show what decides: what follows them does.
 use Rattle.std.specs.Prelude.{ℕ, ◌<◌, List, ◌++◌, length, Bool, Result, Ok, Err}
 use Rattle.texts.specs.Lines.{lines_of, whole_lines}
 use Rattle.texts.specs.Parts.{Next, At}

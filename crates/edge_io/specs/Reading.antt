@@ -1,5 +1,5 @@
--- What is left of a source.
-use Rattle.std.specs.Prelude.{ℕ, ◌+◌, ◌<◌, ◌≤◌, length, List, Option}
+-- What is left of a source, and whether its end was met.
+use Rattle.std.specs.Prelude.{◌≡◌, ℕ, ◌+◌, ◌<◌, ◌≤◌, length, List, Option, Bool, ◌||◌, ◌==◌, Result, MatchResult}
 use Rattle.std.specs.Io.KnownBytes.{Consumes}
 
 -- some bytes at the front were read, and those behind them are left
@@ -19,3 +19,8 @@ pub record LosesMore (limit : ℕ) (old new : Option (List ℕ)) : Type 0 where
   pub read : Consumes old new front
   pub past : limit < length front
   pub soon : length front ≤ limit + 4096
+
+-- The end is met by a read that gives nothing, and stays so. Any other read leaves it as it was.
+abbrev pub MeetsEnd : {E : Type 0} → Result ℕ E → (before now : Bool) → Type 0
+MeetsEnd result before now =
+    MatchResult result (λ n. now ≡ ((n == 0) || before)) (λ _. now ≡ before)

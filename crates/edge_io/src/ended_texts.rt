@@ -1,5 +1,5 @@
 ghost use Rattle.std.specs.Prelude.{◌≡◌, ◌≤◌, ◌<◌, ◌+◌, ◌-◌, ◌^◌};
-ghost use Rattle.edge_io.specs.Feeds.{feed_left};
+ghost use Rattle.edge_io.specs.Feeds.{feed_left, IsDry};
 ghost use Rattle.edge_io.specs.FedParts.{HasPartCause};
 ghost use Rattle.edge_io.specs.EndedReads.{TextRead, EndIs};
 
@@ -14,8 +14,9 @@ use crate::{FedError, Feed, Line, LineBuf, LineFault, LineReader, Source, TakeEr
 /// longer than `LONGEST_LINE`, does not end with a newline, or stands behind the line that ends the
 /// part; and the line after the last one where the text ends before. `TooLong` comes where the byte
 /// behind the limit was read, and no line that is shown before it is refused. `ReadFault` comes
-/// only where the source counted one fault, and `NoMemory` where the reader ran out of memory. What
-/// decides is the last byte that was read, or the end; at `ReadFault` nothing does.
+/// only where the source counted one fault and its end was not met, and `NoMemory` where the reader
+/// ran out of memory. What decides is the last byte that was read, or the end; at `ReadFault`
+/// nothing does. A line is refused only where it shows: at its end, or where it is too long.
 pub fn read_ended<S: Source, P: LineReader>(
     feed: &mut Feed<'_, S>,
     line: &mut LineBuf,
@@ -31,7 +32,7 @@ where
     ensures text { TextRead P.step form reader limit (feed_left S.left feed.old)
         (feed_left S.left feed.new) result }
     ensures cause { HasPartCause (S.faults feed.old.source.now) (S.faults feed.new.source.now)
-        (feed.new.at ≡ feed.new.end) result }
+        (IsDry S.met feed.old feed.new) result }
 {
     let mut number: u64 = 1;
     loop {
@@ -74,7 +75,7 @@ fn end_of_text<S: Source, R: Copy>(
     ensures end { EndIs form number limit feed.old.line_bytes (feed_left S.left feed.old)
         (feed_left S.left feed.new) result }
     ensures cause { HasPartCause (S.faults feed.old.source.now) (S.faults feed.new.source.now)
-        (feed.new.at ≡ feed.new.end) result }
+        (IsDry S.met feed.old feed.new) result }
 {
     match feed.line(line, limit) {
         Ok(Line::End) => return Ok(()),

@@ -1,6 +1,6 @@
-ghost use Rattle.std.specs.Prelude.{◌≡◌, ◌≤◌, ◌<◌, ◌+◌, ◌-◌, ◌^◌, IfOk};
+ghost use Rattle.std.specs.Prelude.{◌≡◌, ◌||◌, ◌≤◌, ◌<◌, ◌+◌, ◌-◌, ◌^◌, IfOk};
 ghost use Rattle.texts.specs.Parts.{with_skips};
-ghost use Rattle.edge_io.specs.Feeds.{feed_left};
+ghost use Rattle.edge_io.specs.Feeds.{feed_left, IsDry};
 ghost use Rattle.edge_io.specs.FedParts.{PartFed, HasPartCause, IsLastLine};
 ghost use Rattle.edge_io.specs.declared.fed_parts.FedError.TheVariants as fed;
 
@@ -37,9 +37,9 @@ pub enum FedError<R> {
 ///
 /// `Refused` comes exactly where `read_part` refuses a line of the same text, at a line that is
 /// shown within the limit; `TooLong` exactly where the byte behind the limit was read first.
-/// `ReadFault` comes only where the source counted one fault, and `NoMemory` where the reader ran
-/// out of memory. What decides is the last byte that was read, or the end; at `ReadFault` nothing
-/// does.
+/// `ReadFault` comes only where the source counted one fault and its end was not met, and
+/// `NoMemory` where the reader ran out of memory. What decides is the last byte that was read, with
+/// which a line shows, or the end; at `ReadFault` nothing does.
 pub fn feed_part<S: Source, P: LineReader>(
     feed: &mut Feed<'_, S>,
     line: &mut LineBuf,
@@ -55,7 +55,9 @@ pub fn feed_part<S: Source, P: LineReader>(
         feed.new.line_bytes (feed_left S.left feed.old) (feed_left S.left feed.new) result }
     ensures few { IfOk result (λ x. x.lines ≤ limit) }
     ensures cause { HasPartCause (S.faults feed.old.source.now) (S.faults feed.new.source.now)
-        (feed.new.at ≡ feed.new.end) result }
+        (IsDry S.met feed.old feed.new) result }
+    ensures met { IfOk result (λ x. S.met feed.new.source.now
+        ≡ (x.ended || S.met feed.old.source.now)) }
 {
     let mut number = first;
     let mut lines: u64 = 0;

@@ -48,18 +48,20 @@ pub struct Feed<'a, S> {
 }
 
 impl<'a, S: Source> Feed<'a, S> {
-    ghost use Rattle.std.specs.Prelude.{◌≡◌, ◌<◌, ◌≤◌, ◌+◌, ℕ, [], true, false, length, Ok, OnErr};
+    ghost use Rattle.std.specs.Prelude.{◌≡◌, ◌<◌, ◌≤◌, ◌+◌, ℕ, [], true, false, not, ◌||◌, length, Ok, OnErr, IfOk};
+    ghost use Rattle.std.specs.Option.{is_none};
     ghost use Rattle.edge_io.specs.declared.feed.Line.TheVariants as how;
     ghost use Rattle.std.specs.Io.KnownBytes.{Consumes, Keeps, IsAtEnd};
     ghost use Rattle.texts.specs.Causes.{HasCause};
     ghost use Rattle.texts.specs.Lines.{is_one_line};
-    ghost use Rattle.edge_io.specs.Feeds.{feed_left, TakesByte, TakesLineByte, LineIs, HasLineCause};
+    ghost use Rattle.edge_io.specs.Feeds.{feed_left, TakesByte, TakesLineByte, LineIs, HasLineCause, IsDry, meets_end};
 
     /// A feed of all that the source has left, of which no line was read.
     pub fn new(source: &'a mut S) -> Feed<'a, S>
         ensures same_reference { result.source.ghost_name ≡ source.entry.ghost_name }
         ensures left { Keeps (S.left source.old) (feed_left S.left result) }
         ensures faults { S.faults result.source.now ≡ S.faults source.old }
+        ensures met { S.met result.source.now ≡ S.met source.old }
         ensures none { result.line_bytes ≡ 0 }
     {
         Feed {
@@ -79,7 +81,9 @@ impl<'a, S: Source> Feed<'a, S> {
         ensures more { result ≡ Ok true → self.new.at < self.new.end }
         ensures cause { HasCause (S.faults self.old.source.now) (S.faults self.new.source.now)
             result }
-        ensures dry { OnErr result (self.new.at ≡ self.new.end) }
+        ensures met { IfOk result (λ more. S.met self.new.source.now
+            ≡ (not more || S.met self.old.source.now)) }
+        ensures dry { OnErr result (IsDry S.met self.old self.new) }
         ensures still { self.new.line_bytes ≡ self.old.line_bytes }
     {
         if self.at < self.end {
@@ -97,13 +101,15 @@ impl<'a, S: Source> Feed<'a, S> {
     /// The next byte, None at the end.
     ///
     /// `ReadFault` comes only where the source counted one fault. The feed is then as before, and
-    /// its buffer is empty: all bytes that the source gave were read.
+    /// its buffer is empty: all bytes that the source gave were read, and its end was not met.
     pub fn byte(&mut self) -> Result<Option<u8>, ReadFault>
         ensures same_reference { self.new.source.ghost_name ≡ self.old.source.ghost_name }
         ensures bytes { TakesByte (feed_left S.left self.old) (feed_left S.left self.new) result }
         ensures cause { HasCause (S.faults self.old.source.now) (S.faults self.new.source.now)
             result }
-        ensures dry { OnErr result (self.new.at ≡ self.new.end) }
+        ensures met { IfOk result (λ byte. S.met self.new.source.now
+            ≡ (is_none byte || S.met self.old.source.now)) }
+        ensures dry { OnErr result (IsDry S.met self.old self.new) }
         ensures still { self.new.line_bytes ≡ self.old.line_bytes }
     {
         match self.fill() {
@@ -122,7 +128,9 @@ impl<'a, S: Source> Feed<'a, S> {
         ensures bytes { TakesLineByte limit self.old.line_bytes self.new.line_bytes
             (feed_left S.left self.old) (feed_left S.left self.new) result }
         ensures cause { HasLineCause (S.faults self.old.source.now) (S.faults self.new.source.now)
-            (self.new.at ≡ self.new.end) result }
+            (IsDry S.met self.old self.new) result }
+        ensures met { IfOk result (λ byte. S.met self.new.source.now
+            ≡ (is_none byte || S.met self.old.source.now)) }
     {
         let byte = match self.byte() {
             Ok(Some(byte)) => byte,
@@ -191,7 +199,9 @@ impl<'a, S: Source> Feed<'a, S> {
         ensures one { is_one_line line.new ≡ true }
         ensures short { length line.new ≤ 4096 }
         ensures cause { HasLineCause (S.faults self.old.source.now) (S.faults self.new.source.now)
-            (self.new.at ≡ self.new.end) result }
+            (IsDry S.met self.old self.new) result }
+        ensures met { IfOk result (λ how. S.met self.new.source.now
+            ≡ (meets_end how || S.met self.old.source.now)) }
     {
         line.clear();
         if self.take_held(line, limit) {
@@ -209,7 +219,9 @@ impl<'a, S: Source> Feed<'a, S> {
         ensures one { is_one_line line.new ≡ true }
         ensures short { length line.new ≤ 4096 }
         ensures cause { HasLineCause (S.faults self.old.source.now) (S.faults self.new.source.now)
-            (self.new.at ≡ self.new.end) result }
+            (IsDry S.met self.old self.new) result }
+        ensures met { IfOk result (λ how. S.met self.new.source.now
+            ≡ (meets_end how || S.met self.old.source.now)) }
     {
         for _ in 0..LONGEST_LINE {
             match self.line_byte(limit) {

@@ -1,6 +1,6 @@
-ghost use Rattle.std.specs.Prelude.{◌≡◌, ℕ, List, OnErr};
+ghost use Rattle.std.specs.Prelude.{◌≡◌, ◌||◌, not, ℕ, List, OnErr, IfOk};
 ghost use Rattle.texts.specs.Causes.{HasCause};
-ghost use Rattle.edge_io.specs.Feeds.{feed_left, ReadsSoMany, Fills};
+ghost use Rattle.edge_io.specs.Feeds.{feed_left, ReadsSoMany, Fills, IsDry};
 
 use crate::{Feed, ReadFault, Source};
 
@@ -14,7 +14,9 @@ pub fn skip_bytes<S: Source>(feed: &mut Feed<'_, S>, count: usize) -> Result<boo
     ensures bytes { (bytes : List ℕ)
         × ReadsSoMany count (feed_left S.left feed.old) (feed_left S.left feed.new) bytes result }
     ensures cause { HasCause (S.faults feed.old.source.now) (S.faults feed.new.source.now) result }
-    ensures dry { OnErr result (feed.new.at ≡ feed.new.end) }
+    ensures met { IfOk result (λ all. S.met feed.new.source.now
+        ≡ (not all || S.met feed.old.source.now)) }
+    ensures dry { OnErr result (IsDry S.met feed.old feed.new) }
 {
     for _ in 0..count {
         match feed.byte() {
@@ -35,7 +37,9 @@ pub fn take_bytes<S: Source>(feed: &mut Feed<'_, S>, buf: &mut [u8]) -> Result<b
     ensures bytes { Fills (feed_left S.left feed.old) (feed_left S.left feed.new) buf.old buf.new
         result }
     ensures cause { HasCause (S.faults feed.old.source.now) (S.faults feed.new.source.now) result }
-    ensures dry { OnErr result (feed.new.at ≡ feed.new.end) }
+    ensures met { IfOk result (λ all. S.met feed.new.source.now
+        ≡ (not all || S.met feed.old.source.now)) }
+    ensures dry { OnErr result (IsDry S.met feed.old feed.new) }
 {
     if feed.take_held_bytes(buf) {
         return Ok(true);

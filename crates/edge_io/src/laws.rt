@@ -19,7 +19,7 @@ pub fn numbers_have_one_word()
     ensures read { ReadIsPrinted }
 {}
 
-/// Bytes that are pending decide nothing: whatever follows them, a part ends or is refused at a
+/// Pending bytes do not show what decides: whatever follows them, a part ends or is refused at a
 /// line behind their whole lines, and a text is refused at none of these.
 pub fn pending_bytes_decide_nothing<S, V, R>()
     ensures part { PendingPartGoesOn S V R }

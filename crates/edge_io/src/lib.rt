@@ -8,8 +8,9 @@
 //!
 //! Over these stand the calls that read a whole input, write a text, and read a text line by line,
 //! word by word and number by number. What decides an answer decides it at once: a call takes no
-//! byte of a feed behind the one that does, and the feed at most a buffer of its source. Only
-//! `read_all`, `LineBuf::new` and `MemSink::new` take memory.
+//! byte of a feed behind the one that does, and the feed at most a buffer of its source. No read
+//! fault is answered behind the end of a source. Only `read_all`, `LineBuf::new` and `MemSink::new`
+//! take memory.
 #![tactic(auto)]
 
 mod cuts;

@@ -15,6 +15,7 @@ pub struct MemSource {
     calls: u64,
     turn: usize,
     faults: u64,
+    met: bool,
 }
 
 impl Model for MemSource {
@@ -27,6 +28,7 @@ impl Model for MemSource {
       calls = s.calls;
       turn = s.turn;
       faults = s.faults;
+      met = s.met;
     } };
 
     ghost invariant = { λ s. (s.turn ≤ s.at) × (s.at ≤ vec_len s.bytes)
@@ -34,7 +36,7 @@ impl Model for MemSource {
 }
 
 impl MemSource {
-    ghost use Rattle.std.specs.Prelude.{◌≡◌, ◌≤◌, All};
+    ghost use Rattle.std.specs.Prelude.{◌≡◌, ◌≤◌, false, All};
 
     /// A source of these bytes. The calls whose numbers are in `fails` fail, counted from 1, the
     /// number standing still at 2^64 - 1.
@@ -50,6 +52,7 @@ impl MemSource {
           calls = 0;
           turn = 0;
           faults = 0;
+          met = false;
         } }
     {
         MemSource {
@@ -60,6 +63,7 @@ impl MemSource {
             calls: 0,
             turn: 0,
             faults: 0,
+            met: false,
         }
     }
 }
@@ -69,11 +73,14 @@ impl Source for MemSource {
     ghost use Rattle.std.specs.Io.{ReadsAtMost};
     ghost use Rattle.std.specs.Io.KnownBytes.{ReadConsumes};
     ghost use Rattle.texts.specs.Causes.{HasCause};
+    ghost use Rattle.edge_io.specs.Reading.{MeetsEnd};
     ghost use Rattle.edge_io.specs.Memory.{counted, moved, after_read, after_failed_read};
 
     ghost left = { λ s. Some s.left };
 
     ghost faults = { λ s. s.faults };
+
+    ghost met = { λ s. s.met };
 
     /// Reads as many bytes as the buffer, the bytes that are left and the next cut allow. `Failed`
     /// comes exactly at the listed calls.
@@ -82,6 +89,7 @@ impl Source for MemSource {
         ensures bound { ReadsAtMost result buf.new }
         ensures bytes { ReadConsumes (Some self.old.left) (Some self.new.left) result buf.new }
         ensures cause { HasCause self.old.faults self.new.faults result }
+        ensures met { MeetsEnd result self.old.met self.new.met }
 
         ensures listed { OnErr result (Contains self.old.fails (counted self.old.calls)) }
         ensures unlisted { OnOk result (Contains self.old.fails (counted self.old.calls) → ⊥) }
@@ -97,6 +105,7 @@ impl Source for MemSource {
         }
         let most = buf.len().min(self.bytes.len() - self.at);
         if most == 0 {
+            self.met = true;
             return Ok(0);
         }
         let count = cut(&self.cuts, self.turn, most);

@@ -27,14 +27,18 @@ impl<'a> PlainSource<'a> {
 }
 
 impl<'a> Source for PlainSource<'a> {
-    ghost use Rattle.std.specs.Prelude.{◌≡◌, ◌<◌, length, drop, min, Some, Ok};
+    ghost use Rattle.std.specs.Prelude.{◌≡◌, ◌<◌, length, drop, min, true, Some, Ok};
     ghost use Rattle.std.specs.Io.{ReadsAtMost};
     ghost use Rattle.std.specs.Io.KnownBytes.{ReadConsumes};
     ghost use Rattle.texts.specs.Causes.{HasCause};
+    ghost use Rattle.edge_io.specs.Reading.{MeetsEnd};
 
     ghost left = { λ s. Some s };
 
     ghost faults = { λ s. 0 };
+
+    /// No read fails, before the end or behind it, so that it counts as met from the start.
+    ghost met = { λ s. true };
 
     /// Reads as many bytes as there are, and as the buffer has room for.
     fn read(&mut self, buf: &mut [u8]) -> Result<usize, Failed>
@@ -42,6 +46,7 @@ impl<'a> Source for PlainSource<'a> {
         ensures bound { ReadsAtMost result buf.new }
         ensures bytes { ReadConsumes (Some self.old) (Some self.new) result buf.new }
         ensures cause { HasCause 0 0 result }
+        ensures met { MeetsEnd result true true }
 
         ensures count { result ≡ Ok (min (length buf.old) (length self.old)) }
         ensures left { self.new ≡ drop (min (length buf.old) (length self.old)) self.old }

@@ -38,8 +38,8 @@ const PIECE: usize = 4096;
 /// Reads to the end of an input of at most `limit` bytes, in time linear in its length.
 ///
 /// `TooLong` comes at the first piece that goes past the limit, so at most 4096 bytes behind it.
-/// `ReadFault` comes only where the source counted one fault, and `NoMemory` where memory ran out;
-/// then at most `limit` bytes were read.
+/// `ReadFault` comes only where the source counted one fault and its end was not met, and
+/// `NoMemory` where memory ran out; then at most `limit` bytes were read.
 pub fn read_all<S: Source>(
     alloc: Global,
     source: &mut S,
@@ -63,9 +63,10 @@ pub fn read_all<S: Source>(
     ensures kept { IsErrOf result InputFault.NoMemory
         → LosesWithin limit (S.left source.old) (S.left source.new) }
 
-    // Only a read fault was counted, and one.
+    // Only a read fault was counted, and one, and before it the end was not met.
     ensures fault { IsErrOf result InputFault.ReadFault
         → Counted (S.faults source.old) (S.faults source.new) }
+    ensures unmet { IsErrOf result InputFault.ReadFault → S.met source.new ≡ S.met source.old }
     ensures still { IsErrOf result InputFault.TooLong → S.faults source.new ≡ S.faults source.old }
     ensures memory { IsErrOf result InputFault.NoMemory
         → S.faults source.new ≡ S.faults source.old }

@@ -1,7 +1,8 @@
 use crate::{Failed, Sink};
 use std::io::Write;
 
-/// A real writer, flushed after each write. It tells nothing of its bytes, and counts each error.
+/// A real writer, flushed behind each write that took bytes. It tells nothing of its bytes, and
+/// counts each failure: a write that fails or takes nothing, and a flush that fails.
 #[derive(Drop)]
 pub struct StdSink<W> {
     inner: W,
@@ -49,7 +50,7 @@ impl<W: Write> Sink for StdSink<W> {
         // Each failure is counted once.
         ensures counted { OnErr result (failed_writes self.new ≡ counted (failed_writes self.old)) }
 
-        // Of a piece that failed at most a front went to the writer: all of it where its flush failed.
+        // Of a piece that failed a front may have gone to the writer, where the flush failed.
         ensures fewer { OnErr result ((n : ℕ) × (n ≤ length bytes.now)
             × Appends (W.contents (writer_of self.old)) (W.contents (writer_of self.new))
             (take n bytes.now)) }

@@ -34,19 +34,23 @@ impl<R: Read> Source for StdSource<R> {
     ghost use Rattle.std.specs.Io.KnownBytes.{Keeps, ReadConsumes};
     ghost use Rattle.texts.specs.Causes.{HasCause};
     ghost use Rattle.edge_io.specs.Memory.{counted};
+    ghost use Rattle.edge_io.specs.Reading.{MeetsEnd};
     ghost use Rattle.edge_io.specs.Real.{failed_reads, has_ended, reader_of};
 
     ghost left = { λ s. None };
 
     ghost faults = { λ s. failed_reads s };
 
+    ghost met = { λ s. has_ended s };
+
     /// Reads once from the reader, and answers 0 for good after its first 0, without asking the
-    /// reader again.
+    /// reader again: then the end is met.
     fn read(&mut self, buf: &mut [u8]) -> Result<usize, Failed>
         requires { 0 < length buf.old }
         ensures bound { ReadsAtMost result buf.new }
         ensures bytes { ReadConsumes None None result buf.new }
         ensures cause { HasCause (failed_reads self.old) (failed_reads self.new) result }
+        ensures met { MeetsEnd result (has_ended self.old) (has_ended self.new) }
 
         // Each error is counted once, and is not the end.
         ensures counted { OnErr result (failed_reads self.new ≡ counted (failed_reads self.old)) }

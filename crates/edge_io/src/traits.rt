@@ -1,9 +1,10 @@
-ghost use Rattle.std.specs.Prelude.{◌<◌, ◌≤◌, [], ◌∷◌, ◌++◌, List, ℕ, length, decimal, IfOk, OnErr};
+ghost use Rattle.std.specs.Prelude.{◌<◌, ◌≤◌, [], ◌∷◌, ◌++◌, List, ℕ, Bool, length, decimal, IfOk, OnErr};
 ghost use Rattle.std.specs.declared.option.Option.{Option};
 ghost use Rattle.std.specs.Io.{ReadsAtMost};
 ghost use Rattle.std.specs.Io.KnownBytes.{ReadConsumes, WriteAppends};
 ghost use Rattle.texts.specs.Causes.{HasCause};
 ghost use Rattle.texts.specs.Growth.{Told, Follows, UsesUp, Puts, IsMissed, arrived};
+ghost use Rattle.edge_io.specs.Reading.{MeetsEnd};
 ghost use Rattle.edge_io.specs.Rising.{labelled_text};
 
 use crate::{RisingText, WriteFault};
@@ -22,6 +23,9 @@ pub trait Source {
     /// How many reads have failed, up to 2 ^ 64 - 1.
     ghost faults: { Self → ℕ };
 
+    /// Whether the end was met: a read gave nothing.
+    ghost met: { Self → Bool };
+
     /// Places bytes at the front of the buffer, which is not empty, and answers how many: 0 only at
     /// the end of the input.
     ///
@@ -30,7 +34,8 @@ pub trait Source {
         requires { 0 < length buf.old }
         ensures bound { ReadsAtMost result buf.new }
         ensures bytes { ReadConsumes (left self.old) (left self.new) result buf.new }
-        ensures cause { HasCause (faults self.old) (faults self.new) result };
+        ensures cause { HasCause (faults self.old) (faults self.new) result }
+        ensures met { MeetsEnd result (met self.old) (met self.new) };
 }
 
 /// Bytes that are taken in pieces.

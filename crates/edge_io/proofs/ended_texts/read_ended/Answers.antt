@@ -6,7 +6,7 @@ use Rattle.edge_io.proofs.ended_texts.read_ended.Goals as goal
 
 pub loop-line-init : goal.loop-line-init
 loop-line-init g c =
-    record { same = refl; still = refl; stands = starts _ _ _ _ _ _ c.requires.none }
+    record { same = refl; still = refl; met = refl; stands = starts _ _ _ _ _ _ c.requires.none }
 
 pub returns-in-Err-ReadFault-clause-text : goal.returns-in-Err-ReadFault-clause-text
 returns-in-Err-ReadFault-clause-text g c =
@@ -94,6 +94,7 @@ loop-line-preserved g c =
     record {
       same = read.same_reference ∙ c.loop-line.invariant.same;
       still = read.cause ∙ c.loop-line.invariant.still;
+      met = rw c.in-Whole.is at read.met ∙ c.loop-line.invariant.met;
       stands = goes_on _ _ _ _ _ _ _ _ _ _ _ c.line.new.self.line_bytes _ read.one read.short
           (c.loop-line.invariant.stands.1) _ line
           (short_step g.P.LineReader.step c.args.form c.loop-line.reader _ _ read.short

@@ -8,6 +8,7 @@ abbrev pub invariant-loop-line : goal.invariant-loop-line
 invariant-loop-line g l = record {
   same : l.feed.source.ghost_name ≡ l.fn.feed.source.ghost_name;
   still : g.S.Source.faults l.feed.source.now ≡ g.S.Source.faults l.fn.feed.source.now;
+  met : g.S.Source.met l.feed.source.now ≡ g.S.Source.met l.fn.feed.source.now;
   stands : (lines : ℕ) × Standing (with_length g.P.LineReader.step l.form) l.form l.fn.reader 1
       l.limit 0 (feed_left g.S.Source.left l.fn.feed) (feed_left g.S.Source.left l.feed) l.reader
       l.number lines l.feed.line_bytes;

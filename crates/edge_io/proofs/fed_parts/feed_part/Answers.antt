@@ -7,7 +7,12 @@ use Rattle.edge_io.proofs.fed_parts.feed_part.Goals as goal
 
 pub loop-line-init : goal.loop-line-init
 loop-line-init g c =
-    record { same = refl; still = refl; stands = stands_first _ _ _ _ _ _ _ c.requires.room }
+    record {
+      same = refl;
+      still = refl;
+      met = refl;
+      stands = stands_first _ _ _ _ _ _ _ c.requires.room;
+    }
 
 pub returns-in-Err-ReadFault-clause-fed : goal.returns-in-Err-ReadFault-clause-fed
 returns-in-Err-ReadFault-clause-fed g c =
@@ -68,6 +73,7 @@ loop-line-preserved g c =
     record {
       same = read.same_reference ∙ c.loop-line.invariant.same;
       still = read.cause ∙ c.loop-line.invariant.still;
+      met = rw c.in-Whole.is at read.met ∙ c.loop-line.invariant.met;
       stands = stands_more _ _ _ _ _ _ _ _ _ _ _ _ _ _ _ read.one read.short
           c.loop-line.invariant.stands _ (rw c.in-Whole.is at read.line) (takes_goes _ _ took);
     }

@@ -8,6 +8,7 @@ abbrev pub invariant-loop-line : goal.invariant-loop-line
 invariant-loop-line g l = record {
   same : l.feed.source.ghost_name ≡ l.fn.feed.source.ghost_name;
   still : g.S.Source.faults l.feed.source.now ≡ g.S.Source.faults l.fn.feed.source.now;
+  met : g.S.Source.met l.feed.source.now ≡ g.S.Source.met l.fn.feed.source.now;
   stands : Standing (with_skips g.P.LineReader.step l.form) l.form l.fn.reader l.first l.limit
       l.fn.feed.line_bytes (feed_left g.S.Source.left l.fn.feed) (feed_left g.S.Source.left l.feed)
       l.reader l.number l.lines l.feed.line_bytes;

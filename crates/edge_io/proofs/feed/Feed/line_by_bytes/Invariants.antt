@@ -9,4 +9,5 @@ invariant-loop g l = record {
   so_far : LineSoFar l.fn.limit l.fn.self.line_bytes l.self.line_bytes
       (feed_left g.S.Source.left l.fn.self) (feed_left g.S.Source.left l.self) l.line l.counter;
   still : g.S.Source.faults l.self.source.now ≡ g.S.Source.faults l.fn.self.source.now;
+  met : g.S.Source.met l.self.source.now ≡ g.S.Source.met l.fn.self.source.now;
 }
