@@ -53,6 +53,12 @@ pub record HeardCells (before after : Standing) (cells : List (List ℕ)) : Type
   pub since : (u : ℕ) → u < length cells → u ≢ before.id
       → slice_index_or after.since u false ≡ true
 
+-- whether the end was met with so much of a packet
+abbrev pub meets_end : Amount → Bool
+meets_end amount.Whole = false
+meets_end (amount.Cut sender) = true
+meets_end amount.Nothing = true
+
 -- a packet was read, and heard
 pub record PacketFed (before after : Standing) (old new : Option (List ℕ)) : Type 0 where
   pub bytes : List ℕ

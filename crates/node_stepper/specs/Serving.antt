@@ -22,7 +22,7 @@ module _ (before : Standing) where
   abbrev pub served : List ℕ → Packets
   served bytes = packets_of (plan_nodes before.plan) 1000000 0 bytes
 
-  -- these bytes do not decide that there are too many: none is of packet 1,000,001
+  -- these bytes do not show that there are too many: none is of packet 1,000,001
   abbrev pub ServicePending : List ℕ → Type 0
   ServicePending bytes = IsWithin (served bytes).ending
 

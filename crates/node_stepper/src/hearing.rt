@@ -6,11 +6,11 @@ use edge_io::{Feed, ReadFault, Source, skip_bytes, take_bytes};
 const MOST_BYTES: usize = 128;
 
 impl NodeEngine {
-    ghost use Rattle.std.specs.Prelude.{◌≡◌, ◌<◌, [], ◌∷◌, OnErr};
+    ghost use Rattle.std.specs.Prelude.{◌≡◌, ◌<◌, ◌||◌, not, [], ◌∷◌, OnErr, IfOk};
     ghost use Rattle.texts.specs.Causes.{HasCause};
-    ghost use Rattle.edge_io.specs.Feeds.{feed_left};
+    ghost use Rattle.edge_io.specs.Feeds.{feed_left, IsDry};
     ghost use Rattle.construction.specs.Plans.{plan_nodes};
-    ghost use Rattle.node_stepper.specs.Hearing.{BodyFed, CellFed, PacketHeard};
+    ghost use Rattle.node_stepper.specs.Hearing.{BodyFed, CellFed, PacketHeard, meets_end};
 
     /// Hears the bytes of a cell, of which there are to be so many. Bytes that are not just so many
     /// as a state of that node has are not kept.
@@ -26,7 +26,9 @@ impl NodeEngine {
             (feed_left S.left feed.old) (feed_left S.left feed.new) result }
         ensures cause { HasCause (S.faults feed.old.source.now)
             (S.faults feed.new.source.now) result }
-        ensures dry { OnErr result (feed.new.at ≡ feed.new.end) }
+        ensures met { IfOk result (λ whole. S.met feed.new.source.now
+            ≡ (not whole || S.met feed.old.source.now)) }
+        ensures dry { OnErr result (IsDry S.met feed.old feed.new) }
     {
         if length != self.bytes_of(sender) {
             match skip_bytes(feed, length) {
@@ -60,7 +62,9 @@ impl NodeEngine {
             (feed_left S.left feed.old) (feed_left S.left feed.new) result }
         ensures cause { HasCause (S.faults feed.old.source.now)
             (S.faults feed.new.source.now) result }
-        ensures dry { OnErr result (feed.new.at ≡ feed.new.end) }
+        ensures met { IfOk result (λ whole. S.met feed.new.source.now
+            ≡ (not whole || S.met feed.old.source.now)) }
+        ensures dry { OnErr result (IsDry S.met feed.old feed.new) }
     {
         let low = match feed.byte() {
             Ok(Some(low)) => low,
@@ -82,7 +86,9 @@ impl NodeEngine {
             (feed_left S.left feed.old) (feed_left S.left feed.new) result }
         ensures cause { HasCause (S.faults feed.old.source.now)
             (S.faults feed.new.source.now) result }
-        ensures dry { OnErr result (feed.new.at ≡ feed.new.end) }
+        ensures met { IfOk result (λ whole. S.met feed.new.source.now
+            ≡ (not whole || S.met feed.old.source.now)) }
+        ensures dry { OnErr result (IsDry S.met feed.old feed.new) }
     {
         let high = match feed.byte() {
             Ok(Some(high)) => high,
@@ -103,7 +109,9 @@ impl NodeEngine {
             (feed_left S.left feed.old) (feed_left S.left feed.new) result }
         ensures cause { HasCause (S.faults feed.old.source.now)
             (S.faults feed.new.source.now) result }
-        ensures dry { OnErr result (feed.new.at ≡ feed.new.end) }
+        ensures met { IfOk result (λ amount. S.met feed.new.source.now
+            ≡ (meets_end amount || S.met feed.old.source.now)) }
+        ensures dry { OnErr result (IsDry S.met feed.old feed.new) }
     {
         let nodes = self.nodes();
         let high = match feed.byte() {

@@ -11,7 +11,7 @@ const MOST_PACKETS: u64 = 1_000_000;
 impl NodeEngine {
     ghost use Rattle.std.specs.Prelude.{◌≡◌, ◌≤◌, length, take};
     ghost use Rattle.texts.specs.Growth.{Puts};
-    ghost use Rattle.edge_io.specs.Feeds.{feed_left};
+    ghost use Rattle.edge_io.specs.Feeds.{feed_left, IsDry};
     ghost use Rattle.node_stepper.specs.Nodes.{own, state_cell};
     ghost use Rattle.node_stepper.specs.Serving.{Serves, HasServeCause};
 
@@ -57,7 +57,7 @@ impl NodeEngine {
             (feed_left S.left feed.old) (feed_left S.left feed.new)
             (K.told sink.old) (K.told sink.new) result }
         ensures cause { HasServeCause (S.faults feed.old.source.now)
-            (S.faults feed.new.source.now) (feed.new.at ≡ feed.new.end) result }
+            (S.faults feed.new.source.now) (IsDry S.met feed.old feed.new) result }
     {
         self.forget();
         match self.put_cell(sink) {

@@ -28,6 +28,8 @@ loop-sender-init g c =
     record {
       same = c.in-Ok-true.ensures.same_reference ∙ c.in-Ok-Some.ensures.same_reference;
       still = c.in-Ok-true.ensures.cause ∙ c.in-Ok-Some.ensures.cause;
+      met = rw c.in-Ok-true.field-0-test at c.in-Ok-true.ensures.met
+          ∙ rw c.in-Ok-Some.field-0-is at c.in-Ok-Some.ensures.met;
       cells = cells_first ℕ _ _ _ _ _ _ some (nodes.states ∙ nodes.value) (nodes.marks
           ∙ nodes.value) first h;
     }
@@ -66,6 +68,8 @@ loop-sender-preserved g c =
     record {
       same = c.in-Ok-true-hear_cell.ensures.same_reference ∙ c.loop-sender.invariant.same;
       still = c.in-Ok-true-hear_cell.ensures.cause ∙ c.loop-sender.invariant.still;
+      met = rw c.in-Ok-true-hear_cell.field-0-test at c.in-Ok-true-hear_cell.ensures.met
+          ∙ c.loop-sender.invariant.met;
       cells = cells_more ℕ _ _ _ _ _ _ _ less c.loop-sender.invariant.cells h;
     }
 

@@ -7,6 +7,7 @@ abbrev pub invariant-loop-sender : goal.invariant-loop-sender
 invariant-loop-sender g l = record {
   same : l.feed.source.ghost_name ≡ l.fn.feed.source.ghost_name;
   still : g.S.Source.faults l.feed.source.now ≡ g.S.Source.faults l.fn.feed.source.now;
+  met : g.S.Source.met l.feed.source.now ≡ g.S.Source.met l.fn.feed.source.now;
   cells : CellsFed l.fn.self l.self (feed_left g.S.Source.left l.fn.feed)
       (feed_left g.S.Source.left l.feed) l.sender;
 }

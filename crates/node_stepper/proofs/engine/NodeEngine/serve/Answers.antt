@@ -7,6 +7,7 @@ pub loop-packet-init : goal.loop-packet-init
 loop-packet-init g c = record {
   same = refl;
   still = refl;
+  met = refl;
   so_far = served_none _ _ _ _ _ (forgotten _ _ c.forget.ensures) c.in-Ok.ensures;
 }
 
@@ -44,6 +45,7 @@ loop-packet-preserved g c =
     record {
       same = c.in-Ok-Whole.ensures.same_reference ∙ c.loop-packet.invariant.same;
       still = c.in-Ok-Whole.ensures.cause ∙ c.loop-packet.invariant.still;
+      met = rw c.in-Ok-Whole.field-0-is at c.in-Ok-Whole.ensures.met ∙ c.loop-packet.invariant.met;
       so_far = served_more _ _ _ _ _ _ _ _ c.loop-packet.invariant.so_far _ _
           c.in-Ok-Whole.ensures.node
           c.loop-packet-test.true h c.packet.ensures _ c.in-Ok-put_cell.ensures;
