@@ -4,7 +4,9 @@ use Rattle.std.proofs.KnownBytes.{Consumes-trans}
 use Rattle.texts.specs.Causes.{Counted}
 use Rattle.texts.specs.Lines.{lines_of, whole_lines}
 use Rattle.texts.specs.Limits.{by, room_of, behind_lines}
+use Rattle.texts.specs.Words.{open_rest}
 use Rattle.texts.proofs.LineByLine.{behind_both}
+use Rattle.edge_io.proofs.Chains.{open_second}
 use Rattle.edge_io.specs.declared.fed_parts.FedPart.{FedPart}
 use Rattle.edge_io.specs.declared.fed_parts.FedError.{FedError}
 use Rattle.edge_io.specs.declared.fed_parts.FedError.TheVariants as fed
@@ -59,7 +61,7 @@ module _ (s t : Option (List ℕ)) (after : ℕ) where
     read = d.read;
     at_end = d.at_end;
     within = omega (arith, d.count, d.within);
-    at_once = at_once PlanPending HeaderPending [] pending_first d.ended d.bytes d.at_once;
+    at_once = at_once PlanPending HeaderPending [] pending_first (λ bs. refl) d.ended d.bytes d.at_once;
     decides = λ longer rest follows. ap behind_plan (d.decides longer rest follows);
   }
 
@@ -69,7 +71,7 @@ module _ (s t : Option (List ℕ)) (after : ℕ) where
     ended = h.ended;
     read = h.read;
     at_end = h.at_end;
-    at_once = at_once PlanPending HeaderPending [] pending_first h.ended h.bytes h.at_once;
+    at_once = at_once PlanPending HeaderPending [] pending_first (λ bs. refl) h.ended h.bytes h.at_once;
   }
 
   failed_first : (e : FedError Premise)
@@ -140,7 +142,7 @@ module _ (s t : Option (List ℕ)) (after : ℕ) (x : FedPart Plan)
         read = d.read;
         at_end = d.at_end;
         within = omega (arith, d.count, d.within);
-        at_once = at_once PlanPending HeaderPending [] pending_first d.ended d.bytes d.at_once;
+        at_once = at_once PlanPending HeaderPending [] pending_first (λ bs. refl) d.ended d.bytes d.at_once;
         decides = λ longer rest follows.
             let none : rest ≡ [] = (subst (λ (e : Bool). MayFollow e longer rest) ends follows).0 in
             ap behind_plan (d.decides longer rest follows)
@@ -158,7 +160,7 @@ module _ (s t : Option (List ℕ)) (after : ℕ) (x : FedPart Plan)
         ended = d.ended;
         read = d.read;
         at_end = d.at_end;
-        at_once = at_once PlanPending HeaderPending [] pending_first d.ended d.bytes d.at_once;
+        at_once = at_once PlanPending HeaderPending [] pending_first (λ bs. refl) d.ended d.bytes d.at_once;
       }
 
   module _ (u : Option (List ℕ)) (last : ℕ) (goes_on : w.decided.ended ≡ false) where
@@ -176,6 +178,9 @@ module _ (s t : Option (List ℕ)) (after : ℕ) (x : FedPart Plan)
 
     abbrev front : List ℕ
     front = w.decided.bytes
+
+    opens : (bytes : List ℕ) → open_rest (front ++ bytes) ≡ open_rest bytes
+    opens = open_second plan_line premise.Form Unread 1 (2 ^ 20) 0 after s t x w goes_on
 
     -- the first part, and then the second from some bytes
     chained : (longer : Bool) (bytes rest : List ℕ) → header_by longer ((front ++ bytes) ++ rest)
@@ -215,7 +220,7 @@ module _ (s t : Option (List ℕ)) (after : ℕ) (x : FedPart Plan)
       read = Consumes-trans s t u front d.bytes w.decided.read d.read;
       at_end = d.at_end;
       within = omega (arith, length-append front d.bytes, w.decided.count, d.count, d.within);
-      at_once = at_once Pending HeaderPending front pending d.ended d.bytes d.at_once;
+      at_once = at_once Pending HeaderPending front pending opens d.ended d.bytes d.at_once;
       decides = λ longer rest follows.
           chained longer d.bytes rest
           ∙ ap (behind_node x.value x.lines) (d.decides longer rest follows);
@@ -228,7 +233,7 @@ module _ (s t : Option (List ℕ)) (after : ℕ) (x : FedPart Plan)
       ended = h.ended;
       read = Consumes-trans s t u front h.bytes w.decided.read h.read;
       at_end = h.at_end;
-      at_once = at_once Pending HeaderPending front pending h.ended h.bytes h.at_once;
+      at_once = at_once Pending HeaderPending front pending opens h.ended h.bytes h.at_once;
     }
 
     pub second_failed : (e : FedError Rule)
@@ -264,7 +269,7 @@ module _ (s t : Option (List ℕ)) (after : ℕ) (x : FedPart Plan)
           d.decided.count,
           d.decided.within,
         );
-        at_once = at_once Pending HeaderPending front pending d.decided.ended d.decided.bytes
+        at_once = at_once Pending HeaderPending front pending opens d.decided.ended d.decided.bytes
             d.decided.at_once;
         decides = λ longer rest follows.
             chained longer d.decided.bytes rest
@@ -296,12 +301,13 @@ plan_cause before now Dry fed.TooLong h = h
 plan_cause before now Dry (fed.Refused at) h = h
 plan_cause before now Dry fed.NoMemory h = h
 
-pub node_cause : (before mid now : ℕ) (Dry : Type 0) (e : FedError Rule) → mid ≡ before
-    → HasPartCause mid now Dry (let r : Result (FedPart NodeHeader) (FedError Rule) = Err e in r)
+pub node_cause : (before mid now : ℕ) (Part Dry : Type 0) (e : FedError Rule) → mid ≡ before
+    → HasPartCause mid now Part (let r : Result (FedPart NodeHeader) (FedError Rule) = Err e in r)
+    → (Part → Dry)
     → HasHeaderCause before now Dry (let r : Result HeaderRead HeaderError = Err (node_failed e) in
     r)
-node_cause before mid now Dry fed.ReadFault still h =
-    (subst (λ (n : ℕ). Counted n now) still h.0, h.1)
-node_cause before mid now Dry fed.TooLong still h = h ∙ still
-node_cause before mid now Dry (fed.Refused at) still h = h ∙ still
-node_cause before mid now Dry fed.NoMemory still h = h ∙ still
+node_cause before mid now Part Dry fed.ReadFault still h dry =
+    (subst (λ (n : ℕ). Counted n now) still h.0, dry h.1)
+node_cause before mid now Part Dry fed.TooLong still h dry = h ∙ still
+node_cause before mid now Part Dry (fed.Refused at) still h dry = h ∙ still
+node_cause before mid now Part Dry fed.NoMemory still h dry = h ∙ still

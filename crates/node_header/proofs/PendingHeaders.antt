@@ -1,8 +1,9 @@
--- What does not decide a part of a header does not decide the header.
-use Rattle.std.proofs.Common.{◌≡◌, ℕ, ◌+◌, ◌^◌, Bool, true, false, List, [], ◌∷◌, ◌++◌, length, Option, refl, sym, ap, ◌∙◌, append_assoc, arith}
+-- What does not show what decides a part of a header does not show what decides the header.
+use Rattle.std.proofs.Common.{◌≡◌, ◌⊎◌, ℕ, ◌+◌, ◌^◌, Bool, true, false, List, [], ◌∷◌, ◌++◌, length, Option, refl, sym, ap, ◌∙◌, subst, append_assoc, arith}
 use Rattle.texts.specs.Lines.{whole_lines}
 use Rattle.texts.specs.Parts.{Next, with_skips}
 use Rattle.texts.specs.Pending.{AllButLast, AtOnce}
+use Rattle.texts.specs.Words.{open_rest}
 use Rattle.edge_io.specs.declared.fed_parts.FedPart.{FedPart}
 use Rattle.edge_io.specs.FedParts.{PartPending, WholePart}
 use Rattle.edge_io.proofs.Chains.{counts_behind, goes_on_behind}
@@ -41,10 +42,13 @@ module _ (P Q : List ℕ → Type 0) (front : List ℕ)
     pending = from h.front h.pending;
   }
 
-  pub at_once : (ended : Bool) (bytes : List ℕ) → AtOnce ended P bytes
-      → AtOnce ended Q (front ++ bytes)
-  at_once true bytes h = from bytes h
-  at_once false bytes h = all_but_last bytes h
+  pub at_once : ((bs : List ℕ) → open_rest (front ++ bs) ≡ open_rest bs)
+      → (ended : Bool) (bytes : List ℕ) → AtOnce ended P bytes → AtOnce ended Q (front ++ bytes)
+  at_once opens true bytes h = from bytes h
+  at_once opens false bytes (h, shown) = (
+    all_but_last bytes h,
+    subst (λ (l : List ℕ). (l ≡ []) ⊎ (length l ≡ 4097)) (sym (opens bytes)) shown,
+  )
 
 -- in the plan
 abbrev pub PlanPending : List ℕ → Type 0

@@ -22,16 +22,16 @@ abbrev pub refused_line : HeaderRefusal → ℕ
 refused_line (refusal.Plan line premise) = line
 refused_line (refusal.Node line rule) = line
 
--- These bytes do not decide the header: none of their whole lines ends it or is refused, so that
--- these lines alone would be refused at the line behind them, for want of an end.
+-- These bytes do not show what decides the header: none of their whole lines ends it or is refused,
+-- so that these lines alone would be refused at the line behind them, for want of an end.
 pub record HeaderPending (bytes : List ℕ) : Type 0 where
   pub refusal : HeaderRefusal
   pub lines : header_in None (whole_lines bytes) ≡ Err (Some refusal)
   pub behind : refused_line refusal ≡ 1 + length (whole_lines bytes)
   pub room : MayGoOn (2 ^ 20) 0 bytes
 
--- These bytes were read, and decide the header, whatever may follow. What decides is the last of
--- them, or the end.
+-- These bytes were read, and show what decides the header, whatever may follow. That is the last of
+-- them, with which a line shows, or the end.
 pub record HeaderDecided (old new : Option (List ℕ))
     (outcome : Result Header (Option HeaderRefusal)) : Type 0 where
   pub bytes : List ℕ
@@ -55,7 +55,7 @@ pub record HeaderWhole (old new : Option (List ℕ)) (x : HeaderRead) : Type 0 w
   pub whole : decided.ended ≡ false → (rest : List ℕ)
       → header_in None (whole_lines (decided.bytes ++ rest)) ≡ Ok header
 
--- they do not decide it, and the last of them is the one behind the limit
+-- they do not show what decides it, and the last of them is the one behind the limit
 pub record HeaderTooLong (old new : Option (List ℕ)) : Type 0 where
   pub bytes : List ℕ
   pub read : Consumes old new bytes
@@ -64,13 +64,13 @@ pub record HeaderTooLong (old new : Option (List ℕ)) : Type 0 where
   pub decides : (rest : List ℕ)
       → header_in (room_of true (2 ^ 20)) (lines_of (bytes ++ rest)) ≡ Err None
 
--- they do not decide it
+-- they do not show what decides it
 pub record HeaderLost (old new : Option (List ℕ)) : Type 0 where
   pub bytes : List ℕ
   pub read : Consumes old new bytes
   pub lost : HeaderPending bytes
 
--- none but the last of them, or the end, may decide it
+-- none but the last of them, with which a line shows, or the end, may decide it
 pub record HeaderHalted (old new : Option (List ℕ)) : Type 0 where
   pub bytes : List ℕ
   pub ended : Bool

@@ -1,5 +1,5 @@
-ghost use Rattle.std.specs.Prelude.{◌≡◌, IfOk};
-ghost use Rattle.edge_io.specs.Feeds.{feed_left};
+ghost use Rattle.std.specs.Prelude.{◌≡◌, ◌||◌, IfOk};
+ghost use Rattle.edge_io.specs.Feeds.{feed_left, IsDry};
 ghost use Rattle.state_codec.specs.Shapes.{shape_of};
 ghost use Rattle.node_header.specs.Fits.{IsFit};
 ghost use Rattle.node_header.specs.FedHeaders.{HeaderFed, HasHeaderCause};
@@ -103,9 +103,9 @@ pub struct HeaderRead {
 /// their last line. They may have 2^20 bytes.
 ///
 /// `Refused` is the first line that fails, where it is shown within the limit; else `TooLong`
-/// comes. `ReadFault` comes only where the source counted one fault, and `NoMemory` where memory
-/// was refused. What decides is the last byte that was read, or the end; at `ReadFault` nothing
-/// does.
+/// comes. `ReadFault` comes only where the source counted one fault and its end was not met, and
+/// `NoMemory` where memory was refused. What decides is the last byte that was read, with which a
+/// line shows, or the end; at `ReadFault` nothing does.
 pub fn read_header<S: Source>(
     alloc: Global,
     feed: &mut Feed<'_, S>,
@@ -115,7 +115,9 @@ pub fn read_header<S: Source>(
     ensures same_reference { feed.new.source.ghost_name ≡ feed.old.source.ghost_name }
     ensures header { HeaderFed (feed_left S.left feed.old) (feed_left S.left feed.new) result }
     ensures cause { HasHeaderCause (S.faults feed.old.source.now) (S.faults feed.new.source.now)
-        (feed.new.at ≡ feed.new.end) result }
+        (IsDry S.met feed.old feed.new) result }
+    ensures met { IfOk result (λ x. S.met feed.new.source.now
+        ≡ (x.ended || S.met feed.old.source.now)) }
     ensures shape { IfOk result (λ x. x.shape ≡ shape_of x.plan) }
     ensures fits { IfOk result (λ x. IsFit x.shape x.header) }
 {

@@ -45,7 +45,9 @@ pub returns-in_err-node-clause-cause : goal.returns-in_err-node-clause-cause
 returns-in_err-node-clause-cause g c =
     let p = err_from_is_err_and c.from_residual-in_err-node.result
     c.from_residual-in_err-node.ensures.1 in
-    rw (p.1, p.2) (node_cause _ _ _ _ _ c.in_ok-part.ensures.cause c.in_err-node.ensures.cause)
+    let met = rw c.if-part.false at c.in_ok-part.ensures.met in
+    rw (p.1, p.2) (node_cause _ _ _ _ _ _ c.in_ok-part.ensures.cause c.in_err-node.ensures.cause
+    (λ dry. (dry.0, dry.1 ∙ met)))
 
 -- the header is read
 pub returns-clause-header : goal.returns-clause-header
