@@ -8,6 +8,7 @@ pub mod Lies
 pub mod Links
 pub mod Lookup
 pub mod Noise
+pub mod NoiseSaid
 pub mod ScriptPart
 pub mod ScriptRefusals
 pub mod Scripts

@@ -17,6 +17,7 @@ mod eras;
 mod faulty_lines;
 mod group_lines;
 mod id_sets;
+mod keys;
 mod kinds;
 mod lie_lines;
 mod lie_words;

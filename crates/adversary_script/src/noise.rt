@@ -169,6 +169,16 @@ impl Noise {
         Ok(noise)
     }
 
+    /// Begins anew as the noise of this key, with the same room. It takes no memory.
+    pub fn restart(&mut self, key: [u8; 32])
+        ensures { self.new ≡ key }
+    {
+        self.key = key;
+        self.shared = generator_of(key);
+        self.generators.clear();
+        self.places.fill(NONE);
+    }
+
     /// The number of a pair, by its stream, if it is one.
     fn pair_of(&self, stream: u64) -> usize {
         match self.rows.get((stream / 256) as usize) {
