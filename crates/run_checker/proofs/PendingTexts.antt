@@ -1,13 +1,12 @@
--- Bytes that do not decide a text are the lines that begin a certificate, and an open line.
-use Rattle.std.proofs.Common.{◌≡◌, ℕ, zero, suc, ◌+◌, ◌^◌, ◌≤◌, Bool, false, List, [], ◌∷◌, ◌++◌, length, drop, map, Option, Result, Ok, Err, refl, sym, ap, ◌∙◌, subst, length-append, arith}
+-- Bytes that do not show what decides a text are the lines that begin a certificate, and a line that
+-- is open.
+use Rattle.std.proofs.Common.{◌≡◌, ℕ, ◌+◌, ◌^◌, ◌≤◌, Bool, false, List, [], ◌∷◌, ◌++◌, length, map, Option, Result, Ok, Err, refl, sym, ap, ◌∙◌, subst, length-append, arith}
 use Rattle.std.proofs.lemmas.Bool.{le-ltb}
-use Rattle.std.proofs.lemmas.List.{length-drop}
 use Rattle.std.proofs.lemmas.Grind.{flat_map-append}
 use Rattle.texts.specs.Lines.{whole_lines}
 use Rattle.texts.specs.Parts.{At}
-use Rattle.texts.specs.Limits.{Limited, by, behind_lines}
+use Rattle.texts.specs.Limits.{Limited, by}
 use Rattle.texts.specs.Words.{ended, text_of, open_rest}
-use Rattle.texts.specs.Pending.{open_line}
 use Rattle.texts.proofs.Texts.{whole_text}
 use Rattle.edge_io.specs.EndedReads.{RefusedOnlyAt}
 use Rattle.run_certificates.specs.declared.Verdict.{Verdict}
@@ -18,30 +17,11 @@ use Rattle.run_certificates.specs.Checking.{checked}
 use Rattle.run_certificates.specs.Laws.{IsAnswer, TextsAreChecked}
 use Rattle.run_checker.specs.Checks.{Pending, checked_by, unlimited}
 use Rattle.run_checker.proofs.ShortTexts.{certificates_are_short}
-use Rattle.run_checker.proofs.Unlimited.{behind, limits_matter_beyond}
+use Rattle.run_checker.proofs.Unlimited.{limits_matter_beyond}
 
 none_long : {X : Type 0} (xs : List X) → length xs ≡ 0 → xs ≡ []
 none_long [] e = refl
 none_long (x ∷ xs) e = absurd (omega (arith, e))
-
--- what has no newline is open
-all_open : (text : List ℕ) → whole_lines text ≡ [] → length text ≡ length (open_rest text)
-all_open text none =
-    ap length (sym (whole_text text) ∙ ap (λ lines. text_of lines ++ open_rest text) none)
-
-open_behind : (text : List ℕ) (n : ℕ) → length (whole_lines text) ≡ n
-    → length (behind_lines n text) ≡ length (open_rest text)
-open_behind text zero e = all_open text (none_long (whole_lines text) e)
-open_behind text (suc n) e =
-    let b = behind [] text n (omega (arith, e)) in
-    let none : length (whole_lines (behind_lines (suc n) text)) ≡ 0 =
-    omega (arith, ap length b.lines, length-drop (suc n) (whole_lines text), e) in
-    all_open (behind_lines (suc n) text) (none_long (whole_lines (behind_lines (suc n) text)) none)
-    ∙ ap length b.rest
-
--- the line that is open is what has no newline
-open_is : (text : List ℕ) → length (open_line text) ≡ length (open_rest text)
-open_is text = open_behind text (length (whole_lines text)) refl
 
 text_parts : (text : List ℕ)
     → length text ≡ length (text_of (whole_lines text)) + length (open_rest text)
@@ -81,7 +61,7 @@ module _ (text : List ℕ) where
         ap (λ (lines : List (List ℕ)). length (text_of lines)) (none_long at.rest none),
       )
 
-  -- bytes that do not decide are no more than a certificate has, and a line behind it
+  -- bytes that do not show what decides are no more than a certificate has, and a line behind it
   pub pending_short : TextsAreChecked → (limit : ℕ) → Pending limit text → length text ≤ 2 ^ 44 + 4096
   pending_short checks limit pending =
       let fits = pending.room.within in
@@ -92,4 +72,4 @@ module _ (text : List ℕ) where
       ∙ limits_matter_beyond limit text within in
       let lines = answered_short (checked text) (checks text)
       (subst (RefusedOnlyAt (1 + length (whole_lines text)) tt) is pending.lines) in
-      omega (arith, lines, text_parts text, open_is text, pending.room.short)
+      omega (arith, lines, text_parts text, pending.room.short)

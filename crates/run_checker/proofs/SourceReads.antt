@@ -11,7 +11,7 @@ use Rattle.edge_io.specs.EndedReads.{WholeText, RefusedText, LongText, LostText,
 use Rattle.run_certificates.specs.declared.Verdict.{Verdict}
 use Rattle.run_certificates.specs.Checking.{unread, line_step, checked}
 use Rattle.run_certificates.proofs.Answers.{texts_checked}
-use Rattle.run_checker.specs.Checks.{Pending, DecidesAtOnce, checked_by, unlimited, IsChecked, IsRefused, IsTooLong, IsLost, IsHalted}
+use Rattle.run_checker.specs.Checks.{Pending, ReadAhead, DecidesAtOnce, checked_by, unlimited, IsChecked, IsRefused, IsTooLong, IsLost, IsHalted}
 use Rattle.run_checker.proofs.MoreRoom.{more_room}
 use Rattle.run_checker.proofs.PendingTexts.{pending_short}
 use Rattle.run_checker.proofs.Unlimited.{limits_matter_beyond}
@@ -57,15 +57,19 @@ pending_more most limit bytes le p =
       room = record { short = p.room.short; within = omega (arith, le, within) };
     }
 
-at_once_more : (most limit : ℕ) (ended : Bool) (bytes : List ℕ) → most ≤ limit
-    → AtOnce ended (λ bs. Pending most bs) bytes → AtOnce ended (λ bs. Pending limit bs) bytes
-at_once_more most limit true bytes le p = pending_more most limit bytes le p
-at_once_more most limit false bytes le p = record {
+all_but_last_more : (most limit : ℕ) (bytes : List ℕ) → most ≤ limit
+    → AllButLast (λ bs. Pending most bs) bytes → AllButLast (λ bs. Pending limit bs) bytes
+all_but_last_more most limit bytes le p = record {
   front = p.front;
   last = p.last;
   parts = p.parts;
   pending = pending_more most limit p.front le p.pending;
 }
+
+at_once_more : (most limit : ℕ) (ended : Bool) (bytes : List ℕ) → most ≤ limit
+    → AtOnce ended (λ bs. Pending most bs) bytes → AtOnce ended (λ bs. Pending limit bs) bytes
+at_once_more most limit true bytes le p = pending_more most limit bytes le p
+at_once_more most limit false bytes le (p, shown) = (all_but_last_more most limit bytes le p, shown)
 
 -- no text goes beyond a limit that is greater than a certificate
 pub long_within : (limit most : ℕ) (f l : Option (List ℕ)) → most ≡ min limit (2 ^ 45)
@@ -96,25 +100,26 @@ module _ (limit most : ℕ) (le : most ≤ limit) (s f l : Option (List ℕ)) (h
       }
 
   -- with the bytes in the feed's buffer
-  ahead : length held ≤ 4096 → (ended : Bool) (bytes : List ℕ) → AtOnce ended (λ bs. Pending most bs) bytes
-      → DecidesAtOnce limit ended (bytes ++ held)
-  ahead few ended bytes once = record {
+  ahead : (Are : List ℕ → Type 0) → length held ≤ 4096 → (bytes : List ℕ) → Are bytes
+      → ReadAhead false Are (bytes ++ held)
+  ahead Are few bytes once = record {
     front = bytes;
     ahead = held;
     parts = refl;
     few = few;
-    at_once = at_once_more most limit ended bytes le once;
+    none = λ same. absurd cc;
+    are = once;
   }
 
   -- and where there are none
-  none_ahead : (ended : Bool) (bytes : List ℕ) → AtOnce ended (λ bs. Pending most bs) bytes
-      → DecidesAtOnce limit ended bytes
-  none_ahead ended bytes once = record {
+  none_ahead : (bytes : List ℕ) → Pending most bytes → DecidesAtOnce limit true bytes
+  none_ahead bytes once = record {
     front = bytes;
     ahead = [];
     parts = sym (append-nil bytes);
     few = omega arith;
-    at_once = at_once_more most limit ended bytes le once;
+    none = λ same. refl;
+    are = pending_more most limit bytes le once;
   }
 
   refused_by : length held ≤ 4096 → (line : ℕ) (r : Unit {0}) (h : RefusedText line_step tt unread most f (prepend_known held l) line r) (ended : Bool)
@@ -128,7 +133,7 @@ module _ (limit most : ℕ) (le : most ≤ limit) (s f l : Option (List ℕ)) (h
         read = all.0;
         at_end = λ same. all.1;
         within = λ same. omega (arith, within, le);
-        at_once = none_ahead true h.bytes (subst (λ (b : Bool). AtOnce b (λ bs. Pending most bs) h.bytes) e h.at_once);
+        at_once = none_ahead h.bytes (subst (λ (b : Bool). AtOnce b (λ bs. Pending most bs) h.bytes) e h.at_once);
         decides = λ longer rest follows. more_room (h.bytes ++ rest) line longer most limit le
             (h.decides longer rest (subst (λ (b : Bool). MayFollow b longer rest) (sym e) follows));
       }
@@ -138,7 +143,8 @@ module _ (limit most : ℕ) (le : most ≤ limit) (s f l : Option (List ℕ)) (h
     read = read_of s f l held h.bytes keeps h.read;
     at_end = λ same. absurd (not_both same);
     within = λ same. absurd (not_both same);
-    at_once = ahead few false h.bytes (subst (λ (b : Bool). AtOnce b (λ bs. Pending most bs) h.bytes) e h.at_once);
+    at_once = ahead (AtOnce false (Pending limit)) few h.bytes (at_once_more most limit false h.bytes le
+        (subst (λ (b : Bool). AtOnce b (λ bs. Pending most bs) h.bytes) e h.at_once));
     decides = λ longer rest follows. ap (checked_by limit longer) (append_assoc h.bytes held rest)
         ∙ more_room (h.bytes ++ (held ++ rest)) line longer most limit le
         (h.decides longer (held ++ rest) (subst (λ (b : Bool). MayFollow b longer (held ++ rest)) (sym e) tt));
@@ -157,7 +163,8 @@ module _ (limit most : ℕ) (le : most ≤ limit) (s f l : Option (List ℕ)) (h
         line = h.line;
         read = read_of s f l held h.bytes keeps h.read;
         past = omega (arith, length-append h.bytes held, past, same);
-        at_once = ahead few false h.bytes h.at_once;
+        at_once = ahead (AllButLast (Pending limit)) few h.bytes
+            (all_but_last_more most limit h.bytes le h.at_once);
         decides = λ rest. ap (checked_by limit true) (append_assoc h.bytes held rest)
             ∙ ap (λ (most : ℕ). checked_by most true (h.bytes ++ (held ++ rest))) (sym same)
             ∙ h.decides (held ++ rest);
@@ -177,7 +184,9 @@ module _ (limit most : ℕ) (le : most ≤ limit) (s f l : Option (List ℕ)) (h
     bytes = h.bytes ++ held;
     none = false;
     read = read_of s f l held h.bytes keeps h.read;
-    at_once = ahead few false h.bytes h.at_once;
+    before = λ same. absurd cc;
+    at_once = ahead (AtOnce false (Pending limit)) few h.bytes
+        (at_once_more most limit false h.bytes le h.at_once);
   }
 
 -- no byte decides before the first
@@ -186,12 +195,14 @@ nothing_halted limit s = record {
   bytes = [];
   none = true;
   read = reads_nothing s;
+  before = λ same. refl;
   at_once = record {
     front = [];
     ahead = [];
     parts = refl;
     few = omega arith;
-    at_once = record { lines = refl; room = record { short = omega arith; within = omega arith } };
+    none = λ same. refl;
+    are = record { lines = refl; room = record { short = omega arith; within = omega arith } };
   };
 }
 

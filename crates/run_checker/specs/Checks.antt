@@ -1,10 +1,10 @@
 -- A text under a limit, and what checking it did to its source.
-use Rattle.std.specs.Prelude.{◌≡◌, ℕ, ◌<◌, ◌≤◌, List, ◌++◌, length, Bool, true, false, nat_lt, Option, Result, Ok, Err}
+use Rattle.std.specs.Prelude.{◌≡◌, ℕ, ◌<◌, ◌≤◌, List, [], ◌++◌, length, Bool, true, false, nat_lt, Option, Result, Ok, Err}
 use Rattle.std.specs.Io.KnownBytes.{Consumes, IsAtEnd}
 use Rattle.texts.specs.Causes.{Counted}
 use Rattle.texts.specs.Parts.{At}
 use Rattle.texts.specs.Limits.{Limited, by, beyond}
-use Rattle.texts.specs.Pending.{AtOnce}
+use Rattle.texts.specs.Pending.{AllButLast, AtOnce}
 use Rattle.texts.specs.EndedTexts.{ended_text}
 use Rattle.edge_io.specs.FedParts.{MayFollow}
 use Rattle.edge_io.specs.EndedReads.{TextPending}
@@ -34,19 +34,26 @@ abbrev pub LimitsMatterBeyond : Type 0
 LimitsMatterBeyond = (limit : ℕ) (text : List ℕ) → length text ≤ limit
     → checked_within limit text ≡ unlimited (checked text)
 
--- These bytes do not decide a text: if it ended behind them, it would be whole, or be refused at
--- the line that is open, and so at none of their whole lines; and none of them is behind the limit.
+-- These bytes do not show what decides a text: if it ended behind them, it would be whole, or be
+-- refused at the line that is open, and so at none of their whole lines; and none of them is behind
+-- the limit.
 abbrev pub Pending : (limit : ℕ) → List ℕ → Type 0
 Pending limit bytes = TextPending line_step tt unread limit bytes
 
--- Of these bytes the last ones, a buffer at most, were read behind what decides. That is the last
--- of the others, and no byte before it; or, where the end was met, the end, and no byte.
-pub record DecidesAtOnce (limit : ℕ) (ended : Bool) (bytes : List ℕ) : Type 0 where
+-- The last of these bytes, a buffer at most, were read ahead of the others, which are such. Where
+-- the end was met there are none.
+pub record ReadAhead (ended : Bool) (Are : List ℕ → Type 0) (bytes : List ℕ) : Type 0 where
   pub front : List ℕ
   pub ahead : List ℕ
   pub parts : bytes ≡ front ++ ahead
   pub few : length ahead ≤ 4096
-  pub at_once : AtOnce ended (Pending limit) front
+  pub none : ended ≡ true → ahead ≡ []
+  pub are : Are front
+
+-- What decides is the last byte that was not read ahead, with which a line shows, and no byte
+-- before it; or, where the end was met, the end, and no byte.
+abbrev pub DecidesAtOnce : (limit : ℕ) (ended : Bool) → List ℕ → Type 0
+DecidesAtOnce limit ended bytes = ReadAhead ended (AtOnce ended (Pending limit)) bytes
 
 -- the whole text was read, and comes to this verdict
 pub record IsChecked (limit : ℕ) (old new : Option (List ℕ)) (verdict : Verdict) : Type 0 where
@@ -74,11 +81,11 @@ pub record IsTooLong (limit : ℕ) (old new : Option (List ℕ)) : Type 0 where
   pub line : ℕ
   pub read : Consumes old new bytes
   pub past : limit < length bytes
-  pub at_once : DecidesAtOnce limit false bytes
+  pub at_once : ReadAhead false (AllButLast (Pending limit)) bytes
   pub decides : (rest : List ℕ)
       → checked_by limit true (bytes ++ rest) ≡ Err (record { line = line; rule = beyond })
 
--- these bytes were read, and do not decide the text
+-- these bytes were read, and do not show what decides the text
 pub record IsLost (limit : ℕ) (old new : Option (List ℕ)) : Type 0 where
   pub bytes : List ℕ
   pub read : Consumes old new bytes
@@ -90,6 +97,7 @@ pub record IsHalted (limit : ℕ) (old new : Option (List ℕ)) : Type 0 where
   pub bytes : List ℕ
   pub none : Bool
   pub read : Consumes old new bytes
+  pub before : none ≡ true → bytes ≡ []
   pub at_once : DecidesAtOnce limit none bytes
 
 -- what checking a text did: what its source had left, and has left

@@ -1,3 +1,4 @@
+ghost use Rattle.std.specs.Prelude.{◌≡◌, IsErrOf};
 ghost use Rattle.run_checker.specs.Checks.{Checks, HasCheckCause};
 
 use crate::check_lines::CheckLines;
@@ -43,10 +44,10 @@ pub enum CheckError {
 /// behind the last one where the text ends before the certificate does. `TooLong` comes where the
 /// byte behind the limit was read, and no line that is shown before it is refused; no certificate
 /// has more than 2^44 bytes. Both come at once: at most 4096 bytes were read behind the one that
-/// decides. `ReadFault` comes only where the source counted a fault, and just one; nothing that was
-/// read before decides. Memory is taken with the line buffer and the head alone: for the plan, two
-/// configurations, and the most that the faulty nodes of any era tell in one round. No later line
-/// takes memory.
+/// decides. `ReadFault` comes only where the source counted a fault, and just one, and its end was
+/// not met; nothing that was read before decides. Memory is taken with the line buffer and the head
+/// alone: for the plan, two configurations, and the most that the faulty nodes of any era tell in
+/// one round. No later line takes memory.
 pub fn check_run<S: Source>(
     alloc: Global,
     source: &mut S,
@@ -54,6 +55,7 @@ pub fn check_run<S: Source>(
 ) -> Result<Verdict, CheckError>
     ensures checks { Checks limit (S.left source.old) (S.left source.new) result }
     ensures cause { HasCheckCause (S.faults source.old) (S.faults source.new) result }
+    ensures unmet { IsErrOf result CheckError.ReadFault → S.met source.new ≡ S.met source.old }
 {
     let mut line = match LineBuf::new(alloc) {
         Ok(line) => line,

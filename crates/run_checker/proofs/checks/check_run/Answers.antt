@@ -1,4 +1,4 @@
-use Rattle.std.proofs.Common.{ℕ, ◌≤◌, List, sym, ◌∙◌, arith, rules}
+use Rattle.std.proofs.Common.{◌≡◌, ℕ, ◌≤◌, List, sym, ◌∙◌, arith, rules}
 use Rattle.edge_io.proofs.FeedBytes.{buffered_few}
 use Rattle.run_checker.specs.Checks.{IsChecked, IsRefused, IsTooLong, IsLost, IsHalted}
 use Rattle.run_checker.proofs.SourceReads.{whole_checked, text_refused, text_too_long, text_lost, text_halted, nothing_halted, long_within, held_none, lent_back}
@@ -39,7 +39,7 @@ returns-in-Err-ReadFault-clause-checks g c =
     let le : c.min-limit.result ≤ c.args.limit = omega (arith, c.min-limit.ensures) in
     let cause = rw c.in-Err-ReadFault.field-0-is at c.in-Err-ReadFault.ensures.cause in
     lent_back (λ x. IsLost c.args.limit (g.S.Source.left c.args.source.now) (g.S.Source.left x)) _ c.read_ended.new.feed.source.now _ c.read_ended.new.feed.source.ghost_name (search rules) (sym (name ∙ same))
-    (text_lost c.args.limit _ le _ _ _ _ c.new-feed.ensures.left (held_none c.read_ended.new.feed cause.1) (rw (c.in-Err-ReadFault.field-0-is, c.new-2.ensures) at c.in-Err-ReadFault.ensures.text))
+    (text_lost c.args.limit _ le _ _ _ _ c.new-feed.ensures.left (held_none c.read_ended.new.feed cause.1.0) (rw (c.in-Err-ReadFault.field-0-is, c.new-2.ensures) at c.in-Err-ReadFault.ensures.text))
 
 pub returns-clause-checks : goal.returns-clause-checks
 returns-clause-checks g c =
@@ -48,3 +48,12 @@ returns-clause-checks g c =
     let le : c.min-limit.result ≤ c.args.limit = omega (arith, c.min-limit.ensures) in
     lent_back (λ x. IsHalted c.args.limit (g.S.Source.left c.args.source.now) (g.S.Source.left x)) _ c.read_ended.new.feed.source.now _ c.read_ended.new.feed.source.ghost_name (search rules) (sym (name ∙ same))
     (text_halted c.args.limit _ le _ _ _ _ c.new-feed.ensures.left (buffered_few c.read_ended.new.feed) (rw (c.in-Err-NoMemory.field-0-is, c.new-2.ensures) at c.in-Err-NoMemory.ensures.text))
+
+pub returns-in-Err-ReadFault-clause-unmet : goal.returns-in-Err-ReadFault-clause-unmet
+returns-in-Err-ReadFault-clause-unmet g c = λ _.
+    let same = c.new-feed.ensures.same_reference in
+    let name = c.read_ended.ensures.same_reference in
+    let cause = rw c.in-Err-ReadFault.field-0-is at c.in-Err-ReadFault.ensures.cause in
+    lent_back (λ x. g.S.Source.met x ≡ g.S.Source.met c.args.source.now) _
+    c.read_ended.new.feed.source.now _ c.read_ended.new.feed.source.ghost_name (search rules)
+    (sym (name ∙ same)) (cause.1.1 ∙ c.new-feed.ensures.met)
