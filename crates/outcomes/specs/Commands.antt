@@ -77,8 +77,8 @@ manner (Some command.Check) = as_it_goes
 manner (Some command.Node) = as_it_goes
 manner (Some (command.Demo seed)) = nothing
 
--- Bytes that decide nothing: more may follow, of which the outcome depends. None of them is behind
--- the limit, and a command that reads as it goes has not come to its answer.
+-- Bytes that do not show what decides: more may follow, of which the outcome depends. None of them
+-- is behind the limit, and a command that reads as it goes has not come to its answer.
 abbrev pub IsPending : Option Command → (seen : List ℕ) → Type 0
 IsPending (Some (command.Batch b)) seen = length seen ≤ 2 ^ 20
 IsPending (Some command.Check) seen = Pending (2 ^ 44) seen

@@ -93,7 +93,7 @@ pub record AnswerCut (m : Manner) (outcome : List ℕ → Outcome)
   pub still : now ≡ before
   pub cut : Cut (outcome input).text old new
 
--- one read failed, behind bytes that decide nothing
+-- one read failed, behind bytes that do not show what decides
 pub record ReadFailed (m : Manner) (Pending : List ℕ → Type 0) (written : List ℕ → List ℕ)
     (left left' : Option (List ℕ)) (before now : ℕ) (old new : Told) : Type 0 where
   pub seen : List ℕ
@@ -138,6 +138,11 @@ abbrev pub LeavesUnread : {S : Type 0} → Manner → (old new : S) → Type 0
 LeavesUnread nothing old new = new ≡ old
 LeavesUnread all_first old new = Unit {0}
 LeavesUnread as_it_goes old new = Unit {0}
+
+-- A read failed before the end was met: no source is asked again behind its end.
+abbrev pub LeavesUnmet : Status → (before now : Bool) → Type 0
+LeavesUnmet status.ReadFault before now = now ≡ before
+LeavesUnmet other before now = Unit {0}
 
 -- Whether a call that ends with that status may have touched its sink: not where memory was
 -- refused, nor where a word that writes at its end lost its input.

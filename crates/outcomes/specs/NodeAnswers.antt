@@ -51,8 +51,8 @@ behind_header input (Ok h) = served_outcome h (packets_for h (behind_lines h.lin
 abbrev pub node_outcome : List ℕ → Outcome
 node_outcome input = behind_header input (header_in (room_in (2 ^ 20) input) (lines_of input))
 
--- Bytes that decide nothing of an input: they do not decide its header; or it is whole, and none of
--- the bytes behind it is of a packet too many.
+-- Bytes that do not show what decides an input: they do not show what decides its header; or it is
+-- whole, and none of the bytes behind it is of a packet too many.
 abbrev pub pending_behind : (seen : List ℕ) → Result Header (Option HeaderRefusal) → Type 0
 pending_behind seen (Err refused) = HeaderPending seen
 pending_behind seen (Ok h) = IsWithin (packets_for h (behind_lines h.lines seen)).ending

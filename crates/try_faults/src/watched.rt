@@ -67,6 +67,8 @@ impl<S: Source> Source for Watched<S> {
 
     ghost faults = { λ w. S.faults w.inner };
 
+    ghost met = { λ w. S.met w.inner };
+
     fn read(&mut self, buf: &mut [u8]) -> Result<usize, Failed> {
         self.calls.begin();
         let read = self.inner.read(buf);

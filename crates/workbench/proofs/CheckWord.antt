@@ -16,7 +16,7 @@ use Rattle.outcomes.specs.declared.refusals.Refusal.TheVariants as refusal
 use Rattle.outcomes.specs.Refusals.{refusal_line}
 use Rattle.outcomes.specs.Outcomes.{Outcome, outcome_of, too_long}
 use Rattle.outcomes.specs.CheckAnswers.{verdict_outcome, checked_outcome, check_outcome}
-use Rattle.outcomes.specs.Conduct.{ReadsFront, ReadsAll, Does, LeavesUntouched}
+use Rattle.outcomes.specs.Conduct.{ReadsFront, ReadsAll, Does, LeavesUnmet, LeavesUntouched}
 use Rattle.workbench.proofs.Unread.{left_of, holds_left}
 use Rattle.workbench.proofs.NodeReturns.{all_front}
 
@@ -45,6 +45,12 @@ pub verdict_touches : {K : Type 0} (v : Verdict) (old new : K)
     → LeavesUntouched (Some command.Check) (verdict_outcome v).status old new
 verdict_touches (verdict.True rows locked) old new = tt
 verdict_touches (verdict.False row) old new = tt
+
+-- and is no read fault
+pub verdict_unmet : (v : Verdict) (before now : Bool)
+    → LeavesUnmet (verdict_outcome v).status before now
+verdict_unmet (verdict.True rows locked) before now = tt
+verdict_unmet (verdict.False row) before now = tt
 
 module _ (s l : Option (List ℕ)) (before now : ℕ) where
   -- a read failed

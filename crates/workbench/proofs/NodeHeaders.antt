@@ -16,7 +16,7 @@ use Rattle.outcomes.specs.declared.commands.Command.TheVariants as command
 use Rattle.outcomes.specs.Refusals.{refusal_status, refusal_line}
 use Rattle.outcomes.specs.Outcomes.{Outcome, outcome_of, too_long}
 use Rattle.outcomes.specs.NodeAnswers.{header_refusal, pending_behind, behind_header, node_outcome, cells_so_far, node_so_far}
-use Rattle.outcomes.specs.Conduct.{Does, LeavesUntouched}
+use Rattle.outcomes.specs.Conduct.{Does, LeavesUnmet, LeavesUntouched}
 use Rattle.workbench.proofs.Unread.{left_of}
 use Rattle.workbench.proofs.NodeReturns.{read_dry, reads_front, Input, input_of}
 
@@ -25,6 +25,12 @@ pub refusal_touches : {K : Type 0} (r : HeaderRefusal) (old new : K)
     → LeavesUntouched (Some command.Node) (refusal_status (header_refusal r)) old new
 refusal_touches (header.Plan line premise) old new = tt
 refusal_touches (header.Node line rule) old new = tt
+
+-- and is no read fault
+pub refusal_unmet : (r : HeaderRefusal) (before now : Bool)
+    → LeavesUnmet (refusal_status (header_refusal r)) before now
+refusal_unmet (header.Plan line premise) before now = tt
+refusal_unmet (header.Node line rule) before now = tt
 
 module _ (s f l : Option (List ℕ)) (held : List ℕ) (before now : ℕ) (keeps : Keeps s f) where
   -- a read failed in the header

@@ -6,7 +6,7 @@ use Rattle.texts.specs.Growth.{Told}
 use Rattle.edge_io.specs.FedParts.{MayFollow}
 use Rattle.sync_types.specs.declared.status.Status.{Status}
 use Rattle.outcomes.specs.declared.commands.Command.{Command}
-use Rattle.outcomes.specs.Conduct.{ReadsFront, ReadsAll, Does}
+use Rattle.outcomes.specs.Conduct.{ReadsFront, ReadsAll, Does, LeavesUnmet}
 use Rattle.workbench.proofs.Unread.{left_of, holds_left}
 
 -- bytes read of a feed and those in its buffer were read of its source
@@ -66,6 +66,16 @@ input_of false s f l held bytes short keeps read end = record { rest = held ++ l
 pub none_held : (at end : ℕ) (buffer : List ℕ) → at ≡ end → take (end - at) (drop at buffer) ≡ []
 none_held at end buffer e = let none : end - at ≡ 0 = omega (arith, e) in rw none refl
 
+-- so it is behind a read that failed
+pub dry_held : (at end : ℕ) (buffer : List ℕ) (Met : Type 0) → (at ≡ end) × Met
+    → take (end - at) (drop at buffer) ≡ []
+dry_held at end buffer Met dry = none_held at end buffer (dry.0)
+
 -- the source that was lent ends as what stands under its name
 pub does_end : {X : Type 0} (left : X → Option (List ℕ)) (faults : X → ℕ) (c : Option Command) (r : Status) (start final now : X) (lent other : ℕ) (t u : Told) → (lent ≡ other → final ≡ now) → lent ≡ other → Does c r (left start) (left now) (faults start) (faults now) t u → Does c r (left start) (left final) (faults start) (faults final) t u
 does_end left faults c r start final now lent other t u given same h = rw (given same) h
+
+pub unmet_end : {X : Type 0} (met : X → Bool) (r : Status) (start final now : X) (lent other : ℕ)
+    → (lent ≡ other → final ≡ now) → lent ≡ other → LeavesUnmet r (met start) (met now)
+    → LeavesUnmet r (met start) (met final)
+unmet_end met r start final now lent other given same h = rw (given same) h

@@ -19,7 +19,7 @@ use Rattle.outcomes.specs.declared.commands.Command.TheVariants as command
 use Rattle.outcomes.specs.Outcomes.{Outcome}
 use Rattle.outcomes.specs.NodeAnswers.{IsNodePending, pending_behind, ending_status, packets_for, served_outcome, behind_header, node_outcome, cells_so_far, node_so_far}
 use Rattle.workbench.specs.NodeService.{service_status}
-use Rattle.outcomes.specs.Conduct.{ReadsFront, ReadsAll, Does, LeavesUntouched}
+use Rattle.outcomes.specs.Conduct.{ReadsFront, ReadsAll, Does, LeavesUnmet, LeavesUntouched}
 use Rattle.workbench.proofs.Unread.{left_of}
 use Rattle.workbench.proofs.NodeReturns.{read_dry, reads_front, reads_all, all_front, nothing_left}
 use Rattle.workbench.proofs.NodeEngines.{IsNodeOf}
@@ -165,3 +165,22 @@ service_touches (Err fault.ReadFault) old new = tt
 service_touches (Err fault.WriteFault) old new = tt
 service_touches (Err (fault.Cut packet sender)) old new = tt
 service_touches (Err fault.TooLong) old new = tt
+
+-- where a read of it failed, the end was not met
+pub service_unmet : (r : Result ℕ NodeFault) (count counted : ℕ) (Dry : Type 0) (before now : Bool)
+    → HasServeCause count counted Dry r → (Dry → now ≡ before)
+    → LeavesUnmet (service_status r) before now
+service_unmet (Ok n) count counted Dry before now h kept = tt
+service_unmet (Err fault.ReadFault) count counted Dry before now h kept = kept h.1
+service_unmet (Err fault.WriteFault) count counted Dry before now h kept = tt
+service_unmet (Err (fault.Cut packet sender)) count counted Dry before now h kept = tt
+service_unmet (Err fault.TooLong) count counted Dry before now h kept = tt
+
+-- no read fails of a source that counts no fault
+pub never_unmet : (r : Result ℕ NodeFault) (Dry : Type 0) (before now : Bool)
+    → HasServeCause 0 0 Dry r → LeavesUnmet (service_status r) before now
+never_unmet (Ok n) Dry before now h = tt
+never_unmet (Err fault.ReadFault) Dry before now h = absurd (never_counted h.0)
+never_unmet (Err fault.WriteFault) Dry before now h = tt
+never_unmet (Err (fault.Cut packet sender)) Dry before now h = tt
+never_unmet (Err fault.TooLong) Dry before now h = tt

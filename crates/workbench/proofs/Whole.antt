@@ -13,7 +13,7 @@ use Rattle.outcomes.specs.declared.refusals.Refusal.TheVariants as refusal
 use Rattle.outcomes.specs.Outcomes.{Outcome, outcome_of, too_long, of_whole}
 use Rattle.outcomes.specs.Answers.{answer_of}
 use Rattle.outcomes.specs.Commands.{all_first, defined}
-use Rattle.outcomes.specs.Conduct.{ReadsFront, ReadsAll, Reads, Writes, Answered, Does, LeavesUntouched}
+use Rattle.outcomes.specs.Conduct.{ReadsFront, ReadsAll, Reads, Writes, Answered, Does, LeavesUnmet, LeavesUntouched}
 use Rattle.answers.specs.Ends.{Ends}
 use Rattle.answers.proofs.Ended.{ends_by}
 
@@ -146,3 +146,22 @@ pub untouched : {K : Type 0} (told : K → Told) (b : Batch) (input : List ℕ) 
 untouched told b input old new =
     ends_by told (λ s. LeavesUntouched (Some (command.Batch b)) s old new) (answer_of b input) old
     new (λ cut. tt) (λ none. none) (λ wrote. touches_any b old new (answer_of b input))
+
+-- ---- no read fails behind the end
+
+unmet_any : (before now : Bool) (r : Result (List ℕ) Refusal)
+    → LeavesUnmet (outcome_of r).status before now
+unmet_any before now (Ok text) = tt
+unmet_any before now (Err refusal.Usage) = tt
+unmet_any before now (Err (refusal.Plan line premise)) = tt
+unmet_any before now (Err (refusal.Part part line rule)) = tt
+unmet_any before now (Err (refusal.Certificate line)) = tt
+unmet_any before now (Err (refusal.Table line cause)) = tt
+
+-- an input that was read is not answered by a read fault
+pub unmet : {K : Type 0} (told : K → Told) (b : Batch) (input : List ℕ) (old new : K)
+    (before now : Bool) (s : Status) → Ends told s (answer_of b input) old new
+    → LeavesUnmet s before now
+unmet told b input old new before now =
+    ends_by told (λ s. LeavesUnmet s before now) (answer_of b input) old new (λ cut. tt)
+    (λ none. tt) (λ wrote. unmet_any before now (answer_of b input))

@@ -1,7 +1,7 @@
 //! The batch commands: all of the input is read, and then it is answered.
 
 ghost use Rattle.std.specs.Prelude.{Some};
-ghost use Rattle.outcomes.specs.Conduct.{Does, LeavesUntouched};
+ghost use Rattle.outcomes.specs.Conduct.{Does, LeavesUnmet, LeavesUntouched};
 
 use answers::answer;
 use edge_io::{InputFault, Sink, Source, read_all};
@@ -22,6 +22,7 @@ pub fn batch<S: Source, K: Sink>(
     ensures does { Does (Some (Command.Batch command)) result
         (S.left source.old) (S.left source.new) (S.faults source.old) (S.faults source.new)
         (K.told sink.old) (K.told sink.new) }
+    ensures unmet { LeavesUnmet result (S.met source.old) (S.met source.new) }
     ensures untouched { LeavesUntouched (Some (Command.Batch command)) result sink.old sink.new }
 {
     let input = match read_all(alloc, source, LONGEST_INPUT) {

@@ -1,6 +1,6 @@
 ghost use Rattle.std.specs.Prelude.{◌≡◌, map, string_bytes, None};
 ghost use Rattle.outcomes.specs.Commands.{command_of, manner};
-ghost use Rattle.outcomes.specs.Conduct.{Does, LeavesUnread, LeavesUntouched};
+ghost use Rattle.outcomes.specs.Conduct.{Does, LeavesUnread, LeavesUnmet, LeavesUntouched};
 ghost use Rattle.promises.specs.CheckLaws.{CheckIsExact};
 ghost use Rattle.promises.specs.Laws.{AcceptedPlansSettle, PromiseIsKept};
 ghost use Rattle.promises.specs.RecordLaws.{RecordsAreChecked};
@@ -39,6 +39,7 @@ fn usage<S: Source, K: Sink>(source: &mut S, sink: &mut K) -> Status
         (S.left source.old) (S.left source.new) (S.faults source.old) (S.faults source.new)
         (K.told sink.old) (K.told sink.new) }
     ensures kept { source.new ≡ source.old }
+    ensures unmet { LeavesUnmet result (S.met source.old) (S.met source.new) }
     ensures untouched { LeavesUntouched None result sink.old sink.new }
 {
     match put_refusal(sink, Refusal::Usage) {
@@ -59,6 +60,7 @@ fn answer<S: Source, K: Sink>(
         (K.told sink.old) (K.told sink.new) }
     ensures unread { LeavesUnread (manner (command_of (map string_bytes words.now)))
         source.old source.new }
+    ensures unmet { LeavesUnmet result (S.met source.old) (S.met source.new) }
     ensures untouched { LeavesUntouched (command_of (map string_bytes words.now)) result
         sink.old sink.new }
 {
@@ -88,9 +90,9 @@ fn answer<S: Source, K: Sink>(
 ///   from the run that it states, with the first such row; its line was written.
 /// - `Cut`: of `node` alone, exactly where the input ends inside a packet; a cell was written at
 ///   the start and for each whole packet, and no line.
-/// - `ReadFault`: only where the source counted a fault in this call, and just one, behind bytes
-///   that decide nothing, so never of `demo`; nothing was written, and by `node` the cells of the
-///   whole packets that were read.
+/// - `ReadFault`: only where the source counted a fault in this call, and just one, before its end
+///   was met, and behind bytes that do not show what decides, so never of `demo`; nothing was
+///   written, and by `node` the cells of the whole packets that were read.
 /// - `WriteFault`: only where the sink counted one, and just one; a front of the answer was taken.
 /// - `TooLong`: exactly where the byte behind the limit was there, and, of `check` and of the
 ///   header of `node`, no line was refused before it; nothing was written. Of `node` also where
@@ -110,6 +112,9 @@ pub fn counterlab<S: Source, K: Sink>(
     // `demo` and words outside the table leave the source as it was, whatever it tells.
     ensures unread { LeavesUnread (manner (command_of (map string_bytes words.now)))
         source.old source.new }
+
+    // No source is asked again behind its end: where a read failed, none before it gave nothing.
+    ensures unmet { LeavesUnmet result (S.met source.old) (S.met source.new) }
 
     // And where nothing was to be written, the sink is as it was.
     ensures untouched { LeavesUntouched (command_of (map string_bytes words.now)) result

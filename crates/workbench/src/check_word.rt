@@ -3,7 +3,7 @@
 ghost use Rattle.std.specs.Prelude.{◌≡◌, Some};
 ghost use Rattle.texts.specs.Growth.{Puts};
 ghost use Rattle.outcomes.specs.CheckAnswers.{verdict_outcome};
-ghost use Rattle.outcomes.specs.Conduct.{Does, LeavesUntouched};
+ghost use Rattle.outcomes.specs.Conduct.{Does, LeavesUnmet, LeavesUntouched};
 
 use edge_io::{Piece, Sink, Source, WriteFault, put_pieces};
 use outcomes::{Command, Refusal, put_refusal};
@@ -68,6 +68,7 @@ pub fn check<S: Source, K: Sink>(alloc: Global, source: &mut S, sink: &mut K) ->
     ensures does { Does (Some Command.Check) result
         (S.left source.old) (S.left source.new) (S.faults source.old) (S.faults source.new)
         (K.told sink.old) (K.told sink.new) }
+    ensures unmet { LeavesUnmet result (S.met source.old) (S.met source.new) }
     ensures untouched { LeavesUntouched (Some Command.Check) result sink.old sink.new }
 {
     limits_matter_beyond();

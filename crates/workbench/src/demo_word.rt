@@ -1,7 +1,7 @@
 //! The word `demo`: a plan and a script are made of a number, and answered as `run` answers them.
 
 ghost use Rattle.std.specs.Prelude.{◌≡◌, Some};
-ghost use Rattle.outcomes.specs.Conduct.{Does, LeavesUntouched};
+ghost use Rattle.outcomes.specs.Conduct.{Does, LeavesUnmet, LeavesUntouched};
 
 use answers::answer;
 use edge_io::{Sink, Source};
@@ -15,6 +15,7 @@ pub fn demo<S: Source, K: Sink>(alloc: Global, seed: u64, source: &mut S, sink: 
         (S.left source.old) (S.left source.new) (S.faults source.old) (S.faults source.new)
         (K.told sink.old) (K.told sink.new) }
     ensures kept { source.new ≡ source.old }
+    ensures unmet { LeavesUnmet result (S.met source.old) (S.met source.new) }
     ensures untouched { LeavesUntouched (Some (Command.Demo seed)) result sink.old sink.new }
 {
     let text = match demo_text(alloc, seed) {

@@ -7,7 +7,7 @@ ghost use Rattle.node_header.specs.Fits.{IsFit};
 ghost use Rattle.node_stepper.specs.Nodes.{begun};
 ghost use Rattle.outcomes.specs.NodeAnswers.{header_refusal};
 ghost use Rattle.workbench.specs.NodeService.{service_status};
-ghost use Rattle.outcomes.specs.Conduct.{Does, LeavesUntouched};
+ghost use Rattle.outcomes.specs.Conduct.{Does, LeavesUnmet, LeavesUntouched};
 
 use edge_io::{Feed, LineBuf, PlainSource, Sink, Source, WriteFault};
 use node_header::{HeaderError, HeaderRead, HeaderRefusal, read_header};
@@ -59,6 +59,7 @@ pub fn node<S: Source, K: Sink>(alloc: Global, source: &mut S, sink: &mut K) -> 
     ensures does { Does (Some Command.Node) result
         (S.left source.old) (S.left source.new) (S.faults source.old) (S.faults source.new)
         (K.told sink.old) (K.told sink.new) }
+    ensures unmet { LeavesUnmet result (S.met source.old) (S.met source.new) }
     ensures untouched { LeavesUntouched (Some Command.Node) result sink.old sink.new }
 {
     let mut line = match LineBuf::new(alloc) {

@@ -1,5 +1,5 @@
 use Rattle.std.proofs.Common.{Err, refl, ap}
-use Rattle.workbench.proofs.Whole.{lost, beyond, answered, untouched}
+use Rattle.workbench.proofs.Whole.{lost, beyond, answered, unmet, untouched}
 use Rattle.workbench.proofs.batch_word.batch.Goals as goal
 
 pub returns-in-Err-ReadFault-clause-does : goal.returns-in-Err-ReadFault-clause-does
@@ -29,4 +29,13 @@ returns-clause-does g c =
 pub returns-clause-untouched : goal.returns-clause-untouched
 returns-clause-untouched g c =
     untouched g.K.Sink.told c.args.command c.in-Ok.input.items _ _ _
+    (rw c.deref.ensures.value at c.answer.ensures)
+
+pub returns-in-Err-ReadFault-clause-unmet : goal.returns-in-Err-ReadFault-clause-unmet
+returns-in-Err-ReadFault-clause-unmet g c =
+    c.in-Err-ReadFault.ensures.unmet (ap Err c.in-Err-ReadFault.field-0-is)
+
+pub returns-clause-unmet : goal.returns-clause-unmet
+returns-clause-unmet g c =
+    unmet g.K.Sink.told c.args.command c.in-Ok.input.items _ _ _ _ _
     (rw c.deref.ensures.value at c.answer.ensures)

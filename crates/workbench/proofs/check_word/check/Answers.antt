@@ -1,4 +1,5 @@
-use Rattle.workbench.proofs.CheckWord.{verdict_touches, check_lost, check_long, check_refused, check_refused_cut, check_cut, check_done}
+use Rattle.std.proofs.Common.{Err, ap}
+use Rattle.workbench.proofs.CheckWord.{verdict_touches, verdict_unmet, check_lost, check_long, check_refused, check_refused_cut, check_cut, check_done}
 use Rattle.workbench.proofs.check_word.check.Goals as goal
 
 pub returns-in-Err-TooLong-clause-does : goal.returns-in-Err-TooLong-clause-does
@@ -40,3 +41,14 @@ returns-in-Ok-put_refusal-clause-untouched g c = rw c.status.ensures tt
 pub returns-in-Ok-put_verdict-clause-untouched : goal.returns-in-Ok-put_verdict-clause-untouched
 returns-in-Ok-put_verdict-clause-untouched g c =
     rw c.verdict_status.ensures (verdict_touches c.in-Ok.verdict _ _)
+
+pub returns-in-Err-ReadFault-clause-unmet : goal.returns-in-Err-ReadFault-clause-unmet
+returns-in-Err-ReadFault-clause-unmet g c =
+    c.in-Err-ReadFault.ensures.unmet (ap Err c.in-Err-ReadFault.field-0-is)
+
+pub returns-in-Ok-put_refusal-clause-unmet : goal.returns-in-Ok-put_refusal-clause-unmet
+returns-in-Ok-put_refusal-clause-unmet g c = rw c.status.ensures tt
+
+pub returns-in-Ok-put_verdict-clause-unmet : goal.returns-in-Ok-put_verdict-clause-unmet
+returns-in-Ok-put_verdict-clause-unmet g c =
+    rw c.verdict_status.ensures (verdict_unmet c.in-Ok.verdict _ _)

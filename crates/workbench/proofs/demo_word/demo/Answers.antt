@@ -13,6 +13,7 @@ use Rattle.answers.specs.Ends.{Ends}
 use Rattle.answers.proofs.Ended.{ends_by}
 use Rattle.promises.proofs.DemoTexts.{demo_ends_well, demo_is_short}
 use Rattle.workbench.proofs.Unread.{unread_answered, unread_cut}
+use Rattle.workbench.proofs.Whole.{unmet}
 use Rattle.workbench.proofs.demo_word.demo.Goals as goal
 
 -- what `demo` did, by what became of its text
@@ -55,3 +56,8 @@ pub returns-clause-untouched : goal.returns-clause-untouched
 returns-clause-untouched g c =
     let text = c.as_bytes.ensures.value ∙ c.in-Ok.ensures in
     untouched g.K.Sink.told c.args.seed _ _ _ (rw text at c.answer.ensures)
+
+pub returns-clause-unmet : goal.returns-clause-unmet
+returns-clause-unmet g c =
+    let text = c.as_bytes.ensures.value ∙ c.in-Ok.ensures in
+    unmet g.K.Sink.told batch.Run (demo_text c.args.seed) _ _ _ _ _ (rw text at c.answer.ensures)
