@@ -13,22 +13,20 @@ use Rattle.counter_core.specs.Overlays.{Layer, StandsOver}
 use Rattle.adversary_script.specs.Scripts.{Script}
 use Rattle.adversary_script.specs.ScriptPart as script
 use Rattle.adversary_script.specs.ScriptPart.{script_of}
-use Rattle.round_runner.specs.Fits.{IsDeaf}
 use Rattle.round_runner.specs.Runners.{IsFor}
 use Rattle.outcomes.specs.Layered.{layered_of}
 
 -- a script that was read for a plan is one to play with a layer over its counter
 pub for_runner : {Kept : Type 0} (plan tower : Plan) (layer : Layer Kept) (shape : Shape)
-    (s : Script) → tower ≡ plan → StandsOver layer (plan_meaning plan) → IsDeaf layer
+    (s : Script) → tower ≡ plan → StandsOver layer (plan_meaning plan)
     → shape ≡ shape_with plan layer.values layer.extra → script.IsFor plan shape s
     → IsFor tower layer s
-for_runner plan tower layer shape s same over deaf is right =
+for_runner plan tower layer shape s same over is right =
     subst (λ (p : Plan). IsFor p layer s) (sym same)
     (record {
       nodes = right.nodes;
       shape = right.states ∙ is;
       over = over;
-      deaf = deaf;
       borne = right.borne;
     })
 

@@ -3,7 +3,6 @@ ghost use Rattle.plan_laws.specs.PlanMeaning.{plan_meaning};
 ghost use Rattle.state_codec.specs.Shapes.{shape_with};
 ghost use Rattle.counter_core.specs.Overlays.{StandsOver};
 ghost use Rattle.adversary_script.specs.ScriptPart.{IsFor};
-ghost use Rattle.round_runner.specs.Fits.{IsDeaf};
 ghost use Rattle.answers.specs.LayeredRuns.{IsBegun};
 
 use adversary_script::Script;
@@ -17,7 +16,7 @@ use tower::build;
 
 /// The runner at configuration 0 of a script that was read for a plan, with a layer that stands
 /// over the plan's counter. The shape is that of the plan's states with the layer's registers
-/// behind; a layer without registers does not see what is heard.
+/// behind.
 pub fn runner_of<O: Overlay>(
     alloc: Global,
     plan: &Plan,
@@ -26,7 +25,6 @@ pub fn runner_of<O: Overlay>(
     overlay: O,
 ) -> Result<Runner<O>, NoMemory>
     requires over { StandsOver (O.layer overlay) (plan_meaning plan.now) }
-    requires deaf { IsDeaf (O.layer overlay) }
     requires shape { shape ≡ shape_with plan.now (O.layer overlay).values (O.layer overlay).extra }
     requires script { IsFor plan.now shape script }
     ensures { IfOk result (IsBegun O.layer O.kept plan.now script overlay) }

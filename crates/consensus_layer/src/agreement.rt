@@ -86,6 +86,8 @@ impl Agreement {
 }
 
 impl Overlay for Agreement {
+    ghost use Rattle.std.proofs.Common.{refl};
+    ghost use Rattle.counter_core.specs.Registers.{registers_hear};
     ghost use Rattle.consensus_layer.specs.AgreementsSeen.{layer_seen, decisions_seen};
     ghost use Rattle.consensus_layer.specs.AgreeLaws.{agree_keeps};
 
@@ -126,4 +128,6 @@ impl Overlay for Agreement {
 
     ghost keeps_range = { λ a. agree_keeps a.nodes a.faults a.modulus a.depth a.values
         a.inputs.items a.quorum a.inputs_of_nodes a.range };
+
+    ghost deaf = { λ a. registers_hear (layer_seen a) 0 refl };
 }

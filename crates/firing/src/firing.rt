@@ -82,6 +82,8 @@ impl Firing {
 }
 
 impl Overlay for Firing {
+    ghost use Rattle.std.proofs.Common.{refl};
+    ghost use Rattle.counter_core.specs.Registers.{registers_hear};
     ghost use Rattle.firing.specs.FiringsSeen.{layer_seen, fires_seen};
     ghost use Rattle.firing.specs.FireLaws.{fire_keeps};
 
@@ -123,4 +125,6 @@ impl Overlay for Firing {
 
     ghost keeps_range = { λ f.
         fire_keeps f.nodes f.faults f.modulus f.depth f.requests f.quorum };
+
+    ghost deaf = { λ f. registers_hear (layer_seen f) 0 refl };
 }

@@ -20,7 +20,6 @@ use Rattle.adversary_script.specs.Scripts.{Script, IsScript}
 use Rattle.adversary_script.specs.ScriptPart as script
 use Rattle.adversary_script.specs.ScriptPart.{script_of}
 use Rattle.adversary_script.proofs.ReadScripts.{script_is_for, script_is_script}
-use Rattle.round_runner.specs.Fits.{IsDeaf}
 use Rattle.round_runner.specs.Runners as runner
 use Rattle.slot_table.specs.declared.lines.SlotLine.{SlotLine}
 use Rattle.slot_table.specs.SlotPart as slots
@@ -128,18 +127,16 @@ pub record IsToPlay {Said Kept : Type 0} (Fits : Plan → Said → Type 0)
 pub to_play : {Said Kept : Type 0} (shape_for : Plan → Said → Shape) (Fits : Plan → Said → Type 0)
     (layer_of : Plan → Said → Layer Kept) (l : Layered Said)
     → StandsOver (layer_of l.plan l.said) (plan_meaning l.plan)
-    → IsDeaf (layer_of l.plan l.said)
     → shape_for l.plan l.said
     ≡ shape_with l.plan (layer_of l.plan l.said).values (layer_of l.plan l.said).extra
     → IsRead shape_for Fits l → IsToPlay Fits layer_of l
-to_play shape_for Fits layer_of l over deaf is read = record {
+to_play shape_for Fits layer_of l over is read = record {
   accepted = read.accepted;
   fits = read.fits;
   right = record {
     nodes = read.right.nodes;
     shape = read.right.states ∙ is;
     over = over;
-    deaf = deaf;
     borne = read.right.borne;
   };
   whole = read.whole;
@@ -161,21 +158,18 @@ decisions_to_play input =
     so _ (input_read part.Agree agree.part_of agree_shape agree.IsFor inputs_fit
     (λ plan said accepted fits. further_sound plan said.values 1 accepted fits.two fits.few) input)
     (λ l. to_play agree_shape agree.IsFor agreed_layer l
-    (λ lt. record { nodes = refl; modulus = refl; depth = refl })
-    (λ none. absurd (omega (arith, none))) refl)
+    (λ lt. record { nodes = refl; modulus = refl; depth = refl }) refl)
 
 pub fires_to_play : (input : List ℕ) → IfOk (firing_of input) (IsToPlay fire.AreFor fire_layer)
 fires_to_play input =
     so _ (input_read part.Fire fire.part_of fire_shape fire.AreFor requests_fit
     (λ plan requests accepted fits. further_sound plan 2 1 accepted (omega arith) (omega arith)) input)
     (λ l. to_play fire_shape fire.AreFor fire_layer l
-    (λ lt. record { nodes = refl; modulus = refl; depth = refl })
-    (λ none. absurd (omega (arith, none))) refl)
+    (λ lt. record { nodes = refl; modulus = refl; depth = refl }) refl)
 
 pub entries_to_play : (input : List ℕ) → IfOk (logging_of input) (IsToPlay log.IsFor log_layer)
 entries_to_play input =
     so _ (input_read part.Log log.part_of log_shape log.IsFor log_fits
     (λ plan said accepted fits. further_sound plan said.values 2 accepted fits.two fits.few) input)
     (λ l. to_play log_shape log.IsFor log_layer l
-    (λ lt. record { nodes = refl; modulus = refl; depth = refl })
-    (λ none. absurd (omega (arith, none))) refl)
+    (λ lt. record { nodes = refl; modulus = refl; depth = refl }) refl)

@@ -194,6 +194,8 @@ impl Replica {
 }
 
 impl Overlay for Replica {
+    ghost use Rattle.std.proofs.Common.{refl};
+    ghost use Rattle.counter_core.specs.Registers.{registers_hear};
     ghost use Rattle.replicated_log.specs.LogsSeen.{layer_seen, logs_seen};
     ghost use Rattle.replicated_log.specs.LogLaws.{log_keeps};
 
@@ -239,4 +241,6 @@ impl Overlay for Replica {
     ghost keeps_range = { λ r.
         log_keeps r.nodes r.faults r.modulus r.depth r.values r.keep r.commands.items r.quorum
         r.commands_of_nodes r.range };
+
+    ghost deaf = { λ r. registers_hear (layer_seen r) 1 refl };
 }

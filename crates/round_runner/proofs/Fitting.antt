@@ -28,7 +28,7 @@ use Rattle.adversary_script.specs.Scripts.{Script}
 use Rattle.adversary_script.specs.ScriptPart as part
 use Rattle.adversary_script.specs.Lies.{fitted_register, fitted}
 use Rattle.adversary_script.proofs.Fitted.{fitted_in_range}
-use Rattle.round_runner.specs.Fits.{Fits, IsDeaf}
+use Rattle.round_runner.specs.Fits.{Fits}
 use Rattle.round_runner.specs.Runners.{IsFor}
 
 -- a register that a node has is below its modulus, and one that is below it is the node's
@@ -248,18 +248,15 @@ no_further plan values count none =
 
 -- a script that was read for a plan is one to play with a layer that has no registers
 pub without_registers : {Kept : Type 0} (plan : Plan) (script : Script) (layer : Layer Kept)
-    → layer.extra ≡ 0 → IsDeaf layer
-    → part.IsFor plan (shape_of plan) script → IsFor plan layer script
-without_registers plan script layer none deaf is = record {
+    → layer.extra ≡ 0 → part.IsFor plan (shape_of plan) script → IsFor plan layer script
+without_registers plan script layer none is = record {
   nodes = is.nodes;
   shape = is.states ∙ no_further plan layer.values layer.extra none;
   over = λ lt. absurd (omega (arith, lt, none));
-  deaf = deaf;
   borne = is.borne;
 }
 
 -- so it is one to play without a layer
 pub without_layer : (plan : Plan) (script : Script) → part.IsFor plan (shape_of plan) script
     → IsFor plan no_layer script
-without_layer plan script is = without_registers plan script no_layer refl
-    (λ none v kept output heard told. refl) is
+without_layer plan script is = without_registers plan script no_layer refl is

@@ -12,10 +12,10 @@ use Rattle.plan_laws.proofs.PlanCounter.{plan_sizes}
 use Rattle.state_codec.specs.Shapes.{Shape, IsShape, fields_at}
 use Rattle.state_codec.specs.Ranges.{InRange}
 use Rattle.counter_core.specs.Meanings.{written}
-use Rattle.counter_core.specs.Overlays.{Layer, StandsOver, HasRegisters, CanStep, MayHear, AreNew, KeepsRange, after, layered}
+use Rattle.counter_core.specs.Overlays.{Layer, IsDeaf, StandsOver, HasRegisters, CanStep, MayHear, AreNew, KeepsRange, after, layered}
 use Rattle.adversary_script.specs.Scripts.{Script, IsScript}
 use Rattle.adversary_script.specs.Lies.{AreStates}
-use Rattle.round_runner.specs.Fits.{Fits, IsDeaf}
+use Rattle.round_runner.specs.Fits.{Fits}
 use Rattle.round_runner.specs.Played.{heard_at}
 use Rattle.round_runner.specs.Scenes.{layer_step, new_state}
 use Rattle.round_runner.proofs.HeardAt.{heard_long, heard_counts, heard_deep, heard_values}

@@ -5,11 +5,10 @@ use Rattle.std.specs.Prelude.{slice_index}
 use Rattle.sync_types.specs.FaultSets.{is_in}
 use Rattle.sync_types.specs.States.{State}
 use Rattle.construction.specs.Steps.{state_of}
-use Rattle.counter_core.specs.Overlays.{Layer, after}
+use Rattle.counter_core.specs.Overlays.{Layer, IsDeaf, after}
 use Rattle.adversary_script.specs.Scripts.{Script}
 use Rattle.adversary_script.specs.Eras.{faulty_at}
 use Rattle.adversary_script.specs.Lies.{lie_of}
-use Rattle.round_runner.specs.Fits.{IsDeaf}
 use Rattle.round_runner.specs.Hearing.{heard_from, AreHonest}
 use Rattle.round_runner.specs.Played.{heard_at}
 use Rattle.round_runner.proofs.Heard.{place_of, heard_is, heard_own}

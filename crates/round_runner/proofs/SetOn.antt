@@ -6,7 +6,7 @@ use Rattle.state_codec.specs.Packs.{Pack}
 use Rattle.counter_core.specs.Overlays.{Layer, StandsOver}
 use Rattle.round_runner.specs.declared.stepping.Room.{Room}
 use Rattle.round_runner.specs.declared.turns.Round.{Round}
-use Rattle.round_runner.specs.Fits.{Fits, IsDeaf}
+use Rattle.round_runner.specs.Fits.{Fits}
 use Rattle.round_runner.specs.Rooms.{IsReady}
 use Rattle.round_runner.specs.Turns.{IsSet, IsGathered}
 
@@ -19,7 +19,6 @@ module _ {Kept : Type 0} (round : Round) (layer now : Layer Kept) (same : now �
         (IsInRange round.tower.now)) (sym same) set.fits;
     over = subst (λ (l : Layer Kept). StandsOver l (plan_meaning round.tower.now)) (sym same)
         set.over;
-    deaf = subst IsDeaf (sym same) set.deaf;
     shape = shape ∙ set.shape;
     size = ap (λ (xs : List State). length xs) current ∙ set.size;
     ready = ready;

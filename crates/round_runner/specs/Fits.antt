@@ -23,8 +23,3 @@ pub record Fits {Kept : Type 0} (shape : Shape) (counter : Meaning) (in_range : 
         x = (counter.next v heard).x;
         registers = (counter.next v heard).registers ++ registers;
       })
-
--- the step of a layer without registers does not hang on what is heard
-abbrev pub IsDeaf : {Kept : Type 0} → Layer Kept → Type 0
-IsDeaf layer = layer.extra ≡ 0 → (v : ℕ) (kept : _) (output : ℕ) (heard told : List State)
-    → layer.next v kept output heard ≡ layer.next v kept output told

@@ -9,7 +9,6 @@ use Rattle.state_codec.specs.Shapes.{shape_with}
 use Rattle.counter_core.specs.Overlays.{Layer, StandsOver}
 use Rattle.adversary_script.specs.Scripts.{Script, faulty_sets}
 use Rattle.adversary_script.specs.Eras.{era_of, faulty_at}
-use Rattle.round_runner.specs.Fits.{IsDeaf}
 use Rattle.round_runner.specs.Locks.{is_locked, first_of, first_locked, era_locked}
 use Rattle.round_runner.specs.Played.{starts}
 use Rattle.layer_laws.specs.Scenes.{Scene}
@@ -26,12 +25,11 @@ pub record Running (O : Type 0) : Type 0 where
   pub locks : List (Option ℕ)
 
 -- The script was read for the plan, and states have the layer's registers behind those of the
--- plan; a layer without registers does not see what is heard.
+-- plan.
 pub record IsFor {Kept : Type 0} (plan : Plan) (layer : Layer Kept) (script : Script) : Type 0 where
   pub nodes : script.nodes ≡ plan_nodes plan
   pub shape : script.shape ≡ shape_with plan layer.values layer.extra
   pub over : StandsOver layer (plan_meaning plan)
-  pub deaf : IsDeaf layer
   pub borne : All (IsBorne plan) (faulty_sets script)
 
 -- the first locked configuration of each era, where configuration 0 is that one

@@ -15,7 +15,7 @@ use Rattle.adversary_script.specs.Eras.{faulty_at}
 use Rattle.round_runner.specs.declared.stepping.Room.{Room}
 use Rattle.round_runner.specs.declared.turns.Round.{Round}
 use Rattle.round_runner.specs.Beginnings.{BeginsAt}
-use Rattle.round_runner.specs.Fits.{Fits, IsDeaf}
+use Rattle.round_runner.specs.Fits.{Fits}
 use Rattle.round_runner.specs.Hearing.{AreHonest}
 use Rattle.round_runner.specs.Rooms.{IsReady}
 
@@ -47,7 +47,6 @@ pub record IsSet {Kept : Type 0} (round : Round) (layer : Layer Kept) (states : 
   pub fits : Fits round.script.now.shape (plan_meaning round.tower.now)
       (IsInRange round.tower.now) layer
   pub over : StandsOver layer (plan_meaning round.tower.now)
-  pub deaf : IsDeaf layer
   pub shape : states.shape ≡ round.script.now.shape
   pub size : length states.current ≡ round.script.now.nodes
   pub ready : IsReady round.tower.now round.script.now room

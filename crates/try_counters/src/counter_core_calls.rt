@@ -21,6 +21,9 @@ struct Repeat {
 }
 
 impl Overlay for Repeat {
+    ghost use Rattle.std.proofs.Common.{refl};
+    ghost use Rattle.counter_core.specs.Registers.{registers_hear};
+
     type Kept = u64;
 
     ghost layer = { λ r. repeat_layer r.nodes r.modulus r.depth };
@@ -52,6 +55,8 @@ impl Overlay for Repeat {
     }
 
     ghost keeps_range = { λ r. repeat_layer_keeps r.nodes r.modulus r.depth };
+
+    ghost deaf = { λ r. registers_hear (repeat_layer r.nodes r.modulus r.depth) 0 refl };
 }
 
 /// The step of a node of a counter, with that of a layer above it.

@@ -51,9 +51,6 @@ pub runner_of-requires-clause-over : goal.runner_of-requires-clause-over
 runner_of-requires-clause-over c = agree_stands c.in_ok-plan.plan _ _ _
     c.in_ok-agreement.ensures.exact.fresh.layer
 
-pub runner_of-requires-clause-deaf : goal.runner_of-requires-clause-deaf
-runner_of-requires-clause-deaf c = λ none. absurd (omega (arith, none))
-
 pub runner_of-requires-clause-shape : goal.runner_of-requires-clause-shape
 runner_of-requires-clause-shape c =
     c.in_ok-shape.ensures

@@ -20,9 +20,6 @@ read_script-requires-clause-shape c =
       is = c.in_ok-shape.ensures;
     } in inr further
 
-pub runner_of-requires-clause-deaf : goal.runner_of-requires-clause-deaf
-runner_of-requires-clause-deaf c = λ none. absurd (omega (arith, none))
-
 pub returns : goal.returns
 returns c =
     let read = c.in_ok-firing.ensures.exact in

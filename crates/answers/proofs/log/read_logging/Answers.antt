@@ -37,9 +37,6 @@ read_script-requires-clause-shape c =
       is = c.in_ok-shape.ensures;
     } in inr further
 
-pub runner_of-requires-clause-deaf : goal.runner_of-requires-clause-deaf
-runner_of-requires-clause-deaf c = λ none. absurd (omega (arith, none))
-
 pub returns-in_err-script : goal.returns-in_err-script
 returns-in_err-script c =
     let read = c.in_ok-replica.ensures.exact in

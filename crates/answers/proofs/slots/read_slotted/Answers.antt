@@ -13,9 +13,6 @@ read_script-requires-clause-shape c = inl c.in_ok-shape.ensures.shape
 pub runner_of-requires-clause-over : goal.runner_of-requires-clause-over
 runner_of-requires-clause-over c = λ lt. absurd (omega (arith, lt))
 
-pub runner_of-requires-clause-deaf : goal.runner_of-requires-clause-deaf
-runner_of-requires-clause-deaf c = λ none v kept output heard told. refl
-
 pub runner_of-requires-clause-shape : goal.runner_of-requires-clause-shape
 runner_of-requires-clause-shape c =
     c.in_ok-shape.ensures.shape ∙ none_behind c.in_ok-plan.plan 0

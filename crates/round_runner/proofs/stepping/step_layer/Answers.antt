@@ -16,7 +16,7 @@ advance-requires-clause-step g c =
     (g.O.Overlay.kept c.args.overlay.now) c.args.round.now.t c.args.v config c.requires.round.accepted
     c.requires.round.script (subst IsShape c.requires.set.shape c.tell.ensures.sound)
     (g.met.O.Overlay.keeps_range c.args.overlay.now) c.requires.set.fits c.requires.set.over
-    c.requires.set.deaf c.requires.round.nodes c.requires.node
+    (g.met.O.Overlay.deaf c.args.overlay.now) c.requires.round.nodes c.requires.node
     (range_of c.args.states.now.shape script.shape script.nodes config c.requires.set.shape
     c.requires.set.size c.tell.ensures.current)
     _ c.shown_at-output.result (c.shown_at-output.ensures
@@ -33,7 +33,7 @@ returns-clause-out g c =
     (g.O.Overlay.kept c.args.overlay.now) c.args.round.now.t c.args.v config c.requires.round.accepted
     c.requires.round.script (subst IsShape c.requires.set.shape c.tell.ensures.sound)
     (g.met.O.Overlay.keeps_range c.args.overlay.now) c.requires.set.fits c.requires.set.over
-    c.requires.set.deaf c.requires.round.nodes c.requires.node
+    (g.met.O.Overlay.deaf c.args.overlay.now) c.requires.round.nodes c.requires.node
     (range_of c.args.states.now.shape script.shape script.nodes config c.requires.set.shape
     c.requires.set.size c.tell.ensures.current)
     _ c.shown_at-output.result (c.shown_at-output.ensures
@@ -50,7 +50,7 @@ returns-clause-kept g c =
     (g.O.Overlay.kept c.args.overlay.now) c.args.round.now.t c.args.v config c.requires.round.accepted
     c.requires.round.script (subst IsShape c.requires.set.shape c.tell.ensures.sound)
     (g.met.O.Overlay.keeps_range c.args.overlay.now) c.requires.set.fits c.requires.set.over
-    c.requires.set.deaf c.requires.round.nodes c.requires.node
+    (g.met.O.Overlay.deaf c.args.overlay.now) c.requires.round.nodes c.requires.node
     (range_of c.args.states.now.shape script.shape script.nodes config c.requires.set.shape
     c.requires.set.size c.tell.ensures.current)
     _ c.shown_at-output.result (c.shown_at-output.ensures

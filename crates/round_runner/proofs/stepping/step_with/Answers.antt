@@ -47,7 +47,6 @@ step_layer-requires-clause-set g c =
     record {
       fits = set.fits;
       over = set.over;
-      deaf = set.deaf;
       shape = set.shape;
       size = set.size;
       ready = record {
@@ -62,7 +61,8 @@ step_layer-requires-clause-set g c =
             (g.O.Overlay.kept c.args.overlay.now) c.args.round.now.t c.args.v config
             c.requires.round.accepted c.requires.round.script
             (subst IsShape set.shape c.tell.ensures.sound)
-            (g.met.O.Overlay.keeps_range c.args.overlay.now) set.fits set.over set.deaf
+            (g.met.O.Overlay.keeps_range c.args.overlay.now) set.fits set.over
+            (g.met.O.Overlay.deaf c.args.overlay.now)
             c.requires.round.nodes c.requires.node
             (range_of c.args.states.now.shape script.shape script.nodes config set.shape set.size
             c.tell.ensures.current)
@@ -99,7 +99,7 @@ returns-clause-out g c =
     c.requires.round.accepted c.requires.round.script
     (subst IsShape c.requires.set.shape c.tell.ensures.sound)
     (g.met.O.Overlay.keeps_range c.args.overlay.now) c.requires.set.fits c.requires.set.over
-    c.requires.set.deaf c.requires.round.nodes c.requires.node
+    (g.met.O.Overlay.deaf c.args.overlay.now) c.requires.round.nodes c.requires.node
     (range_of c.args.states.now.shape script.shape script.nodes config c.requires.set.shape
     c.requires.set.size c.tell.ensures.current)
     c.args.room.now.out c.step_shared.new.room.out c.step_layer.new.room.out
@@ -115,7 +115,7 @@ returns-clause-range g c =
     c.requires.round.accepted c.requires.round.script
     (subst IsShape c.requires.set.shape c.tell.ensures.sound)
     (g.met.O.Overlay.keeps_range c.args.overlay.now) c.requires.set.fits c.requires.set.over
-    c.requires.set.deaf c.requires.round.nodes c.requires.node
+    (g.met.O.Overlay.deaf c.args.overlay.now) c.requires.round.nodes c.requires.node
     (range_of c.args.states.now.shape script.shape script.nodes config c.requires.set.shape
     c.requires.set.size c.tell.ensures.current))
 

@@ -77,7 +77,6 @@ step_all-requires-clause-set g c =
     kept.ready (record {
       fits = kept.fits;
       over = kept.right.over;
-      deaf = kept.right.deaf;
       shape = kept.shape;
       size = kept.size;
       ready = kept.ready;
