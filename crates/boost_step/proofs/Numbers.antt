@@ -20,7 +20,8 @@ pub record Related (nums : LevelNums) : Type 0 where
   pub faults : 3 * nums.faults < nums.nodes
 
 -- a block has as many nodes as stand below
-pub block_nodes_below : (below : Below) (nums : LevelNums) → AreNumbersOver below nums → block_nodes nums ≡ below.nodes
+pub block_nodes_below : (below : Below) (nums : LevelNums) → AreNumbersOver below nums
+    → block_nodes nums ≡ below.nodes
 block_nodes_below below nums are =
     let met = meets below (level_of nums) are.accepted in
     let three = met.blocks in

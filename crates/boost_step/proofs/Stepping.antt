@@ -1,4 +1,5 @@
--- What a step of the group does beside the level's register: inner outputs are heard, the node's block steps, and the register is put behind.
+-- What a step of the group does beside the level's register: inner outputs are heard, the node's
+-- block steps, and the register is put behind.
 use Rattle.std.proofs.Common.{◌≡◌, ℕ, ◌+◌, ◌-◌, ◌*◌, ◌/◌, ◌%◌, ◌<◌, ◌≤◌, List, [], ◌∷◌, ◌++◌, length, take, drop, map, set, sym, ap, ◌∙◌, subst, arith, append_assoc}
 use Rattle.std.specs.List.{range_with_len}
 use Rattle.std.proofs.Math.Nat.{mod-add-mod}
@@ -12,13 +13,20 @@ use Rattle.construction.proofs.Blocks.{length-block}
 use Rattle.construction.specs.Steps.{with_register}
 
 -- the place of the next node in its block
-pub place_more : (place n nodes u next : ℕ) → n ≡ nodes → place ≡ u % nodes → next ≡ (place + 1) % n → next ≡ (u + 1) % nodes
-place_more place n nodes u next e h is = is ∙ (ap (λ m. (place + 1) % m) e ∙ (ap (λ p. (p + 1) % nodes) h ∙ mod-add-mod u nodes 1))
+pub place_more : (place n nodes u next : ℕ) → n ≡ nodes → place ≡ u % nodes → next ≡ (place + 1) % n
+    → next ≡ (u + 1) % nodes
+place_more place n nodes u next e h is = is
+    ∙ (ap (λ m. (place + 1) % m) e ∙ (ap (λ p. (p + 1) % nodes) h ∙ mod-add-mod u nodes 1))
 
 -- one more output is heard
-pub output_more : (f : ℕ → ℕ) (u o : ℕ) (outputs : List ℕ) → u < length outputs → take u outputs ≡ map f (range_with_len 0 u) → o ≡ f u → take (u + 1) (set outputs u o) ≡ map f (range_with_len 0 (u + 1))
+pub output_more : (f : ℕ → ℕ) (u o : ℕ) (outputs : List ℕ) → u < length outputs
+    → take u outputs ≡ map f (range_with_len 0 u) → o ≡ f u
+    → take (u + 1) (set outputs u o) ≡ map f (range_with_len 0 (u + 1))
 output_more f u o outputs lt h e =
-    take_more_set outputs u o lt ∙ (ap (λ xs. xs ++ o ∷ []) h ∙ (ap (λ x. map f (range_with_len 0 u) ++ x ∷ []) e ∙ sym (map-range_with_len_more f 0 u u (omega arith))))
+    take_more_set outputs u o lt
+    ∙ (ap (λ xs. xs ++ o ∷ []) h
+    ∙ (ap (λ x. map f (range_with_len 0 u) ++ x ∷ []) e
+    ∙ sym (map-range_with_len_more f 0 u u (omega arith))))
 
 -- the block of a place, all of which is heard
 pub record OwnBlock (nodes v n i : ℕ) (heard own : List State) : Type 0 where
@@ -30,7 +38,8 @@ pub own_block : (nodes v n i : ℕ) (heard own : List State) → (v / nodes + 1)
     → n ≡ nodes → i ≡ v / n → own ≡ block n i heard → OwnBlock nodes v n i heard own
 own_block nodes v n i heard own room e is e' =
     let at : i ≡ v / nodes = is ∙ ap (λ m. v / m) e in
-    let own_is : own ≡ block nodes (v / nodes) heard = e' ∙ (ap (λ m. block m i heard) e ∙ ap (λ j. block nodes j heard) at) in
+    let own_is : own ≡ block nodes (v / nodes) heard = e'
+    ∙ (ap (λ m. block m i heard) e ∙ ap (λ j. block nodes j heard) at) in
     record {
       fits = subst (λ m. (i + 1) * m ≤ length heard) (sym e)
           (subst (λ j. (j + 1) * nodes ≤ length heard) (sym at) room);
@@ -40,12 +49,16 @@ own_block nodes v n i heard own room e is e' =
     }
 
 -- the state written has as many registers as before
-pub length_written : (d : ℕ) (s out : State) → length s.registers ≡ d → d ≤ length out.registers → length (written d s out).registers ≡ length out.registers
-length_written d s out e le = length-append s.registers (drop d out.registers) ∙ omega (arith, length-drop d out.registers)
+pub length_written : (d : ℕ) (s out : State) → length s.registers ≡ d → d ≤ length out.registers
+    → length (written d s out).registers ≡ length out.registers
+length_written d s out e le = length-append s.registers (drop d out.registers)
+    ∙ omega (arith, length-drop d out.registers)
 
 -- the register is put behind those of the counter below
-pub register_written : (d : ℕ) (s out : State) (r : Reg) → length s.registers ≡ d → d < length out.registers
-    → record (written d s out) { registers = set (written d s out).registers d r } ≡ written (d + 1) (with_register s r) out
+pub register_written : (d : ℕ) (s out : State) (r : Reg) → length s.registers ≡ d
+    → d < length out.registers
+    → record (written d s out) { registers = set (written d s out).registers d r }
+    ≡ written (d + 1) (with_register s r) out
 register_written d s out r e lt =
     let z : d - d ≡ 0 = omega arith in
     ap (λ rs. record { x = s.x; registers = rs })

@@ -7,9 +7,11 @@ ghost use Rattle.counter_core.specs.Working.{IsFor};
 ghost use Rattle.boost_step.specs.Numbers.{AreNumbers, block_nodes, in_blocks};
 ghost use Rattle.boost_step.specs.Kept.{KeepsOutputs};
 
+use crate::most::most;
 use crate::obeying::obey;
+use crate::readings::Itself;
 use crate::votes::{block_beat, block_vote};
-use counter_core::{Heard, Work};
+use counter_core::{Heard, HeardRegister, Work};
 use plan_numbers::LevelNums;
 use sync_types::Reg;
 
@@ -26,19 +28,13 @@ fn lead(nums: &LevelNums, work: &mut Work) -> u32
     let leaders = u64::from(nums.leaders);
     let mut interval = nums.beat;
     let mut start = 0;
-    work.votes.clear();
-    for _ in 0..nums.blocks {
-        let vote = block_vote(
-            &work.outputs[start..start + n],
-            interval,
-            leaders,
-            &mut work.values,
-        );
-        work.votes.add(Some(vote));
+    for i in 0..nums.blocks {
+        let vote = block_vote(&work.outputs[start..start + n], interval, leaders);
+        work.votes[i as usize] = vote;
         interval *= 2 * leaders;
         start += n;
     }
-    work.votes.majority().unwrap_or(0) as u32
+    most(&Itself, &work.votes[..nums.blocks as usize]) as u32
 }
 
 /// The beat heard: the part of the beat at which most nodes of the leading block are.
@@ -52,7 +48,7 @@ fn beat(nums: &LevelNums, work: &mut Work) -> u64
 {
     let n = nums.block_nodes() as usize;
     let start = lead(nums, work) as usize * n;
-    block_beat(&work.outputs[start..start + n], nums.beat, &mut work.values)
+    block_beat(&work.outputs[start..start + n], nums.beat)
 }
 
 /// One level's instruction to the register of the node at a place, by what the node hears of its
@@ -83,5 +79,6 @@ pub fn level_step(
     ensures work { KeepsOutputs work.old work.new }
 {
     let beat = beat(nums, work);
-    obey(nums, beat, place, heard, register, &mut work.values)
+    let values = HeardRegister::of(heard, register, nums.nodes, nums.faults);
+    obey(&values, nums.modulus, beat, place, &mut work.values)
 }

@@ -2,3 +2,4 @@ pub mod LiesHeard
 pub mod ListsAndPlaces
 pub mod ClearedRegisters
 pub mod Layers
+pub mod Quorum

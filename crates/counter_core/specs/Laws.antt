@@ -15,15 +15,18 @@ pub record Sizes (m : Meaning) (in_range : State → Type 0) : Type 0 where
   pub shallow : m.depth < m.nodes
   pub low : (v : ℕ) → v < m.nodes → m.low v ≤ m.depth
   pub shown : (v : ℕ) (s : State) → v < m.nodes → in_range s → m.shows v s < m.modulus
-  pub deep : (v : ℕ) (heard : List State) → v < m.nodes → length heard ≡ m.nodes → length (m.next v heard).registers ≡ m.depth
+  pub deep : (v : ℕ) (heard : List State) → v < m.nodes → length heard ≡ m.nodes
+      → length (m.next v heard).registers ≡ m.depth
 
 -- the step leads from states in range to one in range
 abbrev pub StaysInRange : (m : Meaning) (in_range : State → Type 0) → Type 0
-StaysInRange m in_range = (v : ℕ) (heard : List State) → v < m.nodes → length heard ≡ m.nodes → All in_range heard → in_range (m.next v heard)
+StaysInRange m in_range = (v : ℕ) (heard : List State) → v < m.nodes → length heard ≡ m.nodes
+    → All in_range heard → in_range (m.next v heard)
 
 -- registers behind the counter's own matter to nothing
 pub record IgnoresFurther (m : Meaning) (in_range : State → Type 0) : Type 0 where
-  pub next : (v : ℕ) (heard : List State) → v < m.nodes → length heard ≡ m.nodes → m.next v (map (cut m.depth) heard) ≡ m.next v heard
+  pub next : (v : ℕ) (heard : List State) → v < m.nodes → length heard ≡ m.nodes
+      → m.next v (map (cut m.depth) heard) ≡ m.next v heard
   pub shows : (v : ℕ) (s : State) → v < m.nodes → m.shows v (cut m.depth s) ≡ m.shows v s
   pub into_cut : (s : State) → in_range s → in_range (cut m.depth s)
   pub from_cut : (s : State) → in_range (cut m.depth s) → in_range s

@@ -5,7 +5,8 @@ use Rattle.sync_types.specs.States.{State}
 -- So many nodes, of which so many may be faulty, count by the modulus from the bound on; a state
 -- has as many registers as the depth. The node at a place takes part from level `low` on, and lacks
 -- the fields of the levels below that.
--- A state shows an output at a place, and at a place a state follows from the states heard of all nodes.
+-- A state shows an output at a place, and at a place a state follows from the states heard of all
+-- nodes.
 pub record Meaning : Type 0 where
   pub nodes : ℕ
   pub faults : ℕ

@@ -17,7 +17,9 @@ returns-clause-register g c =
     let heard = c.args.heard.now in
     let items = c.hear_outputs.new.work.outputs.items in
     let d = c.depth.result in
-    let by = λ (n d : ℕ) (outputs : List ℕ). register_after n level (register_at d (state_of heard c.args.place)) outputs (map (λ s. (register_at d s).a) heard) in
+    let by = λ (n d : ℕ) (outputs : List ℕ). register_after n level
+    (register_at d (state_of heard c.args.place)) outputs
+    (map (λ s. (register_at d s).a) heard) in
     let block : block_nodes nums ≡ m.nodes =
     block_nodes_below (counter_below m) nums c.requires.numbers in
     let outputs : take (in_blocks nums) items ≡ outputs_heard m level heard =
@@ -27,7 +29,8 @@ returns-clause-register g c =
     (range_with_len 0 (nums.blocks * n))) (c.block_nodes.ensures ∙ block)) in
     c.level_step.ensures.register
     ∙ (ap (λ n. by n d (take (in_blocks nums) items)) block
-    ∙ (ap (by m.nodes d) outputs ∙ ap (λ d. by m.nodes d (outputs_heard m level heard)) c.depth.ensures))
+    ∙ (ap (by m.nodes d) outputs
+    ∙ ap (λ d. by m.nodes d (outputs_heard m level heard)) c.depth.ensures))
 
 pub block_nodes-requires : goal.block_nodes-requires
 block_nodes-requires g c =

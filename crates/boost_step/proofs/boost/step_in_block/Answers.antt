@@ -27,13 +27,16 @@ advance-requires-clause-heard g c =
 pub advance-requires-clause-range : goal.advance-requires-clause-range
 advance-requires-clause-range g c =
     let in_range = g.A.Counter.in_range c.args.inner.now in
-    All-same in_range c.block-block.result (block c.nodes-n.result c.block_of.result c.args.heard.now) c.block-block.ensures
+    All-same in_range c.block-block.result
+    (block c.nodes-n.result c.block_of.result c.args.heard.now) c.block-block.ensures
     (All-block in_range c.nodes-n.result c.block_of.result c.args.heard.now c.requires.range)
 
 pub advance-requires-clause-deep : goal.advance-requires-clause-deep
 advance-requires-clause-deep g c =
-    let deep : State → Type 0 = λ s. (g.A.Counter.meaning c.args.inner.now).depth ≤ length s.registers in
-    All-same deep c.block-block.result (block c.nodes-n.result c.block_of.result c.args.heard.now) c.block-block.ensures
+    let deep : State → Type 0 =
+    λ s. (g.A.Counter.meaning c.args.inner.now).depth ≤ length s.registers in
+    All-same deep c.block-block.result
+    (block c.nodes-n.result c.block_of.result c.args.heard.now) c.block-block.ensures
     (All-block deep c.nodes-n.result c.block_of.result c.args.heard.now c.requires.deep)
 
 pub returns-clause-out : goal.returns-clause-out
@@ -46,4 +49,6 @@ returns-clause-out g c =
     c.requires.block c.nodes-n.ensures c.block_of.ensures c.block-block.ensures in
     c.advance.ensures.out
     ∙ ap (λ s. written m.depth s c.args.out.now)
-    (ap (λ p. m.next p c.block-block.result) (c.place_in.ensures ∙ ap (λ n. v % n) c.nodes-n.ensures) ∙ ap (m.next (v % m.nodes)) own.block)
+    (ap (λ p. m.next p c.block-block.result)
+    (c.place_in.ensures ∙ ap (λ n. v % n) c.nodes-n.ensures)
+    ∙ ap (m.next (v % m.nodes)) own.block)

@@ -26,7 +26,7 @@ returns-clause-beat c =
     beat_of_slice level n (in_blocks nums) c.lead.result start nums.beat c.block_beat.result
     c.args.work.now.outputs.items (ap (λ n. nums.blocks * n) (sym e)) (omega arith) refl
     (c.lead.ensures.lead ∙ ap (λ n. lead level n outputs) (sym e)) r.beat
-    (c.block_beat.ensures.beat
+    (c.block_beat.ensures
     ∙ ap (λ xs. majority_or_zero
     (map (part_of nums.beat) (take (start + n - start) (drop start xs))))
     (c.deref.ensures.value ∙ ap (λ o. o.items) c.lead.ensures.work.outputs))

@@ -1,5 +1,5 @@
 -- A value that all but the faults have, and the count of a value place by place.
-use Rattle.std.proofs.Common.{◌≡◌, ◌≢◌, ℕ, ◌+◌, ◌-◌, ◌*◌, ◌<◌, ◌≤◌, true, List, length, take, get_or, nat_eq, Option, Some, None, unwrap_or, sym, ap, ◌∙◌, ⊎_elim, arith}
+use Rattle.std.proofs.Common.{◌≡◌, ◌≢◌, ℕ, ◌+◌, ◌-◌, ◌<◌, ◌≤◌, true, List, length, take, get_or, nat_eq, Option, Some, None, unwrap_or, sym, ap, ◌∙◌, ⊎_elim, arith}
 use Rattle.std.proofs.lemmas.Bool.{cases_Bool, false≢true}
 use Rattle.std.proofs.lemmas.List.Sums.{count_by_more_yes, count_by_more_no}
 use Rattle.std.specs.Option.{option_eq, is_some}
@@ -7,18 +7,21 @@ use Rattle.counting.specs.Values.{count_of, least_above}
 use Rattle.counting.proofs.Counts.{two_values, value_itself, same_value}
 use Rattle.counting.proofs.Least.{least_from}
 
--- it is the only value that more places than the faults hold
-pub quorum_is_least : (n f : ℕ) (values : List (Option ℕ)) (a : ℕ) → length values ≡ n → 3 * f < n
-    → n - f ≤ count_of values (Some a) → least_above f values ≡ Some a
-quorum_is_least n f values a size quorum enough =
-    least_from f values a (omega (arith, quorum, enough)) (λ z lt.
+-- where more places hold it than the faults, it is the only such value
+pub quorum_is_least : (n f : ℕ) (values : List (Option ℕ)) (a : ℕ) → length values ≡ n → f ≤ n
+    → f < count_of values (Some a) → n - f ≤ count_of values (Some a)
+    → least_above f values ≡ Some a
+quorum_is_least n f values a size within more enough =
+    least_from f values a more (λ z lt.
     let apart : Some a ≢ Some z = λ e. absurd (omega (arith, lt, ap (λ o. unwrap_or o 0) e)) in
-    omega (arith, two_values values (Some a) (Some z) apart, size, quorum, enough))
+    omega (arith, two_values values (Some a) (Some z) apart, size, within, enough))
 
 pub quorum_is_own : (n f : ℕ) (values : List (Option ℕ)) (own : Option ℕ) → length values ≡ n
-    → 3 * f < n → is_some own ≡ true → n - f ≤ count_of values own → least_above f values ≡ own
-quorum_is_own n f values (Some a) size quorum some enough = quorum_is_least n f values a size quorum enough
-quorum_is_own n f values None size quorum some enough = absurd (false≢true some)
+    → f ≤ n → is_some own ≡ true → f < count_of values own → n - f ≤ count_of values own
+    → least_above f values ≡ own
+quorum_is_own n f values (Some a) size within some more enough =
+    quorum_is_least n f values a size within more enough
+quorum_is_own n f values None size within some more enough = absurd (false≢true some)
 
 -- one place more holds the value
 pub one_more : (values : List (Option ℕ)) (i : ℕ) (x z : Option ℕ) → i < length values

@@ -1,0 +1,22 @@
+use Rattle.std.proofs.Common.{◌∙◌, ℕ, length, sym, ap, Option, arith}
+use Rattle.std.proofs.lemmas.List.{length-map}
+use Rattle.sync_types.specs.States.{State, register_at}
+use Rattle.counter_core.specs.HeardRegisters.{RegisterHeard, values_heard}
+use Rattle.counter_core.proofs.Quorum.{quorum_is_own}
+use Rattle.counter_core.proofs.heard_registers.HeardRegister.least.Goals as goal
+
+pub returns-then-same-self-clause-least : goal.returns-then-same-self-clause-least
+returns-then-same-self-clause-least c =
+    let h = c.args.self.now in
+    let value : State → Option ℕ = λ s. (register_at h.register s).a in
+    let size = ap (λ (h : RegisterHeard). length h.states) c.self.view_is in
+    let faults = ap (λ (h : RegisterHeard). h.faults) c.self.view_is in
+    let more = c.if-same-faults.true in
+    let enough = c.if-same-self.true in
+    let same = c.requires.same in
+    let long = length-map h.states value in
+    let nodes = c.self.invariant.0 in
+    let within = c.self.invariant.1 in
+    sym (quorum_is_own (length h.states) h.faults (values_heard h) c.args.own long
+    (omega (arith, size, faults, nodes, within)) (sym c.is_some.ensures ∙ c.if-is_some.true)
+    (omega (arith, more, same, faults)) (omega (arith, enough, same, faults, size, nodes)))
