@@ -8,7 +8,9 @@ use Rattle.consensus_layer.specs.Agreeing.{IsAgreeing}
 use Rattle.consensus_layer.specs.Agreements.{agree_layer, decision, EveryRunDecides}
 use Rattle.consensus_layer.proofs.Loaded.{slot_decides}
 
-agreeing : (plan : Plan) (values : ℕ) (inputs : List ℕ) → IsAgreeing (agree_layer plan values inputs) (plan_faults plan) (λ v decision. slice_index inputs v)
+agreeing : (plan : Plan) (values : ℕ) (inputs : List ℕ)
+    → IsAgreeing (agree_layer plan values inputs) (plan_faults plan)
+    (λ v decision. slice_index inputs v)
 agreeing plan values inputs = record { extra = refl; step = λ v output kept heard. refl }
 
 pub every_run_decides : EveryRunDecides
@@ -17,7 +19,10 @@ every_run_decides plan accepted whole values inputs faulty borne first run is t 
     let e : t ≡ t - 1 + 1 = omega arith in
     let q : ℕ = slot_length (plan_faults plan) in
     let here : t - 1 + q + 1 ≡ t + q = omega arith in
-    let slot = slot_decides plan accepted layer (record { nodes = refl; modulus = refl; depth = refl }) (λ v d. slice_index inputs v) (agreeing plan values inputs) whole faulty borne first run is (t - 1) (omega arith) (omega arith)
+    let slot = slot_decides plan accepted layer
+    (record { nodes = refl; modulus = refl; depth = refl }) (λ v d. slice_index inputs v)
+    (agreeing plan values inputs) whole faulty borne first run is (t - 1) (omega arith)
+    (omega arith)
     (subst (λ y. AllAre plan faulty (scene run y).states q 0) e begins) in
     record {
       value = slot.value;

@@ -1,4 +1,5 @@
--- Worked values of consensus, by computation: four nodes, one fault, the modulus 12, so slots of six rounds.
+-- Worked values of consensus, by computation: four nodes, one fault, the modulus 12, so slots of
+-- six rounds.
 use Rattle.std.proofs.Common.{◌≡◌, ℕ, zero, suc, List, [], ◌∷◌, map, None, false, refl}
 use Rattle.std.specs.List.{range_with_len}
 use Rattle.sync_types.specs.declared.states.Reg.{Reg}
@@ -13,7 +14,12 @@ use Rattle.consensus_layer.specs.Agreeing.{loaded}
 use Rattle.consensus_layer.specs.Agreements.{agree_layer}
 
 abbrev plan : Plan
-plan = record { version = 1; base = 2304; levels = record { blocks = 4; faults = 1; modulus = 12; spares = 0 } ∷ [] }
+plan = record {
+  version = 1;
+  base = 2304;
+  levels =
+      record { blocks = 4; faults = 1; modulus = 12; spares = 0 } ∷ [];
+}
 
 abbrev infinite : Reg
 infinite = record { a = None; d = false }
@@ -34,12 +40,18 @@ lies = map (λ u. map told (range_with_len 0 4)) (range_with_len 0 4)
 -- the next scene, all nodes stepping
 abbrev next : Layer ℕ → Scene ℕ → Scene ℕ
 next layer s = record {
-  states = map (λ v. new_state (plan_meaning plan) layer 0 (kept_of layer s v) v (heard_by 4 (3 ∷ []) s.states lies v)) (range_with_len 0 4);
-  kept = map (λ v. (layer_step (plan_meaning plan) layer 0 (kept_of layer s v) v (heard_by 4 (3 ∷ []) s.states lies v)).kept) (range_with_len 0 4);
+  states = map (λ v. new_state (plan_meaning plan) layer 0 (kept_of layer s v) v
+      (heard_by 4 (3 ∷ []) s.states lies v)) (range_with_len 0 4);
+  kept = map (λ v. (layer_step (plan_meaning plan) layer 0 (kept_of layer s v) v
+      (heard_by 4 (3 ∷ []) s.states lies v)).kept) (range_with_len 0 4);
 }
 
 abbrev after : Layer ℕ → ℕ → Scene ℕ
-after layer zero = record { states = map (λ v. at_output 11 infinite) (range_with_len 0 4); kept = 9 ∷ 9 ∷ 9 ∷ 9 ∷ [] }
+after layer zero = record {
+  states = map (λ v. at_output 11 infinite) (range_with_len 0 4);
+  kept =
+      9 ∷ 9 ∷ 9 ∷ 9 ∷ [];
+}
 after layer (suc t) = next layer (after layer t)
 
 abbrev mixed : Layer ℕ
@@ -48,9 +60,11 @@ mixed = agree_layer plan 10 (7 ∷ 7 ∷ 4 ∷ 0 ∷ [])
 abbrev common : Layer ℕ
 common = agree_layer plan 10 (7 ∷ 7 ∷ 7 ∷ 0 ∷ [])
 
--- in the round of output 11 inputs are loaded, and the decision is that of the slot before, which all infinite values and an infinite king make 0
+-- in the round of output 11 inputs are loaded, and the decision is that of the slot before, which
+-- all infinite values and an infinite king make 0
 loads_inputs : map (λ s. s.registers) (after mixed 1).states ≡
-    (locked_at 0 ∷ loaded 7 ∷ []) ∷ (locked_at 0 ∷ loaded 7 ∷ []) ∷ (locked_at 0 ∷ loaded 4 ∷ []) ∷ (locked_at 0 ∷ loaded 0 ∷ []) ∷ []
+    (locked_at 0 ∷ loaded 7 ∷ []) ∷ (locked_at 0 ∷ loaded 7 ∷ []) ∷ (locked_at 0 ∷ loaded
+    4 ∷ []) ∷ (locked_at 0 ∷ loaded 0 ∷ []) ∷ []
 loads_inputs = refl
 
 decides_before : (after mixed 1).kept ≡ 0 ∷ 0 ∷ 0 ∷ 0 ∷ []

@@ -43,7 +43,8 @@ inputs_by : (values nodes : ℕ) (inputs : List ℕ) (many below : Bool)
     (AreInputs values nodes)
 inputs_by values nodes inputs false below e e' = tt
 inputs_by values nodes inputs true false e e' = tt
-inputs_by values nodes inputs true true e e' = (eqb-true (length inputs) nodes e, all_below values inputs e')
+inputs_by values nodes inputs true true e e' =
+    (eqb-true (length inputs) nodes e, all_below values inputs e')
 
 tested : (values nodes : ℕ) (numbers : Option (List ℕ))
     → IfOk (inputs_tested values nodes numbers) (AreInputs values nodes)
@@ -54,19 +55,24 @@ tested values nodes (Some inputs) =
 
 -- what is read of a line with as many numbers as there are nodes
 module _ (values nodes : ℕ) (line inputs : List ℕ)
-    (is : numbers_behind (codes "inputs") (words_of line) ≡ Some inputs) (size : length inputs ≡ nodes)
+    (is : numbers_behind (codes "inputs") (words_of line) ≡ Some inputs)
+    (size : length inputs ≡ nodes)
   where
     by_below : (below : Bool) → list_all (λ a. nat_lt a values) inputs ≡ below
         → inputs_in values nodes line ≡ (if not below then Err Range else Ok inputs)
     by_below below e =
         ap (inputs_tested values nodes) is
-        ∙ ap₂ (λ (many : Bool) (below : Bool). if not many then Err Form else if not below then Err Range else Ok inputs)
+        ∙ ap₂ (λ (many : Bool)
+        (below : Bool). if not many then Err Form else if not below then Err Range else Ok
+        inputs)
         (eq-eqb (length inputs) nodes size) e
 
-    pub inputs_ok : list_all (λ a. nat_lt a values) inputs ≡ true → inputs_in values nodes line ≡ Ok inputs
+    pub inputs_ok : list_all (λ a. nat_lt a values) inputs ≡ true
+        → inputs_in values nodes line ≡ Ok inputs
     inputs_ok e = by_below true e
 
-    pub inputs_out : list_all (λ a. nat_lt a values) inputs ≡ false → inputs_in values nodes line ≡ Err Range
+    pub inputs_out : list_all (λ a. nat_lt a values) inputs ≡ false
+        → inputs_in values nodes line ≡ Err Range
     inputs_out e = by_below false e
 
 -- ---- line by line
@@ -76,7 +82,8 @@ abbrev IsStage : Plan → AgreeStage → List ℕ → Type 0
 IsStage plan Unread inputs = ⊤
 IsStage plan Begun inputs = IsWhole plan
 IsStage plan (Valued values) inputs = IsWhole plan × IsValues values
-IsStage plan (Given values) inputs = IsWhole plan × IsValues values × AreInputs values (plan_nodes plan) inputs
+IsStage plan (Given values) inputs = IsWhole plan × IsValues values
+    × AreInputs values (plan_nodes plan) inputs
 
 record FitSoFar (plan : Plan) (s : AgreeSoFar) : Type 0 where
   nodes : s.nodes ≡ plan_nodes plan
@@ -106,7 +113,10 @@ module _ (plan : Plan) where
     by false false e e' = record {
       nodes = fit.nodes;
       whole = fit.whole;
-      stage = (subst (λ stage. IsStage plan stage s.inputs) at fit.stage, (ltb-false v 2 e', ltb-false 65536 v e));
+      stage = (
+        subst (λ stage. IsStage plan stage s.inputs) at fit.stage,
+        (ltb-false v 2 e', ltb-false 65536 v e),
+      );
     }
 
   given : (s : AgreeSoFar) (values : ℕ) (read : Result (List ℕ) Rule) → s.stage ≡ Valued values

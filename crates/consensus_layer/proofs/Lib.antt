@@ -2,3 +2,4 @@ pub mod Loaded
 pub mod Decisions
 mod Examples
 pub mod FitInputs
+pub mod SlotLengths

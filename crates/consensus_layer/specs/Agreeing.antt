@@ -1,4 +1,5 @@
--- The register of agreement on a counter: in each slot it agrees on a value, and at its end it is loaded with the input of the next slot.
+-- The register of agreement on a counter: in each slot it agrees on a value, and at its end it is
+-- loaded with the input of the next slot.
 use Rattle.std.specs.Prelude.{◌≡◌, ℕ, ◌+◌, ◌%◌, ◌<◌, List, [], ◌∷◌, Bool, true, false, ◌==◌, Option, Some, None}
 use Rattle.sync_types.specs.declared.states.Reg.{Reg}
 use Rattle.sync_types.specs.States.{State}
@@ -25,31 +26,44 @@ abbrev pub turned : (last : Bool) (input : ℕ) (result : Reg) → Agreeing
 turned true input result = record { register = loaded input; decided = result.a }
 turned false input result = record { register = result; decided = None }
 
--- The round of node v on register i, over n nodes of which f may be faulty. The output tells the turn.
+-- The round of node v on register i, over n nodes of which f may be faulty. The output tells the
+-- turn.
 abbrev pub agree_step : (n f i v input output : ℕ) (heard : List State) → Agreeing
 agree_step n f i v input output heard =
     let turn = output % slot_length f in
     turned (turn + 1 == slot_length f) input (agreed_in_turn n f i v turn heard)
 
--- The layer's register is that of agreement. A node's input may depend on what it keeps, with the round's number put to it.
-pub record IsAgreeing {Kept : Type 0} (layer : Layer Kept) (faults : ℕ) (input : ℕ → Kept → ℕ) : Type 0 where
+-- The layer's register is that of agreement. A node's input may depend on what it keeps, with the
+-- round's number put to it.
+pub record IsAgreeing {Kept : Type 0} (layer : Layer Kept) (faults : ℕ)
+    (input : ℕ → Kept → ℕ) : Type 0 where
   pub extra : layer.extra ≡ 1
   pub step : (v output : ℕ) (kept : Kept) (heard : List State)
-      → (layer.next v kept output heard).registers ≡ (agree_step layer.nodes faults layer.depth v (input v kept) output heard).register ∷ []
+      → (layer.next v kept output heard).registers
+      ≡ (agree_step layer.nodes faults layer.depth v (input v kept) output heard).register ∷ []
 
 -- Node v steps in round t of a run, and decides the value in it.
-pub record NodeDecides {Kept : Type 0} (plan : Plan) (layer : Layer Kept) (input : ℕ → Kept → ℕ) (first : ℕ) (run : List (Scene Kept)) (t v value : ℕ) : Type 0 where
+pub record NodeDecides {Kept : Type 0} (plan : Plan) (layer : Layer Kept) (input : ℕ → Kept → ℕ)
+    (first : ℕ) (run : List (Scene Kept)) (t v value : ℕ) : Type 0 where
   pub heard : List State
   pub steps : StepsAs plan layer (first + t) (scene run t) heard v (scene run (t + 1))
   pub decided : let kept = layer.begun (first + t) (kept_of layer (scene run t) v) in
-      (agree_step (plan_nodes plan) (plan_faults plan) (plan_depth plan) v (input v kept) (shown (plan_depth plan) (state_of heard v)) heard).decided ≡ Some value
+      (agree_step (plan_nodes plan) (plan_faults plan) (plan_depth plan) v (input v kept)
+      (shown (plan_depth plan) (state_of heard v)) heard).decided ≡ Some value
 
 -- the input of node v in round t
-abbrev pub input_in : {Kept : Type 0} → Layer Kept → (input : ℕ → Kept → ℕ) → (first : ℕ) → List (Scene Kept) → (t v : ℕ) → ℕ
-input_in layer input first run t v = input v (layer.begun (first + t) (kept_of layer (scene run t) v))
+abbrev pub input_in : {Kept : Type 0} → Layer Kept → (input : ℕ → Kept → ℕ) → (first : ℕ)
+    → List (Scene Kept) → (t v : ℕ) → ℕ
+input_in layer input first run t v =
+    input v (layer.begun (first + t) (kept_of layer (scene run t) v))
 
--- All correct nodes decide one value in the last round of the slot that begins in configuration t. It is the common input of the round before, where they had one.
-pub record SlotDecides {Kept : Type 0} (plan : Plan) (layer : Layer Kept) (input : ℕ → Kept → ℕ) (faulty : List ℕ) (first : ℕ) (run : List (Scene Kept)) (before : ℕ) : Type 0 where
+-- All correct nodes decide one value in the last round of the slot that begins in configuration t.
+-- It is the common input of the round before, where they had one.
+pub record SlotDecides {Kept : Type 0} (plan : Plan) (layer : Layer Kept) (input : ℕ → Kept → ℕ)
+    (faulty : List ℕ) (first : ℕ) (run : List (Scene Kept)) (before : ℕ) : Type 0 where
   pub value : ℕ
-  pub decides : (v : ℕ) → v < plan_nodes plan → is_in faulty v ≡ false → NodeDecides plan layer input first run (before + slot_length (plan_faults plan)) v value
-  pub valid : (common : ℕ) → ((v : ℕ) → v < plan_nodes plan → is_in faulty v ≡ false → input_in layer input first run before v ≡ common) → value ≡ common
+  pub decides : (v : ℕ) → v < plan_nodes plan → is_in faulty v ≡ false
+      → NodeDecides plan layer input first run (before + slot_length (plan_faults plan)) v value
+  pub valid : (common : ℕ)
+      → ((v : ℕ) → v < plan_nodes plan → is_in faulty v ≡ false
+      → input_in layer input first run before v ≡ common) → value ≡ common

@@ -1,48 +1,36 @@
-ghost use Rattle.std.specs.Prelude.{◌≡◌, ◌*◌, ◌<◌, ◌≤◌, length, All};
+ghost use Rattle.std.specs.Prelude.{◌≡◌, ◌*◌, ◌<◌, ◌≤◌, length};
 ghost use Rattle.counter_core.specs.Working.{IsFor, IsAsRoomy};
 ghost use Rattle.layer_laws.specs.Slots.{slot_length, agreed};
 ghost use Rattle.consensus_layer.specs.Agreeing.{agree_step};
 
-use counter_core::{Heard, Work, tally_values};
+use counter_core::{HeardRegister, Work};
 use phase_king::agree_step;
 use sync_types::Reg;
 
 /// A register of node `node` after the phase king's instruction of a kind, 0 to 2, under a king,
-/// without increment: over all nodes, of which `faults` may be faulty, by what the node hears.
+/// without increment, by what the node hears of all nodes' registers. What the kind does not use is
+/// not counted.
 ///
-/// `heard` has a state of each of the `nodes` nodes, which are at most 256, with more registers
-/// than `register`; node and king are below them, and `work` is for so many.
-pub fn agree_at(
-    heard: &Heard<'_>,
-    node: u32,
-    register: usize,
-    kind: u64,
-    king: u32,
-    nodes: u32,
-    faults: u32,
-    work: &mut Work,
-) -> Reg
+/// Node and king are below the number of nodes, and `work` is for so many.
+pub fn agree_at(values: &HeardRegister<'_>, node: u32, kind: u64, king: u32, work: &mut Work) -> Reg
     requires kind { kind ≤ 2 }
-    requires few { nodes ≤ 256 }
-    requires faults { faults ≤ nodes }
-    requires node { node < nodes }
-    requires king { king < nodes }
-    requires heard { length heard.now ≡ nodes }
-    requires deep { All (λ s. register < length s.registers) heard.now }
-    requires work { IsFor nodes work.old }
-    ensures register { result ≡ agreed nodes faults register node kind king heard.now }
+    requires node { node < length values.now.states }
+    requires king { king < length values.now.states }
+    requires work { IsFor (length values.now.states) work.old }
+    ensures register { result ≡ agreed (length values.now.states) values.now.faults
+        values.now.register node kind king values.now.states }
     ensures work { IsAsRoomy work.old work.new }
 {
-    tally_values(heard, register, &mut work.values);
-    let own = heard.state(node).reg(register);
+    let own = values.at(node);
+    let counted = values.count_for(kind, own, king, &mut work.values);
     agree_step(
         kind,
         own,
-        work.values.count_of(own.a),
-        work.values.least_above(faults as usize),
-        heard.state(king).reg(register).a,
-        nodes,
-        faults,
+        counted.same,
+        counted.least,
+        counted.king,
+        values.nodes(),
+        values.faults(),
     )
 }
 
@@ -66,39 +54,27 @@ pub fn slot_length(faults: u32) -> u64
 /// The round of a node on a register of agreement, from the output that it showed: the turn that
 /// the output tells, and in the last turn of a slot the decision, and the input of the next one.
 ///
-/// The conditions are those of [`agree_at`], and more than three times as many nodes as faults.
+/// The node is one of the nodes, of which there are more than three times as many as may be faulty,
+/// and `work` is for so many.
 pub fn agree(
-    heard: &Heard<'_>,
+    values: &HeardRegister<'_>,
     node: u32,
-    register: usize,
     input: u64,
     output: u64,
-    nodes: u32,
-    faults: u32,
     work: &mut Work,
 ) -> Agreed
-    requires quorum { 3 * faults < nodes }
-    requires few { nodes ≤ 256 }
-    requires node { node < nodes }
-    requires heard { length heard.now ≡ nodes }
-    requires deep { All (λ s. register < length s.registers) heard.now }
-    requires work { IsFor nodes work.old }
-    ensures step { let s = agree_step nodes faults register node input output heard.now in
+    requires quorum { 3 * values.now.faults < length values.now.states }
+    requires node { node < length values.now.states }
+    requires work { IsFor (length values.now.states) work.old }
+    ensures step { let s = agree_step (length values.now.states) values.now.faults
+        values.now.register node input output values.now.states in
         (result.register ≡ s.register) × (result.decided ≡ s.decided) }
     ensures work { IsAsRoomy work.old work.new }
 {
-    let length = slot_length(faults);
+    let length = slot_length(values.faults());
     let turn = output % length;
-    let result = agree_at(
-        heard,
-        node,
-        register,
-        turn % 3,
-        (turn / 3) as u32,
-        nodes,
-        faults,
-        work,
-    );
+    let king = (turn / 3) as u32;
+    let result = agree_at(values, node, turn % 3, king, work);
     if turn + 1 == length {
         Agreed {
             register: Reg {

@@ -3,7 +3,7 @@ ghost use Rattle.layer_laws.specs.Slots.{slot_length};
 
 use crate::agree_parts::AgreePart;
 use crate::agreeing::{agree, slot_length};
-use counter_core::{Heard, Overlay, Work};
+use counter_core::{Heard, HeardRegister, Overlay, Work};
 use plan_numbers::Plan;
 use std::alloc::{AllocError, Global};
 use sync_types::NodeState;
@@ -19,7 +19,6 @@ pub struct Agreement {
     values: u64,
     inputs: Vec<u64>,
     decisions: Vec<u64>,
-    ghost few: { nodes ≤ 256 },
     ghost quorum: { 3 * faults < nodes },
     ghost inputs_of_nodes: { length inputs.items ≡ nodes },
     ghost decisions_of_nodes: { length decisions.items ≡ nodes },
@@ -27,9 +26,9 @@ pub struct Agreement {
 }
 
 impl Agreement {
-    ghost use Rattle.std.specs.Prelude.{replicate, IfOk};
+    ghost use Rattle.std.specs.Prelude.{ℕ, List, replicate, IfOk};
     ghost use Rattle.construction.specs.Plans.{plan_nodes};
-    ghost use Rattle.consensus_layer.specs.Agreements.{agree_layer};
+    ghost use Rattle.consensus_layer.specs.Agreements.{agree_layer, agree_layer_of};
     ghost use Rattle.consensus_layer.specs.AgreementsSeen.{layer_seen, decisions_seen};
     ghost use Rattle.consensus_layer.specs.AgreePart.{IsFor};
 
@@ -70,9 +69,12 @@ impl Agreement {
         self.decisions[v as usize]
     }
 
-    /// How many rounds a slot has.
+    /// How many rounds a slot has: three for each of one king more than may be faulty, as the layer
+    /// has it.
     pub fn slot_length(&self) -> u64
-        ensures { result ≡ slot_length self.now.faults }
+        ensures { (nodes faults modulus depth values : ℕ) (inputs : List ℕ)
+            → layer_seen self.now ≡ agree_layer_of nodes faults modulus depth values inputs
+            → result ≡ slot_length faults }
     {
         slot_length(self.faults)
     }
@@ -112,16 +114,8 @@ impl Overlay for Agreement {
         out: &mut NodeState,
     ) {
         let v = node as usize;
-        let agreed = agree(
-            heard,
-            node,
-            self.depth,
-            self.input(node),
-            output,
-            self.nodes,
-            self.faults,
-            work,
-        );
+        let values = HeardRegister::of(heard, self.depth, self.nodes, self.faults);
+        let agreed = agree(&values, node, self.input(node), output, work);
         out.set_reg(self.depth, agreed.register);
         self.decisions[v] = agreed.decided.unwrap_or(self.decisions[v]);
     }

@@ -1,5 +1,5 @@
 -- Worked values of firing, by computation: four nodes, one fault, and slots of six rounds.
-use Rattle.std.proofs.Common.{◌≡◌, ℕ, zero, suc, List, [], ◌∷◌, map, None, true, false, refl}
+use Rattle.std.proofs.Common.{◌≡◌, ℕ, List, [], ◌∷◌, map, None, true, false, refl}
 use Rattle.std.specs.List.{range_with_len}
 use Rattle.sync_types.specs.declared.states.Reg.{Reg}
 use Rattle.construction.specs.Plans.{Plan}

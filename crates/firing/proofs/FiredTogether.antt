@@ -1,14 +1,13 @@
 -- Every run with firing fires together.
-use Rattle.std.proofs.Common.{◌≡◌, ℕ, ◌+◌, ◌-◌, ◌*◌, ◌%◌, ◌<◌, ◌≤◌, Bool, true, false, List, [], ◌∷◌, length, Option, Some, None, refl, sym, ap, ◌∙◌, subst, arith}
-use Rattle.std.specs.Prelude.{nat_eq, ◌==◌}
+use Rattle.std.proofs.Common.{◌≡◌, ℕ, ◌+◌, ◌-◌, ◌%◌, ◌<◌, Bool, true, false, List, Option, Some, None, refl, sym, ap, ◌∙◌, subst, arith}
+use Rattle.std.specs.Prelude.{nat_eq}
 use Rattle.std.specs.Option.{option_eq}
 use Rattle.std.proofs.lemmas.Bool.{ne_eqb}
 use Rattle.sync_types.specs.declared.states.Reg.{Reg}
 use Rattle.sync_types.specs.States.{State}
-use Rattle.construction.specs.Plans.{Plan, plan_nodes, plan_faults, plan_modulus, plan_bound, plan_depth}
+use Rattle.construction.specs.Plans.{Plan, plan_nodes, plan_faults, plan_depth}
 use Rattle.construction.specs.Shown.{shown}
 use Rattle.construction.specs.Steps.{state_of}
-use Rattle.construction.specs.Runs.{IsBorne}
 use Rattle.layer_laws.specs.LayerRuns.{scene}
 use Rattle.layer_laws.specs.Scenes.{kept_of}
 use Rattle.layer_laws.specs.Slots.{slot_length, agreed_in_turn, AllAre}
@@ -18,7 +17,7 @@ use Rattle.consensus_layer.specs.Agreeing.{turned, agree_step, IsAgreeing}
 use Rattle.consensus_layer.proofs.Loaded.{slot_decides}
 use Rattle.firing.specs.declared.requests.Request.{Request}
 use Rattle.firing.specs.declared.fires.Fire.{Fire}
-use Rattle.firing.specs.Firings.{requests_in, bit, fire_layer, fires, FiresTogether, EveryRunFiresTogether}
+use Rattle.firing.specs.Firings.{requests_in, bit, fire_layer, fires, EveryRunFiresTogether}
 
 abbrev input : List Request → ℕ → Fire → ℕ
 input requests v fire = bit (requests_in requests v fire.round)

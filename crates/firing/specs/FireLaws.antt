@@ -1,9 +1,9 @@
 -- The step of firing keeps values in range.
-use Rattle.std.proofs.Common.{◌≡◌, ℕ, ◌+◌, ◌*◌, ◌<◌, Bool, true, false, List, [], ◌∷◌, All, IfSome, refl, subst, arith}
+use Rattle.std.proofs.Common.{ℕ, ◌*◌, ◌<◌, Bool, true, false, List, [], IfSome, refl, subst, arith}
 use Rattle.std.proofs.Math.Nat.{add-zero}
 use Rattle.std.proofs.lemmas.List.Elements.{All-weaker, All-cons, All-nil}
 use Rattle.sync_types.specs.declared.states.Reg.{Reg}
-use Rattle.sync_types.specs.States.{State, register_at}
+use Rattle.sync_types.specs.States.{register_at}
 use Rattle.counter_core.specs.Overlays.{HasValues, KeepsRange}
 use Rattle.consensus_layer.specs.Agreeing.{agree_step}
 use Rattle.consensus_layer.specs.AgreeLaws.{agree_step_below}

@@ -3,7 +3,7 @@ ghost use Rattle.std.specs.Prelude.{◌≡◌, ◌*◌, ◌<◌, ◌≤◌, leng
 use crate::fires::Fire;
 use crate::requests::Requests;
 use consensus_layer::agree;
-use counter_core::{Heard, Overlay, Work};
+use counter_core::{Heard, HeardRegister, Overlay, Work};
 use plan_numbers::Plan;
 use std::alloc::{AllocError, Global};
 use sync_types::NodeState;
@@ -21,7 +21,6 @@ pub struct Firing {
     round: u64,
     // Which nodes fired in their last round.
     fired: Vec<bool>,
-    ghost few: { nodes ≤ 256 },
     ghost quorum: { 3 * faults < nodes },
     ghost size: { length fired.items ≡ nodes },
 }
@@ -109,16 +108,8 @@ impl Overlay for Firing {
         work: &mut Work,
         out: &mut NodeState,
     ) {
-        let agreed = agree(
-            heard,
-            node,
-            self.depth,
-            self.input(node),
-            output,
-            self.nodes,
-            self.faults,
-            work,
-        );
+        let values = HeardRegister::of(heard, self.depth, self.nodes, self.faults);
+        let agreed = agree(&values, node, self.input(node), output, work);
         out.set_reg(self.depth, agreed.register);
         self.fired[node as usize] = agreed.decided == Some(1);
     }

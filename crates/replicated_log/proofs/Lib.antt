@@ -4,3 +4,4 @@ pub mod SlotEntries
 pub mod SameLogs
 pub mod Replicated
 mod Examples
+pub mod EntryLengths

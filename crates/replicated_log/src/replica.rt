@@ -15,7 +15,7 @@ use crate::log_parts::LogPart;
 use crate::refusals::LogError;
 use circular_buffer::HeapCircularBuffer;
 use consensus_layer::{agree_at, slot_length};
-use counter_core::{Heard, Overlay, Work};
+use counter_core::{Heard, HeardRegister, Overlay, Work};
 use plan_numbers::Plan;
 use std::alloc::Global;
 use sync_types::{NodeState, Reg};
@@ -81,10 +81,10 @@ fn put(logs: &mut [HeapCircularBuffer<Entry>], node: u32, keep: usize, entry: En
 }
 
 impl Replica {
-    ghost use Rattle.std.specs.Prelude.{IfOk, IfErr, slice_get, Some};
+    ghost use Rattle.std.specs.Prelude.{ℕ, IfOk, IfErr, slice_get, Some};
     ghost use Rattle.construction.specs.Plans.{plan_nodes};
     ghost use Rattle.replicated_log.specs.LogPart.{IsFor as IsForPlan};
-    ghost use Rattle.replicated_log.specs.Logs.{log_in, log_layer};
+    ghost use Rattle.replicated_log.specs.Logs.{log_in, log_layer, log_layer_of};
     ghost use Rattle.replicated_log.specs.LogsSeen.{layer_seen, logs_seen};
 
     /// A log over the counter of a plan, as it is said of it: for as many nodes, each with a
@@ -128,8 +128,10 @@ impl Replica {
 
     /// The owner of the slot to which an output belongs, as [`owner_at`] has it for the plan.
     pub fn owner(&self, o: u64) -> u32
-        ensures owner { result ≡ owner_at self.now.nodes self.now.faults o }
-        ensures below { result < self.now.nodes }
+        ensures owner { (nodes faults modulus depth values keep : ℕ) (commands : List (List ℕ))
+            → layer_seen self.now ≡ log_layer_of nodes faults modulus depth values keep commands
+            → result ≡ owner_at nodes faults o }
+        ensures below { result < (layer_seen self.now).nodes }
     {
         owner_at(self.nodes, self.faults, o)
     }
@@ -172,23 +174,16 @@ impl Replica {
     {
         let turn = output % self.entry_length();
         if turn == 0 {
-            let command = heard.state(self.owner(output)).reg(self.depth + 1).a;
+            let owner = owner_at(self.nodes, self.faults, output);
+            let command = heard.state(owner).reg(self.depth + 1).a;
             Reg {
                 a: Some(command.unwrap_or(0)),
                 d: false,
             }
         } else {
             let turn = turn - 1;
-            agree_at(
-                heard,
-                node,
-                self.depth,
-                turn % 3,
-                (turn / 3) as u32,
-                self.nodes,
-                self.faults,
-                work,
-            )
+            let values = HeardRegister::of(heard, self.depth, self.nodes, self.faults);
+            agree_at(&values, node, turn % 3, (turn / 3) as u32, work)
         }
     }
 }

@@ -9,12 +9,20 @@ use Rattle.consensus_layer.proofs.input_lines.read_inputs.Goals as goal
 
 pub returns-then-not-are_below : goal.returns-then-not-are_below
 returns-then-not-are_below c =
-    let is : numbers_behind (codes "inputs") (words_of c.args.line.now) ≡ Some c.in-Some.inputs.items = sym c.in_ok-inputs.ensures ∙ ap (option_map (λ v. v.items)) c.in-Some.is in
-    inputs_out c.args.values c.args.nodes c.args.line.now c.in-Some.inputs.items is (omega (arith, c.len.ensures, c.if-len-nodes.false))
-    (ap (list_all (λ a. nat_lt a c.args.values)) (sym c.deref.ensures.value) ∙ (sym c.are_below.ensures ∙ c.if-not-are_below.true))
+    let is : numbers_behind (codes "inputs") (words_of c.args.line.now)
+    ≡ Some c.in-Some.inputs.items = sym c.in_ok-inputs.ensures
+    ∙ ap (option_map (λ v. v.items)) c.in-Some.is in
+    inputs_out c.args.values c.args.nodes c.args.line.now c.in-Some.inputs.items is
+    (omega (arith, c.len.ensures, c.if-len-nodes.false))
+    (ap (list_all (λ a. nat_lt a c.args.values)) (sym c.deref.ensures.value)
+    ∙ (sym c.are_below.ensures ∙ c.if-not-are_below.true))
 
 pub returns : goal.returns
 returns c =
-    let is : numbers_behind (codes "inputs") (words_of c.args.line.now) ≡ Some c.in-Some.inputs.items = sym c.in_ok-inputs.ensures ∙ ap (option_map (λ v. v.items)) c.in-Some.is in
-    inputs_ok c.args.values c.args.nodes c.args.line.now c.in-Some.inputs.items is (omega (arith, c.len.ensures, c.if-len-nodes.false))
-    (ap (list_all (λ a. nat_lt a c.args.values)) (sym c.deref.ensures.value) ∙ (sym c.are_below.ensures ∙ c.if-not-are_below.false))
+    let is : numbers_behind (codes "inputs") (words_of c.args.line.now)
+    ≡ Some c.in-Some.inputs.items = sym c.in_ok-inputs.ensures
+    ∙ ap (option_map (λ v. v.items)) c.in-Some.is in
+    inputs_ok c.args.values c.args.nodes c.args.line.now c.in-Some.inputs.items is
+    (omega (arith, c.len.ensures, c.if-len-nodes.false))
+    (ap (list_all (λ a. nat_lt a c.args.values)) (sym c.deref.ensures.value)
+    ∙ (sym c.are_below.ensures ∙ c.if-not-are_below.false))

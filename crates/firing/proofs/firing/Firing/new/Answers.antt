@@ -1,4 +1,4 @@
-use Rattle.std.proofs.Common.{◌≡◌, Bool, map, ap, ◌∙◌}
+use Rattle.std.proofs.Common.{Bool, map, ap, ◌∙◌}
 use Rattle.std.specs.Prelude.{false, replicate}
 use Rattle.firing.specs.declared.fires.Fire.{Fire}
 use Rattle.firing.specs.Firings.{unfired}

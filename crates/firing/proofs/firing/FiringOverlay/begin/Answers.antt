@@ -1,4 +1,4 @@
-use Rattle.std.proofs.Common.{◌≡◌, map, sym, Bool}
+use Rattle.std.proofs.Common.{sym, Bool}
 use Rattle.std.proofs.lemmas.Simd.{map-map}
 use Rattle.firing.specs.declared.fires.Fire.{Fire}
 use Rattle.firing.proofs.firing.FiringOverlay.begin.Goals as goal
