@@ -1,7 +1,8 @@
 -- What the numbers of a level are to each other, and how large they are.
-use Rattle.std.proofs.Common.{◌≡◌, ◌-◌, ◌*◌, ◌/◌, ◌<◌, ◌≤◌, sym, ap, ◌∙◌, subst, arith}
+use Rattle.std.proofs.Common.{◌≡◌, ℕ, ◌-◌, ◌*◌, ◌/◌, ◌^◌, ◌<◌, ◌≤◌, sym, ap, ◌∙◌, subst, arith}
 use Rattle.std.proofs.lemmas.Nat.{mul-le}
-use Rattle.construction.specs.Plans.{group_size, leaders_of, beat_of, span_of}
+use Rattle.construction.specs.Plans.{group_size, leaders_of, beat_of, span_of, interval_of}
+use Rattle.leader_pointers.proofs.Intervals.{interval_le}
 use Rattle.plan_numbers.specs.declared.numbers.Below.{Below}
 use Rattle.plan_numbers.specs.declared.numbers.LevelNums.{LevelNums}
 use Rattle.plan_numbers.specs.Numbers.{level_of}
@@ -45,3 +46,14 @@ related nums (below, are) =
       span = ap (λ (m : LevelNums). m.span) are.numbers;
       faults = sized.below.quorum;
     }
+
+-- intervals up to that past the last block are no longer than the span
+pub interval_most : (nums : LevelNums) → Related nums → (i : ℕ) → i ≤ nums.blocks
+    → interval_of nums.beat nums.leaders i ≤ 2 ^ 40
+interval_most nums r i le =
+    let span : nums.span ≡ interval_of nums.beat nums.leaders nums.blocks =
+    r.span
+    ∙ (ap (λ b. interval_of b (leaders_of (level_of nums)) nums.blocks) (sym r.beat)
+    ∙ ap (λ m. interval_of nums.beat m nums.blocks) (sym r.leaders)) in
+    let some : 1 ≤ nums.leaders = omega (arith, r.sized.leaders) in
+    omega (arith, span, r.sized.most_span, interval_le nums.beat nums.leaders i nums.blocks some le)

@@ -16,7 +16,7 @@ use plan_numbers::LevelNums;
 use sync_types::Reg;
 
 /// The block that leads: the one for which most blocks vote, by the inner outputs in `work`.
-fn lead(nums: &LevelNums, work: &mut Work) -> u32
+pub fn lead(nums: &LevelNums, work: &mut Work) -> u32
     requires numbers { AreNumbers nums.now }
     requires work { IsFor nums.now.nodes work.old }
     ensures lead { let outputs = take (in_blocks nums.now) work.old.outputs.items in
@@ -37,8 +37,9 @@ fn lead(nums: &LevelNums, work: &mut Work) -> u32
     most(&Itself, &work.votes[..nums.blocks as usize]) as u32
 }
 
-/// The beat heard: the part of the beat at which most nodes of the leading block are.
-fn beat(nums: &LevelNums, work: &mut Work) -> u64
+/// The beat heard: the part of the beat at which most nodes of the leading block are, by the inner
+/// outputs in `work`.
+pub fn beat(nums: &LevelNums, work: &mut Work) -> u64
     requires numbers { AreNumbers nums.now }
     requires work { IsFor nums.now.nodes work.old }
     ensures beat { let outputs = take (in_blocks nums.now) work.old.outputs.items in

@@ -18,5 +18,6 @@ mod sharing;
 mod steps;
 mod towers;
 
+pub use registers::set_outputs;
 pub use shared::Shared;
 pub use towers::{Tower, build};

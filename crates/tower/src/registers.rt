@@ -26,7 +26,7 @@ pub(crate) fn shown_over(levels: usize, state: &NodeState) -> u64
 
 /// Puts what the first `nodes` nodes of a group show over so many levels into the workspace, by
 /// place.
-fn set_outputs(levels: usize, nodes: u32, group: &Heard<'_>, work: &mut Work)
+pub fn set_outputs(levels: usize, nodes: u32, group: &Heard<'_>, work: &mut Work)
     requires nodes { nodes ≤ length group.now }
     requires deep { All (λ s. levels ≤ length s.registers) group.now }
     requires work { IsFor (length group.now) work.old }

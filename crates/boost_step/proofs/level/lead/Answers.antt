@@ -1,28 +1,17 @@
-use Rattle.std.proofs.Common.{◌≡◌, ℕ, ◌+◌, ◌/◌, ◌<◌, ◌≤◌, ◌^◌, length, ◌-◌, ◌%◌, List, map, take, drop, ap, sym, ◌∙◌, subst, arith, refl}
+use Rattle.std.proofs.Common.{◌≡◌, ℕ, ◌+◌, ◌/◌, ◌<◌, ◌≤◌, length, ◌-◌, ◌%◌, List, map, take, drop, ap, sym, ◌∙◌, subst, arith, refl}
 use Rattle.std.specs.List.{range_with_len}
 use Rattle.std.proofs.lemmas.List.{length-set, map-id}
 use Rattle.counting.specs.Values.{majority_or_zero}
 use Rattle.construction.specs.Plans.{leaders_of, beat_of, interval_of}
 use Rattle.construction.specs.Votes.{vote, lead}
-use Rattle.leader_pointers.proofs.Intervals.{interval_pos, interval_le}
+use Rattle.leader_pointers.proofs.Intervals.{interval_pos}
 use Rattle.plan_numbers.specs.declared.numbers.LevelNums.{LevelNums}
 use Rattle.plan_numbers.specs.Numbers.{level_of}
 use Rattle.boost_step.specs.Numbers.{block_nodes, in_blocks}
-use Rattle.boost_step.proofs.Numbers.{Related, related}
+use Rattle.boost_step.proofs.Numbers.{Related, related, interval_most}
 use Rattle.boost_step.proofs.LevelVotes.{lead_below, vote_of_slice, interval_more}
 use Rattle.boost_step.proofs.Stepping.{output_more}
 use Rattle.boost_step.proofs.level.lead.Goals as goal
-
--- intervals up to that past the last block are no longer than the span
-interval_most : (nums : LevelNums) → Related nums → (i : ℕ) → i ≤ nums.blocks
-    → interval_of nums.beat nums.leaders i ≤ 2 ^ 40
-interval_most nums r i le =
-    let leaders = r.sized.leaders in
-    let most = r.sized.most_span in
-    let span : nums.span ≡ interval_of nums.beat nums.leaders nums.blocks = r.span
-    ∙ (ap (λ b. interval_of b (leaders_of (level_of nums)) nums.blocks) (sym r.beat)
-    ∙ ap (λ m. interval_of nums.beat m nums.blocks) (sym r.leaders)) in
-    omega (arith, interval_le nums.beat nums.leaders i nums.blocks (omega arith) le)
 
 pub block_vote-vote-requires-clause-interval : goal.block_vote-vote-requires-clause-interval
 block_vote-vote-requires-clause-interval c =
