@@ -54,7 +54,7 @@ module _ (n : ℕ) (faulty : List ℕ) (config : List State) (lie : ℕ → ℕ 
   one false true u told ult vlt is = is refl ∙ sym (table_at u ult vlt)
   one false false u told ult vlt is = refl
 
-  one_at : (bad : Bool) (u : ℕ) (told : State) → is_in faulty u ≡ bad → u < n → v < n
+  pub one_at : (bad : Bool) (u : ℕ) (told : State) → is_in faulty u ≡ bad → u < n → v < n
       → (is_in faulty u ≡ true → told ≡ cond (u == v) (state_of config u) (lie u v))
       → (is_in faulty u ≡ false → told ≡ state_of config u)
       → told ≡ heard_of faulty config table v u

@@ -10,6 +10,7 @@ pub mod Fitting
 pub mod Heard
 pub mod HeardAt
 pub mod HeardFrom
+pub mod HeardPlaces
 pub mod Hits
 pub mod Laid
 pub mod LayerSteps

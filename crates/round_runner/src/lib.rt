@@ -5,6 +5,7 @@
 //! configuration shows, and whether it is locked, can be asked of any.
 #![tactic(auto)]
 
+mod hearing;
 pub mod laws;
 mod locks;
 mod rounds;

@@ -24,7 +24,7 @@ use std::sync::ledger::Ledger;
 use sync_types::NodeState;
 
 /// Lays the current states into their places.
-fn lay(states: &Packed, heard: &mut [NodeState])
+pub fn lay(states: &Packed, heard: &mut [NodeState])
     requires size { length heard.old ≡ length states.now.current }
     requires deep { All (λ s. length s.registers ≡ length states.now.shape.moduli) heard.old }
     ensures { heard.new ≡ states.now.current }

@@ -25,11 +25,11 @@ use tower::Tower;
 #[derive(Drop)]
 pub struct Runner<O: Overlay> {
     tower: Tower,
-    script: Script,
+    pub(crate) script: Script,
     overlay: O,
-    room: Room,
-    states: Packed,
-    at: u64,
+    pub(crate) room: Room,
+    pub(crate) states: Packed,
+    pub(crate) at: u64,
     // The era of `at`.
     era: usize,
     // Of each era the first configuration so far that is locked.
