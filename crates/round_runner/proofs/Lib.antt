@@ -2,6 +2,7 @@ pub mod Begun
 pub mod Correct
 pub mod Costs
 pub mod Counted
+pub mod CountsOn
 pub mod Digits
 pub mod EraRuns
 pub mod FirstLocked
@@ -19,6 +20,8 @@ pub mod Layering
 pub mod Liars
 pub mod LiesLaid
 pub mod Locked
+pub mod LocksKnown
+pub mod LowestCorrect
 pub mod Own
 pub mod Places
 pub mod Playing

@@ -27,7 +27,7 @@ use Rattle.round_runner.specs.Runners.{Running, Advances, IsPlaying, begun, begu
 use Rattle.round_runner.proofs.Firsts.{begun_era, era_within}
 
 -- what is known stays known
-same_known : (known : Option ℕ) (now : ℕ) → first_of known false now ≡ known
+pub same_known : (known : Option ℕ) (now : ℕ) → first_of known false now ≡ known
 same_known (Some t) now = refl
 same_known None now = refl
 
@@ -50,7 +50,7 @@ module _ (plan : Plan) (script : Script) (config_at : ℕ → List State) where
   known_at t j lt = get_or-map-range_with_len (known t) 0 (length script.eras + 1) j j None lt
       (omega arith)
 
-  other_era : (t j : ℕ) (same : Bool) → eqb (era_of script t) j ≡ same → (j ≡ era_of script t → ⊥)
+  pub other_era : (t j : ℕ) (same : Bool) → eqb (era_of script t) j ≡ same → (j ≡ era_of script t → ⊥)
       → era_locked plan script config_at j t ≡ false
   other_era t j true is other = absurd (other (sym (eqb-true _ _ is)))
   other_era t j false is other = rw is refl

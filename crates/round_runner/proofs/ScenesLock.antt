@@ -46,7 +46,7 @@ module _ {Kept : Type 0} (plan : Plan) (script : Script) (layer : Layer Kept) (b
     (accepted : IsAccepted plan) (right : IsFor plan layer script) (sound : IsShape script.shape)
     (whole : IsScript script)
     (j : ℕ) (among : j ≤ length script.eras) where
-  borne : IsBorne plan (faulty_of_era script j)
+  pub borne : IsBorne plan (faulty_of_era script j)
   borne = All-get_or (IsBorne plan) (faulty_sets script) j []
       (omega (arith, among, length-map script.eras (λ (era : Era). era.faulty))) right.borne
 
@@ -88,7 +88,7 @@ module _ {Kept : Type 0} (plan : Plan) (script : Script) (layer : Layer Kept) (b
 module _ {O Kept : Type 0} (layer : O → Layer Kept) (kept : O → List Kept) (r : Running O)
     (whole : IsScript r.script) (within : r.at ≤ r.script.rounds) (j : ℕ)
     (among : j ≤ length r.script.eras) where
-  known_is : (began : List Kept) → IsPlaying layer kept began r
+  pub known_is : (began : List Kept) → IsPlaying layer kept began r
       → slice_index_or r.locks j None ≡ first_locked
       (era_locked r.plan r.script (configuration_of layer began r) j) r.at
   known_is began plays = ap (λ (locks : List (Option ℕ)). slice_index_or locks j None) plays.locks

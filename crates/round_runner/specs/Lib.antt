@@ -2,6 +2,7 @@ pub mod Beginnings
 pub mod Fits
 pub mod Hearing
 pub mod Kept
+pub mod Known
 pub mod Laws
 pub mod Locks
 pub mod Played

@@ -6,6 +6,7 @@
 #![tactic(auto)]
 
 mod hearing;
+mod knowing;
 pub mod laws;
 mod locks;
 mod rounds;
@@ -14,6 +15,7 @@ mod stepping;
 mod telling;
 mod turns;
 
+pub use knowing::lowest_correct;
 pub use locks::is_locked;
 pub use rounds::beginning_at;
 pub use runners::{Runner, zero_states};

@@ -31,9 +31,9 @@ pub struct Runner<O: Overlay> {
     pub(crate) states: Packed,
     pub(crate) at: u64,
     // The era of `at`.
-    era: usize,
+    pub(crate) era: usize,
     // Of each era the first configuration so far that is locked.
-    locks: Vec<Option<u64>>,
+    pub(crate) locks: Vec<Option<u64>>,
 }
 
 impl<O: Overlay> Model for Runner<O> {
@@ -144,18 +144,16 @@ fn room_for(alloc: Global, tower: &Tower, script: &Script, depth: usize) -> Resu
 }
 
 impl<O: Overlay> Runner<O> {
-    ghost use Rattle.std.specs.Prelude.{◌≡◌, ◌≢◌, ◌+◌, ◌-◌, ◌*◌, ◌<◌, ◌≤◌, List, None, true, length, IfOk, slice_index_or};
-    ghost use Rattle.construction.specs.Plans.{plan_nodes, plan_bound, plan_depth, plan_faults};
+    ghost use Rattle.std.specs.Prelude.{◌≡◌, ◌≢◌, ◌+◌, ◌-◌, ◌*◌, ◌^◌, ◌<◌, ◌≤◌, List, true, length, IfOk};
+    ghost use Rattle.construction.specs.Plans.{plan_nodes, plan_modulus, plan_bound, plan_depth, plan_faults};
     ghost use Rattle.construction.specs.Shown.{shown};
     ghost use Rattle.construction.specs.Steps.{state_of};
     ghost use Rattle.sync_types.specs.FaultSets.{is_in};
     ghost use Rattle.state_codec.specs.Shapes.{fields_at, bytes_in};
     ghost use Rattle.state_codec.specs.Texts.{written_text};
     ghost use Rattle.adversary_script.specs.Lies.{lie_of};
-    ghost use Rattle.adversary_script.specs.Eras.{era_of, first_of_era, end_of_era, faulty_at};
-    ghost use Rattle.round_runner.specs.Laws.{IsUpTo};
-    ghost use Rattle.round_runner.specs.Locks.{IsFirstLocked};
-    ghost use Rattle.round_runner.specs.Runners.{IsFor, IsPlaying, Advances, begun, configuration_of};
+    ghost use Rattle.adversary_script.specs.Eras.{faulty_at};
+    ghost use Rattle.round_runner.specs.Runners.{IsFor, IsPlaying, Advances, begun};
 
     /// A runner of a script at configuration 0. It takes all the memory that it ever needs.
     ///
@@ -285,6 +283,15 @@ impl<O: Overlay> Runner<O> {
         self.tower.bound()
     }
 
+    /// The plan's modulus C, 2 to 2^40.
+    pub fn modulus(&self) -> u64
+        ensures value { result ≡ plan_modulus self.now.plan }
+        ensures least { 2 ≤ result }
+        ensures most { result ≤ 2 ^ 40 }
+    {
+        self.tower.modulus()
+    }
+
     /// What node `v` shows.
     pub fn output(&self, v: u32) -> u64
         requires { v < plan_nodes self.now.plan }
@@ -365,40 +372,5 @@ impl<O: Overlay> Runner<O> {
         ensures { result.now ≡ self.now.script }
     {
         &self.script
-    }
-
-    /// The first configuration of era `j` so far that is locked, None exactly where there is none.
-    /// Where the runner plays its script and has reached the plan's bound in that era, there is
-    /// one, at the bound or before.
-    pub fn locked_in(&self, j: usize) -> Option<u64>
-        requires { j ≤ length self.now.script.eras }
-        ensures value { result ≡ slice_index_or self.now.locks j None }
-        ensures first { (began : List O.Kept) → IsPlaying O.layer O.kept began self.now
-            → IsFirstLocked self.now.plan self.now.script
-            (configuration_of O.layer began self.now) j self.now.at result }
-        ensures by_bound { (began : List O.Kept) → IsPlaying O.layer O.kept began self.now
-            → first_of_era self.now.script j + plan_bound self.now.plan
-            < end_of_era self.now.script j
-            → first_of_era self.now.script j + plan_bound self.now.plan ≤ self.now.at
-            → IsUpTo (first_of_era self.now.script j + plan_bound self.now.plan) result }
-    {
-        self.locks[j]
-    }
-
-    /// The first locked configuration so far of the era of `at`, as
-    /// [`locked_in`](Runner::locked_in) gives it.
-    pub fn locked_at(&self) -> Option<u64>
-        ensures value { result ≡ slice_index_or self.now.locks
-            (era_of self.now.script self.now.at) None }
-        ensures first { (began : List O.Kept) → IsPlaying O.layer O.kept began self.now
-            → IsFirstLocked self.now.plan self.now.script (configuration_of O.layer began self.now)
-            (era_of self.now.script self.now.at) self.now.at result }
-        ensures by_bound { (began : List O.Kept) → IsPlaying O.layer O.kept began self.now
-            → first_of_era self.now.script (era_of self.now.script self.now.at) + plan_bound
-            self.now.plan ≤ self.now.at
-            → IsUpTo (first_of_era self.now.script
-            (era_of self.now.script self.now.at) + plan_bound self.now.plan) result }
-    {
-        self.locked_in(self.era)
     }
 }

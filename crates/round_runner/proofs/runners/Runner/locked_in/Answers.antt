@@ -9,6 +9,7 @@ use Rattle.construction.specs.Plans.{plan_bound}
 use Rattle.round_runner.specs.Laws.{IsUpTo}
 use Rattle.round_runner.specs.Locks.{IsFirstLocked}
 use Rattle.round_runner.specs.Runners.{Running, IsFor, configuration_of}
+use Rattle.round_runner.proofs.LocksKnown.{known_at_end, first_at_end}
 use Rattle.round_runner.proofs.ScenesLock.{known_first, known_by_bound}
 use Rattle.round_runner.proofs.runners.Runner.locked_in.Goals as goal
 
@@ -51,3 +52,25 @@ returns-clause-by_bound g c = λ began plays reaches reached.
     (sym (returns-clause-value g c))
     (known_by_bound g.O.Overlay.layer g.O.Overlay.kept c.args.self.now whole within c.args.j
     c.requires accepted right sound began plays reaches reached)
+
+pub returns-clause-at_end : goal.returns-clause-at_end
+returns-clause-at_end g c = λ began plays knows.
+    let whole = subst (λ (r : Running _). IsScript r.script) c.self.view_is
+    c.self.invariant.whole in
+    let within = subst (λ (r : Running _). r.at ≤ r.script.rounds) c.self.view_is
+    c.self.invariant.within in
+    returns-clause-value g c
+    ∙ known_at_end g.O.Overlay.layer g.O.Overlay.kept c.args.self.now whole within c.args.j
+    c.requires began plays knows
+
+pub returns-clause-last : goal.returns-clause-last
+returns-clause-last g c = λ began plays knows.
+    let whole = subst (λ (r : Running _). IsScript r.script) c.self.view_is
+    c.self.invariant.whole in
+    let within = subst (λ (r : Running _). r.at ≤ r.script.rounds) c.self.view_is
+    c.self.invariant.within in
+    subst (IsFirstLocked c.args.self.now.plan c.args.self.now.script
+    (configuration_of g.O.Overlay.layer began c.args.self.now) c.args.j
+    c.args.self.now.script.rounds) (sym (returns-clause-value g c))
+    (first_at_end g.O.Overlay.layer g.O.Overlay.kept c.args.self.now whole within c.args.j
+    c.requires began plays knows)

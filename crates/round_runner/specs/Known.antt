@@ -1,0 +1,29 @@
+-- What is known of the rounds that are left: what correct nodes show once their era is locked, and
+-- the first locked configurations.
+use Rattle.std.specs.Prelude.{◌≡◌, ◌⊎◌, ℕ, ◌+◌, ◌-◌, ◌%◌, ◌<◌, ◌≤◌, List, length, not, true, None, is_some, position, unwrap_or, slice_index_or}
+use Rattle.std.specs.List.{range_with_len}
+use Rattle.sync_types.specs.States.{State}
+use Rattle.construction.specs.Plans.{Plan, plan_modulus}
+use Rattle.construction.specs.Runs.{is_in, AllShow}
+use Rattle.adversary_script.specs.Scripts.{Script}
+use Rattle.adversary_script.specs.Eras.{era_of, end_of_era, faulty_at}
+use Rattle.round_runner.specs.Runners.{Running}
+
+-- the lowest id of a correct node
+abbrev pub lowest_correct : (n : ℕ) → (faulty : List ℕ) → ℕ
+lowest_correct n faulty =
+    unwrap_or (position (λ v. not (is_in faulty v)) (range_with_len 0 n)) 0
+
+-- From configuration `at` to the end of its era all nodes that are correct in it show one number:
+-- this value at first, and in each next configuration one more, modulo C.
+abbrev pub CountsOn : Plan → Script → (config_at : ℕ → List State) → (at value : ℕ) → Type 0
+CountsOn plan script config_at at value =
+    (t : ℕ) → at ≤ t → t < end_of_era script (era_of script at)
+    → AllShow plan (faulty_at script t) (config_at t) ((value + (t - at)) % plan_modulus plan)
+
+-- The first locked configuration of each era is known as it will be at the end: the runner is at
+-- the last configuration, or in the last era, and knows one of that era.
+abbrev pub KnowsLocks : {O : Type 0} → Running O → Type 0
+KnowsLocks r =
+    (r.at ≡ r.script.rounds) ⊎ ((era_of r.script r.at ≡ length r.script.eras)
+    × (is_some (slice_index_or r.locks (era_of r.script r.at) None) ≡ true))
