@@ -7,9 +7,10 @@ use Rattle.texts.specs.Growth.{Told, Wrote, Cut}
 
 abbrev pub help_text : List ℕ
 help_text = concat (
-    codes "usage: draw < RUN > PICTURE.svg\n"
-    ∷ codes "Draws what `counterlab run` writes: a picture in SVG with a column for\n"
-    ∷ codes "each row of the run and a line of cells for each node.\n" ∷ [])
+    codes "usage: draw < RUN > PICTURE.svg\n       draw < TRACE > PICTURE.svg\n"
+    ∷ codes "Draws what `counterlab run` or `trace` writes: a picture in SVG with a column\n"
+    ∷ codes "for each configuration and a line of cells for each node. Of a trace it\n"
+    ∷ codes "draws each level too, with the kings' turns.\n" ∷ [])
 
 abbrev pub version_text : List ℕ
 version_text = codes "draw 1.0\n"

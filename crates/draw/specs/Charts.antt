@@ -4,6 +4,8 @@ use Rattle.std.specs.List.{concat, flat_map}
 use Rattle.draw.specs.declared.charts.Cell.{Cell}
 use Rattle.draw.specs.declared.charts.End.{End}
 use Rattle.draw.specs.declared.charts.Chart.{Chart}
+use Rattle.draw.specs.declared.frames.Frame.{Frame}
+use Rattle.draw.specs.Frames.{band_height}
 
 -- ---- rows
 
@@ -50,3 +52,12 @@ chart_text chart =
     bound_line chart.bound
     ++ (flat_map (cell_words chart.first chart.nodes) chart.cells.items
     ++ flat_map end_line chart.ends.items)
+
+-- what the picture of a chart stands in
+abbrev pub frame_of : Chart → Frame
+frame_of chart = record {
+  first = chart.first;
+  columns = chart.rows;
+  digits = chart.digits;
+  height = band_height chart.nodes;
+}

@@ -1,4 +1,10 @@
+pub mod Frames
 pub mod Charts
+pub mod Cells
 pub mod Pictures
+pub mod Hits
+pub mod Traces
+pub mod Strips
+pub mod TracePictures
 pub mod Drawn
 pub mod Asked

@@ -1,108 +1,43 @@
--- The picture of a chart, in SVG. Lengths are in units of the picture, at a font of 11: a digit is
--- at most 7 wide.
-use Rattle.std.specs.Prelude.{ℕ, ◌+◌, ◌-◌, ◌*◌, ◌%◌, ◌==◌, ◌&&◌, nat_le, nat_lt, length, List, [], ◌∷◌, ◌++◌, Bool, true, Option, Some, None, if◌then◌else◌, codes, decimal}
+-- The picture of a chart, in SVG.
+use Rattle.std.specs.Prelude.{ℕ, ◌+◌, ◌-◌, ◌*◌, ◌&&◌, nat_le, nat_lt, max, length, List, [], ◌∷◌, ◌++◌, Bool, true, Option, Some, None, if◌then◌else◌, codes, decimal}
 use Rattle.std.specs.List.{concat, flat_map}
-use Rattle.draw.specs.declared.charts.Cell.{Cell}
 use Rattle.draw.specs.declared.charts.End.{End}
 use Rattle.draw.specs.declared.charts.Chart.{Chart}
-use Rattle.draw.specs.Charts.{end_words}
-
--- ---- where things stand
-
--- how wide a column is
-abbrev pub column_width : (digits : ℕ) → ℕ
-column_width digits = 8 + 7 * digits
-
--- the left side of a column
-abbrev pub column_left : (digits row : ℕ) → ℕ
-column_left digits row = 36 + row * column_width digits
-
--- the top of a node's line
-abbrev pub line_top : (node : ℕ) → ℕ
-line_top node = 62 + 18 * node
-
--- ---- cells
-
--- one of three parts of an output's colour: neighbours differ much, and outputs that have the same
--- three parts are more than a million apart
-abbrev pub shade : (turn size output : ℕ) → ℕ
-shade turn size output = 128 + output % size * turn % size
-
--- a number, from that point on
-abbrev pub number_text : (x y n : ℕ) → List ℕ
-number_text x y n = concat (
-    codes "<text x='" ∷ decimal x
-    ∷ codes "' y='" ∷ decimal y
-    ∷ codes "'>" ∷ decimal n
-    ∷ codes "</text>\n" ∷ [])
-
--- the front of a rectangle, up to its filling
-abbrev pub rectangle_front : (x y width : ℕ) → List ℕ
-rectangle_front x y width = concat (
-    codes "<rect x='" ∷ decimal x
-    ∷ codes "' y='" ∷ decimal y
-    ∷ codes "' width='" ∷ decimal width
-    ∷ codes "' height='18' stroke='white' fill='" ∷ [])
-
--- the rest of it: hatched for a faulty node, else the output's colour
-abbrev pub filling : Option ℕ → List ℕ
-filling None = codes "url(#faulty)'/>\n"
-filling (Some output) = concat (
-    codes "rgb(" ∷ decimal (shade 41 113 output)
-    ∷ codes "," ∷ decimal (shade 67 109 output)
-    ∷ codes "," ∷ decimal (shade 89 107 output)
-    ∷ codes ")'/>\n" ∷ [])
-
--- an output within its rectangle
-abbrev pub inscription : (x y : ℕ) → Option ℕ → List ℕ
-inscription x y None = []
-inscription x y (Some output) = number_text (x + 4) (y + 13) output
-
--- the number of a node, before its line
-abbrev pub node_label : Cell → List ℕ
-node_label cell =
-    if cell.row == 0 then number_text 4 (line_top cell.node + 13) cell.node else []
-
--- the number of a configuration, above its column
-abbrev pub column_label : (first digits : ℕ) → Cell → List ℕ
-column_label first digits cell =
-    if cell.node == 0 then number_text (column_left digits cell.row + 4) 58 (first + cell.row) else []
-
--- a rectangle with what a node shows
-abbrev pub square_at : (x y width : ℕ) → Option ℕ → List ℕ
-square_at x y width shown = rectangle_front x y width ++ (filling shown ++ inscription x y shown)
-
-abbrev pub square : (digits : ℕ) → Cell → List ℕ
-square digits cell =
-    square_at (column_left digits cell.row) (line_top cell.node) (column_width digits) cell.shown
-
-abbrev pub cell_picture : (first digits : ℕ) → Cell → List ℕ
-cell_picture first digits cell =
-    node_label cell ++ (column_label first digits cell ++ square digits cell)
+use Rattle.draw.specs.declared.frames.Frame.{Frame}
+use Rattle.draw.specs.Frames.{band_top, bottom, column_left, line_top, right}
+use Rattle.draw.specs.Charts.{end_words, frame_of}
+use Rattle.draw.specs.Cells.{cell_picture}
 
 -- ---- marks
 
--- a line from the top to the bottom, with a word
-abbrev pub mark : (x bottom : ℕ) (colour : List ℕ) (y : ℕ) (word : List ℕ) → List ℕ
-mark x bottom colour y word = concat (
+-- a line down, with a word before its end
+abbrev pub mark : (x top end : ℕ) (colour word : List ℕ) → List ℕ
+mark x top end colour word = concat (
     codes "<path d='M" ∷ decimal x
-    ∷ codes " 4V" ∷ decimal bottom
+    ∷ codes " " ∷ decimal top
+    ∷ codes "V" ∷ decimal end
     ∷ codes "' stroke='" ∷ colour
-    ∷ codes "'/>\n<text x='" ∷ decimal (x + 3)
-    ∷ codes "' y='" ∷ decimal y
-    ∷ codes "' fill='" ∷ colour
+    ∷ codes "'/>\n<text x='" ∷ decimal x
+    ∷ codes "' y='" ∷ decimal end
+    ∷ codes "' dx='-3' text-anchor='end' fill='" ∷ colour
     ∷ codes "'>" ∷ word
     ∷ codes "</text>\n" ∷ [])
 
--- whether a configuration has a row
-abbrev pub has_row : (first rows t : ℕ) → Bool
-has_row first rows t = nat_le first t && nat_lt t (first + rows)
+-- whether a configuration has a column
+abbrev pub has_column : Frame → (t : ℕ) → Bool
+has_column frame t = nat_le frame.first t && nat_lt t (frame.first + frame.columns)
+
+-- a line down a column of cells, and as far below them
+abbrev pub mark_at : Frame → (column cells below : ℕ) (colour word : List ℕ) → List ℕ
+mark_at frame column cells below colour word =
+    mark (column_left frame.digits column) (band_top frame.height column + 30)
+    (band_top frame.height column + cells + below) colour word
 
 -- a mark at a configuration, if that has a row
-abbrev pub mark_at : Chart → (t : ℕ) (colour : List ℕ) (y : ℕ) (word : List ℕ) → List ℕ
-mark_at chart t colour y word =
-    if has_row chart.first chart.rows t
-    then mark (column_left chart.digits (t - chart.first)) (line_top chart.nodes) colour y word else []
+abbrev pub mark_row : Chart → (t below : ℕ) (colour word : List ℕ) → List ℕ
+mark_row chart t below colour word =
+    if has_column (frame_of chart) t
+    then mark_at (frame_of chart) (t - chart.first) (line_top chart.nodes) below colour word else []
 
 -- where an era begins; the one era of a script that names none begins at 0
 abbrev pub era_begin : Option ℕ → ℕ
@@ -111,7 +46,7 @@ era_begin (Some begin) = begin
 
 abbrev pub era_mark : Chart → Option ℕ → List ℕ
 era_mark chart None = []
-era_mark chart (Some begin) = mark_at chart begin (codes "black") 14 (codes "era")
+era_mark chart (Some begin) = mark_row chart begin 12 (codes "black") (codes "era")
 
 -- whether a configuration is before the next era, if there is one
 abbrev pub is_before : (t : ℕ) → Option ℕ → Bool
@@ -121,7 +56,7 @@ is_before t (Some next) = nat_lt t next
 -- the bound at a configuration, if that is before the next era
 abbrev pub bound_at : Chart → (t : ℕ) → (next : Option ℕ) → List ℕ
 bound_at chart t next =
-    if is_before t next then mark_at chart t (codes "firebrick") 28 (codes "bound") else []
+    if is_before t next then mark_row chart t 24 (codes "firebrick") (codes "bound") else []
 
 -- the bound, counted from where the era begins, if the era is so long
 abbrev pub bound_mark : Chart → End → List ℕ
@@ -129,23 +64,44 @@ bound_mark chart end = bound_at chart (era_begin end.era + chart.bound) end.next
 
 abbrev pub locked_mark : Chart → Option ℕ → List ℕ
 locked_mark chart None = []
-locked_mark chart (Some t) = mark_at chart t (codes "darkgreen") 42 (codes "locked")
+locked_mark chart (Some t) = mark_row chart t 36 (codes "darkgreen") (codes "locked")
 
--- the front of a line below the cells
+-- ---- below the bands
+
+-- the front of a line of the caption
 abbrev pub caption_front : (y : ℕ) → List ℕ
-caption_front y = concat (codes "<text x='4' y='" ∷ decimal y ∷ codes "'>" ∷ [])
+caption_front y = concat (codes "<text text-anchor='start' x='4' y='" ∷ decimal y ∷ codes "'>" ∷ [])
 
 abbrev pub caption_at : (y : ℕ) → End → List ℕ
 caption_at y end = caption_front y ++ (end_words end ++ codes "</text>\n")
 
--- the line itself, below the cells
-abbrev pub caption : (nodes : ℕ) → End → List ℕ
-caption nodes end = caption_at (line_top nodes + 38 + 16 * end.place) end
+-- a line behind the rows
+abbrev pub caption : Chart → End → List ℕ
+caption chart end = caption_at (bottom (frame_of chart) + 60 + 16 * end.place) end
 
 abbrev pub end_picture : Chart → End → List ℕ
 end_picture chart end =
     era_mark chart end.era
-    ++ (bound_mark chart end ++ (locked_mark chart end.locked ++ caption chart.nodes end))
+    ++ (bound_mark chart end ++ (locked_mark chart end.locked ++ caption chart end))
+
+-- the configuration of the last column
+abbrev pub last_of : Frame → ℕ
+last_of frame = frame.first + frame.columns - 1
+
+-- which configurations a picture shows
+abbrev pub span_caption : Frame → List ℕ
+span_caption frame = concat (
+    codes "<text text-anchor='start' x='4' y='" ∷ decimal (bottom frame + 12)
+    ∷ codes "'>configurations " ∷ decimal frame.first
+    ∷ codes " to " ∷ decimal (last_of frame)
+    ∷ codes "</text>\n" ∷ [])
+
+-- a word and a number in a line of the caption
+abbrev pub number_caption : (y : ℕ) (word : List ℕ) (n : ℕ) → List ℕ
+number_caption y word n = concat (
+    codes "<text text-anchor='start' x='4' y='" ∷ decimal y
+    ∷ codes "'>" ∷ word ∷ codes " " ∷ decimal n
+    ∷ codes "</text>\n" ∷ [])
 
 -- ---- the picture
 
@@ -153,7 +109,7 @@ abbrev pub picture_front : (width height : ℕ) → List ℕ
 picture_front width height = concat (
     codes "<svg xmlns='http://www.w3.org/2000/svg' width='" ∷ decimal width
     ∷ codes "' height='" ∷ decimal height
-    ∷ codes "' font-family='monospace' font-size='11'>\n" ∷ [])
+    ∷ codes "' font-family='monospace' font-size='11' text-anchor='middle'>\n" ∷ [])
 
 -- how faulty nodes are hatched, and the ground
 abbrev pub picture_ground : List ℕ
@@ -162,23 +118,27 @@ picture_ground = concat (
     ∷ codes "<path d='M0 0H6V6H0Z' fill='white'/><path d='M0 6L6 0' stroke='black'/>"
     ∷ codes "</pattern></defs>\n<rect width='100%' height='100%' fill='white'/>\n" ∷ [])
 
--- the bound, below the cells
-abbrev pub bound_caption : Chart → List ℕ
-bound_caption chart = concat (
-    codes "<text x='4' y='" ∷ decimal (line_top chart.nodes + 22)
-    ∷ codes "'>bound " ∷ decimal chart.bound
-    ∷ codes "</text>\n" ∷ [])
+-- how wide a picture is, with a line of the caption that has two configurations
+abbrev pub picture_width : Frame → ℕ
+picture_width frame = max (right frame) (141 + 14 * frame.digits)
 
 -- the front, with the picture's width and height
 abbrev pub sized_front : Chart → List ℕ
 sized_front chart =
-    picture_front (column_left chart.digits chart.rows + 180)
-    (line_top chart.nodes + 46 + 16 * length chart.ends.items)
+    picture_front (picture_width (frame_of chart))
+    (bottom (frame_of chart) + 50 + 16 * length chart.ends.items)
+
+-- what the picture is of: configurations, nodes and the bound
+abbrev pub facts : Chart → List ℕ
+facts chart =
+    span_caption (frame_of chart)
+    ++ (number_caption (bottom (frame_of chart) + 28) (codes "nodes") chart.nodes
+    ++ number_caption (bottom (frame_of chart) + 44) (codes "bound") chart.bound)
 
 abbrev pub picture_text : Chart → List ℕ
 picture_text chart =
     sized_front chart
     ++ (picture_ground
-    ++ (flat_map (cell_picture chart.first chart.digits) chart.cells.items
-    ++ (bound_caption chart
+    ++ (flat_map (cell_picture (frame_of chart)) chart.cells.items
+    ++ (facts chart
     ++ (flat_map (end_picture chart) chart.ends.items ++ codes "</svg>\n"))))

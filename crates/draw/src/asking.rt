@@ -13,11 +13,14 @@ fn put_help<K: Sink>(sink: &mut K) -> Result<(), WriteFault>
     put_pieces(
         sink,
         &[
-            Piece::Text(b"usage: draw < RUN > PICTURE.svg\n"),
+            Piece::Text(b"usage: draw < RUN > PICTURE.svg\n       draw < TRACE > PICTURE.svg\n"),
             Piece::Text(
-                b"Draws what `counterlab run` writes: a picture in SVG with a column for\n",
+                b"Draws what `counterlab run` or `trace` writes: a picture in SVG with a column\n",
             ),
-            Piece::Text(b"each row of the run and a line of cells for each node.\n"),
+            Piece::Text(
+                b"for each configuration and a line of cells for each node. Of a trace it\n",
+            ),
+            Piece::Text(b"draws each level too, with the kings' turns.\n"),
         ],
     )
 }

@@ -1,12 +1,19 @@
+//! What `run` writes.
+
 ghost use Rattle.std.specs.Prelude.{◌≡◌};
+ghost use Rattle.draw.specs.Charts.{frame_of};
+
+use crate::frames::{Frame, band_height};
 
 /// What a node shows in a row. Rows and nodes are counted from 0.
 #[derive(Clone, Copy, Debug)]
 pub struct Cell {
     pub row: u32,
-    pub node: u32,
+    pub node: u16,
     /// The output, or None where a star stands for a faulty node.
     pub shown: Option<u64>,
+    /// Whether the rows show that the start of an era put it into another state.
+    pub is_hit: bool,
 }
 
 /// A line behind the rows: the first locked configuration of an era, if there is one.
@@ -29,7 +36,7 @@ pub struct Chart {
     /// The configuration of the first row.
     pub first: u32,
     /// How many words each row has.
-    pub nodes: u32,
+    pub nodes: u16,
     pub rows: u32,
     /// How many digits the longest number of a row has, that of its configuration too.
     pub digits: u16,
@@ -51,5 +58,17 @@ impl Chart {
         ensures { result.now ≡ self.now.ends.items }
     {
         &self.ends
+    }
+
+    /// What its picture stands in.
+    pub fn frame(&self) -> Frame
+        ensures { result ≡ frame_of self.now }
+    {
+        Frame {
+            first: self.first,
+            columns: self.rows,
+            digits: self.digits,
+            height: band_height(self.nodes),
+        }
     }
 }

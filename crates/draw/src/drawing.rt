@@ -1,13 +1,20 @@
-//! Draws what `run` writes.
+//! Draws what `run` or `trace` writes.
 
 ghost use Rattle.std.specs.Prelude.{◌≡◌, ◌≤◌, ◌^◌, length, true, IfOk, OnOk};
 ghost use Rattle.draw.specs.Charts.{chart_text};
-ghost use Rattle.draw.specs.Drawn.{Draws};
+ghost use Rattle.draw.specs.Traces.{trace_text};
+ghost use Rattle.draw.specs.Drawn.{Draws, DrawsRows, DrawsTrace};
 
 use crate::charts::Chart;
+use crate::hits::mark_trace;
+use crate::layouts::lay_out;
 use crate::pictures::put_picture;
 use crate::printing::put_chart;
 use crate::reading::{ChartError, MOST_BOUND, read_chart};
+use crate::trace_pictures::put_trace_picture;
+use crate::trace_printing::put_trace;
+use crate::trace_reading::{is_trace, read_trace};
+use crate::traces::Trace;
 use edge_io::{MemSink, NoMemory, Sink, WriteFault};
 use std::alloc::Global;
 use thiserror::Error;
@@ -54,15 +61,22 @@ fn is_text_of(alloc: Global, chart: &Chart, text: &[u8]) -> Result<bool, NoMemor
     }
 }
 
-/// Draws a text that `run` wrote. Where it answers Ok, the text is that of a chart, letter for
-/// letter, and the picture of this chart was written.
-///
-/// `Chart` comes where a line is not what should stand there, `Open` where the last newline is
-/// missing, `NoMemory` where memory ran out; then nothing was written. `Write` comes where a write
-/// failed.
-pub fn draw<K: Sink>(alloc: Global, text: &[u8], sink: &mut K) -> Result<(), DrawError>
+/// Whether the text of a trace is this one.
+fn is_text_of_trace(alloc: Global, trace: &Trace, text: &[u8]) -> Result<bool, NoMemory>
+    ensures { IfOk result (λ same. same ≡ true
+        → trace_text trace.now.frame.first trace.now.notes.items ≡ text.now) }
+{
+    let mut sink = MemSink::new(alloc, text.len(), Vec::new(alloc), Vec::new(alloc))?;
+    match put_trace(&mut sink, trace.frame.first, trace.lines()) {
+        Ok(()) => Ok(sink.taken() == text),
+        Err(WriteFault) => Ok(false),
+    }
+}
+
+/// Draws a text that `run` wrote.
+fn draw_rows<K: Sink>(alloc: Global, text: &[u8], sink: &mut K) -> Result<(), DrawError>
     requires { length text.now ≤ 2 ^ 32 }
-    ensures { OnOk result (Draws text.now (K.told sink.old) (K.told sink.new)) }
+    ensures { OnOk result (DrawsRows text.now (K.told sink.old) (K.told sink.new)) }
 {
     let chart = read_chart(alloc, text)?;
     if chart.bound >= MOST_BOUND || chart.ends.len() >= MOST_ENDS {
@@ -74,5 +88,50 @@ pub fn draw<K: Sink>(alloc: Global, text: &[u8], sink: &mut K) -> Result<(), Dra
     match put_picture(sink, &chart) {
         Ok(()) => Ok(()),
         Err(WriteFault) => Err(DrawError::Write),
+    }
+}
+
+/// Reads a trace, with all that is drawn of it.
+fn trace_of(alloc: Global, text: &[u8]) -> Result<Trace, DrawError>
+    requires { length text.now ≤ 2 ^ 32 }
+{
+    let mut trace = read_trace(alloc, text)?;
+    mark_trace(alloc, &mut trace)?;
+    lay_out(&mut trace)?;
+    Ok(trace)
+}
+
+/// Draws a text that `trace` wrote.
+fn draw_trace<K: Sink>(alloc: Global, text: &[u8], sink: &mut K) -> Result<(), DrawError>
+    requires { length text.now ≤ 2 ^ 32 }
+    ensures { OnOk result (DrawsTrace text.now (K.told sink.old) (K.told sink.new)) }
+{
+    let trace = trace_of(alloc, text)?;
+    if trace.levels.len() >= MOST_ENDS {
+        return Err(DrawError::Open);
+    }
+    if !is_text_of_trace(alloc, &trace, text)? {
+        return Err(DrawError::Open);
+    }
+    match put_trace_picture(sink, &trace) {
+        Ok(()) => Ok(()),
+        Err(WriteFault) => Err(DrawError::Write),
+    }
+}
+
+/// Draws a text that `run` or `trace` wrote. Where it answers Ok, the text is that of a chart or of
+/// a trace, letter for letter, and the picture of this was written.
+///
+/// `Chart` comes where a line is not what should stand there, `Open` where the last newline is
+/// missing, `NoMemory` where memory ran out; then nothing was written. `Write` comes where a write
+/// failed.
+pub fn draw<K: Sink>(alloc: Global, text: &[u8], sink: &mut K) -> Result<(), DrawError>
+    requires { length text.now ≤ 2 ^ 32 }
+    ensures { OnOk result (Draws text.now (K.told sink.old) (K.told sink.new)) }
+{
+    if is_trace(alloc, text)? {
+        draw_trace(alloc, text, sink)
+    } else {
+        draw_rows(alloc, text, sink)
     }
 }

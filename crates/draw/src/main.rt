@@ -1,23 +1,34 @@
-//! Draws what `counterlab run` writes: a picture in SVG with a column for each row of the run and a
-//! line of cells for each node. It reads standard input and writes standard output. Where it reads
+//! Draws what `counterlab run` or `trace` writes: a picture in SVG with a column for each
+//! configuration and a line of cells for each node; of a trace also a strip for each level, with the
+//! kings' turns above it. It reads standard input and writes standard output. Where it reads
 //! anything else it writes one line to standard error, and ends with 1. With `--help` or
 //! `--version`, alone, it reads nothing and writes what these ask for; other words count for
 //! nothing.
 //!
-//! That each picture is the defined one of a chart, whose own text is just what was read, is proved
-//! ([`drawing::draw`]), and so is what is written for words ([`asking::tell`]); that all that `run`
-//! writes is read is not.
+//! That each picture is the defined one of a chart or a trace, whose own text is just what was read,
+//! is proved ([`drawing::draw`]), and so is what is written for words ([`asking::tell`]). That all
+//! that `run` and `trace` write is read, how a trace is laid out, and who is found hit, is not.
 #![tactic(auto)]
 
 mod asking;
 mod charts;
 mod drawing;
+mod frames;
+mod hits;
+mod layouts;
 mod lines;
 mod marks;
 mod pictures;
 mod printing;
 mod reading;
 mod squares;
+mod strips;
+mod trace_lines;
+mod trace_pictures;
+mod trace_printing;
+mod trace_reading;
+mod traces;
+mod turns;
 
 use crate::asking::tell;
 use crate::drawing::{DrawError, draw};

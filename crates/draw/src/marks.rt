@@ -3,41 +3,42 @@
 ghost use Rattle.std.specs.Prelude.{◌≡◌, ◌<◌, ◌≤◌, ◌^◌};
 ghost use Rattle.std.specs.List.{flat_map};
 ghost use Rattle.texts.specs.Growth.{Puts};
-ghost use Rattle.draw.specs.Pictures.{bound_at, bound_mark, caption, caption_at, caption_front, end_picture};
-ghost use Rattle.draw.specs.Pictures.{era_begin, era_mark};
-ghost use Rattle.draw.specs.Pictures.{has_row, is_before, locked_mark, mark, mark_at};
+ghost use Rattle.draw.specs.Pictures.{bound_at, bound_mark, caption, caption_at, caption_front};
+ghost use Rattle.draw.specs.Pictures.{end_picture, era_begin, era_mark, has_column, is_before};
+ghost use Rattle.draw.specs.Pictures.{locked_mark, mark, mark_at, mark_row};
 
 use crate::charts::{Chart, End};
+use crate::frames::{Frame, band_top, bottom, column_left, line_top};
 use crate::printing::put_end;
-use crate::squares::{column_left, line_top};
 use edge_io::{Piece, Sink, WriteFault, put_all, put_pieces};
 
-/// Draws a line from the top to the bottom, with a word.
+/// Draws a line down, with a word before its end.
 fn put_mark<'a, K: Sink>(
     sink: &mut K,
     x: u64,
-    bottom: u64,
+    top: u64,
+    end: u64,
     colour: &'a [u8],
-    y: u64,
     word: &'a [u8],
 ) -> Result<(), WriteFault>
-    requires { x ≤ 2 ^ 60 }
-    ensures { Puts result (mark x bottom colour.now y word.now) (K.told sink.old) (K.told sink.new) }
+    ensures { Puts result (mark x top end colour.now word.now) (K.told sink.old) (K.told sink.new) }
 {
     put_pieces(
         sink,
         &[
             Piece::Text(b"<path d='M"),
             Piece::Number(x),
-            Piece::Text(b" 4V"),
-            Piece::Number(bottom),
+            Piece::Text(b" "),
+            Piece::Number(top),
+            Piece::Text(b"V"),
+            Piece::Number(end),
             Piece::Text(b"' stroke='"),
             Piece::Text(colour),
             Piece::Text(b"'/>\n<text x='"),
-            Piece::Number(x + 3),
+            Piece::Number(x),
             Piece::Text(b"' y='"),
-            Piece::Number(y),
-            Piece::Text(b"' fill='"),
+            Piece::Number(end),
+            Piece::Text(b"' dx='-3' text-anchor='end' fill='"),
             Piece::Text(colour),
             Piece::Text(b"'>"),
             Piece::Text(word),
@@ -46,29 +47,61 @@ fn put_mark<'a, K: Sink>(
     )
 }
 
-/// Whether a configuration has a row.
-fn has_row(first: u32, rows: u32, t: u64) -> bool
-    ensures { result ≡ has_row first rows t }
+/// Whether a configuration has a column.
+fn has_column(frame: Frame, t: u64) -> bool
+    ensures { result ≡ has_column frame t }
 {
-    u64::from(first) <= t && t < u64::from(first) + u64::from(rows)
+    u64::from(frame.first) <= t && t < u64::from(frame.first) + u64::from(frame.columns)
+}
+
+/// Draws a line down a column of cells, and as far below them.
+pub fn put_mark_at<'a, K: Sink>(
+    sink: &mut K,
+    frame: Frame,
+    column: u32,
+    cells: u32,
+    below: u16,
+    colour: &'a [u8],
+    word: &'a [u8],
+) -> Result<(), WriteFault>
+    ensures { Puts result (mark_at frame column cells below colour.now word.now)
+        (K.told sink.old) (K.told sink.new) }
+{
+    let top = band_top(frame.height, column);
+    put_mark(
+        sink,
+        column_left(frame.digits, column),
+        top + 30,
+        top + u64::from(cells) + u64::from(below),
+        colour,
+        word,
+    )
 }
 
 /// Draws a mark at a configuration, if that has a row.
-fn put_mark_at<'a, K: Sink>(
+fn put_mark_row<'a, K: Sink>(
     sink: &mut K,
     chart: &Chart,
     t: u64,
+    below: u16,
     colour: &'a [u8],
-    y: u64,
     word: &'a [u8],
 ) -> Result<(), WriteFault>
-    ensures { Puts result (mark_at chart.now t colour.now y word.now)
+    ensures { Puts result (mark_row chart.now t below colour.now word.now)
         (K.told sink.old) (K.told sink.new) }
 {
-    if has_row(chart.first, chart.rows, t) {
+    let frame = chart.frame();
+    if has_column(frame, t) {
         let column = (t - u64::from(chart.first)) as u32;
-        let x = column_left(chart.digits, column);
-        put_mark(sink, x, line_top(chart.nodes), colour, y, word)
+        put_mark_at(
+            sink,
+            frame,
+            column,
+            line_top(chart.nodes),
+            below,
+            colour,
+            word,
+        )
     } else {
         Ok(())
     }
@@ -90,7 +123,7 @@ fn put_era_mark<K: Sink>(sink: &mut K, chart: &Chart, era: Option<u32>) -> Resul
     ensures { Puts result (era_mark chart.now era) (K.told sink.old) (K.told sink.new) }
 {
     match era {
-        Some(begin) => put_mark_at(sink, chart, u64::from(begin), b"black", 14, b"era"),
+        Some(begin) => put_mark_row(sink, chart, u64::from(begin), 12, b"black", b"era"),
         None => Ok(()),
     }
 }
@@ -115,7 +148,7 @@ fn put_bound_at<K: Sink>(
     ensures { Puts result (bound_at chart.now t next) (K.told sink.old) (K.told sink.new) }
 {
     if is_before(t, next) {
-        put_mark_at(sink, chart, t, b"firebrick", 28, b"bound")
+        put_mark_row(sink, chart, t, 24, b"firebrick", b"bound")
     } else {
         Ok(())
     }
@@ -138,19 +171,19 @@ fn put_locked_mark<K: Sink>(
     ensures { Puts result (locked_mark chart.now locked) (K.told sink.old) (K.told sink.new) }
 {
     match locked {
-        Some(t) => put_mark_at(sink, chart, u64::from(t), b"darkgreen", 42, b"locked"),
+        Some(t) => put_mark_row(sink, chart, u64::from(t), 36, b"darkgreen", b"locked"),
         None => Ok(()),
     }
 }
 
-/// Writes the front of a caption.
+/// Writes the front of a line of the caption.
 fn put_caption_front<K: Sink>(sink: &mut K, y: u64) -> Result<(), WriteFault>
     ensures { Puts result (caption_front y) (K.told sink.old) (K.told sink.new) }
 {
     put_pieces(
         sink,
         &[
-            Piece::Text(b"<text x='4' y='"),
+            Piece::Text(b"<text text-anchor='start' x='4' y='"),
             Piece::Number(y),
             Piece::Text(b"'>"),
         ],
@@ -167,10 +200,14 @@ fn put_caption_at<K: Sink>(sink: &mut K, y: u64, end: End) -> Result<(), WriteFa
 }
 
 /// Writes an era's line below the cells.
-fn put_caption<K: Sink>(sink: &mut K, nodes: u32, end: End) -> Result<(), WriteFault>
-    ensures { Puts result (caption nodes end) (K.told sink.old) (K.told sink.new) }
+fn put_caption<K: Sink>(sink: &mut K, chart: &Chart, end: End) -> Result<(), WriteFault>
+    ensures { Puts result (caption chart.now end) (K.told sink.old) (K.told sink.new) }
 {
-    put_caption_at(sink, line_top(nodes) + 38 + 16 * u64::from(end.place), end)
+    put_caption_at(
+        sink,
+        bottom(chart.frame()) + 60 + 16 * u64::from(end.place),
+        end,
+    )
 }
 
 /// Draws what a line behind the rows says.
@@ -181,7 +218,7 @@ fn put_end_picture<K: Sink>(sink: &mut K, chart: &Chart, end: End) -> Result<(),
     put_era_mark(sink, chart, end.era)?;
     put_bound_mark(sink, chart, end)?;
     put_locked_mark(sink, chart, end.locked)?;
-    put_caption(sink, chart.nodes, end)
+    put_caption(sink, chart, end)
 }
 
 /// Draws what the lines behind the rows say.

@@ -1,17 +1,19 @@
 //! Draws a chart.
 
-ghost use Rattle.std.specs.Prelude.{◌<◌, ◌≤◌, ◌^◌, length};
+ghost use Rattle.std.specs.Prelude.{◌≡◌, ◌<◌, ◌≤◌, ◌^◌, length};
 ghost use Rattle.texts.specs.Growth.{Puts};
-ghost use Rattle.draw.specs.Pictures.{bound_caption, picture_front, picture_ground, picture_text};
-ghost use Rattle.draw.specs.Pictures.{sized_front};
+ghost use Rattle.draw.specs.Pictures.{facts, last_of, number_caption, picture_front};
+ghost use Rattle.draw.specs.Pictures.{picture_ground, picture_text, picture_width, sized_front};
+ghost use Rattle.draw.specs.Pictures.{span_caption};
 
 use crate::charts::Chart;
+use crate::frames::{Frame, bottom, right};
 use crate::marks::put_ends;
-use crate::squares::{column_left, line_top, put_cells};
+use crate::squares::put_cells;
 use edge_io::{Gathered, Piece, Sink, WriteFault, put_all, put_pieces};
 
 /// Writes the front of a picture.
-fn put_front<K: Sink>(sink: &mut K, width: u64, height: u64) -> Result<(), WriteFault>
+pub fn put_front<K: Sink>(sink: &mut K, width: u64, height: u64) -> Result<(), WriteFault>
     ensures { Puts result (picture_front width height) (K.told sink.old) (K.told sink.new) }
 {
     put_pieces(
@@ -21,9 +23,18 @@ fn put_front<K: Sink>(sink: &mut K, width: u64, height: u64) -> Result<(), Write
             Piece::Number(width),
             Piece::Text(b"' height='"),
             Piece::Number(height),
-            Piece::Text(b"' font-family='monospace' font-size='11'>\n"),
+            Piece::Text(
+                b"' font-family='monospace' font-size='11' text-anchor='middle'>\n",
+            ),
         ],
     )
+}
+
+/// How wide a picture is, with a line of the caption that has two configurations.
+pub fn picture_width(frame: Frame) -> u64
+    ensures { result ≡ picture_width frame }
+{
+    right(frame).max(141 + 14 * u64::from(frame.digits))
 }
 
 /// Writes the front, with the picture's width and height.
@@ -31,16 +42,16 @@ fn put_sized_front<K: Sink>(sink: &mut K, chart: &Chart) -> Result<(), WriteFaul
     requires { length chart.now.ends.items < 2 ^ 32 }
     ensures { Puts result (sized_front chart.now) (K.told sink.old) (K.told sink.new) }
 {
-    let width = column_left(chart.digits, chart.rows) + 180;
+    let frame = chart.frame();
     put_front(
         sink,
-        width,
-        line_top(chart.nodes) + 46 + 16 * chart.ends.len() as u64,
+        picture_width(frame),
+        bottom(frame) + 50 + 16 * chart.ends.len() as u64,
     )
 }
 
 /// Writes how faulty nodes are hatched, and the ground.
-fn put_ground<K: Sink>(sink: &mut K) -> Result<(), WriteFault>
+pub fn put_ground<K: Sink>(sink: &mut K) -> Result<(), WriteFault>
     ensures { Puts result picture_ground (K.told sink.old) (K.told sink.new) }
 {
     put_pieces(
@@ -55,20 +66,64 @@ fn put_ground<K: Sink>(sink: &mut K) -> Result<(), WriteFault>
     )
 }
 
-/// Writes the bound, below the cells.
-fn put_bound<K: Sink>(sink: &mut K, chart: &Chart) -> Result<(), WriteFault>
-    ensures { Puts result (bound_caption chart.now) (K.told sink.old) (K.told sink.new) }
+/// The configuration of the last column.
+fn last_of(frame: Frame) -> u64
+    ensures { result ≡ last_of frame }
+{
+    let behind = u64::from(frame.first) + u64::from(frame.columns);
+    if behind == 0 { 0 } else { behind - 1 }
+}
+
+/// Writes which configurations a picture shows.
+pub fn put_span<K: Sink>(sink: &mut K, frame: Frame) -> Result<(), WriteFault>
+    ensures { Puts result (span_caption frame) (K.told sink.old) (K.told sink.new) }
 {
     put_pieces(
         sink,
         &[
-            Piece::Text(b"<text x='4' y='"),
-            Piece::Number(line_top(chart.nodes) + 22),
-            Piece::Text(b"'>bound "),
-            Piece::Number(chart.bound),
+            Piece::Text(b"<text text-anchor='start' x='4' y='"),
+            Piece::Number(bottom(frame) + 12),
+            Piece::Text(b"'>configurations "),
+            Piece::Number(u64::from(frame.first)),
+            Piece::Text(b" to "),
+            Piece::Number(last_of(frame)),
             Piece::Text(b"</text>\n"),
         ],
     )
+}
+
+/// Writes a word and a number in a line of the caption.
+pub fn put_number_caption<'a, K: Sink>(
+    sink: &mut K,
+    y: u64,
+    word: &'a [u8],
+    n: u64,
+) -> Result<(), WriteFault>
+    ensures { Puts result (number_caption y word.now n) (K.told sink.old) (K.told sink.new) }
+{
+    put_pieces(
+        sink,
+        &[
+            Piece::Text(b"<text text-anchor='start' x='4' y='"),
+            Piece::Number(y),
+            Piece::Text(b"'>"),
+            Piece::Text(word),
+            Piece::Text(b" "),
+            Piece::Number(n),
+            Piece::Text(b"</text>\n"),
+        ],
+    )
+}
+
+/// Writes what a picture is of.
+fn put_facts<K: Sink>(sink: &mut K, chart: &Chart) -> Result<(), WriteFault>
+    ensures { Puts result (facts chart.now) (K.told sink.old) (K.told sink.new) }
+{
+    let frame = chart.frame();
+    let under = bottom(frame);
+    put_span(sink, frame)?;
+    put_number_caption(sink, under + 28, b"nodes", u64::from(chart.nodes))?;
+    put_number_caption(sink, under + 44, b"bound", chart.bound)
 }
 
 /// Writes all parts of a picture.
@@ -79,8 +134,8 @@ fn put_parts<K: Sink>(sink: &mut K, chart: &Chart) -> Result<(), WriteFault>
 {
     put_sized_front(sink, chart)?;
     put_ground(sink)?;
-    put_cells(sink, chart.first, chart.digits, chart.words())?;
-    put_bound(sink, chart)?;
+    put_cells(sink, chart.frame(), chart.words())?;
+    put_facts(sink, chart)?;
     put_ends(sink, chart, chart.lines())?;
     put_all(sink, b"</svg>\n")
 }

@@ -36,7 +36,7 @@ fn put_front<K: Sink>(sink: &mut K, first: u32, cell: Cell) -> Result<(), WriteF
 }
 
 /// Writes the end of a row, behind its last word.
-fn put_row_end<K: Sink>(sink: &mut K, nodes: u32, cell: Cell) -> Result<(), WriteFault>
+fn put_row_end<K: Sink>(sink: &mut K, nodes: u16, cell: Cell) -> Result<(), WriteFault>
     ensures { Puts result (cell_end nodes cell) (K.told sink.old) (K.told sink.new) }
 {
     if u64::from(cell.node) + 1 == u64::from(nodes) {
@@ -47,7 +47,7 @@ fn put_row_end<K: Sink>(sink: &mut K, nodes: u32, cell: Cell) -> Result<(), Writ
 }
 
 /// Writes a word of a row, with what stands before the first one and behind the last one.
-fn put_cell<K: Sink>(sink: &mut K, first: u32, nodes: u32, cell: Cell) -> Result<(), WriteFault>
+fn put_cell<K: Sink>(sink: &mut K, first: u32, nodes: u16, cell: Cell) -> Result<(), WriteFault>
     ensures { Puts result (cell_words first nodes cell) (K.told sink.old) (K.told sink.new) }
 {
     put_front(sink, first, cell)?;
@@ -56,7 +56,7 @@ fn put_cell<K: Sink>(sink: &mut K, first: u32, nodes: u32, cell: Cell) -> Result
 }
 
 /// Writes the rows.
-fn put_rows<K: Sink>(sink: &mut K, first: u32, nodes: u32, cells: &[Cell]) -> Result<(), WriteFault>
+fn put_rows<K: Sink>(sink: &mut K, first: u32, nodes: u16, cells: &[Cell]) -> Result<(), WriteFault>
     ensures { Puts result (flat_map (cell_words first nodes) cells.now)
         (K.told sink.old) (K.told sink.new) }
 {

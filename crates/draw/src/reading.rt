@@ -3,13 +3,14 @@
 ghost use Rattle.std.specs.Prelude.{◌≤◌, ◌^◌, length};
 
 use crate::charts::{Cell, Chart, End};
+use crate::hits::mark_hits;
 use crate::lines::{era_line, locked_line, next_is, next_number, number_after, shown};
 use edge_io::{Lines, Words};
 use std::alloc::{AllocError, AllocFailed, Global};
 use thiserror::Error;
 
 /// How many nodes a row has at most.
-const MOST_NODES: u32 = 256;
+const MOST_NODES: u16 = 256;
 
 /// How many eras there are at most.
 const MOST_ERAS: usize = 17;
@@ -30,6 +31,10 @@ pub enum Wanted {
     Era,
     #[error("nothing")]
     Nothing,
+    #[error("the next line of a trace: the next node, or the next level of the same one")]
+    Trace,
+    #[error("the line of a trace for the next node")]
+    Node,
 }
 
 /// Why there is no chart.
@@ -44,6 +49,12 @@ pub enum ChartError {
 
 impl From<AllocError> for ChartError {
     fn from(_: AllocError) -> Self {
+        ChartError::NoMemory
+    }
+}
+
+impl<T: Drop> From<AllocFailed<T>> for ChartError {
+    fn from(_: AllocFailed<T>) -> Self {
         ChartError::NoMemory
     }
 }
@@ -84,7 +95,7 @@ fn take_bound(draft: &mut Draft, line: &[u8]) -> Result<(), LineError> {
 }
 
 /// Takes the words of a row, and answers how many these are.
-fn take_words(chart: &mut Chart, words: Words<'_>) -> Result<u32, LineError> {
+fn take_words(chart: &mut Chart, words: Words<'_>) -> Result<u16, LineError> {
     let mut node = 0;
     for word in words {
         let Some(shown) = shown(word) else {
@@ -94,7 +105,12 @@ fn take_words(chart: &mut Chart, words: Words<'_>) -> Result<u32, LineError> {
             return Err(LineError::Unwanted);
         }
         let row = chart.rows;
-        chart.cells.push(Cell { row, node, shown })?;
+        chart.cells.push(Cell {
+            row,
+            node,
+            shown,
+            is_hit: false,
+        })?;
         chart.digits = chart.digits.max(u16::try_from(word.len()).unwrap_or(15));
         node += 1;
     }
@@ -133,7 +149,7 @@ fn take_row(draft: &mut Draft, line: &[u8]) -> Result<(), LineError> {
 }
 
 /// How many digits the configurations of up to 1000000 have.
-fn digits_of(t: u32) -> u16 {
+pub fn digits_of(t: u32) -> u16 {
     match t {
         0..=9 => 1,
         10..=99 => 2,
@@ -217,7 +233,7 @@ fn take(draft: &mut Draft, line: &[u8]) -> Result<(), LineError> {
             }
         }
         Wanted::Era => take_era(draft, line),
-        Wanted::Nothing => Err(LineError::Unwanted),
+        Wanted::Nothing | Wanted::Trace | Wanted::Node => Err(LineError::Unwanted),
     }
 }
 
@@ -258,5 +274,7 @@ pub fn read_chart(alloc: Global, text: &[u8]) -> Result<Chart, ChartError>
     }
     let last = draft.chart.first.saturating_add(draft.chart.rows);
     draft.chart.digits = draft.chart.digits.max(digits_of(last.saturating_sub(1)));
-    Ok(draft.chart)
+    let mut chart = draft.chart;
+    mark_hits(&mut chart);
+    Ok(chart)
 }

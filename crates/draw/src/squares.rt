@@ -1,37 +1,18 @@
-//! Draws the cells of a chart.
+//! Draws cells, and the numbers and words beside them.
 
 ghost use Rattle.std.specs.Prelude.{◌≡◌, ◌<◌, ◌≤◌, ◌^◌};
 ghost use Rattle.std.specs.List.{flat_map};
 ghost use Rattle.texts.specs.Growth.{Puts};
-ghost use Rattle.draw.specs.Pictures.{cell_picture, column_label, column_left, column_width};
-ghost use Rattle.draw.specs.Pictures.{filling, inscription, line_top, node_label, number_text};
-ghost use Rattle.draw.specs.Pictures.{rectangle_front, shade, square, square_at};
+ghost use Rattle.draw.specs.Cells.{axes, axes_at, cell_at, cell_head, cell_picture, column_head};
+ghost use Rattle.draw.specs.Cells.{column_number, filling, hit_mark, inscription, marked_square};
+ghost use Rattle.draw.specs.Cells.{node_label};
+ghost use Rattle.draw.specs.Cells.{number_text, rectangle_front, shade, shown_at, square_at};
+ghost use Rattle.draw.specs.Frames.{line_top};
 
 use crate::charts::Cell;
+use crate::frames::{Frame, MOST_COLUMNS};
+use crate::frames::{band_top, column_left, column_middle, column_width, line_top};
 use edge_io::{Piece, Sink, WriteFault, put_all, put_pieces};
-
-/// How wide a column is whose longest number has so many digits.
-pub fn column_width(digits: u16) -> u64
-    ensures { result ≡ column_width digits }
-{
-    8 + 7 * u64::from(digits)
-}
-
-/// The left side of a column.
-pub fn column_left(digits: u16, row: u32) -> u64
-    ensures value { result ≡ column_left digits row }
-    ensures most { result ≤ 2 ^ 60 }
-{
-    36 + u64::from(row) * column_width(digits)
-}
-
-/// The top of a node's line.
-pub fn line_top(node: u32) -> u64
-    ensures value { result ≡ line_top node }
-    ensures most { result ≤ 2 ^ 40 }
-{
-    62 + 18 * u64::from(node)
-}
 
 /// One of three parts of an output's colour.
 fn shade(turn: u64, size: u64, output: u64) -> u64
@@ -43,8 +24,8 @@ fn shade(turn: u64, size: u64, output: u64) -> u64
     128 + output % size * turn % size
 }
 
-/// Writes a number, from that point on.
-fn put_number_at<K: Sink>(sink: &mut K, x: u64, y: u64, n: u64) -> Result<(), WriteFault>
+/// Writes a number, in the middle of x.
+pub fn put_number_at<K: Sink>(sink: &mut K, x: u64, y: u64, n: u64) -> Result<(), WriteFault>
     ensures { Puts result (number_text x y n) (K.told sink.old) (K.told sink.new) }
 {
     put_pieces(
@@ -61,8 +42,81 @@ fn put_number_at<K: Sink>(sink: &mut K, x: u64, y: u64, n: u64) -> Result<(), Wr
     )
 }
 
+/// Writes what is counted to the right and down.
+fn put_axes<K: Sink>(sink: &mut K, top: u64) -> Result<(), WriteFault>
+    requires { top ≤ 2 ^ 60 }
+    ensures { Puts result (axes top) (K.told sink.old) (K.told sink.new) }
+{
+    put_pieces(
+        sink,
+        &[
+            Piece::Text(b"<text x='52' y='"),
+            Piece::Number(top + 11),
+            Piece::Text(
+                b"' text-anchor='start'>configuration</text>\n<text x='26' y='",
+            ),
+            Piece::Number(top + 25),
+            Piece::Text(b"'>node</text>\n"),
+        ],
+    )
+}
+
+/// Writes the same where a column is the first one of its band.
+fn put_axes_at<K: Sink>(sink: &mut K, frame: Frame, column: u32) -> Result<(), WriteFault>
+    ensures { Puts result (axes_at frame column) (K.told sink.old) (K.told sink.new) }
+{
+    if column % MOST_COLUMNS == 0 {
+        put_axes(sink, band_top(frame.height, column))
+    } else {
+        Ok(())
+    }
+}
+
+/// Writes the number of a configuration, above its column.
+fn put_column_number<K: Sink>(sink: &mut K, frame: Frame, column: u32) -> Result<(), WriteFault>
+    ensures { Puts result (column_number frame column) (K.told sink.old) (K.told sink.new) }
+{
+    put_number_at(
+        sink,
+        column_middle(frame.digits, column),
+        band_top(frame.height, column) + 25,
+        u64::from(frame.first) + u64::from(column),
+    )
+}
+
+/// Writes what stands above a column.
+pub fn put_column_head<K: Sink>(sink: &mut K, frame: Frame, column: u32) -> Result<(), WriteFault>
+    ensures { Puts result (column_head frame column) (K.told sink.old) (K.told sink.new) }
+{
+    put_axes_at(sink, frame, column)?;
+    put_column_number(sink, frame, column)
+}
+
+/// Writes the id of a node, before its line in each band.
+pub fn put_node_label<K: Sink>(
+    sink: &mut K,
+    frame: Frame,
+    column: u32,
+    top: u32,
+    node: u64,
+) -> Result<(), WriteFault>
+    ensures { Puts result (node_label frame column top node)
+        (K.told sink.old) (K.told sink.new) }
+{
+    if column % MOST_COLUMNS == 0 {
+        put_number_at(
+            sink,
+            26,
+            band_top(frame.height, column) + u64::from(top) + 13,
+            node,
+        )
+    } else {
+        Ok(())
+    }
+}
+
 /// Writes the front of a rectangle, up to its filling.
-fn put_rectangle<K: Sink>(sink: &mut K, x: u64, y: u64, width: u64) -> Result<(), WriteFault>
+pub fn put_rectangle<K: Sink>(sink: &mut K, x: u64, y: u64, width: u64) -> Result<(), WriteFault>
     ensures { Puts result (rectangle_front x y width) (K.told sink.old) (K.told sink.new) }
 {
     put_pieces(
@@ -107,41 +161,12 @@ fn put_inscription<K: Sink>(
     y: u64,
     shown: Option<u64>,
 ) -> Result<(), WriteFault>
-    requires x { x ≤ 2 ^ 60 }
-    requires y { y ≤ 2 ^ 60 }
+    requires { y ≤ 2 ^ 60 }
     ensures { Puts result (inscription x y shown) (K.told sink.old) (K.told sink.new) }
 {
     match shown {
         None => Ok(()),
-        Some(output) => put_number_at(sink, x + 4, y + 13, output),
-    }
-}
-
-/// Writes the number of a node, before its line.
-fn put_node_label<K: Sink>(sink: &mut K, cell: Cell) -> Result<(), WriteFault>
-    ensures { Puts result (node_label cell) (K.told sink.old) (K.told sink.new) }
-{
-    if cell.row == 0 {
-        put_number_at(sink, 4, line_top(cell.node) + 13, u64::from(cell.node))
-    } else {
-        Ok(())
-    }
-}
-
-/// Writes the number of a configuration, above its column.
-fn put_column_label<K: Sink>(
-    sink: &mut K,
-    first: u32,
-    digits: u16,
-    cell: Cell,
-) -> Result<(), WriteFault>
-    ensures { Puts result (column_label first digits cell) (K.told sink.old) (K.told sink.new) }
-{
-    if cell.node == 0 {
-        let x = column_left(digits, cell.row) + 4;
-        put_number_at(sink, x, 58, u64::from(first) + u64::from(cell.row))
-    } else {
-        Ok(())
+        Some(output) => put_number_at(sink, x, y + 13, output),
     }
 }
 
@@ -155,48 +180,112 @@ fn put_square_at<K: Sink>(
 ) -> Result<(), WriteFault>
     requires x { x ≤ 2 ^ 60 }
     requires y { y ≤ 2 ^ 60 }
+    requires width { width ≤ 2 ^ 60 }
     ensures { Puts result (square_at x y width shown) (K.told sink.old) (K.told sink.new) }
 {
     put_rectangle(sink, x, y, width)?;
     put_filling(sink, shown)?;
-    put_inscription(sink, x, y, shown)
+    put_inscription(sink, x + width / 2, y, shown)
 }
 
-/// Draws a cell's rectangle.
-fn put_square<K: Sink>(sink: &mut K, digits: u16, cell: Cell) -> Result<(), WriteFault>
-    ensures { Puts result (square digits cell) (K.told sink.old) (K.told sink.new) }
+/// Draws a black corner where the start of an era put a node into another state.
+pub fn put_hit_mark<K: Sink>(sink: &mut K, x: u64, y: u64, hit: bool) -> Result<(), WriteFault>
+    ensures { Puts result (hit_mark x y hit) (K.told sink.old) (K.told sink.new) }
 {
-    let x = column_left(digits, cell.row);
-    put_square_at(
+    match hit {
+        true => put_pieces(
+            sink,
+            &[
+                Piece::Text(b"<path d='M"),
+                Piece::Number(x),
+                Piece::Text(b" "),
+                Piece::Number(y),
+                Piece::Text(b"h8l-8 8z'/>\n"),
+            ],
+        ),
+        false => Ok(()),
+    }
+}
+
+/// Draws a rectangle with what a node shows, and the corner.
+fn put_marked_square<K: Sink>(
+    sink: &mut K,
+    x: u64,
+    y: u64,
+    width: u64,
+    shown: Option<u64>,
+    hit: bool,
+) -> Result<(), WriteFault>
+    requires x { x ≤ 2 ^ 60 }
+    requires y { y ≤ 2 ^ 60 }
+    requires width { width ≤ 2 ^ 60 }
+    ensures { Puts result (marked_square x y width shown hit) (K.told sink.old) (K.told sink.new) }
+{
+    put_square_at(sink, x, y, width, shown)?;
+    put_hit_mark(sink, x, y, hit)
+}
+
+/// Draws what a node shows in a column, in the line that has this top in its band.
+pub fn put_shown<K: Sink>(
+    sink: &mut K,
+    frame: Frame,
+    column: u32,
+    top: u32,
+    shown: Option<u64>,
+    hit: bool,
+) -> Result<(), WriteFault>
+    ensures { Puts result (shown_at frame column top shown hit)
+        (K.told sink.old) (K.told sink.new) }
+{
+    put_marked_square(
         sink,
-        x,
-        line_top(cell.node),
-        column_width(digits),
-        cell.shown,
+        column_left(frame.digits, column),
+        band_top(frame.height, column) + u64::from(top),
+        column_width(frame.digits),
+        shown,
+        hit,
     )
 }
 
-/// Draws a cell, with the labels that stand beside it.
-fn put_cell<K: Sink>(sink: &mut K, first: u32, digits: u16, cell: Cell) -> Result<(), WriteFault>
-    ensures { Puts result (cell_picture first digits cell) (K.told sink.old) (K.told sink.new) }
+/// Writes what stands above a column, with the first cell.
+fn put_cell_head<K: Sink>(sink: &mut K, frame: Frame, cell: Cell) -> Result<(), WriteFault>
+    ensures { Puts result (cell_head frame cell) (K.told sink.old) (K.told sink.new) }
 {
-    put_node_label(sink, cell)?;
-    put_column_label(sink, first, digits, cell)?;
-    put_square(sink, digits, cell)
+    if cell.node == 0 {
+        put_column_head(sink, frame, cell.row)
+    } else {
+        Ok(())
+    }
+}
+
+/// Draws a cell in the line that has this top, with the labels that stand beside it.
+fn put_cell_at<K: Sink>(
+    sink: &mut K,
+    frame: Frame,
+    top: u32,
+    cell: Cell,
+) -> Result<(), WriteFault>
+    ensures { Puts result (cell_at frame top cell) (K.told sink.old) (K.told sink.new) }
+{
+    put_cell_head(sink, frame, cell)?;
+    put_node_label(sink, frame, cell.row, top, u64::from(cell.node))?;
+    put_shown(sink, frame, cell.row, top, cell.shown, cell.is_hit)
+}
+
+/// Draws a cell.
+fn put_cell<K: Sink>(sink: &mut K, frame: Frame, cell: Cell) -> Result<(), WriteFault>
+    ensures { Puts result (cell_picture frame cell) (K.told sink.old) (K.told sink.new) }
+{
+    put_cell_at(sink, frame, line_top(cell.node), cell)
 }
 
 /// Draws all cells.
-pub fn put_cells<K: Sink>(
-    sink: &mut K,
-    first: u32,
-    digits: u16,
-    cells: &[Cell],
-) -> Result<(), WriteFault>
-    ensures { Puts result (flat_map (cell_picture first digits) cells.now)
+pub fn put_cells<K: Sink>(sink: &mut K, frame: Frame, cells: &[Cell]) -> Result<(), WriteFault>
+    ensures { Puts result (flat_map (cell_picture frame) cells.now)
         (K.told sink.old) (K.told sink.new) }
 {
     for i in 0..cells.len() {
-        match put_cell(sink, first, digits, cells[i]) {
+        match put_cell(sink, frame, cells[i]) {
             Ok(()) => {}
             Err(WriteFault) => return Err(WriteFault),
         }

@@ -10,4 +10,5 @@ returns-then-is_before g c =
 
 pub returns-else-is_before : goal.returns-else-is_before
 returns-else-is_before g c =
-    wrote_unless (is_before c.args.t c.args.next) _ _ (sym c.is_before.ensures ∙ c.if-is_before.false)
+    wrote_unless (is_before c.args.t c.args.next) _ _
+        (sym c.is_before.ensures ∙ c.if-is_before.false)

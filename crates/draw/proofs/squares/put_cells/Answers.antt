@@ -1,5 +1,5 @@
 use Rattle.texts.proofs.Growth.{wrote_none, wrote_at, cut_at}
-use Rattle.draw.specs.Pictures.{cell_picture}
+use Rattle.draw.specs.Cells.{cell_picture}
 use Rattle.draw.proofs.squares.put_cells.Goals as goal
 
 pub loop-i-init : goal.loop-i-init
@@ -7,10 +7,10 @@ loop-i-init g c = wrote_none _
 
 pub returns-in-Err : goal.returns-in-Err
 returns-in-Err g c =
-    cut_at (cell_picture c.args.first c.args.digits) c.args.cells.now c.loop-i.i _ _ _ _
+    cut_at (cell_picture c.args.frame) c.args.cells.now c.loop-i.i _ _ _ _
     c.loop-i-test.true c.loop-i.invariant c.in-Err.ensures
 
 pub loop-i-preserved : goal.loop-i-preserved
 loop-i-preserved g c =
-    wrote_at (cell_picture c.args.first c.args.digits) c.args.cells.now c.loop-i.i _ _ _ _
+    wrote_at (cell_picture c.args.frame) c.args.cells.now c.loop-i.i _ _ _ _
     c.loop-i-test.true c.loop-i.invariant c.in-Ok.ensures

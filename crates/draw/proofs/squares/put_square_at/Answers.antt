@@ -1,5 +1,5 @@
 use Rattle.texts.proofs.Growth.{cut_more, cut_then, puts_exit, puts_then}
-use Rattle.draw.specs.Pictures.{filling, rectangle_front}
+use Rattle.draw.specs.Cells.{filling, rectangle_front}
 use Rattle.draw.proofs.squares.put_square_at.Goals as goal
 
 pub returns-in_err-put_rectangle : goal.returns-in_err-put_rectangle
@@ -15,5 +15,7 @@ returns-in_err-put_filling g c =
 
 pub returns : goal.returns
 returns g c =
-    puts_then _ _ _ _ (rectangle_front c.args.x c.args.y c.args.width) _ c.in_ok-put_rectangle.ensures
-    (puts_then _ _ _ _ (filling c.args.shown) _ c.in_ok-put_filling.ensures c.put_inscription.ensures)
+    puts_then _ _ _ _ (rectangle_front c.args.x c.args.y c.args.width) _
+        c.in_ok-put_rectangle.ensures
+    (puts_then _ _ _ _ (filling c.args.shown) _ c.in_ok-put_filling.ensures
+        c.put_inscription.ensures)

@@ -1,0 +1,10 @@
+use Rattle.std.proofs.Common.{take}
+use Rattle.std.specs.List.{flat_map}
+use Rattle.texts.specs.Growth.{Wrote}
+use Rattle.draw.specs.Traces.{note_line}
+use Rattle.draw.proofs.trace_printing.put_trace.Given as goal
+
+abbrev pub invariant-loop-i : goal.invariant-loop-i
+invariant-loop-i g l =
+    Wrote (flat_map (note_line l.first) (take l.i l.notes))
+    (g.K.Sink.told l.fn.sink) (g.K.Sink.told l.sink)

@@ -1,0 +1,235 @@
+//! Draws a trace.
+
+ghost use Rattle.std.specs.Prelude.{◌≡◌, ◌<◌, ◌≤◌, ◌^◌, length};
+ghost use Rattle.std.specs.List.{flat_map};
+ghost use Rattle.texts.specs.Growth.{Puts};
+ghost use Rattle.draw.specs.TracePictures.{bands, blocks_words, dots, legend, legend_below};
+ghost use Rattle.draw.specs.TracePictures.{level_at, level_caption, level_front, start_mark};
+ghost use Rattle.draw.specs.TracePictures.{trace_captions, trace_facts, trace_front, trace_picture};
+
+use crate::frames::{Frame, bottom};
+use crate::marks::put_mark_at;
+use crate::pictures::{picture_width, put_front, put_ground, put_number_caption, put_span};
+use crate::strips::{put_note_pictures, put_titles};
+use crate::traces::{Level, Trace};
+use crate::turns::put_reigns;
+use edge_io::{Gathered, Piece, Sink, WriteFault, put_all, put_pieces};
+
+/// Writes the dots on what is marked.
+fn put_dots<K: Sink>(sink: &mut K) -> Result<(), WriteFault>
+    ensures { Puts result dots (K.told sink.old) (K.told sink.new) }
+{
+    put_pieces(
+        sink,
+        &[
+            Piece::Text(
+                b"<defs><pattern id='marked' width='5' height='5' patternUnits='userSpaceOnUse'>",
+            ),
+            Piece::Text(b"<circle cx='2' cy='2' r='1' fill='#3a6ea5'/></pattern></defs>\n"),
+        ],
+    )
+}
+
+/// Draws where an era must begin.
+fn put_start<K: Sink>(
+    sink: &mut K,
+    frame: Frame,
+    cells: u32,
+    column: u32,
+) -> Result<(), WriteFault>
+    ensures { Puts result (start_mark frame cells column) (K.told sink.old) (K.told sink.new) }
+{
+    put_mark_at(sink, frame, column, cells, 12, b"black", b"era")
+}
+
+/// Draws where eras must begin.
+fn put_starts<K: Sink>(
+    sink: &mut K,
+    frame: Frame,
+    cells: u32,
+    eras: &[u32],
+) -> Result<(), WriteFault>
+    ensures { Puts result (flat_map (start_mark frame cells) eras.now)
+        (K.told sink.old) (K.told sink.new) }
+{
+    for i in 0..eras.len() {
+        match put_start(sink, frame, cells, eras[i]) {
+            Ok(()) => {}
+            Err(WriteFault) => return Err(WriteFault),
+        }
+    }
+    Ok(())
+}
+
+/// Writes how many blocks a level has, if that is known.
+fn put_blocks<K: Sink>(sink: &mut K, blocks: Option<u64>) -> Result<(), WriteFault>
+    ensures { Puts result (blocks_words blocks) (K.told sink.old) (K.told sink.new) }
+{
+    match blocks {
+        Some(blocks) => put_pieces(
+            sink,
+            &[
+                Piece::Text(b" blocks "),
+                Piece::Number(blocks),
+                Piece::Text(b"</text>\n"),
+            ],
+        ),
+        None => put_all(sink, b"</text>\n"),
+    }
+}
+
+/// Writes the front of a level's caption.
+fn put_level_front<K: Sink>(sink: &mut K, y: u64, level: u64) -> Result<(), WriteFault>
+    ensures { Puts result (level_front y level) (K.told sink.old) (K.told sink.new) }
+{
+    put_pieces(
+        sink,
+        &[
+            Piece::Text(b"<text text-anchor='start' x='4' y='"),
+            Piece::Number(y),
+            Piece::Text(b"'>level "),
+            Piece::Number(level),
+        ],
+    )
+}
+
+/// Writes a level's caption, at a height.
+fn put_level_at<K: Sink>(sink: &mut K, y: u64, level: Level) -> Result<(), WriteFault>
+    ensures { Puts result (level_at y level) (K.told sink.old) (K.told sink.new) }
+{
+    put_level_front(sink, y, level.level)?;
+    put_blocks(sink, level.blocks)
+}
+
+/// Writes a level's caption.
+fn put_level<K: Sink>(sink: &mut K, frame: Frame, level: Level) -> Result<(), WriteFault>
+    ensures { Puts result (level_caption frame level) (K.told sink.old) (K.told sink.new) }
+{
+    put_level_at(
+        sink,
+        bottom(frame) + 44 + 16 * u64::from(level.place),
+        level,
+    )
+}
+
+/// Writes the captions of all levels.
+fn put_levels<K: Sink>(sink: &mut K, frame: Frame, levels: &[Level]) -> Result<(), WriteFault>
+    ensures { Puts result (flat_map (level_caption frame) levels.now)
+        (K.told sink.old) (K.told sink.new) }
+{
+    for i in 0..levels.len() {
+        match put_level(sink, frame, levels[i]) {
+            Ok(()) => {}
+            Err(WriteFault) => return Err(WriteFault),
+        }
+    }
+    Ok(())
+}
+
+/// Writes what the cells mean.
+fn put_legend<K: Sink>(sink: &mut K, y: u64) -> Result<(), WriteFault>
+    ensures { Puts result (legend y) (K.told sink.old) (K.told sink.new) }
+{
+    put_pieces(
+        sink,
+        &[
+            Piece::Text(b"<g text-anchor='start' transform='translate(4,"),
+            Piece::Number(y),
+            Piece::Text(b")'>\n<rect width='18' height='18' fill='whitesmoke'/>"),
+            Piece::Text(
+                b"<path d='M6 6l6 6m0 -6l-6 6' stroke='dimgray'/><text x='24' y='13'>none</text>\n",
+            ),
+            Piece::Text(b"<rect x='110' width='18' height='18' fill='#fde9b0'/>"),
+            Piece::Text(b"<text x='134' y='13'>unmarked</text>\n"),
+            Piece::Text(b"<rect y='22' width='18' height='18' fill='#b5d3f2'/>"),
+            Piece::Text(b"<rect y='22' width='18' height='18' fill='url(#marked)'/>"),
+            Piece::Text(b"<text x='24' y='35'>marked</text>\n"),
+            Piece::Text(b"<rect x='110' y='22' width='18' height='18' fill='#a6dba0'/>"),
+            Piece::Text(
+                b"<path d='M112 24h14v14H112z' fill='none' stroke='darkgreen' stroke-width='2'/>",
+            ),
+            Piece::Text(b"<text x='134' y='35'>locked</text>\n"),
+            Piece::Text(b"<rect y='44' width='18' height='18' fill='url(#faulty)'/>"),
+            Piece::Text(b"<text x='24' y='57'>faulty</text>\n"),
+            Piece::Text(b"<rect x='110' y='44' width='18' height='18' fill='silver'/>"),
+            Piece::Text(b"<path d='M110 44h8l-8 8z'/>"),
+            Piece::Text(b"<text x='134' y='57'>hit by an era's start</text>\n"),
+            Piece::Text(b"<path d='M0 68h6v14H0zM18 68h12v14H18zM36 68h18v14H36z' fill='gold'/>"),
+            Piece::Text(b"<path d='M0 68h18v14H0zM18 68h18v14H18zM36 68h18v14H36z'"),
+            Piece::Text(b" fill='none' stroke='black'/>"),
+            Piece::Text(b"<text x='60' y='79'>a king's turn: keep, mark, king</text>\n"),
+            Piece::Text(
+                b"<path d='M0 88h18v14H0z' fill='none' stroke='black' stroke-dasharray='2'/>",
+            ),
+            Piece::Text(b"<text x='24' y='99'>a turn that not all hear</text>\n</g>\n"),
+        ],
+    )
+}
+
+/// Writes what the cells mean, below the captions of so many levels.
+fn put_legend_below<K: Sink>(sink: &mut K, frame: Frame, levels: u32) -> Result<(), WriteFault>
+    ensures { Puts result (legend_below frame levels) (K.told sink.old) (K.told sink.new) }
+{
+    put_legend(sink, bottom(frame) + 40 + 16 * u64::from(levels))
+}
+
+/// Writes what a picture is of.
+fn put_trace_facts<K: Sink>(sink: &mut K, trace: &Trace) -> Result<(), WriteFault>
+    ensures { Puts result (trace_facts trace.now) (K.told sink.old) (K.told sink.new) }
+{
+    put_span(sink, trace.frame)?;
+    let y = bottom(trace.frame) + 28;
+    put_number_caption(sink, y, b"nodes", u64::from(trace.nodes))
+}
+
+/// Writes the front, with the picture's width and height.
+fn put_trace_front<K: Sink>(sink: &mut K, trace: &Trace) -> Result<(), WriteFault>
+    requires { length trace.now.levels.items < 2 ^ 32 }
+    ensures { Puts result (trace_front trace.now) (K.told sink.old) (K.told sink.new) }
+{
+    let height = bottom(trace.frame) + 146 + 16 * trace.levels.len() as u64;
+    put_front(sink, picture_width(trace.frame).max(284), height)
+}
+
+/// Writes the captions of the levels, and what the cells mean.
+fn put_captions<K: Sink>(sink: &mut K, trace: &Trace) -> Result<(), WriteFault>
+    requires { length trace.now.levels.items < 2 ^ 32 }
+    ensures { Puts result (trace_captions trace.now) (K.told sink.old) (K.told sink.new) }
+{
+    put_levels(sink, trace.frame, trace.captions())?;
+    put_legend_below(sink, trace.frame, trace.levels.len() as u32)
+}
+
+/// Draws all that is within the bands.
+fn put_bands<K: Sink>(sink: &mut K, trace: &Trace) -> Result<(), WriteFault>
+    ensures { Puts result (bands trace.now) (K.told sink.old) (K.told sink.new) }
+{
+    put_note_pictures(sink, trace.frame, trace.lines())?;
+    put_reigns(sink, trace.frame, trace.turns())?;
+    put_titles(sink, trace.frame, trace.heads())?;
+    put_starts(sink, trace.frame, trace.cells, trace.starts())
+}
+
+/// Writes all parts of a picture.
+fn put_parts<K: Sink>(sink: &mut K, trace: &Trace) -> Result<(), WriteFault>
+    requires { length trace.now.levels.items < 2 ^ 32 }
+    ensures { Puts result (trace_picture trace.now) (K.told sink.old) (K.told sink.new) }
+{
+    put_trace_front(sink, trace)?;
+    put_ground(sink)?;
+    put_dots(sink)?;
+    put_bands(sink, trace)?;
+    put_trace_facts(sink, trace)?;
+    put_captions(sink, trace)?;
+    put_all(sink, b"</svg>\n")
+}
+
+/// Writes the picture of a trace.
+pub fn put_trace_picture<K: Sink>(sink: &mut K, trace: &Trace) -> Result<(), WriteFault>
+    requires { length trace.now.levels.items < 2 ^ 32 }
+    ensures { Puts result (trace_picture trace.now) (K.told sink.old) (K.told sink.new) }
+{
+    let mut parts = Gathered::new(sink);
+    let written = put_parts(&mut parts, trace);
+    parts.finish(written)
+}

@@ -1,0 +1,112 @@
+//! Draws the kings' turns.
+
+ghost use Rattle.std.specs.Prelude.{◌≡◌, ◌<◌, ◌≤◌, ◌^◌};
+ghost use Rattle.std.specs.List.{flat_map};
+ghost use Rattle.texts.specs.Growth.{Puts};
+ghost use Rattle.draw.specs.Strips.{edge, reign_at, reign_box, reign_picture, share};
+
+use crate::frames::{Frame, band_top, column_left, column_width};
+use crate::squares::put_number_at;
+use crate::traces::{Reign, Turn};
+use edge_io::{Piece, Sink, WriteFault, put_pieces};
+
+/// How far a turn has come, as a part of its cell.
+fn share(width: u64, turn: Turn) -> u64
+    requires { width ≤ 2 ^ 60 }
+    ensures { result ≡ share width turn }
+{
+    match turn {
+        Turn::Keep => width / 3,
+        Turn::Mark => width * 2 / 3,
+        Turn::King => width,
+    }
+}
+
+/// A frame, broken where not all hear a turn.
+fn edge(is_common: bool) -> &'static [u8]
+    ensures { result.now ≡ edge is_common }
+{
+    match is_common {
+        true => b"z' fill='none' stroke='black'/>\n",
+        false => b"z' fill='none' stroke='black' stroke-dasharray='2'/>\n",
+    }
+}
+
+/// Draws a turn: its front in gold, and a frame.
+fn put_reign_box<K: Sink>(
+    sink: &mut K,
+    x: u64,
+    y: u64,
+    width: u64,
+    reign: Reign,
+) -> Result<(), WriteFault>
+    requires { width ≤ 2 ^ 60 }
+    ensures { Puts result (reign_box x y width reign) (K.told sink.old) (K.told sink.new) }
+{
+    put_pieces(
+        sink,
+        &[
+            Piece::Text(b"<path d='M"),
+            Piece::Number(x),
+            Piece::Text(b" "),
+            Piece::Number(y),
+            Piece::Text(b"h"),
+            Piece::Number(share(width, reign.turn)),
+            Piece::Text(b"v14H"),
+            Piece::Number(x),
+            Piece::Text(b"z' fill='gold'/>\n<path d='M"),
+            Piece::Number(x),
+            Piece::Text(b" "),
+            Piece::Number(y),
+            Piece::Text(b"h"),
+            Piece::Number(width),
+            Piece::Text(b"v14H"),
+            Piece::Number(x),
+            Piece::Text(edge(reign.is_common)),
+        ],
+    )
+}
+
+/// Draws a turn, with its king.
+fn put_reign_at<K: Sink>(
+    sink: &mut K,
+    x: u64,
+    y: u64,
+    width: u64,
+    reign: Reign,
+) -> Result<(), WriteFault>
+    requires x { x ≤ 2 ^ 60 }
+    requires y { y ≤ 2 ^ 60 }
+    requires width { width ≤ 2 ^ 60 }
+    ensures { Puts result (reign_at x y width reign) (K.told sink.old) (K.told sink.new) }
+{
+    put_reign_box(sink, x, y, width, reign)?;
+    put_number_at(sink, x + width / 2, y + 11, reign.king)
+}
+
+/// Draws a turn in its place.
+fn put_reign<K: Sink>(sink: &mut K, frame: Frame, reign: Reign) -> Result<(), WriteFault>
+    ensures { Puts result (reign_picture frame reign) (K.told sink.old) (K.told sink.new) }
+{
+    put_reign_at(
+        sink,
+        column_left(frame.digits, reign.column),
+        band_top(frame.height, reign.column) + u64::from(reign.top),
+        column_width(frame.digits),
+        reign,
+    )
+}
+
+/// Draws all turns.
+pub fn put_reigns<K: Sink>(sink: &mut K, frame: Frame, reigns: &[Reign]) -> Result<(), WriteFault>
+    ensures { Puts result (flat_map (reign_picture frame) reigns.now)
+        (K.told sink.old) (K.told sink.new) }
+{
+    for i in 0..reigns.len() {
+        match put_reign(sink, frame, reigns[i]) {
+            Ok(()) => {}
+            Err(WriteFault) => return Err(WriteFault),
+        }
+    }
+    Ok(())
+}
