@@ -25,6 +25,7 @@ pub mod LowestCorrect
 pub mod Own
 pub mod Places
 pub mod Playing
+pub mod Rekeyed
 pub mod ScenesLock
 pub mod ScenesRun
 pub mod SetOn

@@ -9,6 +9,7 @@ mod hearing;
 mod knowing;
 pub mod laws;
 mod locks;
+mod restarting;
 mod rounds;
 mod runners;
 mod stepping;

@@ -8,6 +8,7 @@ ghost use Rattle.round_runner.specs.Rooms.{IsReady};
 ghost use Rattle.round_runner.specs.Runners.{begun_locks};
 
 use crate::locks::{lock_of, locked_so_far};
+use crate::restarting::start_all;
 use crate::rounds::{beginning_in, step_all};
 use crate::stepping::{Room, shown_at};
 use crate::turns::Round;
@@ -24,9 +25,9 @@ use tower::Tower;
 /// Plays a script round by round on the counter of a plan, with a layer above.
 #[derive(Drop)]
 pub struct Runner<O: Overlay> {
-    tower: Tower,
+    pub(crate) tower: Tower,
     pub(crate) script: Script,
-    overlay: O,
+    pub(crate) overlay: O,
     pub(crate) room: Room,
     pub(crate) states: Packed,
     pub(crate) at: u64,
@@ -116,13 +117,8 @@ fn started(
     ensures noise { noise.new ≡ noise.old }
     ensures depth { length out.new.registers ≡ length out.old.registers }
 {
-    let nodes = script.faulty().nodes();
-    let mut states = Packed::new(alloc, shape, nodes)?;
-    for v in 0..nodes {
-        script.start_into(noise, v, out);
-        states.put(v, out);
-    }
-    states.flip();
+    let mut states = Packed::new(alloc, shape, script.faulty().nodes())?;
+    start_all(script, noise, out, &mut states);
     Ok(states)
 }
 

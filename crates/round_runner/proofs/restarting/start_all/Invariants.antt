@@ -1,7 +1,7 @@
 use Rattle.std.proofs.Common.{◌≡◌}
 use Rattle.std.specs.Prelude.{length}
 use Rattle.round_runner.proofs.Begun.{StartedBelow}
-use Rattle.round_runner.proofs.runners.started.Given as goal
+use Rattle.round_runner.proofs.restarting.start_all.Given as goal
 
 abbrev pub invariant-loop-v : goal.invariant-loop-v
 invariant-loop-v l = record {

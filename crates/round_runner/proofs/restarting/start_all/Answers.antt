@@ -5,17 +5,17 @@ use Rattle.state_codec.specs.Shapes.{Shape}
 use Rattle.state_codec.specs.Packs.{Pack}
 use Rattle.adversary_script.proofs.LiesInRange.{depth_of_node}
 use Rattle.round_runner.proofs.Begun.{StartedBelow, one_started, all_started}
-use Rattle.round_runner.proofs.runners.started.Goals as goal
+use Rattle.round_runner.proofs.restarting.start_all.Goals as goal
 
 pub loop-v-preserved : goal.loop-v-preserved
 loop-v-preserved c =
     let script = c.args.script.now in
     let nodes = ap (λ (s : FaultIds). s.nodes) c.faulty.ensures in
     let lt : c.loop-v.v < script.nodes =
-    omega (arith, nodes, c.loop-v-test.true, c.nodes-nodes.ensures) in
+    omega (arith, nodes, c.loop-v-test.true, c.nodes-v-end.ensures) in
     let deep : length c.start_into.new.out.registers ≡ length c.args.out.now.registers =
     depth_of_node script.shape c.loop-v.v _ c.start_into.ensures.range
-    ∙ sym (c.requires.depth ∙ ap (λ (s : Shape). length s.moduli) c.requires.shape) in
+    ∙ sym c.requires.depth in
     record {
       below = subst (λ (next : List State). StartedBelow script c.args.noise.now script.nodes
           (length c.args.out.now.registers) (c.loop-v.v + 1) next c.start_into.new.out
@@ -34,4 +34,4 @@ returns-clause-states c =
     ap (λ (p : Pack). p.current) c.flip.ensures
     ∙ all_started script c.args.noise.now script.nodes _ c.loop-v.v c.loop-v.states.next
     c.loop-v.out c.loop-v.noise refl
-    (omega (arith, nodes, c.loop-v-test.false, c.nodes-nodes.ensures)) c.loop-v.invariant.below
+    (omega (arith, nodes, c.loop-v-test.false, c.nodes-v-end.ensures)) c.loop-v.invariant.below
