@@ -17,7 +17,8 @@ before_less place n c less =
     let product = mul-le (place / n) c (place / n) n (omega arith) (omega arith) in
     omega (arith, div-add-mod' place n, product)
 
-module _ (xs items : List LevelNums) (top : LevelNums) (e : xs ≡ items ++ top ∷ []) (are : AreSomeLevels xs) where
+module _ (xs items : List LevelNums) (top : LevelNums) (e : xs ≡ items ++ top ∷ [])
+    (are : AreSomeLevels xs) where
   pub sized : IsSizedLevel top
   sized = (top_is xs items top e are).sized
 
@@ -32,6 +33,7 @@ module _ (xs items : List LevelNums) (top : LevelNums) (e : xs ≡ items ++ top 
       let apart : (h ≡ length (levels_in items) → ⊥) = λ eq. other (eq ∙ length-levels_in items) in
       ap (λ b. 1 + place / n * c + b) is
       ∙ (ap (λ k. 1 + place / n * k + index_at (levels_in items) (place % n) h) count
-      ∙ (ap (λ m. 1 + place / m * group_count (levels_in items) + index_at (levels_in items) (place % m) h) nodes
+      ∙ (ap (λ m. 1 + place / m * group_count (levels_in items) + index_at (levels_in items)
+          (place % m) h) nodes
       ∙ sym (ap (λ ls. index_at ls place h) (ap levels_in e ∙ levels_in_push items top)
       ∙ index_other (level_of top) (levels_in items) place h apart)))

@@ -18,7 +18,8 @@ pub record Holds (board : Board) (node : ℕ) (placed : Placing) : Type 0 where
 abbrev pub LeadsIn : Board → Row → (node : ℕ) → List Placing → (l : ℕ) → Type 0
 LeadsIn board row node groups l =
     let place = slice_index_or row.places.items l 0 in
-    (place < length groups) × ((none : Placing) → Holds board node (slice_index_or groups place none))
+    (place < length groups)
+    × ((none : Placing) → Holds board node (slice_index_or groups place none))
 
 -- all lies leave one register to a node of the group, as long as it tells itself its own
 abbrev pub IsShut : Board → (node : ℕ) → Placing → Type 0

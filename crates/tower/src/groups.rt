@@ -46,7 +46,12 @@ impl Placed {
         requires { AreNumbers nums.now }
         ensures ready { IfOk result IsReady }
         ensures key { IfOk result (λ p. key_of p
-            ≡ record { level = level_of nums.now; below = height; block = block_nodes nums.now; first = first }) }
+            ≡ record {
+              level = level_of nums.now;
+              below = height;
+              block = block_nodes nums.now;
+              first = first;
+            }) }
     {
         let group = Group::new(alloc, nums, first)?;
         Ok(Placed { height, group })
@@ -62,7 +67,8 @@ impl Placed {
     ) -> bool
         requires ready { IsReady self.old }
         requires height { self.old.height < board.now.depth }
-        requires within { self.old.group.first + self.old.group.nums.nodes ≤ length board.now.states }
+        requires within { self.old.group.first + self.old.group.nums.nodes
+            ≤ length board.now.states }
         requires blocks { self.old.group.nums.blocks ≤ scratch.old.capacity }
         ensures stands { Stands (sent_of board.now self.new.height) self.new.group }
         ensures same_height { self.new.height ≡ self.old.height }
@@ -118,7 +124,8 @@ impl Placed {
     pub(crate) fn liars(&self, board: &Board) -> (usize, usize)
         requires { self.now.group.first + self.now.group.nums.nodes ≤ length board.now.states }
         ensures first { result.0 ≡ place_among board.now.faulty self.now.group.first }
-        ensures last { result.1 ≡ place_among board.now.faulty (self.now.group.first + self.now.group.nums.nodes) }
+        ensures last { result.1 ≡ place_among board.now.faulty
+            (self.now.group.first + self.now.group.nums.nodes) }
     {
         board.tell();
         let first = self.group.first;
@@ -184,7 +191,8 @@ pub(crate) fn gather_groups<G: Ledger>(
 ) -> bool
     requires ready { All IsReady groups.old }
     requires heights { All (λ p. p.height < board.now.depth) groups.old }
-    requires within { All (λ p. p.group.first + p.group.nums.nodes ≤ length board.now.states) groups.old }
+    requires within { All (λ p. p.group.first + p.group.nums.nodes ≤ length board.now.states)
+        groups.old }
     requires room { 16 ≤ scratch.old.capacity }
     ensures keys { map key_of groups.new ≡ map key_of groups.old }
     ensures ready { All IsReady groups.new }
@@ -213,7 +221,8 @@ fn register_at<G: Ledger>(
     steps: &mut Steps<G>,
 ) -> Reg
     requires height { height < length row.now.places.items }
-    requires step { row.now.low ≤ height + 1 → Leads board.now row.now node lies.now groups.old height }
+    requires step { row.now.low ≤ height + 1
+        → Leads board.now row.now node lies.now groups.old height }
     requires room { 16 ≤ scratch.old.capacity }
     ensures register { result ≡ row_register board.now row.now node lies.now groups.old height }
     ensures same { groups.new ≡ groups.old }
@@ -274,12 +283,14 @@ pub(crate) fn write_registers<G: Ledger>(
     requires out { length row.now.places.items ≤ length out.old.registers }
     ensures out { out.new ≡ record {
       x = out.old.x;
-      registers = map (row_register board.now row.now node lies.now groups.old) (range_with_len 0 (length row.now.places.items))
+      registers = map (row_register board.now row.now node lies.now groups.old)
+          (range_with_len 0 (length row.now.places.items))
           ++ drop (length row.now.places.items) out.old.registers;
     } }
     ensures same { groups.new ≡ groups.old }
     ensures capacity { scratch.new.capacity ≡ scratch.old.capacity }
-    ensures steps { steps.new ≤ steps.old + 3 * length row.now.places.items * length board.now.faulty }
+    ensures steps { steps.new
+        ≤ steps.old + 3 * length row.now.places.items * length board.now.faulty }
 {
     for height in 0..row.places.len() {
         let register = register_at(board, row, height, node, lies, groups, scratch, steps);

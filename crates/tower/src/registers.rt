@@ -30,7 +30,8 @@ pub fn set_outputs(levels: usize, nodes: u32, group: &Heard<'_>, work: &mut Work
     requires nodes { nodes ≤ length group.now }
     requires deep { All (λ s. levels ≤ length s.registers) group.now }
     requires work { IsFor (length group.now) work.old }
-    ensures outputs { take nodes work.new.outputs.items ≡ map (shown levels) (take nodes group.now) }
+    ensures outputs { take nodes work.new.outputs.items
+        ≡ map (shown levels) (take nodes group.now) }
     ensures work { IsAsRoomy work.old work.new }
 {
     for place in 0..nodes {
@@ -51,9 +52,11 @@ pub(crate) fn new_register(
     requires place { place < nums.now.nodes }
     requires group { length group.now ≡ nums.now.nodes }
     requires deep { All (λ s. levels < length s.registers) group.now }
-    requires range { All (λ s. IfSome (register_at levels s).a (λ a. a < nums.now.modulus)) group.now }
+    requires range { All (λ s. IfSome (register_at levels s).a (λ a. a < nums.now.modulus))
+        group.now }
     requires work { IsFor (length group.now) work.old }
-    ensures register { result ≡ new_register levels (block_nodes nums.now) (level_of nums.now) place group.now }
+    ensures register { result
+        ≡ new_register levels (block_nodes nums.now) (level_of nums.now) place group.now }
     ensures work { IsAsRoomy work.old work.new }
 {
     set_outputs(levels, nums.blocks * nums.block_nodes(), group, work);

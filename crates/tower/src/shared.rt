@@ -44,7 +44,8 @@ impl Model for Shared {
 
     ghost view = { λ s. shares_of s.version s.base s.levels.items s.is_made s.board };
 
-    ghost invariant = { λ s. IsShared s.version s.base s.levels.items s.rows.items s.is_made s.board s.groups.items s.scratch s.all_settled };
+    ghost invariant = { λ s. IsShared s.version s.base s.levels.items s.rows.items s.is_made s.board
+        s.groups.items s.scratch s.all_settled };
 }
 
 /// The number after a number that is below the base.
@@ -96,7 +97,8 @@ impl Shared {
         ensures out { out.new ≡ written (plan_depth self.old.plan) (step_of self.old.plan node
             (heard_with self.old.faulty lies.now self.old.states)) out.old }
         ensures same { self.new ≡ self.old }
-        ensures cost { steps.new ≤ steps.old + 3 * plan_depth self.old.plan * length self.old.faulty }
+        ensures cost { steps.new
+            ≤ steps.old + 3 * plan_depth self.old.plan * length self.old.faulty }
     {
         let row = &self.rows[node as usize];
         let next = if row.low == 0 {
@@ -122,8 +124,8 @@ impl Shared {
         requires size { length self.now.states ≡ plan_nodes self.now.plan }
         requires node { node < plan_nodes self.now.plan }
         ensures range { (result.0 ≤ result.1) × (result.1 ≤ length self.now.faulty) }
-        ensures enough { (lies told : List State) → Tells self.now node lies → Tells self.now node told →
-            ((j : ℕ) → result.0 ≤ j → j < result.1 → state_of lies j ≡ state_of told j) →
+        ensures enough { (lies told : List State) → Tells self.now node lies
+            → Tells self.now node told → ((j : ℕ) → result.0 ≤ j → j < result.1 → state_of lies j ≡ state_of told j) →
             step_of self.now.plan node (heard_with self.now.faulty lies self.now.states)
             ≡ step_of self.now.plan node (heard_with self.now.faulty told self.now.states) }
     {

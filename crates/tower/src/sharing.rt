@@ -38,7 +38,8 @@ impl Tower {
     /// Room for what all receivers of a round share; it stands for no configuration yet. It takes
     /// all the memory that rounds ever need. The only error is want of memory.
     pub fn shared(&self, alloc: Global) -> Result<Shared, NoMemory>
-        ensures { IfOk result (λ shared. shared ≡ record { plan = self.now; faulty = []; states = [] }) }
+        ensures { IfOk result
+            (λ shared. shared ≡ record { plan = self.now; faulty = []; states = [] }) }
     {
         let nodes = self.whole.nodes;
         let levels = copy_levels(alloc, &self.levels)?;
@@ -123,8 +124,8 @@ impl Tower {
         requires size { length shared.now.states ≡ plan_nodes self.now }
         requires node { node < plan_nodes self.now }
         ensures range { (result.0 ≤ result.1) × (result.1 ≤ length shared.now.faulty) }
-        ensures enough { (lies told : List State) → Tells shared.now node lies → Tells shared.now node told →
-            ((j : ℕ) → result.0 ≤ j → j < result.1 → state_of lies j ≡ state_of told j) →
+        ensures enough { (lies told : List State) → Tells shared.now node lies
+            → Tells shared.now node told → ((j : ℕ) → result.0 ≤ j → j < result.1 → state_of lies j ≡ state_of told j) →
             step_of self.now node (heard_with shared.now.faulty lies shared.now.states)
             ≡ step_of self.now node (heard_with shared.now.faulty told shared.now.states) }
     {

@@ -33,7 +33,11 @@ impl Model for Tower {
 
     ghost Value = { Plan };
 
-    ghost view = { λ t. record { version = t.version; base = t.base; levels = levels_in t.levels.items } };
+    ghost view = { λ t. record {
+      version = t.version;
+      base = t.base;
+      levels = levels_in t.levels.items;
+    } };
 
     ghost invariant = { λ t. IsKept t.version t.base t.levels.items t.whole };
 }
@@ -69,7 +73,8 @@ impl Tower {
     /// of memory.
     pub fn work(&self, alloc: Global) -> Result<Work, NoMemory>
         ensures room { IfOk result (IsFor (plan_nodes self.now)) }
-        ensures outputs { IfOk result (λ work. work.outputs.items ≡ replicate (plan_nodes self.now) 0) }
+        ensures outputs { IfOk result
+            (λ work. work.outputs.items ≡ replicate (plan_nodes self.now) 0) }
     {
         Work::new(alloc, self.whole.nodes)
     }

@@ -10,7 +10,8 @@ unwrap-requires c =
     let i = c.loop-height.invariant in
     let f : ℕ → ℕ = index_at (levels_in c.args.levels.now) c.args.node in
     let long = ap length i.indices ∙ length-map-range_with_len f 0 c.loop-height.height in
-    c.push.ensures.succeeds (omega (arith, long, i.room, c.loop-height-test.true, c.loop-height.places.ok.0))
+    c.push.ensures.succeeds
+        (omega (arith, long, i.room, c.loop-height-test.true, c.loop-height.places.ok.0))
 
 pub loop-height-preserved : goal.loop-height-preserved
 loop-height-preserved c =

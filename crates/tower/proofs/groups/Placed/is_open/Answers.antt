@@ -21,7 +21,8 @@ returns-in-Some c = λ _.
 pub is_open-requires-clause-stands : goal.is_open-requires-clause-stands
 is_open-requires-clause-stands c =
     let holds = subst (Holds c.args.board.now c.args.node) (sym c.self.view_is) c.requires in
-    subst (λ (s : Sent). Stands s (contents c.self.inside.group)) (sym c.senders-senders.ensures) holds.stands
+    subst (λ (s : Sent). Stands s (contents c.self.inside.group))
+        (sym c.senders-senders.ensures) holds.stands
 
 pub returns : goal.returns
 returns c = λ shut.
@@ -29,5 +30,7 @@ returns c = λ shut.
     let node : ℕ = c.args.node in
     let Shut : Sent → Type 0 = λ s. (lies told : List State) → IsTold s lies → IsTold s told
     → TellsItself s lies node → TellsItself s told node
-    → register_heard s p.group.nums p.group.first node lies ≡ register_heard s p.group.nums p.group.first node told in
-    subst (IsShut c.args.board.now node) c.self.view_is (subst Shut c.senders-senders.ensures (c.is_open.ensures shut))
+    → register_heard s p.group.nums p.group.first node lies
+        ≡ register_heard s p.group.nums p.group.first node told in
+    subst (IsShut c.args.board.now node) c.self.view_is
+        (subst Shut c.senders-senders.ensures (c.is_open.ensures shut))

@@ -15,6 +15,8 @@ returns-clause-out g c =
     let lies : List State = c.args.lies.now in
     let out : State = c.args.out.now in
     c.step.ensures.out
-    ∙ (ap (λ (s : Shares). written (plan_depth s.plan) (step_of s.plan node (heard_with faulty lies s.states)) out) c.requires.stands
+    ∙ (ap (λ (s : Shares). written (plan_depth s.plan)
+        (step_of s.plan node (heard_with faulty lies s.states)) out) c.requires.stands
     ∙ ap (λ (s : State). written (plan_depth plan) s out)
-    (without_further plan c.tell.ensures node faulty lies c.args.config.now.current c.requires.node c.requires.size))
+    (without_further plan c.tell.ensures node faulty lies c.args.config.now.current c.requires.node
+        c.requires.size))
