@@ -23,9 +23,7 @@ pub fn put_front<K: Sink>(sink: &mut K, width: u64, height: u64) -> Result<(), W
             Piece::Number(width),
             Piece::Text(b"' height='"),
             Piece::Number(height),
-            Piece::Text(
-                b"' font-family='monospace' font-size='11' text-anchor='middle'>\n",
-            ),
+            Piece::Text(b"' font-family='monospace' font-size='11' text-anchor='middle'>\n"),
         ],
     )
 }

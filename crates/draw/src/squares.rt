@@ -10,8 +10,9 @@ ghost use Rattle.draw.specs.Cells.{number_text, rectangle_front, shade, shown_at
 ghost use Rattle.draw.specs.Frames.{line_top};
 
 use crate::charts::Cell;
-use crate::frames::{Frame, MOST_COLUMNS};
-use crate::frames::{band_top, column_left, column_middle, column_width, line_top};
+use crate::frames::{
+    Frame, MOST_COLUMNS, band_top, column_left, column_middle, column_width, line_top,
+};
 use edge_io::{Piece, Sink, WriteFault, put_all, put_pieces};
 
 /// One of three parts of an output's colour.
@@ -52,9 +53,7 @@ fn put_axes<K: Sink>(sink: &mut K, top: u64) -> Result<(), WriteFault>
         &[
             Piece::Text(b"<text x='52' y='"),
             Piece::Number(top + 11),
-            Piece::Text(
-                b"' text-anchor='start'>configuration</text>\n<text x='26' y='",
-            ),
+            Piece::Text(b"' text-anchor='start'>configuration</text>\n<text x='26' y='"),
             Piece::Number(top + 25),
             Piece::Text(b"'>node</text>\n"),
         ],
@@ -259,12 +258,7 @@ fn put_cell_head<K: Sink>(sink: &mut K, frame: Frame, cell: Cell) -> Result<(), 
 }
 
 /// Draws a cell in the line that has this top, with the labels that stand beside it.
-fn put_cell_at<K: Sink>(
-    sink: &mut K,
-    frame: Frame,
-    top: u32,
-    cell: Cell,
-) -> Result<(), WriteFault>
+fn put_cell_at<K: Sink>(sink: &mut K, frame: Frame, top: u32, cell: Cell) -> Result<(), WriteFault>
     ensures { Puts result (cell_at frame top cell) (K.told sink.old) (K.told sink.new) }
 {
     put_cell_head(sink, frame, cell)?;

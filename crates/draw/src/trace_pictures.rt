@@ -31,12 +31,7 @@ fn put_dots<K: Sink>(sink: &mut K) -> Result<(), WriteFault>
 }
 
 /// Draws where an era must begin.
-fn put_start<K: Sink>(
-    sink: &mut K,
-    frame: Frame,
-    cells: u32,
-    column: u32,
-) -> Result<(), WriteFault>
+fn put_start<K: Sink>(sink: &mut K, frame: Frame, cells: u32, column: u32) -> Result<(), WriteFault>
     ensures { Puts result (start_mark frame cells column) (K.told sink.old) (K.told sink.new) }
 {
     put_mark_at(sink, frame, column, cells, 12, b"black", b"era")

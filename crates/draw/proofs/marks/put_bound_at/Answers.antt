@@ -11,4 +11,4 @@ returns-then-is_before g c =
 pub returns-else-is_before : goal.returns-else-is_before
 returns-else-is_before g c =
     wrote_unless (is_before c.args.t c.args.next) _ _
-        (sym c.is_before.ensures ∙ c.if-is_before.false)
+    (sym c.is_before.ensures ∙ c.if-is_before.false)

@@ -19,11 +19,11 @@ returns-in_err-put_locked_mark g c =
     (cut_then _ _ _ (era_mark c.args.chart.now c.args.end.era) _ c.in_ok-put_era_mark.ensures
     (cut_then _ _ _ (bound_mark c.args.chart.now c.args.end) _ c.in_ok-put_bound_mark.ensures
     (cut_more _ _ (locked_mark c.args.chart.now c.args.end.locked) _
-        c.in_err-put_locked_mark.ensures)))
+    c.in_err-put_locked_mark.ensures)))
 
 pub returns : goal.returns
 returns g c =
     puts_then _ _ _ _ (era_mark c.args.chart.now c.args.end.era) _ c.in_ok-put_era_mark.ensures
     (puts_then _ _ _ _ (bound_mark c.args.chart.now c.args.end) _ c.in_ok-put_bound_mark.ensures
     (puts_then _ _ _ _ (locked_mark c.args.chart.now c.args.end.locked) _
-        c.in_ok-put_locked_mark.ensures c.put_caption.ensures))
+    c.in_ok-put_locked_mark.ensures c.put_caption.ensures))

@@ -15,10 +15,10 @@ returns-in_err-put_number_caption g c =
     puts_exit _ _ _ _ _ c.from_residual-in_err-put_number_caption.ensures.1
     (cut_then _ _ _ (span_caption (frame_of c.args.chart.now)) _ c.in_ok-put_span.ensures
     (cut_more _ _ (number_caption (bottom (frame_of c.args.chart.now) + 28) (codes "nodes")
-        c.args.chart.now.nodes) _ c.in_err-put_number_caption.ensures))
+    c.args.chart.now.nodes) _ c.in_err-put_number_caption.ensures))
 
 pub returns : goal.returns
 returns g c =
     puts_then _ _ _ _ (span_caption (frame_of c.args.chart.now)) _ c.in_ok-put_span.ensures
     (puts_then _ _ _ _ (number_caption (bottom (frame_of c.args.chart.now) + 28) (codes "nodes")
-        c.args.chart.now.nodes) _ c.in_ok-put_number_caption.ensures c.put_number_caption-2.ensures)
+    c.args.chart.now.nodes) _ c.in_ok-put_number_caption.ensures c.put_number_caption-2.ensures)

@@ -22,7 +22,7 @@ returns-in_err-put_cells g c =
     (cut_then _ _ _ (sized_front c.args.chart.now) _ c.in_ok-put_sized_front.ensures
     (cut_then _ _ _ picture_ground _ c.in_ok-put_ground.ensures
     (cut_more _ _ (flat_map (cell_picture (frame_of c.args.chart.now)) c.args.chart.now.cells.items)
-        _ (rw (c.frame.ensures, c.words.ensures) at c.in_err-put_cells.ensures))))
+    _ (rw (c.frame.ensures, c.words.ensures) at c.in_err-put_cells.ensures))))
 
 pub returns-in_err-put_facts : goal.returns-in_err-put_facts
 returns-in_err-put_facts g c =
@@ -30,8 +30,8 @@ returns-in_err-put_facts g c =
     (cut_then _ _ _ (sized_front c.args.chart.now) _ c.in_ok-put_sized_front.ensures
     (cut_then _ _ _ picture_ground _ c.in_ok-put_ground.ensures
     (cut_then _ _ _
-        (flat_map (cell_picture (frame_of c.args.chart.now)) c.args.chart.now.cells.items) _
-        (rw (c.frame.ensures, c.words.ensures) at c.in_ok-put_cells.ensures)
+    (flat_map (cell_picture (frame_of c.args.chart.now)) c.args.chart.now.cells.items) _
+    (rw (c.frame.ensures, c.words.ensures) at c.in_ok-put_cells.ensures)
     (cut_more _ _ (facts c.args.chart.now) _ c.in_err-put_facts.ensures))))
 
 pub returns-in_err-put_ends : goal.returns-in_err-put_ends
@@ -40,19 +40,19 @@ returns-in_err-put_ends g c =
     (cut_then _ _ _ (sized_front c.args.chart.now) _ c.in_ok-put_sized_front.ensures
     (cut_then _ _ _ picture_ground _ c.in_ok-put_ground.ensures
     (cut_then _ _ _
-        (flat_map (cell_picture (frame_of c.args.chart.now)) c.args.chart.now.cells.items) _
-        (rw (c.frame.ensures, c.words.ensures) at c.in_ok-put_cells.ensures)
+    (flat_map (cell_picture (frame_of c.args.chart.now)) c.args.chart.now.cells.items) _
+    (rw (c.frame.ensures, c.words.ensures) at c.in_ok-put_cells.ensures)
     (cut_then _ _ _ (facts c.args.chart.now) _ c.in_ok-put_facts.ensures
     (cut_more _ _ (flat_map (end_picture c.args.chart.now) c.args.chart.now.ends.items) _ (rw
-        c.lines.ensures at c.in_err-put_ends.ensures))))))
+    c.lines.ensures at c.in_err-put_ends.ensures))))))
 
 pub returns : goal.returns
 returns g c =
     puts_then _ _ _ _ (sized_front c.args.chart.now) _ c.in_ok-put_sized_front.ensures
     (puts_then _ _ _ _ picture_ground _ c.in_ok-put_ground.ensures
     (puts_then _ _ _ _
-        (flat_map (cell_picture (frame_of c.args.chart.now)) c.args.chart.now.cells.items) _
-        (rw (c.frame.ensures, c.words.ensures) at c.in_ok-put_cells.ensures)
+    (flat_map (cell_picture (frame_of c.args.chart.now)) c.args.chart.now.cells.items) _
+    (rw (c.frame.ensures, c.words.ensures) at c.in_ok-put_cells.ensures)
     (puts_then _ _ _ _ (facts c.args.chart.now) _ c.in_ok-put_facts.ensures
     (puts_then _ _ _ _ (flat_map (end_picture c.args.chart.now) c.args.chart.now.ends.items) _ (rw
-        c.lines.ensures at c.in_ok-put_ends.ensures) c.put_all.ensures))))
+    c.lines.ensures at c.in_ok-put_ends.ensures) c.put_all.ensures))))

@@ -17,4 +17,4 @@ pub returns : goal.returns
 returns g c =
     puts_then _ _ _ _ (cell_front c.args.first c.args.cell) _ c.in_ok-put_front.ensures
     (puts_then _ _ _ _ (word_text c.args.cell.shown) _ c.in_ok-put_word.ensures
-        c.put_row_end.ensures)
+    c.put_row_end.ensures)

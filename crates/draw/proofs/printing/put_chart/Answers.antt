@@ -13,11 +13,11 @@ returns-in_err-put_rows g c =
     puts_exit _ _ _ _ _ c.from_residual-in_err-put_rows.ensures.1
     (cut_then _ _ _ (bound_line c.args.chart.now.bound) _ c.in_ok-put_bound.ensures
     (cut_more _ _ (flat_map (cell_words c.args.chart.now.first c.args.chart.now.nodes)
-        c.args.chart.now.cells.items) _ (rw c.words.ensures at c.in_err-put_rows.ensures)))
+    c.args.chart.now.cells.items) _ (rw c.words.ensures at c.in_err-put_rows.ensures)))
 
 pub returns : goal.returns
 returns g c =
     puts_then _ _ _ _ (bound_line c.args.chart.now.bound) _ c.in_ok-put_bound.ensures
     (puts_then _ _ _ _ (flat_map (cell_words c.args.chart.now.first c.args.chart.now.nodes)
-        c.args.chart.now.cells.items) _ (rw c.words.ensures at c.in_ok-put_rows.ensures) (rw
-        c.lines.ensures at c.put_ends.ensures))
+    c.args.chart.now.cells.items) _ (rw c.words.ensures at c.in_ok-put_rows.ensures) (rw
+    c.lines.ensures at c.put_ends.ensures))

@@ -10,4 +10,4 @@ returns-in_err-put_axes_at g c =
 pub returns : goal.returns
 returns g c =
     puts_then _ _ _ _ (axes_at c.args.frame c.args.column) _ c.in_ok-put_axes_at.ensures
-        c.put_column_number.ensures
+    c.put_column_number.ensures

@@ -16,6 +16,6 @@ returns-in_err-put_filling g c =
 pub returns : goal.returns
 returns g c =
     puts_then _ _ _ _ (rectangle_front c.args.x c.args.y c.args.width) _
-        c.in_ok-put_rectangle.ensures
+    c.in_ok-put_rectangle.ensures
     (puts_then _ _ _ _ (filling c.args.shown) _ c.in_ok-put_filling.ensures
-        c.put_inscription.ensures)
+    c.put_inscription.ensures)

@@ -13,10 +13,10 @@ returns-in_err-put_node_label g c =
     puts_exit _ _ _ _ _ c.from_residual-in_err-put_node_label.ensures.1
     (cut_then _ _ _ (note_head c.args.frame c.args.note.now) _ c.in_ok-put_note_head.ensures
     (cut_more _ _ (node_label c.args.frame c.args.note.now.column c.args.note.now.top
-        c.args.note.now.node) _ c.in_err-put_node_label.ensures))
+    c.args.note.now.node) _ c.in_err-put_node_label.ensures))
 
 pub returns : goal.returns
 returns g c =
     puts_then _ _ _ _ (note_head c.args.frame c.args.note.now) _ c.in_ok-put_note_head.ensures
     (puts_then _ _ _ _ (node_label c.args.frame c.args.note.now.column c.args.note.now.top
-        c.args.note.now.node) _ c.in_ok-put_node_label.ensures c.put_seen_cell.ensures)
+    c.args.note.now.node) _ c.in_ok-put_node_label.ensures c.put_seen_cell.ensures)

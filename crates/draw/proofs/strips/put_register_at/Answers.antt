@@ -13,22 +13,22 @@ returns-in_err-put_register_ground g c =
     puts_exit _ _ _ _ _ c.from_residual-in_err-put_register_ground.ensures.1
     (cut_then _ _ _ (rectangle_front c.args.x c.args.y c.args.width) _ c.in_ok-put_rectangle.ensures
     (cut_more _ _ (ground c.args.register.now.value c.args.register.now.held) _
-        c.in_err-put_register_ground.ensures))
+    c.in_err-put_register_ground.ensures))
 
 pub returns-in_err-put_cover : goal.returns-in_err-put_cover
 returns-in_err-put_cover g c =
     puts_exit _ _ _ _ _ c.from_residual-in_err-put_cover.ensures.1
     (cut_then _ _ _ (rectangle_front c.args.x c.args.y c.args.width) _ c.in_ok-put_rectangle.ensures
     (cut_then _ _ _ (ground c.args.register.now.value c.args.register.now.held) _
-        c.in_ok-put_register_ground.ensures
+    c.in_ok-put_register_ground.ensures
     (cut_more _ _ (cover c.args.x c.args.y c.args.width c.args.register.now.held) _
-        c.in_err-put_cover.ensures)))
+    c.in_err-put_cover.ensures)))
 
 pub returns : goal.returns
 returns g c =
     puts_then _ _ _ _ (rectangle_front c.args.x c.args.y c.args.width) _
-        c.in_ok-put_rectangle.ensures
+    c.in_ok-put_rectangle.ensures
     (puts_then _ _ _ _ (ground c.args.register.now.value c.args.register.now.held) _
-        c.in_ok-put_register_ground.ensures
+    c.in_ok-put_register_ground.ensures
     (puts_then _ _ _ _ (cover c.args.x c.args.y c.args.width c.args.register.now.held) _
-        c.in_ok-put_cover.ensures c.put_value.ensures))
+    c.in_ok-put_cover.ensures c.put_value.ensures))

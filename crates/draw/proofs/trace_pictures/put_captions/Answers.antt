@@ -7,10 +7,10 @@ pub returns-in_err-put_levels : goal.returns-in_err-put_levels
 returns-in_err-put_levels g c =
     puts_exit _ _ _ _ _ c.from_residual.ensures.1
     (cut_more _ _ (flat_map (level_caption c.args.trace.now.frame) c.args.trace.now.levels.items) _
-        (rw c.captions.ensures at c.in_err-put_levels.ensures))
+    (rw c.captions.ensures at c.in_err-put_levels.ensures))
 
 pub returns : goal.returns
 returns g c =
     puts_then _ _ _ _
-        (flat_map (level_caption c.args.trace.now.frame) c.args.trace.now.levels.items) _
-        (rw c.captions.ensures at c.in_ok-put_levels.ensures) c.put_legend_below.ensures
+    (flat_map (level_caption c.args.trace.now.frame) c.args.trace.now.levels.items) _
+    (rw c.captions.ensures at c.in_ok-put_levels.ensures) c.put_legend_below.ensures

@@ -10,4 +10,4 @@ returns-in_err-put_level_front g c =
 pub returns : goal.returns
 returns g c =
     puts_then _ _ _ _ (level_front c.args.y c.args.level.level) _ c.in_ok-put_level_front.ensures
-        c.put_blocks.ensures
+    c.put_blocks.ensures

@@ -56,4 +56,4 @@ returns g c =
     (puts_then _ _ _ _ (bands c.args.trace.now) _ c.in_ok-put_bands.ensures
     (puts_then _ _ _ _ (trace_facts c.args.trace.now) _ c.in_ok-put_trace_facts.ensures
     (puts_then _ _ _ _ (trace_captions c.args.trace.now) _ c.in_ok-put_captions.ensures
-        c.put_all.ensures)))))
+    c.put_all.ensures)))))

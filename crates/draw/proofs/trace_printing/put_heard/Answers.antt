@@ -27,4 +27,4 @@ returns g c =
     puts_then _ _ _ _ (codes " votes") _ c.in_ok-put_all.ensures
     (puts_then _ _ _ _ (flat_map vote_word c.args.heard.now.votes.items) _ c.in_ok-put_votes.ensures
     (puts_then _ _ _ _ (count_words c.args.heard.now) _ c.in_ok-put_counts.ensures
-        c.put_number_or_none.ensures))
+    c.put_number_or_none.ensures))

@@ -17,4 +17,4 @@ pub returns : goal.returns
 returns g c =
     puts_then _ _ _ _ (note_front c.args.first c.args.note.now) _ c.in_ok-put_front.ensures
     (puts_then _ _ _ _ (seen_words c.args.note.now.seen) _ c.in_ok-put_seen.ensures
-        c.put_all.ensures)
+    c.put_all.ensures)

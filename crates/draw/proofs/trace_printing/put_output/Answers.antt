@@ -18,4 +18,4 @@ pub returns : goal.returns
 returns g c =
     puts_then _ _ _ _ (codes " number ") _ c.in_ok-put_all.ensures
     (puts_then _ _ _ _ (number_or_none c.args.shown.number) _ c.in_ok-put_number_or_none.ensures
-        c.put_output_word.ensures)
+    c.put_output_word.ensures)

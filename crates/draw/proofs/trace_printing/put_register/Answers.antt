@@ -19,12 +19,12 @@ returns-in_err-put_all g c =
     (cut_then _ _ _ (level_words c.args.register.now.level) _ c.in_ok-put_level.ensures
     (cut_then _ _ _ (number_or_none c.args.register.now.value) _ c.in_ok-put_number_or_none.ensures
     (cut_more _ _ (held_word c.args.register.now.held) _ (rw c.held_word.ensures at
-        c.in_err-put_all.ensures))))
+    c.in_err-put_all.ensures))))
 
 pub returns : goal.returns
 returns g c =
     puts_then _ _ _ _ (level_words c.args.register.now.level) _ c.in_ok-put_level.ensures
     (puts_then _ _ _ _ (number_or_none c.args.register.now.value) _
-        c.in_ok-put_number_or_none.ensures
+    c.in_ok-put_number_or_none.ensures
     (puts_then _ _ _ _ (held_word c.args.register.now.held) _ (rw c.held_word.ensures at
-        c.in_ok-put_all.ensures) c.put_heard_or_nothing.ensures))
+    c.in_ok-put_all.ensures) c.put_heard_or_nothing.ensures))
