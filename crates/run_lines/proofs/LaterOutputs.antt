@@ -1,5 +1,5 @@
 -- What the lowest correct node shows a slot later, where the slot counts.
-use Rattle.std.proofs.Common.{◌≡◌, ℕ, zero, suc, ◌+◌, ◌-◌, ◌%◌, ◌<◌, ◌≤◌, inl, inr, Bool, true, false, ◌&&◌, List, [], length, map, refl, sym, ap, ap₂, ◌∙◌, subst, arith}
+use Rattle.std.proofs.Common.{◌≡◌, ℕ, zero, suc, ◌+◌, ◌-◌, ◌%◌, ◌<◌, ◌≤◌, Bool, true, false, ◌&&◌, List, [], length, sym, ap, ◌∙◌, subst, arith}
 use Rattle.std.specs.Prelude.{nat_le, nat_lt, ◌==◌}
 use Rattle.std.proofs.Math.Nat.{mod-add-mod, mod-mod_of_dvd, add-mod_right}
 use Rattle.std.proofs.lemmas.Nat.Gcd.{dvd_of_mod-eq-zero}
@@ -7,27 +7,26 @@ use Rattle.std.proofs.lemmas.Bool.{and_parts, ltb-true, leb-true, eqb-true}
 use Rattle.std.proofs.lemmas.List.{length-map}
 use Rattle.std.proofs.lemmas.List.Elements.{All-get_or}
 use Rattle.sync_types.specs.States.{State}
-use Rattle.counting.specs.Places.{places}
 use Rattle.counting.proofs.Places.{one_fails}
-use Rattle.construction.specs.Plans.{Plan, plan_nodes, plan_faults, plan_modulus, plan_bound, plan_depth}
+use Rattle.construction.specs.Plans.{Plan, plan_nodes, plan_modulus, plan_bound, plan_depth}
 use Rattle.construction.specs.Shown.{shown}
 use Rattle.construction.specs.Steps.{state_of}
-use Rattle.construction.specs.Runs.{is_in, IsBorne, Counts, configuration}
+use Rattle.construction.specs.Runs.{is_in, IsBorne, Counts}
 use Rattle.plan_numbers.specs.Premises.{IsAccepted}
 use Rattle.plan_numbers.proofs.Accepted.{accepted_sized}
 use Rattle.plan_laws.proofs.RunLaws.{every_plan_settles}
 use Rattle.plan_laws.proofs.Ranges.{state_of-cut, shown_of_cut}
-use Rattle.counter_core.specs.Meanings.{cut}
 use Rattle.counter_core.specs.Overlays.{Layer}
 use Rattle.counter_core.proofs.ListsAndPlaces.{places_of_ids}
 use Rattle.state_codec.specs.Shapes.{IsShape}
 use Rattle.adversary_script.specs.Scripts.{Script, Era, IsScript, faulty_sets}
-use Rattle.adversary_script.specs.Eras.{era_of, first_of_era, end_of_era, faulty_of_era, faulty_at}
+use Rattle.adversary_script.specs.Eras.{era_of, first_of_era, end_of_era, faulty_of_era}
 use Rattle.round_runner.specs.Runners.{IsFor}
 use Rattle.round_runner.proofs.Firsts.{era_within, of_one_era}
-use Rattle.round_runner.proofs.ScenesRun.{states_at, cut_at, cut_run, cut_length, cut_configuration, scenes_run}
-use Rattle.run_lines.specs.SlotTexts.{lowest_correct, lead_output, counts_at}
-use Rattle.run_lines.proofs.LowestCorrect.{lowest_among}
+use Rattle.round_runner.proofs.ScenesRun.{states_at, cut_run, cut_length, cut_configuration, scenes_run}
+use Rattle.round_runner.specs.Known.{lowest_correct}
+use Rattle.run_lines.specs.SlotTexts.{lead_output, counts_at}
+use Rattle.round_runner.proofs.LowestCorrect.{lowest_among}
 
 -- outputs that count do so for any number of rounds
 counted : (c : ℕ) (output : ℕ → ℕ) (from end : ℕ) → ((t : ℕ) → from ≤ t → t + 1 < end → output (t + 1) ≡ (output t + 1) % c)

@@ -1,10 +1,13 @@
 pub mod WordsSoFar
 pub mod FirstListed
 pub mod Shown
+pub mod Ranges
+pub mod CountedLines
+pub mod CountedSoFar
+pub mod RestBehind
 pub mod LockLines
 pub mod Played
 pub mod SlotShift
-pub mod LowestCorrect
 pub mod SlotEnds
 pub mod LaterOutputs
 pub mod ShownLaws

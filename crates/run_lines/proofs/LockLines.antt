@@ -1,8 +1,7 @@
--- The lines of the first locked configurations, of a runner at the end of its script.
-use Rattle.std.proofs.Common.{◌≡◌, ◌≢◌, ℕ, ◌+◌, ◌≤◌, Bool, true, cond, eqb, List, [], ◌++◌, length, get_or, Option, None, Result, sym, ap, ◌∙◌, subst, append-nil, arith}
+-- The lines of the first locked configurations, of a runner that knows them.
+use Rattle.std.proofs.Common.{◌≡◌, ◌≢◌, ℕ, ◌+◌, Bool, true, cond, eqb, List, [], ◌++◌, length, Option, Result, sym, ap, ◌∙◌, subst, append-nil}
 use Rattle.std.specs.List.{flat_map, range_with_len}
 use Rattle.std.proofs.lemmas.Bool.{eq-eqb, ne_eqb}
-use Rattle.std.proofs.lemmas.List.FromFn.{get_or-map-range_with_len}
 use Rattle.sync_types.specs.States.{State}
 use Rattle.construction.specs.Plans.{Plan}
 use Rattle.adversary_script.specs.Scripts.{Script}
@@ -18,16 +17,12 @@ module _ {O Kept : Type 0} (layer : O → Layer Kept) (kept : O → List Kept) (
   abbrev config_at : ℕ → List State
   config_at = configuration_of layer began r
 
-  -- what it knows of era j is that era's first locked configuration
-  pub lock_at_end : (j : ℕ) → j ≤ length r.script.eras → r.at ≡ r.script.rounds → IsPlaying layer kept began r
-      → get_or r.locks j None ≡ lock_of_era r.plan r.script config_at j
-  lock_at_end j among end plays =
-      ap (λ (locks : List (Option ℕ)). get_or locks j None) plays.locks
-      ∙ (get_or-map-range_with_len
-      (λ i. first_locked (era_locked r.plan r.script config_at i) r.at)
-      0 (length r.script.eras + 1) j j None (omega (arith, among)) (omega arith)
-      ∙ (ap (first_locked (era_locked r.plan r.script config_at j)) end
-      ∙ first_listed (era_locked r.plan r.script config_at j) r.script.rounds))
+  -- what is the first locked one of era j at the end is listed as that
+  pub lock_at_end : (j : ℕ) (known : Option ℕ)
+      → known ≡ first_locked (era_locked r.plan r.script config_at j) r.script.rounds
+      → known ≡ lock_of_era r.plan r.script config_at j
+  lock_at_end j known is =
+      is ∙ first_listed (era_locked r.plan r.script config_at j) r.script.rounds
 
   -- the lines of the eras before era j are written
   abbrev ErasBefore : (j : ℕ) (s t : Told) → Type 0

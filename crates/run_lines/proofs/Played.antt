@@ -109,10 +109,11 @@ module _ {O Kept : Type 0} (layer : O → Layer Kept) (kept : O → List Kept) (
     lines_end (Err error) now last cut = lines_cut now (omega (arith, last)) cut
 
   -- what is written behind the lines is of the same run
-  pub locks_after : {T E : Type 0} (result : Result T E) (r : Running O) (s t : Told) → HasPlayed layer kept start start.script.rounds r
+  pub locks_after : {T E : Type 0} (result : Result T E) (c : ℕ) (r : Running O) (s t : Told)
+      → HasPlayed layer kept start c r
       → Puts result (lock_lines r.plan r.script (configuration_of layer (kept start.overlay) r)) s t
       → Puts result (lock_lines start.plan start.script (configuration_in start.plan start.script (layer start.overlay) (kept start.overlay))) s t
-  locks_after result r s t p puts =
+  locks_after result c r s t p puts =
       let began : List Kept = kept start.overlay in
       let text : Plan → Script → Layer Kept → List ℕ = λ plan script l. lock_lines plan script (λ u. (scene_at (plan_meaning plan) script l began u).states) in
       subst (λ (plan : Plan). Puts result (text plan start.script (layer start.overlay)) s t) p.plan

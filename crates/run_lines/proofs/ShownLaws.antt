@@ -1,5 +1,5 @@
 -- The lines of configurations that are shown are those that are defined.
-use Rattle.std.proofs.Common.{◌≡◌, ℕ, ◌+◌, ◌-◌, ◌&&◌, cond, List, [], ◌∷◌, ◌++◌, decimal, ap, ap₂, ◌∙◌}
+use Rattle.std.proofs.Common.{◌≡◌, ℕ, ◌+◌, ◌&&◌, cond, List, [], ◌∷◌, ◌++◌, decimal, ap, ap₂, ◌∙◌}
 use Rattle.std.specs.Prelude.{nat_le, codes}
 use Rattle.std.specs.List.{concat, flat_map, range_with_len}
 use Rattle.std.proofs.Math.Path.{fun_ext}

@@ -12,11 +12,14 @@ use Rattle.slot_table.specs.Tables.{holder_of}
 use Rattle.run_lines.specs.PlayedTexts.{Wording}
 use Rattle.run_lines.specs.ShownTexts.{shown_text, shown_wording}
 
+-- a node's word where it shows an output: whether it is its holder
+abbrev pub hold_word_at : List SlotLine → (output v : ℕ) → List ℕ
+hold_word_at lines output v =
+    if option_eq nat_eq (holder_of lines output) (Some v) then codes " 1" else codes " ."
+
 -- a node's word: whether it is the holder of the output that it shows
 abbrev pub hold_word : Plan → List SlotLine → List State → (v : ℕ) → List ℕ
-hold_word plan lines config v =
-    if option_eq nat_eq (holder_of lines (shown (plan_depth plan) (state_of config v))) (Some v)
-    then codes " 1" else codes " ."
+hold_word plan lines config v = hold_word_at lines (shown (plan_depth plan) (state_of config v)) v
 
 -- all that is written
 abbrev pub hold_text : Plan → Script → List SlotLine → List ℕ

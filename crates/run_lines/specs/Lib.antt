@@ -11,3 +11,4 @@ pub mod FireTexts
 pub mod EntryTexts
 pub mod LengthSeen
 pub mod LogLaws
+pub mod OutputTexts

@@ -1,5 +1,5 @@
 -- What is written while a script is played is the text that is defined.
-use Rattle.std.specs.Prelude.{◌≡◌, ℕ, List, [], replicate}
+use Rattle.std.specs.Prelude.{◌≡◌, List, [], replicate}
 use Rattle.construction.specs.Plans.{Plan, plan_nodes, plan_faults, plan_modulus}
 use Rattle.plan_numbers.specs.Premises.{IsAccepted}
 use Rattle.state_codec.specs.Shapes.{IsShape}

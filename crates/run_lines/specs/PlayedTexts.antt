@@ -1,6 +1,6 @@
 -- What a word writes of what is played with a layer: the bound, a line of some configurations, and
 -- the first locked configurations.
-use Rattle.std.specs.Prelude.{ℕ, ◌+◌, List, [], ◌∷◌, Bool, if◌then◌else◌, codes}
+use Rattle.std.specs.Prelude.{ℕ, ◌+◌, ◌-◌, List, [], ◌∷◌, Bool, if◌then◌else◌, codes}
 use Rattle.std.specs.List.{concat, flat_map, range_with_len}
 use Rattle.sync_types.specs.States.{State}
 use Rattle.edge_io.specs.Rising.{Labelled}
@@ -46,11 +46,17 @@ module _ {Kept : Type 0} (plan : Plan) (script : Script) (layer : Layer Kept) (b
   abbrev pub configuration_in : (c : ℕ) → List State
   configuration_in c = (scene_in c).states
 
+  -- the line of configuration c, where there is one
+  abbrev pub line_in : Wording Kept → (c : ℕ) → List ℕ
+  line_in wording c = line_if_shown wording plan script c (scene_in c)
+
   -- the lines of configurations 0 to the last
   abbrev pub lines_text : Wording Kept → List ℕ
-  lines_text wording =
-      flat_map (λ c. line_if_shown wording plan script c (scene_in c))
-      (range_with_len 0 (script.rounds + 1))
+  lines_text wording = flat_map (line_in wording) (range_with_len 0 (script.rounds + 1))
+
+  -- those of configuration c and of all behind it
+  abbrev pub lines_from : Wording Kept → (c : ℕ) → List ℕ
+  lines_from wording c = flat_map (line_in wording) (range_with_len c (script.rounds + 1 - c))
 
   -- all that is written
   abbrev pub played_text : Wording Kept → List ℕ

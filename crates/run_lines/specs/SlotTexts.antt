@@ -1,18 +1,14 @@
 -- Lines that are written of slots: each when its slot ends, of those that begin in a configuration
 -- that is shown, later than the bound, and end in the same era.
-use Rattle.std.specs.Prelude.{ℕ, ◌+◌, ◌-◌, ◌%◌, List, [], Bool, ◌&&◌, not, nat_le, nat_lt, ◌==◌, position, unwrap_or, if◌then◌else◌}
+use Rattle.std.specs.Prelude.{ℕ, ◌+◌, ◌-◌, ◌%◌, List, [], Bool, ◌&&◌, nat_le, nat_lt, ◌==◌, if◌then◌else◌}
 use Rattle.std.specs.List.{flat_map, range_with_len}
 use Rattle.sync_types.specs.States.{State}
 use Rattle.construction.specs.Plans.{Plan, plan_nodes, plan_bound, plan_depth}
 use Rattle.construction.specs.Shown.{shown}
 use Rattle.construction.specs.Steps.{state_of}
-use Rattle.construction.specs.Runs.{is_in}
 use Rattle.adversary_script.specs.Scripts.{Script}
 use Rattle.adversary_script.specs.Eras.{era_of, first_of_era, faulty_at}
-
--- the lowest id of a correct node
-abbrev pub lowest_correct : (n : ℕ) → (faulty : List ℕ) → ℕ
-lowest_correct n faulty = unwrap_or (position (λ v. not (is_in faulty v)) (range_with_len 0 n)) 0
+use Rattle.round_runner.specs.Known.{lowest_correct}
 
 -- what the correct node of the lowest id shows in configuration c
 abbrev pub lead_output : Plan → Script → (c : ℕ) → List State → ℕ

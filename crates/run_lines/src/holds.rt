@@ -1,4 +1,4 @@
-use crate::Lines;
+use crate::{Lines, Output, OutputLines};
 use counter_core::NoOverlay;
 use edge_io::{RisingText, TextSink, WriteFault};
 use round_runner::Runner;
@@ -47,4 +47,26 @@ impl Lines<NoOverlay> for HoldLines {
             sink.text(b" .")
         }
     }
+}
+
+impl OutputLines for HoldLines {
+    ghost use Rattle.std.specs.Prelude.{refl};
+    ghost use Rattle.run_lines.specs.HoldTexts.{hold_word_at};
+
+    ghost word_at = { λ l. hold_word_at l.table };
+
+    fn put_word_at<K: TextSink>(
+        &self,
+        sink: &mut K,
+        output: &Output,
+        v: u32,
+    ) -> Result<(), WriteFault> {
+        if self.table.holder(output.value()) == Some(v) {
+            sink.text(b" 1")
+        } else {
+            sink.text(b" .")
+        }
+    }
+
+    ghost by_output = { λ _. refl };
 }

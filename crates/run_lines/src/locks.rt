@@ -1,5 +1,6 @@
 ghost use Rattle.std.specs.Prelude.{◌≡◌, ◌≤◌, List, length};
 ghost use Rattle.texts.specs.Growth.{Puts};
+ghost use Rattle.round_runner.specs.Known.{KnowsLocks};
 ghost use Rattle.round_runner.specs.Runners.{IsPlaying, configuration_of};
 ghost use Rattle.run_lines.specs.RunTexts.{locked_line, era_line, lock_lines};
 
@@ -20,13 +21,13 @@ fn put_locked<K: TextSink>(sink: &mut K, locked: Option<u64>) -> Result<(), Writ
     }
 }
 
-/// Writes the line of an era, of a runner at the end.
+/// Writes the line of an era, of a runner that knows the first locked configurations.
 fn put_era<K: TextSink, O: Overlay>(
     sink: &mut K,
     runner: &Runner<O>,
     era: usize,
 ) -> Result<(), WriteFault>
-    requires end { runner.now.at ≡ runner.now.script.rounds }
+    requires knows { KnowsLocks runner.now }
     requires among { era ≤ length runner.now.script.eras }
     ensures { (began : List O.Kept) → IsPlaying O.layer O.kept began runner.now
         → Puts result (era_line runner.now.plan runner.now.script
@@ -38,16 +39,16 @@ fn put_era<K: TextSink, O: Overlay>(
     put_locked(sink, runner.locked_in(era))
 }
 
-/// Writes the first locked configuration of each era, of a runner at the end: for a script of
-/// version 1 one line, else one for each era, with the configuration that it begins with.
+/// Writes the first locked configuration of each era: for a script of version 1 one line, else one
+/// for each era, with the configuration that it begins with.
 ///
-/// The runner has played all rounds of its script, with any layer. `WriteFault` comes where the
-/// sink counted one; a front of the lines was then taken.
+/// The runner plays with any layer, and knows them. `WriteFault` comes where the sink counted one; a
+/// front of the lines was then taken.
 pub fn put_locks<K: TextSink, O: Overlay>(
     sink: &mut K,
     runner: &Runner<O>,
 ) -> Result<(), WriteFault>
-    requires { runner.now.at ≡ runner.now.script.rounds }
+    requires { KnowsLocks runner.now }
     ensures { (began : List O.Kept) → IsPlaying O.layer O.kept began runner.now
         → Puts result (lock_lines runner.now.plan runner.now.script
         (configuration_of O.layer began runner.now))

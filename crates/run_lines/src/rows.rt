@@ -1,4 +1,4 @@
-use crate::Lines;
+use crate::{Lines, Output, OutputLines};
 use counter_core::NoOverlay;
 use edge_io::{RisingText, TextSink, WriteFault};
 use round_runner::Runner;
@@ -38,4 +38,22 @@ impl Lines<NoOverlay> for Rows {
     ) -> Result<(), WriteFault> {
         sink.labelled(b" ", runner.output(v))
     }
+}
+
+impl OutputLines for Rows {
+    ghost use Rattle.std.specs.Prelude.{refl};
+    ghost use Rattle.run_lines.specs.RunTexts.{number_word};
+
+    ghost word_at = { λ _ output v. number_word output };
+
+    fn put_word_at<K: TextSink>(
+        &self,
+        sink: &mut K,
+        output: &Output,
+        _v: u32,
+    ) -> Result<(), WriteFault> {
+        sink.rising(output.text())
+    }
+
+    ghost by_output = { λ _. refl };
 }

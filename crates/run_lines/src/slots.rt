@@ -1,24 +1,10 @@
-ghost use Rattle.std.specs.Prelude.{◌≡◌, ◌<◌, ◌≤◌};
+ghost use Rattle.std.specs.Prelude.{◌≡◌, ◌≤◌};
 ghost use Rattle.run_lines.specs.Playing.{IsOver};
-ghost use Rattle.run_lines.specs.SlotTexts.{lowest_correct, lead_output, counts_at, may_end_at, ends_at};
+ghost use Rattle.run_lines.specs.SlotTexts.{lead_output, counts_at, may_end_at, ends_at};
 
 use adversary_script::Script;
 use counter_core::Overlay;
-use round_runner::Runner;
-use sync_types::FaultSet;
-
-/// The lowest id below `nodes` of a correct node, 0 where there is none.
-fn lowest_correct(nodes: u32, faulty: &FaultSet) -> u32
-    ensures value { result ≡ lowest_correct nodes faulty.now.ids }
-    ensures below { 0 < nodes → result < nodes }
-{
-    for v in 0..nodes {
-        if !faulty.contains(v) {
-            return v;
-        }
-    }
-    0
-}
+use round_runner::{Runner, lowest_correct};
 
 /// What the correct node of the lowest id shows in the runner's configuration.
 pub fn lead_output<O: Overlay>(runner: &Runner<O>) -> u64

@@ -23,5 +23,6 @@ returns g c began plays =
     let first = c.era_start.ensures ∙ ap (λ (s : Script). first_of_era s c.args.era) c.script.ensures in
     let label = rw first at c.in_ok-labelled.ensures in
     let front = wrote_then _ _ _ _ _ label c.in_ok-byte.ensures in
-    let known = c.locked_in.ensures.value ∙ lock_at_end g.O.Overlay.layer g.O.Overlay.kept began c.args.runner.now c.args.era c.requires.among c.requires.end plays in
+    let known = lock_at_end g.O.Overlay.layer g.O.Overlay.kept began c.args.runner.now c.args.era
+    c.locked_in.result (c.locked_in.ensures.at_end began plays c.requires.knows) in
     puts_then _ _ _ _ _ _ front (puts_last _ _ _ _ (puts_locked _ _ _ _ _ known c.put_locked.ensures))

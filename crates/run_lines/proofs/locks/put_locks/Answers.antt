@@ -11,7 +11,8 @@ pub returns-then-version-eq1 : goal.returns-then-version-eq1
 returns-then-version-eq1 g c began plays =
     let r = c.args.runner.now in
     let version = c.version.ensures ∙ ap (λ (s : Script). s.version) c.script.ensures in
-    let known = c.locked_in.ensures.value ∙ lock_at_end g.O.Overlay.layer g.O.Overlay.kept began r 0 (omega arith) c.requires plays in
+    let known = lock_at_end g.O.Overlay.layer g.O.Overlay.kept began r 0 c.locked_in.result
+    (c.locked_in.ensures.at_end began plays c.requires) in
     puts_one r.plan r.script (configuration_of g.O.Overlay.layer began r) _ version _ _ _ c.if-version-eq1.true (puts_locked _ _ _ _ _ known c.put_locked.ensures)
 
 pub loop-era-init : goal.loop-era-init

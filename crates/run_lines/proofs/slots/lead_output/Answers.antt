@@ -2,7 +2,7 @@ use Rattle.std.proofs.Common.{ap, ap₂, ◌∙◌}
 use Rattle.construction.specs.Plans.{plan_depth}
 use Rattle.construction.specs.Shown.{shown}
 use Rattle.construction.specs.Steps.{state_of}
-use Rattle.run_lines.specs.SlotTexts.{lowest_correct}
+use Rattle.round_runner.specs.Known.{lowest_correct}
 use Rattle.run_lines.proofs.Played.{faulty_ids}
 use Rattle.run_lines.proofs.slots.lead_output.Goals as goal
 

@@ -1,0 +1,132 @@
+ghost use Rattle.std.specs.Prelude.{◌≡◌, List, [], OnOk};
+ghost use Rattle.texts.specs.Growth.{Puts};
+ghost use Rattle.counter_core.specs.NoLayers.{no_layer};
+ghost use Rattle.round_runner.specs.Known.{CountsOn, KnowsLocks};
+ghost use Rattle.round_runner.specs.Runners.{IsPlaying, configuration_of};
+ghost use Rattle.run_lines.specs.PlayedTexts.{lines_text, lines_from, numbered};
+ghost use Rattle.run_lines.specs.Playing.{IsOver, IsToPlay, HasPlayed, text_of};
+
+use crate::counted::put_counted_lines;
+use crate::lines::OutputLines;
+use crate::locks::put_locks;
+use crate::outputs::Output;
+use crate::playing::put_bound;
+use crate::words::put_if_shown;
+use counter_core::NoOverlay;
+use edge_io::{Gathered, RisingText, Sink, TextSink, WriteFault};
+use round_runner::Runner;
+
+/// Writes the lines of the runner's configuration and of all behind it, in which the correct nodes
+/// count on from this number. Lines that are not shown take no time.
+fn put_counted<K: TextSink, L: OutputLines>(
+    sink: &mut K,
+    runner: &Runner<NoOverlay>,
+    lines: &L,
+    value: u64,
+) -> Result<(), WriteFault>
+    requires knows { KnowsLocks runner.now }
+    requires counts { (began : List (Unit {0})) → IsPlaying (λ o. no_layer) (λ o. []) began
+        runner.now → CountsOn runner.now.plan runner.now.script
+        (configuration_of (λ o. no_layer) began runner.now) runner.now.at value }
+    ensures { (began : List (Unit {0})) → IsPlaying (λ o. no_layer) (λ o. []) began runner.now
+        → Puts result (lines_from runner.now.plan runner.now.script no_layer began
+        (L.Lines.wording lines.now) runner.now.at) (K.Sink.told sink.old) (K.Sink.told sink.new) }
+{
+    let script = runner.script();
+    let _rounds = script.rounds();
+    let (first, last) = script.shown();
+    let from = first.max(runner.at());
+    let modulus = runner.modulus();
+    let output = (value % modulus + (from - runner.at())) % modulus;
+    put_counted_lines(
+        sink,
+        lines,
+        runner.nodes(),
+        script.faulty_at(runner.at()),
+        RisingText::new(lines.label(), from),
+        Output::new(output, modulus),
+        (last + 1).saturating_sub(from),
+    )
+}
+
+/// Writes the lines of the runner's configuration, whose number is this one, and of all behind it.
+fn put_rest<K: TextSink, L: OutputLines>(
+    sink: &mut K,
+    runner: &Runner<NoOverlay>,
+    lines: &L,
+    number: &RisingText,
+) -> Result<(), WriteFault>
+    requires over { IsOver (λ o. no_layer) runner.now }
+    requires knows { KnowsLocks runner.now }
+    requires number { number.now ≡ numbered (L.Lines.wording lines.now).label runner.now.at }
+    ensures { (began : List (Unit {0})) → IsPlaying (λ o. no_layer) (λ o. []) began runner.now
+        → Puts result (lines_from runner.now.plan runner.now.script no_layer began
+        (L.Lines.wording lines.now) runner.now.at) (K.Sink.told sink.old) (K.Sink.told sink.new) }
+{
+    match runner.counted() {
+        Some(value) => put_counted(sink, runner, lines, value),
+        None => put_if_shown(sink, runner, lines, number),
+    }
+}
+
+/// Plays rounds of a script until the first locked configuration of each era is known, and writes
+/// the lines that there are.
+fn put_lines<K: TextSink, L: OutputLines>(
+    sink: &mut K,
+    runner: &mut Runner<NoOverlay>,
+    lines: &L,
+) -> Result<(), WriteFault>
+    requires { IsToPlay (λ o. no_layer) (λ o. []) runner.old }
+    ensures lines { Puts result (lines_text runner.old.plan runner.old.script no_layer []
+        (L.Lines.wording lines.now)) (K.Sink.told sink.old) (K.Sink.told sink.new) }
+    ensures played { OnOk result
+        (HasPlayed (λ o. no_layer) (λ o. []) runner.old runner.new.at runner.new) }
+    ensures knows { OnOk result (KnowsLocks runner.new) }
+{
+    let _rounds = runner.script().rounds();
+    let mut number = RisingText::new(lines.label(), 0);
+    while !runner.knows_locks() {
+        match put_if_shown(sink, runner, lines, &number) {
+            Ok(()) => {}
+            Err(WriteFault) => return Err(WriteFault),
+        }
+        runner.round();
+        number.rise();
+    }
+    put_rest(sink, runner, lines, &number)
+}
+
+/// Writes the bound, the lines that there are, and the first locked configurations.
+fn put_all_lines<K: TextSink, L: OutputLines>(
+    sink: &mut K,
+    runner: &mut Runner<NoOverlay>,
+    lines: &L,
+) -> Result<(), WriteFault>
+    requires { IsToPlay (λ o. no_layer) (λ o. []) runner.old }
+    ensures { Puts result (text_of (λ o. no_layer) (λ o. []) (L.Lines.wording lines.now) runner.old)
+        (K.Sink.told sink.old) (K.Sink.told sink.new) }
+{
+    put_bound(sink, runner.bound())?;
+    put_lines(sink, runner, lines)?;
+    put_locks(sink, runner)
+}
+
+/// Writes what [`put_played`](crate::put_played) writes, of a script that is played without a
+/// layer, and plays no more rounds than it must: once the first locked configuration of each era is
+/// known, it writes the lines that are left by counting. It takes no memory.
+///
+/// The runner is at configuration 0. `WriteFault` comes where the sink counted one; a front of the
+/// text was then taken.
+pub fn put_counting<K: Sink, L: OutputLines>(
+    sink: &mut K,
+    runner: &mut Runner<NoOverlay>,
+    lines: &L,
+) -> Result<(), WriteFault>
+    requires { IsToPlay (λ o. no_layer) (λ o. []) runner.old }
+    ensures { Puts result (text_of (λ o. no_layer) (λ o. []) (L.Lines.wording lines.now) runner.old)
+        (K.told sink.old) (K.told sink.new) }
+{
+    let mut gathered = Gathered::new(sink);
+    let written = put_all_lines(&mut gathered, runner, lines);
+    gathered.finish(written)
+}
