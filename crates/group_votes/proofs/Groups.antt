@@ -29,8 +29,11 @@ facts group is =
       some_intervals = subst (All (λ interval. 1 ≤ interval)) (sym is.intervals) (λ k d lt.
           let f = interval_of nums.beat nums.leaders in
           let long = length-map (range_with_len 0 nums.blocks) f in
-          subst (λ x. 1 ≤ x) (sym (get_or-map f (range_with_len 0 nums.blocks) k 0 d (omega (arith, long, lt)))) (interval_some nums numbers _));
-      long = ap length is.intervals ∙ length-map-range_with_len (interval_of nums.beat nums.leaders) 0 nums.blocks;
+          subst (λ x. 1 ≤ x) (sym
+          (get_or-map f (range_with_len 0 nums.blocks) k 0 d (omega (arith, long, lt))))
+          (interval_some nums numbers _));
+      long = ap length is.intervals
+          ∙ length-map-range_with_len (interval_of nums.beat nums.leaders) 0 nums.blocks;
       size = sized.whole ∙ ap (λ n. nums.blocks * n + nums.spares) (sym is.block);
       some_leaders = sized.leaders;
       few_leaders = many;

@@ -17,7 +17,8 @@ use Rattle.group_votes.specs.Votes.{known_number, known_in, IsLead}
 use Rattle.group_votes.proofs.Passing.{passing_most}
 
 -- a known vote is that of a block
-known_within : (votes : List (Option ℕ)) (i : ℕ) → is_some (get_or votes i None) ≡ true → i < length votes
+known_within : (votes : List (Option ℕ)) (i : ℕ) → is_some (get_or votes i None) ≡ true
+    → i < length votes
 known_within [] i h = absurd (false≢true h)
 known_within (v ∷ votes) zero h = omega arith
 known_within (v ∷ votes) (suc i) h = omega (arith, known_within votes i h)
@@ -30,11 +31,14 @@ agreed (Some v) x h e = ap Some (sym e)
 pub known_most : (votes : List (Option ℕ)) (i : ℕ) → length (known_in votes 0 i) ≤ i
 known_most votes i = omega (
   arith,
-  length-map (filter (λ i. is_some (get_or votes i None)) (range_with_len 0 i)) (λ i. get_or votes i None),
+  length-map (filter (λ i. is_some (get_or votes i None)) (range_with_len 0 i))
+      (λ i. get_or votes i None),
   passing_most (λ i. is_some (get_or votes i None)) 0 i,
 )
 
-module _ (votes : List (Option ℕ)) (vote : ℕ → ℕ) (agree : (i : ℕ) → i < length votes → IfSome (get_or votes i None) (λ known. vote i ≡ known)) where
+module _ (votes : List (Option ℕ)) (vote : ℕ → ℕ)
+    (agree : (i : ℕ) → i < length votes
+    → IfSome (get_or votes i None) (λ known. vote i ≡ known)) where
   is_known : ℕ → Bool
   is_known i = is_some (get_or votes i None)
 
@@ -43,23 +47,36 @@ module _ (votes : List (Option ℕ)) (vote : ℕ → ℕ) (agree : (i : ℕ) →
 
   known_values : map (λ i. Some (vote i)) (filter is_known blocks) ≡ known_in votes 0 (length votes)
   unfolding is_known blocks
-  known_values = sym (map_passing (λ i. is_some (get_or votes i None)) (λ i. get_or votes i None) (λ i. Some (vote i)) (range_with_len 0 (length votes)) (λ i h. agreed (get_or votes i None) (vote i) h (agree i (known_within votes i h))))
+  known_values = sym (map_passing (λ i. is_some (get_or votes i None)) (λ i. get_or votes i None)
+      (λ i. Some (vote i)) (range_with_len 0 (length votes))
+      (λ i h. agreed (get_or votes i None) (vote i) h (agree i (known_within votes i h))))
 
-  open_long : length (filter (λ i. not (is_known i)) blocks) ≡ length votes - length (known_in votes 0 (length votes))
+  open_long : length (filter (λ i. not (is_known i)) blocks)
+      ≡ length votes - length (known_in votes 0 (length votes))
   unfolding is_known blocks
   open_long = omega (
     arith,
     length-filter_both is_known (λ i. not (is_known i)) (λ i. refl) blocks,
     length-range_with_len 0 (length votes),
-    length-map (filter (λ i. is_some (get_or votes i None)) (range_with_len 0 (length votes))) (λ i. get_or votes i None),
+    length-map (filter (λ i. is_some (get_or votes i None)) (range_with_len 0 (length votes)))
+        (λ i. get_or votes i None),
   )
 
-  pub lead_stays : (more : ℕ) (m : Option ℕ) → more ≡ length votes - length (known_in votes 0 (length votes)) → MajorityStays more (known_in votes 0 (length votes)) m → majority_or_zero (map vote (range_with_len 0 (length votes))) ≡ unwrap_or m 0
+  pub lead_stays : (more : ℕ) (m : Option ℕ)
+      → more ≡ length votes - length (known_in votes 0 (length votes))
+      → MajorityStays more (known_in votes 0 (length votes)) m
+      → majority_or_zero (map vote (range_with_len 0 (length votes))) ≡ unwrap_or m 0
   unfolding is_known blocks
   lead_stays more m e stays =
       ap (λ vs. unwrap_or (majority_of vs) 0) (map-map Some vote (range_with_len 0 (length votes)))
-      ∙ ap (λ o. unwrap_or o 0) (majority_closed (λ i. Some (vote i)) is_known blocks more m (open_long ∙ sym e) (subst (λ vs. MajorityStays more vs m) (sym known_values) stays))
+      ∙ ap (λ o. unwrap_or o 0)
+      (majority_closed (λ i. Some (vote i)) is_known blocks more m (open_long ∙ sym e)
+      (subst (λ vs. MajorityStays more vs m) (sym known_values) stays))
 
-pub lead_known : (votes : List (Option ℕ)) (values : List (Option ℕ)) (more : ℕ) (o : Outlook) → values ≡ known_in votes 0 (length votes) → more ≡ length votes - length values → IsOutlook more values o → IsLead votes (known_number o)
-lead_known votes values more (outlook.Is m) is e stays = λ vote agree. lead_stays votes vote agree more m (e ∙ ap (λ vs. length votes - length vs) is) (subst (λ vs. MajorityStays more vs m) is stays)
+pub lead_known : (votes : List (Option ℕ)) (values : List (Option ℕ)) (more : ℕ) (o : Outlook)
+    → values ≡ known_in votes 0 (length votes) → more ≡ length votes - length values
+    → IsOutlook more values o → IsLead votes (known_number o)
+lead_known votes values more (outlook.Is m) is e stays =
+    λ vote agree. lead_stays votes vote agree more m (e ∙ ap (λ vs. length votes - length vs) is)
+    (subst (λ vs. MajorityStays more vs m) is stays)
 lead_known votes values more outlook.Open is e stays = tt

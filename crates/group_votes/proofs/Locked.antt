@@ -8,7 +8,8 @@ finite : (o : Option ℕ) → is_some o ≡ true → (value : ℕ) × (o ≡ Som
 finite None h = absurd (false≢true h)
 finite (Some value) h = (value, refl)
 
-pub locked_by : (own : Reg) → own.d ≡ true → is_some own.a ≡ true → (value : ℕ) × (own ≡ locked_at value)
+pub locked_by : (own : Reg) → own.d ≡ true → is_some own.a ≡ true → (value : ℕ)
+    × (own ≡ locked_at value)
 locked_by own mark some =
     let f = finite own.a some in
     (f.0, ap (λ a. record { a = a; d = own.d }) f.1 ∙ ap (λ d. record { a = Some f.0; d = d }) mark)

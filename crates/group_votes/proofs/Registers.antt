@@ -23,36 +23,57 @@ module _ (s : Sent) (nums : LevelNums) (numbers : AreNumbers nums) (first node :
   outs lies = outputs_heard s lies first (nums.blocks * block_nodes nums)
 
   -- a register that is locked in a locked group goes on
-  pub locked_heard : (lies : List State) (value : ℕ) → IsLockedGroup first nums.nodes nums.faults (is_liar s) (register_of s) value → register_of s node ≡ locked_at value
+  pub locked_heard : (lies : List State) (value : ℕ)
+      → IsLockedGroup first nums.nodes nums.faults (is_liar s) (register_of s) value
+      → register_of s node ≡ locked_at value
       → register_heard s nums first node lies ≡ locked_at (up nums.modulus value)
   unfolding outs
   locked_heard lies value group own =
       let n : ℕ = block_nodes nums in
       let level = level_of nums in
       ap (λ r. register_after n level r (outs lies) (values_heard s lies first nums.nodes)) own
-      ∙ (ap (λ k. register_after n level (locked_at value) (outs lies) (values_heard s lies first k)) size
-      ∙ locked_register first n level (is_liar s) (register_of s) value (subst (λ k. IsLockedGroup first k nums.faults (is_liar s) (register_of s) value) size group) (λ u. (register_at s.height (told_by s lies u)).a) (outs lies))
+      ∙ (ap (λ k. register_after n level (locked_at value) (outs lies)
+      (values_heard s lies first k)) size
+      ∙ locked_register first n level (is_liar s) (register_of s) value
+      (subst (λ k. IsLockedGroup first k nums.faults (is_liar s) (register_of s) value) size
+      group) (λ u. (register_at s.height (told_by s lies u)).a) (outs lies))
 
   -- the instruction of the beat heard
-  pub obeyed : (lies : List State) (beat : ℕ) (own : Reg) → own ≡ register_of s node → beat ≡ beat_heard (level_of nums) (block_nodes nums) (outputs_heard s lies first (nums.blocks * block_nodes nums))
-      → instructed nums.nodes nums.faults (up nums.modulus) (beat % 3) own (values_heard s lies first nums.nodes) (beat / 3) ≡ register_heard s nums first node lies
+  pub obeyed : (lies : List State) (beat : ℕ) (own : Reg) → own ≡ register_of s node
+      → beat ≡ beat_heard (level_of nums) (block_nodes nums)
+      (outputs_heard s lies first (nums.blocks * block_nodes nums))
+      → instructed nums.nodes nums.faults (up nums.modulus) (beat % 3) own
+      (values_heard s lies first nums.nodes) (beat / 3) ≡ register_heard s nums first node lies
   obeyed lies beat own e g =
       let vals = values_heard s lies first nums.nodes in
       ap (λ r. instructed nums.nodes nums.faults (up nums.modulus) (beat % 3) r vals (beat / 3)) e
-      ∙ (ap (λ b. instructed nums.nodes nums.faults (up nums.modulus) (b % 3) (register_of s node) vals (b / 3)) g
-      ∙ ap (λ k. instructed k nums.faults (up nums.modulus) (beat_heard (level_of nums) (block_nodes nums) (outputs_heard s lies first (nums.blocks * block_nodes nums)) % 3) (register_of s node) vals (beat_heard (level_of nums) (block_nodes nums) (outputs_heard s lies first (nums.blocks * block_nodes nums)) / 3)) size)
+      ∙ (ap (λ b. instructed nums.nodes nums.faults (up nums.modulus) (b % 3)
+      (register_of s node) vals (b / 3)) g
+      ∙ ap (λ k. instructed k nums.faults (up nums.modulus)
+      (beat_heard (level_of nums) (block_nodes nums)
+      (outputs_heard s lies first (nums.blocks * block_nodes nums)) % 3)
+      (register_of s node) vals
+      (beat_heard (level_of nums) (block_nodes nums)
+      (outputs_heard s lies first (nums.blocks * block_nodes nums)) / 3)) size)
 
 -- the beat of the lead is the beat heard
-pub beat_of_group : (s : Sent) (group : Contents) → HasRoom group → (lies : List State) → beat_of_lead s group lies ≡ beat_heard (level_of group.nums) (block_nodes group.nums) (outputs_heard s lies group.first (group.nums.blocks * block_nodes group.nums))
+pub beat_of_group : (s : Sent) (group : Contents) → HasRoom group → (lies : List State)
+    → beat_of_lead s group lies
+    ≡ beat_heard (level_of group.nums) (block_nodes group.nums)
+    (outputs_heard s lies group.first (group.nums.blocks * block_nodes group.nums))
 beat_of_group s group is lies =
     let numbers = is.numbers in
     let nums = group.nums in
     let level = level_of nums in
     let leaders = numbers.sized.leaders in
-    sym (beat_is s lies level group.block nums.beat nums.leaders group.first group.intervals numbers.beat numbers.leaders is.intervals (omega arith) (omega (arith, numbers.leaders, numbers.sized.blocks)))
+    sym (beat_is s lies level group.block nums.beat nums.leaders group.first group.intervals
+    numbers.beat numbers.leaders is.intervals (omega arith)
+    (omega (arith, numbers.leaders, numbers.sized.blocks)))
     ∙ ap (λ n. beat_heard level n (outputs_heard s lies group.first (nums.blocks * n))) is.block
 
-pub beat_below : (s : Sent) (group : Contents) → HasRoom group → (lies : List State) → beat_of_lead s group lies < group.nums.beat
+pub beat_below : (s : Sent) (group : Contents) → HasRoom group → (lies : List State)
+    → beat_of_lead s group lies < group.nums.beat
 beat_below s group is lies =
     let beat = is.numbers.sized.beat in
-    part_below s lies group.nums.beat (group.first + lead_heard s group lies * group.block) group.block (omega arith)
+    part_below s lies group.nums.beat
+    (group.first + lead_heard s group lies * group.block) group.block (omega arith)

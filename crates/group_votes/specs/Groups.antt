@@ -132,4 +132,5 @@ AreBelow modulus registers = All (λ r. IfSome r.a (λ a. a < modulus)) register
 -- lies have a register of the level, the value of which is below the modulus where it is finite
 abbrev pub AreLies : (height modulus : ℕ) → List State → Type 0
 AreLies height modulus lies =
-    All (λ s. (height < length s.registers) × IfSome (register_at height s).a (λ a. a < modulus)) lies
+    All (λ s. (height < length s.registers) × IfSome (register_at height s).a (λ a. a < modulus))
+    lies

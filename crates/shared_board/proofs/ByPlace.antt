@@ -21,7 +21,8 @@ pub by_places : {X : Type 0} → (d : X) (xs : List X) (n : ℕ) → length xs �
 by_places d xs n long =
     ext_get_or d (map (λ v. get_or xs v d) (range_with_len 0 n)) xs
     (length-map-range_with_len (λ v. get_or xs v d) 0 n ∙ sym long)
-    (λ i lt. get_or-map-range_with_len (λ v. get_or xs v d) 0 n i i d (omega (arith, lt, length-map-range_with_len (λ v. get_or xs v d) 0 n)) (omega arith))
+    (λ i lt. get_or-map-range_with_len (λ v. get_or xs v d) 0 n i i d
+    (omega (arith, lt, length-map-range_with_len (λ v. get_or xs v d) 0 n)) (omega arith))
 
 module _ (nodes : ℕ) (shows : List (List ℕ)) (columns : List (List Reg)) (ids : List ℕ)
     (b : Board) (is : board_of nodes shows columns ids ≡ b) where
@@ -46,10 +47,12 @@ module _ (nodes : ℕ) (shows : List (List ℕ)) (columns : List (List Reg)) (id
   pub number_at : (u : ℕ) → u < nodes → (state_of b.states u).x ≡ get_or (get_or shows 0 []) u 0
   number_at u lt =
       ap (λ (s : State). s.x) (ap (λ ss. state_of ss u) states_are
-      ∙ get_or-map-range_with_len (state_by shows columns) 0 nodes u u (zero_state 0) lt (omega arith))
+      ∙ get_or-map-range_with_len (state_by shows columns) 0 nodes u u (zero_state 0) lt
+      (omega arith))
 
   module _ (marks : List Bool) (before : List ℕ) (room : ℕ)
-      (kept : IsBoard nodes shows columns ids marks before room) (h : ℕ) (deep : h < length columns) where
+      (kept : IsBoard nodes shows columns ids marks before room) (h : ℕ)
+      (deep : h < length columns) where
     abbrev pub column : List Reg
     column = get_or columns h []
 
@@ -66,8 +69,10 @@ module _ (nodes : ℕ) (shows : List (List ℕ)) (columns : List (List Reg)) (id
     registers_at : (l : ℕ) → l < length columns → get_or columns l [] ≡ map (register_at l) b.states
     registers_at l less =
         sym (by_places zero_register (get_or columns l []) nodes (kept.registers l [] less))
-        ∙ (same_range (λ v. get_or (get_or columns l []) v zero_register) (λ v. register_at l (state_by shows columns v)) nodes 0
-        (λ v le lt. sym (get_or-map (λ c. get_or c v zero_register) columns l [] zero_register less))
+        ∙ (same_range (λ v. get_or (get_or columns l []) v zero_register)
+        (λ v. register_at l (state_by shows columns v)) nodes 0
+        (λ v le lt. sym (get_or-map
+        (λ c. get_or c v zero_register) columns l [] zero_register less))
         ∙ (sym (map-map (register_at l) (state_by shows columns) (range_with_len 0 nodes))
         ∙ ap (map (register_at l)) (sym states_are)))
 
@@ -80,7 +85,8 @@ module _ (nodes : ℕ) (shows : List (List ℕ)) (columns : List (List Reg)) (id
       where
         numbers : get_or shows 0 [] ≡ map (λ s. s.x) b.states
         numbers =
-            sym (by_places 0 (get_or shows 0 []) nodes (kept.outputs 0 [] (omega (arith, kept.many))))
+            sym (by_places 0 (get_or shows 0 []) nodes
+            (kept.outputs 0 [] (omega (arith, kept.many))))
             ∙ (sym (map-map (λ (s : State). s.x) (state_by shows columns) (range_with_len 0 nodes))
             ∙ ap (map (λ s. s.x)) (sym states_are))
 
@@ -98,18 +104,22 @@ module _ (nodes : ℕ) (shows : List (List ℕ)) (columns : List (List Reg)) (id
         → rs ≡ column → ms ≡ marks → bs ≡ before → AreSent os rs ms bs
     are_sent os rs ms bs o r m w =
         let n : length rs ≡ nodes = ap length r ∙ column_long in
-        let marks_long = ap length (m ∙ kept.marked) ∙ length-map-range_with_len (is_in ids) 0 nodes in
-        let before_long = ap length (w ∙ kept.counted) ∙ length-map-range_with_len (place_among ids) 0 (nodes + 1) in
+        let marks_long = ap length (m ∙ kept.marked)
+        ∙ length-map-range_with_len (is_in ids) 0 nodes in
+        let before_long = ap length (w ∙ kept.counted)
+        ∙ length-map-range_with_len (place_among ids) 0 (nodes + 1) in
         record {
           shows = ap length o ∙ (outs_long ∙ sym n);
           marks = marks_long ∙ sym n;
           sums = before_long ∙ ap (λ n. n + 1) (sym n);
           counts = λ v le.
               ap (λ xs. get_or xs v 0) (w ∙ kept.counted)
-              ∙ (get_or-map-range_with_len (place_among ids) 0 (nodes + 1) v v 0 (omega (arith, le, n)) (omega arith)
+              ∙ (get_or-map-range_with_len (place_among ids) 0 (nodes + 1) v v 0
+              (omega (arith, le, n)) (omega arith)
               ∙ same_places (is_in ids) (λ u. get_or ms u false) v (λ u lt.
               sym (ap (λ xs. get_or xs u false) (m ∙ kept.marked)
-              ∙ get_or-map-range_with_len (is_in ids) 0 nodes u u false (omega (arith, lt, le, n)) (omega arith))));
+              ∙ get_or-map-range_with_len (is_in ids) 0 nodes u u false (omega (arith, lt, le, n))
+              (omega arith))));
         }
 
     pub sent_is : (os : List ℕ) (rs : List Reg) (ms : List Bool) → os ≡ outs → rs ≡ column
@@ -119,11 +129,24 @@ module _ (nodes : ℕ) (shows : List (List ℕ)) (columns : List (List Reg)) (id
         kept.marked ∙ (ap (λ xs. map (is_in xs) (range_with_len 0 nodes)) (sym board_faulty)
         ∙ ap (λ n. map (is_in b.faulty) (range_with_len 0 n)) (sym board_size)) in
         ap (λ os. record { height = h; outputs = os; registers = rs; liars = ms }) (o ∙ outputs_are)
-        ∙ (ap (λ rs. record { height = h; outputs = map (shown h) b.states; registers = rs; liars = ms }) (r ∙ registers_are)
-        ∙ ap (λ ms. record { height = h; outputs = map (shown h) b.states; registers = map (register_at h) b.states; liars = ms }) (m ∙ sized))
+        ∙ (ap (λ rs. record {
+          height = h;
+          outputs = map (shown h) b.states;
+          registers = rs;
+          liars =
+              ms;
+        }) (r ∙ registers_are)
+        ∙ ap (λ ms. record {
+          height = h;
+          outputs = map (shown h) b.states;
+          registers =
+              map (register_at h) b.states;
+          liars = ms;
+        }) (m ∙ sized))
 
 -- what holds of the lists that are held in some way
 pub lists_held : {R X : Type 0} → (f : R → List X) (n : ℕ) (xs : List R)
     → All (λ column. length column ≡ n) (map f xs) → All (λ r. length (f r) ≡ n) xs
 lists_held f n xs all = λ k d lt.
-    ap length (sym (get_or-map f xs k d (f d) lt)) ∙ all k (f d) (omega (arith, length-map xs f, lt))
+    ap length (sym (get_or-map f xs k d (f d) lt))
+    ∙ all k (f d) (omega (arith, length-map xs f, lt))

@@ -36,7 +36,8 @@ module _ (level : Level) (below : List Level) (place : ℕ) where
       by : (b : Bool) → inside ≡ b → InBlock l
       by true e = record {
         test = e;
-        low = subst (λ m. m ≤ l + 1) (ap (λ b. cond b (low_of below (place % inner)) (length below + 1)) e) low;
+        low = subst (λ m. m ≤ l + 1)
+            (ap (λ b. cond b (low_of below (place % inner)) (length below + 1)) e) low;
       }
       by false e =
           let spare = ap (λ b. cond b (low_of below (place % inner)) (length below + 1)) e in
@@ -50,7 +51,8 @@ module _ (level : Level) (below : List Level) (place : ℕ) where
   place_inner test = mod-lt place (some_inner test)
 
   pub block_below : inside ≡ true → place / inner < level.blocks
-  block_below test = div_below place inner level.blocks (some_inner test) (ltb-true place (level.blocks * inner) test)
+  block_below test = div_below place inner level.blocks (some_inner test)
+      (ltb-true place (level.blocks * inner) test)
 
   pub parted : (first : ℕ) → first + place / inner * inner + place % inner ≡ first + place
   parted first = omega (arith, div-add-mod' place inner)
@@ -72,23 +74,30 @@ length-step_at base (level ∷ below) first place heard =
     (new_register (length below) n level place (stretch (group_size level n) first heard))
     ∙ (ap (λ n. n + 1) deep ∙ omega arith)
 
-module _ (base : ℕ) (level : Level) (below : List Level) (first place : ℕ) (heard : List State) where
+module _ (base : ℕ) (level : Level) (below : List Level) (first place : ℕ)
+    (heard : List State) where
   abbrev pub low_step : State
-  low_step = step_at base below (first + place / nodes_of below * nodes_of below) (place % nodes_of below) heard
+  low_step = step_at base below (first + place / nodes_of below * nodes_of below)
+      (place % nodes_of below) heard
 
   lower_step : State
-  lower_step = cond (inside level below place) (step_at base below (first + place / nodes_of below * nodes_of below) (place % nodes_of below) heard) (zero_state (length below))
+  lower_step = cond (inside level below place)
+      (step_at base below (first + place / nodes_of below * nodes_of below)
+      (place % nodes_of below) heard) (zero_state (length below))
 
   top_register : Reg
-  top_register = new_register (length below) (nodes_of below) level place (stretch (group_size level (nodes_of below)) first heard)
+  top_register = new_register (length below) (nodes_of below) level place
+      (stretch (group_size level (nodes_of below)) first heard)
 
   deep : length lower_step.registers ≡ length below
   unfolding lower_step
   deep =
       cond_both (inside level below place)
-      (step_at base below (first + place / nodes_of below * nodes_of below) (place % nodes_of below) heard) (zero_state (length below))
+      (step_at base below (first + place / nodes_of below * nodes_of below)
+      (place % nodes_of below) heard) (zero_state (length below))
       (λ s. length s.registers ≡ length below)
-      (λ e. length-step_at base below (first + place / nodes_of below * nodes_of below) (place % nodes_of below) heard)
+      (λ e. length-step_at base below (first + place / nodes_of below * nodes_of below)
+      (place % nodes_of below) heard)
       (λ e. length-replicate (length below) zero_register)
 
   -- the register of the top level
@@ -102,21 +111,26 @@ module _ (base : ℕ) (level : Level) (below : List Level) (first place : ℕ) (
       → register_at l (step_at base (level ∷ below) first place heard) ≡ register_at l lower_step
   unfolding lower_step top_register
   under_top l lt =
-      get_or_append_left lower_step.registers (top_register ∷ []) zero_register l (omega (arith, deep, lt))
+      get_or_append_left lower_step.registers (top_register ∷ []) zero_register l
+      (omega (arith, deep, lt))
 
   lower_in_block : inside level below place ≡ true → lower_step ≡ low_step
   unfolding lower_step low_step
   lower_in_block e =
-      ap (λ b. cond b (step_at base below (first + place / nodes_of below * nodes_of below) (place % nodes_of below) heard) (zero_state (length below))) e
+      ap (λ b. cond b (step_at base below (first + place / nodes_of below * nodes_of below)
+      (place % nodes_of below) heard) (zero_state (length below))) e
 
   lower_of_spare : inside level below place ≡ false → lower_step ≡ zero_state (length below)
   unfolding lower_step
   lower_of_spare e =
-      ap (λ b. cond b (step_at base below (first + place / nodes_of below * nodes_of below) (place % nodes_of below) heard) (zero_state (length below))) e
+      ap (λ b. cond b (step_at base below (first + place / nodes_of below * nodes_of below)
+      (place % nodes_of below) heard) (zero_state (length below))) e
 
   -- the top register is that of the whole group
   top_is : place < group_size level (nodes_of below)
-      → top_register ≡ register_for (record { level = level; below = length below; block = nodes_of below; first = first }) heard (first + place)
+      → top_register ≡ register_for
+      (record { level = level; below = length below; block = nodes_of below; first = first })
+      heard (first + place)
   unfolding top_register
   top_is lt =
       let size : ℕ = group_size level (nodes_of below) in
@@ -130,26 +144,48 @@ module _ (base : ℕ) (level : Level) (below : List Level) (first place : ℕ) (
 
 -- the group of the level, at the top and below it
 pub group_top : (level : Level) (below : List Level) (first place l : ℕ) → l ≡ length below
-    → group_at (level ∷ below) first place l ≡ record { level = level; below = length below; block = nodes_of below; first = first }
+    → group_at (level ∷ below) first place l
+    ≡ record { level = level; below = length below; block = nodes_of below; first = first }
 group_top level below first place l e =
-    ap (λ b. cond b (record { level = level; below = length below; block = nodes_of below; first = first })
-    (group_at below (first + place / nodes_of below * nodes_of below) (place % nodes_of below) l)) (eq-eqb l (length below) e)
+    ap (λ b. cond b (record {
+      level = level;
+      below = length below;
+      block = nodes_of below;
+      first =
+          first;
+    })
+    (group_at below (first + place / nodes_of below * nodes_of below) (place % nodes_of below) l))
+    (eq-eqb l (length below) e)
 
 pub group_under : (level : Level) (below : List Level) (first place l : ℕ) → l < length below
-    → group_at (level ∷ below) first place l ≡ group_at below (first + place / nodes_of below * nodes_of below) (place % nodes_of below) l
+    → group_at (level ∷ below) first place l
+    ≡ group_at below (first + place / nodes_of below * nodes_of below)
+    (place % nodes_of below) l
 group_under level below first place l lt =
-    ap (λ b. cond b (record { level = level; below = length below; block = nodes_of below; first = first })
-    (group_at below (first + place / nodes_of below * nodes_of below) (place % nodes_of below) l)) (ne_eqb l (length below) (λ (e : l ≡ length below). omega arith))
+    ap (λ b. cond b (record {
+      level = level;
+      below = length below;
+      block = nodes_of below;
+      first =
+          first;
+    })
+    (group_at below (first + place / nodes_of below * nodes_of below) (place % nodes_of below) l))
+    (ne_eqb l (length below) (λ (e : l ≡ length below). omega arith))
 
 -- a register that the node has is that of its group
 pub step_register : (base : ℕ) (levels : List Level) (first place : ℕ) (heard : List State) (l : ℕ)
     → place < nodes_of levels → l < length levels → low_of levels place ≤ l + 1
-    → register_at l (step_at base levels first place heard) ≡ register_for (group_at levels first place l) heard (first + place)
+    → register_at l (step_at base levels first place heard)
+    ≡ register_for (group_at levels first place l) heard (first + place)
 step_register base [] first place heard l within lt low = absurd (omega arith)
 step_register base (level ∷ below) first place heard l within lt low =
     let again : (b : InBlock level below place l) → l < length below →
-    register_at l (low_step base level below first place heard) ≡ register_for (group_at below (first + place / nodes_of below * nodes_of below) (place % nodes_of below) l) heard (first + place / nodes_of below * nodes_of below + place % nodes_of below) =
-    λ b less. step_register base below (first + place / nodes_of below * nodes_of below) (place % nodes_of below) heard l (place_inner level below place b.test) less b.low in
+    register_at l (low_step base level below first place heard)
+    ≡ register_for (group_at below (first + place / nodes_of below * nodes_of below)
+    (place % nodes_of below) l) heard
+    (first + place / nodes_of below * nodes_of below + place % nodes_of below) =
+    λ b less. step_register base below (first + place / nodes_of below * nodes_of below)
+    (place % nodes_of below) heard l (place_inner level below place b.test) less b.low in
     ⊎_elim
     (λ e. at_top base level below first place heard l e
     ∙ (top_is base level below first place heard within
@@ -160,27 +196,33 @@ step_register base (level ∷ below) first place heard l within lt low =
     under_top base level below first place heard l less
     ∙ (ap (register_at l) (lower_in_block base level below first place heard b.test)
     ∙ (again b less
-    ∙ (ap (register_for (group_at below (first + place / nodes_of below * nodes_of below) (place % nodes_of below) l) heard) (parted level below place first)
-    ∙ sym (ap (λ g. register_for g heard (first + place)) (group_under level below first place l less))))))
+    ∙ (ap (register_for (group_at below (first + place / nodes_of below * nodes_of below)
+    (place % nodes_of below) l) heard) (parted level below place first)
+    ∙ sym (ap (λ g. register_for g heard (first + place))
+    (group_under level below first place l less))))))
     (cases_eq l (length below))
 
 -- one that it lacks is zero
 pub step_missing : (base : ℕ) (levels : List Level) (first place : ℕ) (heard : List State) (l : ℕ)
-    → l + 1 < low_of levels place → register_at l (step_at base levels first place heard) ≡ zero_register
+    → l + 1 < low_of levels place
+    → register_at l (step_at base levels first place heard) ≡ zero_register
 step_missing base [] first place heard l low = absurd (omega arith)
 step_missing base (level ∷ below) first place heard l low =
     by (inside level below place) refl
-    (λ missing. step_missing base below (first + place / nodes_of below * nodes_of below) (place % nodes_of below) heard l missing)
+    (λ missing. step_missing base below (first + place / nodes_of below * nodes_of below)
+    (place % nodes_of below) heard l missing)
   where
     low_is : (b : Bool) → inside level below place ≡ b → low_of (level ∷ below) place
         ≡ cond b (low_of below (place % nodes_of below)) (length below + 1)
     low_is b e = ap (λ b. cond b (low_of below (place % nodes_of below)) (length below + 1)) e
 
     by : (b : Bool) → inside level below place ≡ b
-        → (l + 1 < low_of below (place % nodes_of below) → register_at l (low_step base level below first place heard) ≡ zero_register)
+        → (l + 1 < low_of below (place % nodes_of below)
+        → register_at l (low_step base level below first place heard) ≡ zero_register)
         → register_at l (step_at base (level ∷ below) first place heard) ≡ zero_register
     by true e again =
-        let less : l < length below = omega (arith, low_is true e, low, low_most below (place % nodes_of below)) in
+        let less : l < length below =
+        omega (arith, low_is true e, low, low_most below (place % nodes_of below)) in
         under_top base level below first place heard l less
         ∙ (ap (register_at l) (lower_in_block base level below first place heard e)
         ∙ again (omega (arith, low_is true e, low)))
@@ -197,17 +239,23 @@ pub step_number : (base : ℕ) (levels : List Level) (first place : ℕ) (heard 
 step_number base [] first place heard low = refl
 step_number base (level ∷ below) first place heard low =
     by (inside level below place) refl
-    (λ has. step_number base below (first + place / nodes_of below * nodes_of below) (place % nodes_of below) heard has)
+    (λ has. step_number base below (first + place / nodes_of below * nodes_of below)
+    (place % nodes_of below) heard has)
   where
     low_is : (b : Bool) → inside level below place ≡ b → low_of (level ∷ below) place
         ≡ cond b (low_of below (place % nodes_of below)) (length below + 1)
     low_is b e = ap (λ b. cond b (low_of below (place % nodes_of below)) (length below + 1)) e
 
     by : (b : Bool) → inside level below place ≡ b
-        → (low_of below (place % nodes_of below) ≤ 0 → (low_step base level below first place heard).x ≡ up base (state_of heard (first + place / nodes_of below * nodes_of below + place % nodes_of below)).x)
-        → (step_at base (level ∷ below) first place heard).x ≡ up base (state_of heard (first + place)).x
+        → (low_of below (place % nodes_of below) ≤ 0
+        → (low_step base level below first place heard).x
+        ≡ up base (state_of heard
+        (first + place / nodes_of below * nodes_of below + place % nodes_of below)).x)
+        → (step_at base (level ∷ below) first place heard).x
+        ≡ up base (state_of heard (first + place)).x
     by true e again =
-        ap (λ b. (cond b (low_step base level below first place heard) (zero_state (length below))).x) e
+        ap (λ b. (cond b (low_step base level below first place heard)
+        (zero_state (length below))).x) e
         ∙ (again (omega (arith, low_is true e, low))
         ∙ ap (λ u. up base (state_of heard u).x) (parted level below place first))
     by false e again = absurd (omega (arith, low_is false e, low))
@@ -218,14 +266,19 @@ pub step_numberless : (base : ℕ) (levels : List Level) (first place : ℕ) (he
 step_numberless base [] first place heard low = absurd (omega arith)
 step_numberless base (level ∷ below) first place heard low =
     by (inside level below place) refl
-    (λ lacks. step_numberless base below (first + place / nodes_of below * nodes_of below) (place % nodes_of below) heard lacks)
+    (λ lacks. step_numberless base below (first + place / nodes_of below * nodes_of below)
+    (place % nodes_of below) heard lacks)
   where
     by : (b : Bool) → inside level below place ≡ b
-        → (0 < low_of below (place % nodes_of below) → (low_step base level below first place heard).x ≡ 0)
+        → (0 < low_of below (place % nodes_of below)
+        → (low_step base level below first place heard).x ≡ 0)
         → (step_at base (level ∷ below) first place heard).x ≡ 0
     by true e again =
-        let low_is = ap (λ b. cond b (low_of below (place % nodes_of below)) (length below + 1)) e in
-        ap (λ b. (cond b (low_step base level below first place heard) (zero_state (length below))).x) e
+        let low_is = ap (λ b. cond b (low_of below (place % nodes_of below)) (length below + 1))
+        e in
+        ap (λ b. (cond b (low_step base level below first place heard)
+        (zero_state (length below))).x) e
         ∙ again (omega (arith, low_is, low))
     by false e again =
-        ap (λ b. (cond b (low_step base level below first place heard) (zero_state (length below))).x) e
+        ap (λ b. (cond b (low_step base level below first place heard)
+        (zero_state (length below))).x) e

@@ -27,10 +27,12 @@ module _ (states : List State) (columns : List (List Reg)) (shows : List (List �
           ∙ (length-map states (λ (s : State). s.x) ∙ size)
       each (suc k) d lt =
           let next : suc k ≡ k + 1 = omega arith in
-          ap length (get_or_default shows (suc k) d [] lt ∙ (ap (λ i. get_or shows i []) next ∙ filled.outputs k (omega (arith, lt, many))))
+          ap length (get_or_default shows (suc k) d [] lt
+          ∙ (ap (λ i. get_or shows i []) next ∙ filled.outputs k (omega (arith, lt, many))))
           ∙ (length-map states (λ s. unwrap_or (register_at k s).a 0) ∙ size)
 
-  pub shown_filled : (l : ℕ) → l < length columns → get_or shows (l + 1) [] ≡ map (λ r. unwrap_or r.a 0) (get_or columns l [])
+  pub shown_filled : (l : ℕ) → l < length columns
+      → get_or shows (l + 1) [] ≡ map (λ r. unwrap_or r.a 0) (get_or columns l [])
   shown_filled l lt =
       filled.outputs l lt
       ∙ (sym (map-map (λ (r : Reg). unwrap_or r.a 0) (register_at l) states)
@@ -62,5 +64,6 @@ module _ (states : List State) (columns : List (List Reg)) (shows : List (List �
   filled_states deep =
       same_range (state_by shows columns) (λ v. cut (length columns) (state_of states v)) nodes 0
       (λ v le lt. state_is v (omega (arith, lt)) (deep v (omega (arith, lt))))
-      ∙ (sym (map-map (cut (length columns)) (λ v. get_or states v (zero_state 0)) (range_with_len 0 nodes))
+      ∙ (sym (map-map (cut (length columns)) (λ v. get_or states v (zero_state 0))
+      (range_with_len 0 nodes))
       ∙ ap (map (cut (length columns))) (by_places (zero_state 0) states nodes size))

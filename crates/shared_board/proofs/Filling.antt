@@ -14,14 +14,17 @@ pub filled_more : (states : List State) (columns : List (List Reg)) (shows : Lis
 filled_more states columns shows l r o deep many is shown filled = record {
   numbers = get_or-set_other shows (l + 1) 0 o [] (λ (e : 0 ≡ l + 1). omega arith) ∙ filled.numbers;
   registers = λ j lt. ⊎_elim
-      (λ less. get_or-set_other columns l j r [] (λ (e : j ≡ l). omega arith) ∙ filled.registers j less)
+      (λ less. get_or-set_other columns l j r [] (λ (e : j ≡ l). omega arith)
+      ∙ filled.registers j less)
       (λ le. let e : j ≡ l = omega arith in
       get_or-set_at columns l j r [] e deep ∙ (is ∙ ap (λ k. registers_of k states) (sym e)))
       (cases_lt j l);
   outputs = λ j lt. ⊎_elim
-      (λ less. get_or-set_other shows (l + 1) (j + 1) o [] (λ (e : j + 1 ≡ l + 1). omega arith) ∙ filled.outputs j less)
+      (λ less. get_or-set_other shows (l + 1) (j + 1) o [] (λ (e : j + 1 ≡ l + 1). omega arith)
+      ∙ filled.outputs j less)
       (λ le. let e : j ≡ l = omega arith in
-      get_or-set_at shows (l + 1) (j + 1) o [] (omega arith) many ∙ (shown ∙ ap (λ k. outputs_of k states) (sym e)))
+      get_or-set_at shows (l + 1) (j + 1) o [] (omega arith) many
+      ∙ (shown ∙ ap (λ k. outputs_of k states) (sym e)))
       (cases_lt j l);
 }
 
@@ -32,6 +35,8 @@ pub filled_set : {R S : Type 0} → (ri : R → List Reg) (si : S → List ℕ) 
     → AreFilled states (map ri columns) (map si shows) l
     → AreFilled states (map ri (set columns l r)) (map si (set shows (l + 1) o)) (l + 1)
 filled_set ri si states columns shows l r o deep many is shown filled =
-    subst (λ cs. AreFilled states cs (map si (set shows (l + 1) o)) (l + 1)) (sym (map-set ri columns l r))
-    (subst (λ os. AreFilled states (set (map ri columns) l (ri r)) os (l + 1)) (sym (map-set si shows (l + 1) o))
+    subst (λ cs. AreFilled states cs (map si (set shows (l + 1) o)) (l + 1))
+    (sym (map-set ri columns l r))
+    (subst (λ os. AreFilled states (set (map ri columns) l (ri r)) os (l + 1))
+    (sym (map-set si shows (l + 1) o))
     (filled_more states (map ri columns) (map si shows) l (ri r) (si o) deep many is shown filled))

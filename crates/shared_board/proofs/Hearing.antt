@@ -59,7 +59,8 @@ module _ (b : Board) (h : ℕ) where
         long ∙ (sym all_below ∙ ap (liars_below s) (sym size))
 
     -- no stretch has more liars than there are
-    pub few_in : (first count : ℕ) → first + count ≤ nodes → liars_in s first count ≤ length b.faulty
+    pub few_in : (first count : ℕ) → first + count ≤ nodes
+        → liars_in s first count ≤ length b.faulty
     few_in first count le =
         omega (arith, all_below, shorter (is_liar s) (first + count) nodes le)
 
@@ -68,54 +69,79 @@ module _ (b : Board) (h : ℕ) where
     told_at u lt = ap (state_of lies) (below_is u (omega arith))
 
     -- what is heard of a node
-    choice : {X : Type 0} → (f : State → X) (x : X) (u : ℕ) → u < nodes → x ≡ f (state_of b.states u)
+    choice : {X : Type 0} → (f : State → X) (x : X) (u : ℕ) → u < nodes
+        → x ≡ f (state_of b.states u)
         → (if is_liar s u then f (told_by s lies u) else x) ≡ f (heard_at b.faulty lies b.states u)
     choice f x u lt e =
         ap (λ t. if t then f (told_by s lies u) else x) (liar_is u lt)
         ∙ (ap (λ y. if is_in b.faulty u then y else x) (ap f (told_at u lt))
         ∙ (ap (λ y. if is_in b.faulty u then f (state_of lies (place_among b.faulty u)) else y) e
-        ∙ sym (of_choice f (is_in b.faulty u) (state_of lies (place_among b.faulty u)) (state_of b.states u))))
+        ∙ sym (of_choice f (is_in b.faulty u) (state_of lies (place_among b.faulty u))
+        (state_of b.states u))))
       where
-        of_choice : {X : Type 0} → (f : State → X) (t : Bool) (x y : State) → f (if t then x else y) ≡ (if t then f x else f y)
+        of_choice : {X : Type 0} → (f : State → X) (t : Bool) (x y : State)
+            → f (if t then x else y) ≡ (if t then f x else f y)
         of_choice f true x y = refl
         of_choice f false x y = refl
 
     pub outputs_are : (first count : ℕ) → first + count ≤ nodes → outputs_heard s lies first count
         ≡ map (λ u. shown h (heard_at b.faulty lies b.states u)) (range_with_len first count)
     outputs_are first count le =
-        same_range (output_heard s lies) (λ u. shown h (heard_at b.faulty lies b.states u)) count first
+        same_range (output_heard s lies)
+        (λ u. shown h (heard_at b.faulty lies b.states u)) count first
         (λ u from to.
         let lt : u < nodes = omega arith in
         choice (shown h) (output_of s u) u lt (get_or-map (shown h) b.states u (zero_state 0) 0 lt))
 
     pub values_are : (first count : ℕ) → first + count ≤ nodes → values_heard s lies first count
-        ≡ map (λ u. (register_at h (heard_at b.faulty lies b.states u)).a) (range_with_len first count)
+        ≡ map (λ u. (register_at h (heard_at b.faulty lies b.states u)).a)
+        (range_with_len first count)
     values_are first count le =
-        same_range (value_heard s lies) (λ u. (register_at h (heard_at b.faulty lies b.states u)).a) count first
+        same_range (value_heard s lies)
+        (λ u. (register_at h (heard_at b.faulty lies b.states u)).a) count first
         (λ u from to.
         let lt : u < nodes = omega arith in
         choice (λ s. (register_at h s).a) (register_of s u).a u lt
-        (ap (λ (r : Reg). r.a) (get_or-map (register_at h) b.states u (zero_state 0) zero_register lt)))
+        (ap (λ (r : Reg). r.a)
+        (get_or-map (register_at h) b.states u (zero_state 0) zero_register lt)))
 
     -- a node hears its own state of itself, as far as the level goes
     pub own_is : (node : ℕ) → node < nodes
-        → (is_in b.faulty node ≡ true → register_at h (state_of lies (place_among b.faulty node)) ≡ register_at h (state_of b.states node))
+        → (is_in b.faulty node ≡ true
+        → register_at h (state_of lies (place_among b.faulty node))
+        ≡ register_at h (state_of b.states node))
         → register_of s node ≡ register_at h (state_of (heard_with b.faulty lies b.states) node)
     own_is node lt own =
         get_or-map (register_at h) b.states node (zero_state 0) zero_register lt
         ∙ (by (is_in b.faulty node) refl
-        ∙ sym (ap (register_at h) (get_or-map-range_with_len (heard_at b.faulty lies b.states) 0 nodes node node (zero_state 0) lt (omega arith))))
+        ∙ sym (ap (register_at h)
+        (get_or-map-range_with_len (heard_at b.faulty lies b.states) 0 nodes node node
+        (zero_state 0) lt (omega arith))))
       where
-        by : (t : Bool) → is_in b.faulty node ≡ t → register_at h (state_of b.states node) ≡ register_at h (heard_at b.faulty lies b.states node)
-        by true e = sym (ap (λ t. register_at h (if t then state_of lies (place_among b.faulty node) else state_of b.states node)) e ∙ own e)
-        by false e = sym (ap (λ t. register_at h (if t then state_of lies (place_among b.faulty node) else state_of b.states node)) e)
+        by : (t : Bool) → is_in b.faulty node ≡ t
+            → register_at h (state_of b.states node)
+            ≡ register_at h (heard_at b.faulty lies b.states node)
+        by true e = sym (ap (λ t. register_at h
+            (if t then state_of lies (place_among b.faulty node) else state_of b.states node)) e
+            ∙ own e)
+        by false e = sym (ap (λ t. register_at h
+            (if t then state_of lies (place_among b.faulty node) else state_of b.states node)) e)
 
     -- the register heard in a group is that of the group
-    pub register_is : (nums : LevelNums) (first node : ℕ) → nums.nodes ≡ nums.blocks * block_nodes nums + nums.spares
+    pub register_is : (nums : LevelNums) (first node : ℕ)
+        → nums.nodes ≡ nums.blocks * block_nodes nums + nums.spares
         → first + nums.nodes ≤ nodes → node < nodes
-        → (is_in b.faulty node ≡ true → register_at h (state_of lies (place_among b.faulty node)) ≡ register_at h (state_of b.states node))
+        → (is_in b.faulty node ≡ true
+        → register_at h (state_of lies (place_among b.faulty node))
+        ≡ register_at h (state_of b.states node))
         → register_heard s nums first node lies
-        ≡ register_for (record { level = level_of nums; below = h; block = block_nodes nums; first = first }) (heard_with b.faulty lies b.states) node
+        ≡ register_for (record {
+          level = level_of nums;
+          below = h;
+          block = block_nodes nums;
+          first =
+              first;
+        }) (heard_with b.faulty lies b.states) node
     register_is nums first node whole le lt own =
         let n : ℕ = block_nodes nums in
         let all : ℕ = nums.blocks * n in
@@ -129,12 +155,18 @@ module _ (b : Board) (h : ℕ) where
         let outs : outputs_heard s lies first all ≡ map (shown h) (take all mine) =
         outputs_are first all (omega (arith, within))
         ∙ (sym (map-map (shown h) f (range_with_len first all))
-        ∙ ap (map (shown h)) (sym (ap (take all) mine_is ∙ take-map-range_with_len f first (all + nums.spares) all (omega arith)))) in
+        ∙ ap (map (shown h)) (sym
+        (ap (take all) mine_is
+        ∙ take-map-range_with_len f first (all + nums.spares) all (omega arith)))) in
         let vals : values_heard s lies first nums.nodes ≡ map (λ s. (register_at h s).a) mine =
         ap (values_heard s lies first) whole
         ∙ (values_are first (all + nums.spares) within
-        ∙ (sym (map-map (λ (s : State). (register_at h s).a) f (range_with_len first (all + nums.spares)))
+        ∙ (sym (map-map (λ (s : State). (register_at h s).a) f
+        (range_with_len first (all + nums.spares)))
         ∙ ap (map (λ s. (register_at h s).a)) (sym mine_is))) in
-        ap (λ own. register_after n (level_of nums) own (outputs_heard s lies first all) (values_heard s lies first nums.nodes)) (own_is node lt own)
-        ∙ (ap (λ os. register_after n (level_of nums) (register_at h (state_of heard node)) os (values_heard s lies first nums.nodes)) outs
-        ∙ ap (register_after n (level_of nums) (register_at h (state_of heard node)) (map (shown h) (take all mine))) vals)
+        ap (λ own. register_after n (level_of nums) own (outputs_heard s lies first all)
+        (values_heard s lies first nums.nodes)) (own_is node lt own)
+        ∙ (ap (λ os. register_after n (level_of nums) (register_at h (state_of heard node)) os
+        (values_heard s lies first nums.nodes)) outs
+        ∙ ap (register_after n (level_of nums) (register_at h (state_of heard node))
+        (map (shown h) (take all mine))) vals)

@@ -16,18 +16,23 @@ use Rattle.shared_board.proofs.Hearing.{below_is}
 
 -- two lists of lies, of which the liars of the nodes from one to before another tell the same
 module _ (s : Sent) (lies told : List State) (from to : ℕ)
-    (alike : (j : ℕ) → liars_below s from ≤ j → j < liars_below s to → state_of lies j ≡ state_of told j) where
-  told_alike : (u : ℕ) → from ≤ u → u < to → is_liar s u ≡ true → told_by s lies u ≡ told_by s told u
+    (alike : (j : ℕ) → liars_below s from ≤ j → j < liars_below s to
+    → state_of lies j ≡ state_of told j) where
+  told_alike : (u : ℕ) → from ≤ u → u < to → is_liar s u ≡ true
+      → told_by s lies u ≡ told_by s told u
   told_alike u first last liar =
-      let one : liars_below s (suc u) ≡ liars_below s u + 1 = ap (λ b. liars_below s u + (if b then 1 else 0)) liar in
+      let one : liars_below s (suc u) ≡ liars_below s u + 1 =
+      ap (λ b. liars_below s u + (if b then 1 else 0)) liar in
       alike (liars_below s u) (omega (arith, shorter (is_liar s) from u first))
       (omega (arith, one, shorter (is_liar s) (suc u) to (omega arith)))
 
   heard_alike : {X : Type 0} → (f : State → X) (x : X) (u : ℕ) → from ≤ u → u < to
-      → (if is_liar s u then f (told_by s lies u) else x) ≡ (if is_liar s u then f (told_by s told u) else x)
+      → (if is_liar s u then f (told_by s lies u) else x)
+      ≡ (if is_liar s u then f (told_by s told u) else x)
   heard_alike f x u first last = by (is_liar s u) refl
     where
-      by : (b : Bool) → is_liar s u ≡ b → (if b then f (told_by s lies u) else x) ≡ (if b then f (told_by s told u) else x)
+      by : (b : Bool) → is_liar s u ≡ b
+          → (if b then f (told_by s lies u) else x) ≡ (if b then f (told_by s told u) else x)
       by true e = ap f (told_alike u first last e)
       by false e = refl
 
@@ -41,21 +46,29 @@ module _ (s : Sent) (lies told : List State) (from to : ℕ)
       → values_heard s lies first count ≡ values_heard s told first count
   values_alike first count le fits =
       same_range (value_heard s lies) (value_heard s told) count first
-      (λ u a b. heard_alike (λ t. (register_at s.height t).a) (register_of s u).a u (omega arith) (omega arith))
+      (λ u a b. heard_alike (λ t. (register_at s.height t).a) (register_of s u).a u (omega arith)
+      (omega arith))
 
 -- so the new register of a node of a group does that lies among them
-pub register_alike : (b : Board) (h : ℕ) (lies told : List State) (from to : ℕ) → from ≤ to → to ≤ length b.states
-    → ((j : ℕ) → place_among b.faulty from ≤ j → j < place_among b.faulty to → state_of lies j ≡ state_of told j)
-    → (nums : LevelNums) (first node : ℕ) → nums.nodes ≡ nums.blocks * block_nodes nums + nums.spares
+pub register_alike : (b : Board) (h : ℕ) (lies told : List State) (from to : ℕ) → from ≤ to
+    → to ≤ length b.states
+    → ((j : ℕ) → place_among b.faulty from ≤ j → j < place_among b.faulty to
+    → state_of lies j ≡ state_of told j)
+    → (nums : LevelNums) (first node : ℕ)
+    → nums.nodes ≡ nums.blocks * block_nodes nums + nums.spares
     → from ≤ first → first + nums.nodes ≤ to
-    → register_heard (sent_of b h) nums first node lies ≡ register_heard (sent_of b h) nums first node told
+    → register_heard (sent_of b h) nums first node lies
+    ≡ register_heard (sent_of b h) nums first node told
 register_alike b h lies told from to order within alike nums first node whole le fits =
     let s : Sent = sent_of b h in
     let n : ℕ = block_nodes nums in
     let all : ℕ = nums.blocks * n in
-    let below : (j : ℕ) → liars_below s from ≤ j → j < liars_below s to → state_of lies j ≡ state_of told j =
-    λ j low high. alike j (omega (arith, low, below_is b h from (omega arith))) (omega (arith, high, below_is b h to within)) in
-    ap (λ os. register_after n (level_of nums) (register_of s node) os (values_heard s lies first nums.nodes))
+    let below : (j : ℕ) → liars_below s from ≤ j → j < liars_below s to
+    → state_of lies j ≡ state_of told j =
+    λ j low high. alike j (omega (arith, low, below_is b h from (omega arith)))
+    (omega (arith, high, below_is b h to within)) in
+    ap (λ os. register_after n (level_of nums) (register_of s node) os
+    (values_heard s lies first nums.nodes))
     (outputs_alike s lies told from to below first all le (omega (arith, whole, fits)))
     ∙ ap (register_after n (level_of nums) (register_of s node) (outputs_heard s told first all))
     (values_alike s lies told from to below first nums.nodes le fits)

@@ -10,7 +10,8 @@ use Rattle.counter_core.proofs.LiesHeard.{length-with_lies, get_or-with_lies}
 use Rattle.shared_board.specs.Sharing.{place_among, heard_at, heard_with}
 use Rattle.shared_board.specs.LieOrder.{AreByPlace}
 
-pub heard_by_place : (faulty : List ℕ) (lies config : List State) (liars : List Bool) (told : List State)
+pub heard_by_place : (faulty : List ℕ) (lies config : List State) (liars : List Bool)
+    (told : List State)
     → AreByPlace (length config) faulty lies liars told
     → heard_with faulty lies config ≡ with_lies liars told config
 heard_by_place faulty lies config liars told by_place =
@@ -27,7 +28,8 @@ heard_by_place faulty lies config liars told by_place =
     ∙ sym (get_or-with_lies liars told config u (zero_state 0) by_place.size lt))))
   where
     by : (u : ℕ) → u < length config → (t : Bool) → is_in faulty u ≡ t
-        → (if is_in faulty u then state_of lies (place_among faulty u) else state_of config u) ≡ cond (is_in faulty u) (state_of told u) (state_of config u)
+        → (if is_in faulty u then state_of lies (place_among faulty u) else state_of config u)
+        ≡ cond (is_in faulty u) (state_of told u) (state_of config u)
     by u lt true e =
         ap (λ t. if t then state_of lies (place_among faulty u) else state_of config u) e
         ∙ (sym (by_place.same u lt e)

@@ -20,8 +20,10 @@ group_within (level ∷ below) first place l within lt low =
     let n : ℕ = nodes_of below in
     let all : ℕ = group_size level n in
     let again : (b : InBlock level below place l) → l < length below →
-    IsWithin (group_at below (first + place / n * n) (place % n) l) (first + place / n * n) (first + place / n * n + n) =
-    λ b less. group_within below (first + place / n * n) (place % n) l (place_inner level below place b.test) less b.low in
+    IsWithin (group_at below (first + place / n * n) (place % n) l) (first + place / n * n)
+    (first + place / n * n + n) =
+    λ b less. group_within below (first + place / n * n) (place % n) l
+    (place_inner level below place b.test) less b.low in
     ⊎_elim
     (λ e. subst (λ g. IsWithin g first (first + all)) (sym (group_top level below first place l e))
     (record { first = omega arith; last = omega arith }))
@@ -42,17 +44,23 @@ pub groups_nest : (levels : List Level) (first place k l : ℕ) → place < node
 groups_nest [] first place k l within le lt low = absurd (omega arith)
 groups_nest (level ∷ below) first place k l within le lt low =
     let n : ℕ = nodes_of below in
-    let Nests : Group → Group → Type 0 = λ g wide. IsWithin g wide.first (wide.first + nodes_in wide) in
+    let Nests : Group → Group
+    → Type 0 = λ g wide. IsWithin g wide.first (wide.first + nodes_in wide) in
     let again : (b : InBlock level below place k) → l < length below →
-    Nests (group_at below (first + place / n * n) (place % n) k) (group_at below (first + place / n * n) (place % n) l) =
-    λ b less. groups_nest below (first + place / n * n) (place % n) k l (place_inner level below place b.test) le less b.low in
+    Nests (group_at below (first + place / n * n) (place % n) k)
+    (group_at below (first + place / n * n) (place % n) l) =
+    λ b less. groups_nest below (first + place / n * n) (place % n) k l
+    (place_inner level below place b.test) le less b.low in
     ⊎_elim
-    (λ e. subst (Nests (group_at (level ∷ below) first place k)) (sym (group_top level below first place l e))
+    (λ e. subst (Nests (group_at (level ∷ below) first place k))
+    (sym (group_top level below first place l e))
     (group_within (level ∷ below) first place k within (omega (arith, le, lt)) low))
     (λ ne.
     let less : l < length below = omega (arith, lt, ne) in
     let lower : k < length below = omega (arith, le, less) in
     let b = in_block level below place k lower low in
-    subst (Nests (group_at (level ∷ below) first place k)) (sym (group_under level below first place l less))
-    (subst (λ g. Nests g (group_at below (first + place / n * n) (place % n) l)) (sym (group_under level below first place k lower)) (again b less)))
+    subst (Nests (group_at (level ∷ below) first place k))
+    (sym (group_under level below first place l less))
+    (subst (λ g. Nests g (group_at below (first + place / n * n) (place % n) l))
+    (sym (group_under level below first place k lower)) (again b less)))
     (cases_eq l (length below))

@@ -35,20 +35,36 @@ module _ (nodes depth : ℕ) where
 
   pub zero_board : (shows : List (List ℕ)) (columns : List (List Reg)) (ids : List ℕ)
       (marks : List Bool) (before : List ℕ) (room : ℕ) → shows ≡ zero_shows → columns ≡ zero_columns
-      → ids ≡ [] → marks ≡ replicate nodes false → before ≡ replicate {A = ℕ} (nodes + 1) 0 → nodes ≤ room
+      → ids ≡ [] → marks ≡ replicate nodes false → before ≡ replicate {A = ℕ} (nodes + 1) 0
+      → nodes ≤ room
       → nodes ≤ 256 → IsBoard nodes shows columns ids marks before room
   zero_board shows columns ids marks before room s c i m b r le =
-      let kept : IsBoard nodes zero_shows zero_columns [] (replicate nodes false) (replicate {A = ℕ} (nodes + 1) 0) room = record {
+      let kept : IsBoard nodes zero_shows zero_columns [] (replicate nodes false)
+      (replicate {A = ℕ} (nodes + 1) 0) room = record {
         most = le;
-        many = length-replicate (depth + 1) (replicate {A = ℕ} nodes 0) ∙ ap (λ n. n + 1) (sym (length-replicate depth (replicate nodes zero_register)));
-        outputs = λ k d lt. ap length (get_or-replicate (depth + 1) k (replicate {A = ℕ} nodes 0) d (omega (arith, lt, length-replicate (depth + 1) (replicate {A = ℕ} nodes 0)))) ∙ length-replicate {A = ℕ} nodes 0;
-        registers = λ k d lt. ap length (get_or-replicate depth k (replicate nodes zero_register) d (omega (arith, lt, length-replicate depth (replicate nodes zero_register)))) ∙ length-replicate nodes zero_register;
+        many = length-replicate (depth + 1) (replicate {A = ℕ} nodes 0)
+            ∙ ap (λ n. n + 1) (sym (length-replicate depth (replicate nodes zero_register)));
+        outputs = λ k d lt. ap length
+            (get_or-replicate (depth + 1) k (replicate {A = ℕ} nodes 0) d
+            (omega (arith, lt, length-replicate (depth + 1) (replicate {A = ℕ} nodes 0))))
+            ∙ length-replicate {A = ℕ} nodes 0;
+        registers = λ k d lt. ap length
+            (get_or-replicate depth k (replicate nodes zero_register) d
+            (omega (arith, lt, length-replicate depth (replicate nodes zero_register))))
+            ∙ length-replicate nodes zero_register;
         shown = λ l lt.
-            let less : l < depth = omega (arith, lt, length-replicate depth (replicate nodes zero_register)) in
-            get_or-replicate (depth + 1) (l + 1) (replicate {A = ℕ} nodes 0) [] (omega (arith, less))
-            ∙ sym (ap (map (λ r. unwrap_or r.a 0)) (get_or-replicate depth l (replicate nodes zero_register) [] less)
+            let less : l < depth =
+            omega (arith, lt, length-replicate depth (replicate nodes zero_register)) in
+            get_or-replicate (depth + 1) (l + 1) (replicate {A = ℕ} nodes 0) []
+            (omega (arith, less))
+            ∙ sym (ap (map (λ r. unwrap_or r.a 0))
+            (get_or-replicate depth l (replicate nodes zero_register) [] less)
             ∙ map-same (λ (r : Reg). unwrap_or r.a 0) zero_register nodes);
-        liars = record { rising = λ k lt. absurd (omega (arith, lt)); below = λ k d lt. absurd (omega (arith, lt)) };
+        liars = record {
+          rising = λ k lt. absurd (omega (arith, lt));
+          below =
+              λ k d lt. absurd (omega (arith, lt));
+        };
         marked = sym (const_range (is_in []) false (λ i. refl) nodes 0);
         counted = sym (const_range (place_among []) 0 none_before (nodes + 1) 0);
         has_room = r;
@@ -57,16 +73,24 @@ module _ (nodes depth : ℕ) where
       (subst (λ c. IsBoard nodes zero_shows c ids marks before room) (sym c)
       (subst (λ i. IsBoard nodes zero_shows zero_columns i marks before room) (sym i)
       (subst (λ m. IsBoard nodes zero_shows zero_columns [] m before room) (sym m)
-      (subst (λ b. IsBoard nodes zero_shows zero_columns [] (replicate nodes false) b room) (sym b) kept))))
+      (subst (λ b. IsBoard nodes zero_shows zero_columns [] (replicate nodes false) b room)
+      (sym b) kept))))
 
   zero_state_by : (v : ℕ) → state_by zero_shows zero_columns v ≡ zero_state depth
   zero_state_by v =
-      let first : get_or zero_shows 0 [] ≡ replicate {A = ℕ} nodes 0 = get_or-replicate (depth + 1) 0 (replicate {A = ℕ} nodes 0) [] (omega arith) in
-      let x : get_or (get_or zero_shows 0 []) v 0 ≡ 0 = ap (λ xs. get_or xs v 0) first ∙ default_of_same nodes v 0 in
-      let registers : map (λ column. get_or column v zero_register) zero_columns ≡ replicate depth zero_register =
+      let first : get_or zero_shows 0 [] ≡ replicate {A = ℕ} nodes 0 =
+      get_or-replicate (depth + 1) 0 (replicate {A = ℕ} nodes 0) [] (omega arith) in
+      let x : get_or (get_or zero_shows 0 []) v 0 ≡ 0 = ap (λ xs. get_or xs v 0) first
+      ∙ default_of_same nodes v 0 in
+      let registers : map (λ column. get_or column v zero_register) zero_columns
+      ≡ replicate depth zero_register =
       map-same (λ column. get_or column v zero_register) (replicate nodes zero_register) depth
       ∙ ap (replicate depth) (default_of_same nodes v zero_register) in
-      ap (λ x. record { x = x; registers = map (λ column. get_or column v zero_register) zero_columns }) x
+      ap (λ x. record {
+        x = x;
+        registers =
+            map (λ column. get_or column v zero_register) zero_columns;
+      }) x
       ∙ ap (λ rs. record { x = 0; registers = rs }) registers
 
   pub zero_view : (shows : List (List ℕ)) (columns : List (List Reg)) (ids : List ℕ)
@@ -76,5 +100,13 @@ module _ (nodes depth : ℕ) where
       ap (λ s. board_of nodes s columns ids) s
       ∙ (ap (λ c. board_of nodes zero_shows c ids) c
       ∙ (ap (board_of nodes zero_shows zero_columns) i
-      ∙ (ap (λ d. record { depth = d; faulty = []; states = map (state_by zero_shows zero_columns) (range_with_len 0 nodes) }) (length-replicate depth (replicate nodes zero_register))
-      ∙ ap (λ ss. record { depth = depth; faulty = []; states = ss }) (const_range (state_by zero_shows zero_columns) (zero_state depth) zero_state_by nodes 0))))
+      ∙ (ap (λ d. record {
+        depth = d;
+        faulty = [];
+        states =
+            map (state_by zero_shows zero_columns) (range_with_len 0 nodes);
+      })
+      (length-replicate depth (replicate nodes zero_register))
+      ∙ ap (λ ss. record { depth = depth; faulty = []; states = ss })
+      (const_range (state_by zero_shows zero_columns)
+      (zero_state depth) zero_state_by nodes 0))))

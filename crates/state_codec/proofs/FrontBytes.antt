@@ -126,7 +126,8 @@ module _ (eight : List ℕ) (count value n whole : ℕ) (small : (j : ℕ) → g
 pub eight_below : (bytes : List ℕ) (start size : ℕ) → ((j : ℕ) → get_or bytes j 0 < 256)
     → (j : ℕ) → get_or (take size (drop start bytes)) j 0 < 256
 eight_below bytes start size small j =
-    front_below size (drop start bytes) (λ i. rw (get_or-drop start bytes i 0) (small (start + i))) j
+    front_below size (drop start bytes)
+    (λ i. rw (get_or-drop start bytes i 0) (small (start + i))) j
 
 -- what was written between bytes are bytes, as these are
 pub new_below : (bytes new : List ℕ) (start size : ℕ) → start + 8 ≤ length bytes
@@ -135,7 +136,8 @@ pub new_below : (bytes new : List ℕ) (start size : ℕ) → start + 8 ≤ leng
 new_below bytes new start size within small j =
     elim (cases_lt j (length new)) [
       | inl lt ↦
-          let front : length (take start bytes) ≡ start = omega (arith, length-take start bytes, within) in
+          let front : length (take start bytes) ≡ start =
+          omega (arith, length-take start bytes, within) in
           rw (
             ← get_or_append_left new (drop size (drop start bytes)) 0 j lt,
             ← get_or-append-add (take start bytes) (new ++ drop size (drop start bytes)) j 0,
@@ -154,7 +156,8 @@ pub set_front : (bytes new : List ℕ) (start size count value n whole : ℕ)
     → take start bytes ++ (new ++ drop size (drop start bytes))
     ≡ (take start bytes ++ bytes_of_bits count (bits (8 * count) value))
     ++ drop (start + count) bytes
-set_front bytes new start size count value n whole small within eight most fits is sum written below =
+set_front bytes new start size count value n whole small within eight most fits is sum written
+    below =
     let eights = take 8 (drop start bytes) in
     let behind = drop 8 (drop start bytes) in
     let digits = bytes_of_bits count (bits (8 * count) value) in

@@ -37,22 +37,28 @@ bits_split zero w n = let e : zero + w ≡ w = omega arith in rw e refl
 bits_split (suc h) w n =
     let e : suc h + w ≡ suc (h + w) = omega arith in
     let s : w + h ≡ h + w = omega arith in
-    let b : bit_at (n / 2 ^ w) h ≡ bit_at n (h + w) = ap (λ (y : ℕ). y % 2) (shr-shr n w h) ∙ ap (λ (y : ℕ). bit_at n y) s in
+    let b : bit_at (n / 2 ^ w) h ≡ bit_at n (h + w) = ap (λ (y : ℕ). y % 2) (shr-shr n w h)
+    ∙ ap (λ (y : ℕ). bit_at n y) s in
     rw (e, b, bits_split h w n) refl
 
 -- higher bits are not among the lowest
 pub bits_low : (w k a b : ℕ) → w ≤ k → bits w (a * 2 ^ k + b) ≡ bits w b
 unfolding bits
 bits_low zero k a b h = refl
-bits_low (suc w) k a b h = rw (bit_at_cat_low a k b w (omega arith), bits_low w k a b (omega arith)) refl
+bits_low (suc w) k a b h =
+    rw (bit_at_cat_low a k b w (omega arith), bits_low w k a b (omega arith)) refl
 
 -- the bits of a remainder
 pub bits_of_remainder : (k n : ℕ) → bits k (n % 2 ^ k) ≡ bits k n
-bits_of_remainder k n = sym (bits_low k k (n / 2 ^ k) (n % 2 ^ k) (omega arith)) ∙ ap (λ (y : ℕ). bits k y) (shr_split n k)
+bits_of_remainder k n = sym (bits_low k k (n / 2 ^ k) (n % 2 ^ k) (omega arith))
+    ∙ ap (λ (y : ℕ). bits k y) (shr_split n k)
 
 -- bits behind others
 pub bits_push : (h w a b : ℕ) → b < 2 ^ w → bits h a ++ bits w b ≡ bits (h + w) (a * 2 ^ w + b)
-bits_push h w a b l = sym (bits_split h w (a * 2 ^ w + b) ∙ ap (λ (y : ℕ). bits h y ++ bits w (a * 2 ^ w + b)) (shr_high a w b l) ∙ ap (λ (y : List Bool). bits h a ++ y) (bits_low w w a b (omega arith)))
+bits_push h w a b l =
+    sym (bits_split h w (a * 2 ^ w + b)
+    ∙ ap (λ (y : ℕ). bits h y ++ bits w (a * 2 ^ w + b)) (shr_high a w b l)
+    ∙ ap (λ (y : List Bool). bits h a ++ y) (bits_low w w a b (omega arith)))
 
 -- the bits of zero
 pub bits_of_zero : (n : ℕ) → bits n 0 ≡ replicate n false
@@ -75,4 +81,10 @@ top_bit true w r h = rw (shr_high 1 w r h) refl
 pub bits-number_of : (bs : List Bool) → bits (length bs) (number_of bs) ≡ bs
 unfolding bits number_of
 bits-number_of [] = refl
-bits-number_of (b ∷ bs) = rw (top_bit b (length bs) (number_of bs) (number_of_below bs), bits_low (length bs) (length bs) (if b then 1 else 0) (number_of bs) (omega arith), bits-number_of bs) refl
+bits-number_of (b ∷ bs) =
+    rw (
+      top_bit b (length bs) (number_of bs) (number_of_below bs),
+      bits_low (length bs) (length bs)
+          (if b then 1 else 0) (number_of bs) (omega arith),
+      bits-number_of bs,
+    ) refl

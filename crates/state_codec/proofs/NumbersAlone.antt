@@ -26,7 +26,8 @@ module _ (fields : Fields) (x : ℕ) (range : InRange fields (number_alone x)) w
       let none = ap registers_bits (none_of fields.moduli range.depth) in
       omega (arith, none, registers_bits_of_none)
 
-  pub text_alone : (w : ℕ) → w ≡ width fields.base → bits w x ≡ bits_of_state fields (number_alone x)
+  pub text_alone : (w : ℕ) → w ≡ width fields.base
+      → bits w x ≡ bits_of_state fields (number_alone x)
   text_alone w e =
       let own = bits (width fields.base) x in
       ap (λ k. bits k x) e ∙ (sym (append-nil own) ∙ ap (λ (ys : List Bool). own ++ ys)

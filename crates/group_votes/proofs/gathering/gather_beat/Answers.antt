@@ -10,4 +10,11 @@ returns-in-Some-clause-steps g c =
     let s = at.senders.now in
     let q : ℕ → Bool = λ u. not (is_liar s u) in
     let below : c.in-Some.lead < at.leaders = rw c.in-Some.is at c.requires.lead in
-    omega (arith, c.gather_most.ensures.steps, ap (λ a. length (correct_in s a at.size)) c.start.ensures, block_front q at.first c.in-Some.lead at.leaders at.size below)
+    omega (
+      arith,
+      c.gather_most.ensures.steps,
+      ap
+          (λ a. length (correct_in s a at.size)) c.start.ensures,
+      block_front q at.first
+          c.in-Some.lead at.leaders at.size below,
+    )

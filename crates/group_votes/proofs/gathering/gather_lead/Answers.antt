@@ -10,8 +10,10 @@ pub returns-clause-blocks : goal.returns-clause-blocks
 returns-clause-blocks g c =
     let at = c.args.site.now in
     record {
-      known = lead_is_known at.senders.now at.intervals.now at.leaders at.first at.size c.gather_votes.new.votes c.gather_votes.new.pointers none
-          c.gather_votes.ensures.room.0 c.gather_votes.ensures.votes c.known_lead.result c.known_lead.ensures.lead;
+      known = lead_is_known at.senders.now at.intervals.now at.leaders at.first at.size
+          c.gather_votes.new.votes c.gather_votes.new.pointers none
+          c.gather_votes.ensures.room.0 c.gather_votes.ensures.votes c.known_lead.result
+          c.known_lead.ensures.lead;
       counted = c.gather_votes.ensures.votes;
       room = c.gather_votes.ensures.room;
     }
@@ -20,5 +22,7 @@ returns-clause-blocks g c =
 pub returns-clause-below : goal.returns-clause-below
 returns-clause-below g c =
     let at = c.args.site.now in
-    known_lead_below at.senders.now at.intervals.now at.leaders at.first at.size c.gather_votes.new.votes c.gather_votes.new.pointers none
-    c.gather_votes.ensures.room.0 c.gather_votes.ensures.votes (omega (arith, at.some_leaders)) c.known_lead.result c.known_lead.ensures.lead
+    known_lead_below at.senders.now at.intervals.now at.leaders at.first at.size
+    c.gather_votes.new.votes c.gather_votes.new.pointers none
+    c.gather_votes.ensures.room.0 c.gather_votes.ensures.votes
+    (omega (arith, at.some_leaders)) c.known_lead.result c.known_lead.ensures.lead

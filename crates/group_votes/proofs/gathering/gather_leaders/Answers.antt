@@ -21,15 +21,21 @@ loop-b-preserved g c =
     let e = c.gather_numbers.ensures.poll in
     let same = ap (λ (v : Votes). v.capacity) e in
     let q : ℕ → Bool = λ u. not (is_liar s u) in
-    let in_range : b < length parts = omega (arith, i.1.0, c.requires.0, c.loop-b-test.true, c.loop-b.auto.b-end) in
-    let room : n ≤ c.index-parts-b.result.capacity = subst (λ (v : Votes). n ≤ v.capacity) (sym c.index-parts-b.is) (i.1.1 b c.index-parts-b.result in_range) in
+    let in_range : b < length parts =
+    omega (arith, i.1.0, c.requires.0, c.loop-b-test.true, c.loop-b.auto.b-end) in
+    let room : n ≤ c.index-parts-b.result.capacity =
+    subst (λ (v : Votes). n ≤ v.capacity) (sym c.index-parts-b.is)
+    (i.1.1 b c.index-parts-b.result in_range) in
     let took = ap (λ a. length (correct_in s a n)) c.start.ensures in (
       λ j none lt. ⊎_elim
-          (λ earlier. ap (λ (v : Votes). v.values) (get_or-set_other parts b j new none (λ (same : j ≡ b). omega arith)) ∙ i.0 j none earlier)
+          (λ earlier. ap (λ (v : Votes). v.values)
+          (get_or-set_other parts b j new none (λ (same : j ≡ b). omega arith))
+          ∙ i.0 j none earlier)
           (λ le. let is : j ≡ b = omega arith in
           ap (λ (v : Votes). v.values) (get_or-set_at parts b j new none is in_range)
           ∙ (ap (λ (v : Votes). v.values) e
-          ∙ (ap (λ a. parts_of s at.beat a n) c.start.ensures ∙ ap (λ k. parts_of s at.beat (at.first + k * n) n) (sym is))))
+          ∙ (ap (λ a. parts_of s at.beat a n) c.start.ensures
+          ∙ ap (λ k. parts_of s at.beat (at.first + k * n) n) (sym is))))
           (cases_lt j b),
       (
         length-set parts b new ∙ i.1.0,

@@ -7,6 +7,9 @@ use Rattle.group_votes.proofs.gathering.gather_leaders.Given as goal
 -- the leaders so far, and room in every poll
 abbrev pub invariant-loop-b : goal.invariant-loop-b
 invariant-loop-b g l =
-    ((j : ℕ) (none : Votes) → j < l.b → (slice_index_or l.parts j none).values ≡ parts_of l.site.senders.now l.site.beat (l.site.first + j * l.site.size) l.site.size)
+    ((j : ℕ) (none : Votes) → j < l.b
+    → (slice_index_or l.parts j none).values
+    ≡ parts_of l.site.senders.now l.site.beat (l.site.first + j * l.site.size) l.site.size)
     × HasRoomIn l.site.leaders l.site.size l.parts
-    × (l.steps ≤ l.initial.steps + length (correct_in l.site.senders.now l.site.first (l.b * l.site.size)))
+    × (l.steps ≤ l.initial.steps + length
+    (correct_in l.site.senders.now l.site.first (l.b * l.site.size)))

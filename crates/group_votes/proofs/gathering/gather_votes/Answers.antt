@@ -22,27 +22,36 @@ loop-i-preserved g c =
     let new = c.gather_most.new.poll in
     let vote = c.gather_most.result in
     let q : ℕ → Bool = λ u. not (is_liar s u) in
-    let in_range : b < length pointers = omega (arith, i.1.1.0, c.loop-i-test.true, c.loop-i.auto.i-end) in
-    let in_votes : b < length votes = omega (arith, i.1.0, c.loop-i-test.true, c.loop-i.auto.i-end) in
-    let room : n ≤ c.index-pointers-i.result.capacity = subst (λ (v : Votes). n ≤ v.capacity) (sym c.index-pointers-i.is) (i.1.1.1 b c.index-pointers-i.result in_range) in
+    let in_range : b < length pointers =
+    omega (arith, i.1.1.0, c.loop-i-test.true, c.loop-i.auto.i-end) in
+    let in_votes : b < length votes =
+    omega (arith, i.1.0, c.loop-i-test.true, c.loop-i.auto.i-end) in
+    let room : n ≤ c.index-pointers-i.result.capacity =
+    subst (λ (v : Votes). n ≤ v.capacity) (sym c.index-pointers-i.is)
+    (i.1.1.1 b c.index-pointers-i.result in_range) in
     let took = ap (λ a. length (correct_in s a n)) c.start.ensures in (
       λ j none lt. ⊎_elim
           (λ earlier. let ne : j ≢ b = λ (same : j ≡ b). omega arith in
           vote_by s (get_or at.intervals.now j 0) at.leaders (at.first + j * n) n
-          (get_or votes j None) (get_or (set votes b vote) j None) (get_or pointers j none) (get_or (set pointers b new) j none)
-          (get_or-set_other votes b j vote None ne) (get_or-set_other pointers b j new none ne) (i.0 j none earlier))
+          (get_or votes j None) (get_or (set votes b vote) j None) (get_or pointers j none)
+          (get_or (set pointers b new) j none)
+          (get_or-set_other votes b j vote None ne) (get_or-set_other pointers b j new none ne)
+          (i.0 j none earlier))
           (λ le. let is : j ≡ b = omega arith in
           vote_by s (get_or at.intervals.now j 0) at.leaders (at.first + j * n) n
           vote (get_or (set votes b vote) j None) new (get_or (set pointers b new) j none)
-          (get_or-set_at votes b j vote None is in_votes) (get_or-set_at pointers b j new none is in_range)
+          (get_or-set_at votes b j vote None is in_votes)
+          (get_or-set_at pointers b j new none is in_range)
           (vote_at s _ (get_or at.intervals.now j 0) at.leaders _ (at.first + j * n) n vote new
-          (ap (λ k. get_or at.intervals.now k 0) (sym is)) (c.start.ensures ∙ ap (λ k. at.first + k * n) (sym is)) c.gather_most.ensures.most))
+          (ap (λ k. get_or at.intervals.now k 0) (sym is))
+          (c.start.ensures ∙ ap (λ k. at.first + k * n) (sym is)) c.gather_most.ensures.most))
           (cases_lt j b),
       (
         length-set votes b vote ∙ i.1.0,
         (
           length-set pointers b new ∙ i.1.1.0,
-          All-set (λ (v : Votes). n ≤ v.capacity) pointers b new (omega (arith, c.gather_most.ensures.room, room)) i.1.1.1,
+          All-set (λ (v : Votes). n ≤ v.capacity) pointers b new
+              (omega (arith, c.gather_most.ensures.room, room)) i.1.1.1,
         ),
       ),
       omega (arith, c.gather_most.ensures.steps, i.2, took, blocks_more q at.first b n),

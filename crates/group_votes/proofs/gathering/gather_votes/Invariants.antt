@@ -7,6 +7,10 @@ use Rattle.group_votes.proofs.gathering.gather_votes.Given as goal
 -- the blocks so far, and room in every poll
 abbrev pub invariant-loop-i : goal.invariant-loop-i
 invariant-loop-i g l =
-    ((j : ℕ) (none : Votes) → j < l.i → IsVote l.site.senders.now (slice_index_or l.site.intervals.now j 0) l.site.leaders (l.site.first + j * l.site.size) l.site.size (slice_index_or l.votes j None) (slice_index_or l.pointers j none))
+    ((j : ℕ) (none : Votes) → j < l.i
+    → IsVote l.site.senders.now (slice_index_or l.site.intervals.now j 0) l.site.leaders
+    (l.site.first + j * l.site.size) l.site.size (slice_index_or l.votes j None)
+    (slice_index_or l.pointers j none))
     × HasVotesIn (length l.site.intervals.now) l.site.size l.votes l.pointers
-    × (l.steps ≤ l.initial.steps + length (correct_in l.site.senders.now l.site.first (l.i * l.site.size)))
+    × (l.steps ≤ l.initial.steps + length
+    (correct_in l.site.senders.now l.site.first (l.i * l.site.size)))

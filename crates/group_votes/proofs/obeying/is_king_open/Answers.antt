@@ -4,4 +4,5 @@ use Rattle.group_votes.proofs.obeying.is_king_open.Goals as goal
 
 -- the register is locked
 pub returns-then-is_some : goal.returns-then-is_some
-returns-then-is_some c = λ _. inl (locked_by c.args.own c.if-own.true (sym c.is_some.ensures ∙ c.if-is_some.true))
+returns-then-is_some c =
+    λ _. inl (locked_by c.args.own c.if-own.true (sym c.is_some.ensures ∙ c.if-is_some.true))

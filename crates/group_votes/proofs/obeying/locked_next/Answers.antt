@@ -6,5 +6,6 @@ use Rattle.group_votes.proofs.obeying.locked_next.Goals as goal
 -- the next value is below the modulus
 pub returns-else-value-modulus : goal.returns-else-value-modulus
 returns-else-value-modulus c =
-    let below : c.args.value + 1 < c.args.modulus = omega (arith, c.requires, c.if-value-modulus.false) in
+    let below : c.args.value + 1 < c.args.modulus =
+    omega (arith, c.requires, c.if-value-modulus.false) in
     ap locked_at (sym (mod-eq_of_lt below))

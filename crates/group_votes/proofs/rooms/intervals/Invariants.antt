@@ -7,6 +7,7 @@ use Rattle.group_votes.proofs.rooms.intervals.Given as goal
 abbrev pub invariant-loop : goal.invariant-loop
 invariant-loop l =
     (l.interval ≡ interval_of l.nums.beat l.nums.leaders l.counter)
-    × (l.intervals.items ≡ map (interval_of l.nums.beat l.nums.leaders) (range_with_len 0 l.counter))
+    × (l.intervals.items ≡ map (interval_of l.nums.beat l.nums.leaders)
+    (range_with_len 0 l.counter))
     × (length l.intervals.items ≡ l.counter)
     × (l.nums.blocks ≤ vec_capacity l.intervals)

@@ -3,4 +3,5 @@ use Rattle.group_votes.proofs.rooms.polls.Given as goal
 
 -- so many so far, and there is room for the others
 abbrev pub invariant-loop : goal.invariant-loop
-invariant-loop l = (length l.polls.items ≡ l.counter) × All (λ t. l.capacity ≤ t.capacity) l.polls.items × (l.count ≤ vec_capacity l.polls)
+invariant-loop l = (length l.polls.items ≡ l.counter)
+    × All (λ t. l.capacity ≤ t.capacity) l.polls.items × (l.count ≤ vec_capacity l.polls)

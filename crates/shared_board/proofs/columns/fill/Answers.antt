@@ -17,13 +17,15 @@ loop-l-init c =
     record {
       registers_long = c.requires.registers;
       outputs_long = All-set (λ (s : Vec ℕ Global). length s.items ≡ length states) outs 0 new
-          (ap length c.fill_numbers.ensures ∙ length-map states (λ (s : State). s.x)) c.requires.outputs;
+          (ap length c.fill_numbers.ensures ∙ length-map states (λ (s : State). s.x))
+          c.requires.outputs;
       deep = refl;
       many = length-set outs 0 new ∙ many;
       filled = record {
         numbers =
             ap (λ xs. get_or xs 0 []) (map-set item outs 0 new)
-            ∙ (get_or-set_at (map item outs) 0 0 new.items [] refl (omega (arith, length-map outs item, many))
+            ∙ (get_or-set_at (map item outs) 0 0 new.items [] refl
+            (omega (arith, length-map outs item, many))
             ∙ c.fill_numbers.ensures);
         registers = λ l lt. absurd (omega (arith, lt));
         outputs = λ l lt. absurd (omega (arith, lt));
@@ -46,7 +48,8 @@ loop-l-preserved c =
     let ok = c.args.registers.now.ok.0 in
     record {
       registers_long = All-set (λ (s : Vec Reg Global). length s.items ≡ length states) rows l r
-          (ap length c.fill_level.ensures.registers ∙ length-map states (register_at l)) i.registers_long;
+          (ap length c.fill_level.ensures.registers ∙ length-map states (register_at l))
+          i.registers_long;
       outputs_long = All-set (λ (s : Vec ℕ Global). length s.items ≡ length states) outs (l + 1) o
           (ap length c.fill_level.ensures.outputs ∙ length-map states _) i.outputs_long;
       deep = length-set rows l r ∙ i.deep;

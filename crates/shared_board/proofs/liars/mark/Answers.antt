@@ -19,8 +19,10 @@ loop-v-preserved c =
     let size = c.requires.size in
     let count : c.if-is_liar.count ≡ c.loop-v.count + (if liar then 1 else 0) =
     elim c.if-is_liar.branch [
-      | then-is_liar w ↦ w.count-is ∙ ap (λ b. c.loop-v.count + (if b then 1 else 0)) (sym w.if-is_liar.true)
-      | else-is_liar w ↦ w.count-is ∙ (omega arith ∙ ap (λ b. c.loop-v.count + (if b then 1 else 0)) (sym w.if-is_liar.false))
+      | then-is_liar w ↦ w.count-is
+          ∙ ap (λ b. c.loop-v.count + (if b then 1 else 0)) (sym w.if-is_liar.true)
+      | else-is_liar w ↦ w.count-is
+          ∙ (omega arith ∙ ap (λ b. c.loop-v.count + (if b then 1 else 0)) (sym w.if-is_liar.false))
     ] in
     let one : (if liar then 1 else 0) ≤ 1 = at_most_one liar in
     record {
@@ -28,8 +30,10 @@ loop-v-preserved c =
       few = omega (arith, count, i.few, one);
       marks_long = length-set c.loop-v.marks.items v liar ∙ i.marks_long;
       before_long = length-set c.loop-v.before.items v c.loop-v.count ∙ i.before_long;
-      marks = one_more (is_in ids) v liar c.loop-v.marks.items (omega (arith, less, nodes, ok, i.marks_long)) i.marks c.contains-is_liar.ensures;
-      before = one_more (place_among ids) v c.loop-v.count c.loop-v.before.items (omega (arith, less, nodes, ok, i.before_long, size)) i.before i.count;
+      marks = one_more (is_in ids) v liar c.loop-v.marks.items
+          (omega (arith, less, nodes, ok, i.marks_long)) i.marks c.contains-is_liar.ensures;
+      before = one_more (place_among ids) v c.loop-v.count c.loop-v.before.items
+          (omega (arith, less, nodes, ok, i.before_long, size)) i.before i.count;
     }
 
 pub returns-clause-before : goal.returns-clause-before
@@ -38,8 +42,10 @@ returns-clause-before c =
     let ids : List ℕ = c.args.faulty.now.ids in
     let before : List ℕ = c.loop-v.before.items in
     let ok = c.args.marks.now.ok.0 in
-    let all : c.loop-v.v ≡ length c.args.marks.now.items = omega (arith, c.loop-v-test.false, c.loop-v.auto.v-end, c.len-nodes.ensures, ok) in
+    let all : c.loop-v.v ≡ length c.args.marks.now.items =
+    omega (arith, c.loop-v-test.false, c.loop-v.auto.v-end, c.len-nodes.ensures, ok) in
     let at : c.len-nodes.result ≡ c.loop-v.v = omega (arith, all, c.len-nodes.ensures, ok) in
     ap (λ k. set before k c.loop-v.count) at
-    ∙ (last_one (place_among ids) c.loop-v.v c.loop-v.count before (omega (arith, i.before_long, c.requires.size, all)) i.before i.count
+    ∙ (last_one (place_among ids) c.loop-v.v c.loop-v.count before
+    (omega (arith, i.before_long, c.requires.size, all)) i.before i.count
     ∙ ap (λ n. map (place_among ids) (range_with_len 0 (n + 1))) all)

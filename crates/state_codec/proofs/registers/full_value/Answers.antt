@@ -11,7 +11,8 @@ pub returns-clause-text : goal.returns-clause-text
 returns-clause-text c =
     let l = bit_length_is c.args.modulus (omega (arith, c.requires.modulus)) in
     let w = width (c.args.modulus + 1) in
-    let small : w + 1 ≤ 64 = omega (arith, l.value, l.least 41 (omega (arith, c.requires.modulus))) in
+    let small : w + 1 ≤ 64 =
+    omega (arith, l.value, l.least 41 (omega (arith, c.requires.modulus))) in
     let fits : c.args.modulus < 2 ^ w = rw (← l.value) l.fits in
     let top : c.unwrap_or-value.result < 2 ^ w =
     omega (
@@ -29,7 +30,8 @@ pub returns-clause-within : goal.returns-clause-within
 returns-clause-within c =
     let l = bit_length_is c.args.modulus (omega (arith, c.requires.modulus)) in
     let w = width (c.args.modulus + 1) in
-    let small : w + 1 ≤ 64 = omega (arith, l.value, l.least 41 (omega (arith, c.requires.modulus))) in
+    let small : w + 1 ≤ 64 =
+    omega (arith, l.value, l.least 41 (omega (arith, c.requires.modulus))) in
     let fits : c.args.modulus < 2 ^ w = rw (← l.value) l.fits in
     let top : c.unwrap_or-value.result < 2 ^ w =
     omega (

@@ -11,10 +11,13 @@ pub invariant_of-site : goal.invariant_of-site
 invariant_of-site g c =
     let f = facts c.args.self.now c.requires.stands.room in
     let n : ℕ = c.args.self.now.block in
-    let long : length c.deref.result.now ≡ c.args.self.now.nums.blocks = ap length c.deref.ensures.value ∙ f.long in
-    let fits : length c.deref.result.now * n ≡ c.args.self.now.nums.blocks * n = ap (λ k. k * n) long in
+    let long : length c.deref.result.now ≡ c.args.self.now.nums.blocks =
+    ap length c.deref.ensures.value ∙ f.long in
+    let fits : length c.deref.result.now * n ≡ c.args.self.now.nums.blocks * n =
+    ap (λ k. k * n) long in
     record {
-      some_intervals = subst (λ is. All (λ interval. 1 ≤ interval) is) (sym c.deref.ensures.value) f.some_intervals;
+      some_intervals = subst (λ is. All (λ interval. 1 ≤ interval) is)
+          (sym c.deref.ensures.value) f.some_intervals;
       some_leaders = omega (arith, c.from.ensures, f.some_leaders);
       few_leaders = omega (arith, c.from.ensures, f.few_leaders, long);
       some_beat = omega (arith, f.beat);
@@ -37,24 +40,36 @@ lead_heard-lead-requires-clause-blocks g c =
     let items = group.intervals.items in
     let long = ap length c.deref.ensures.value ∙ (facts group room).long in
     record {
-      known = subst (λ is. IsKnown s (λ lies. blocks_lead s lies is leaders group.first n) group.lead) (sym c.deref.ensures.value)
-          (subst (λ m. IsKnown s (λ lies. blocks_lead s lies items m group.first n) group.lead) (sym c.from.ensures) counted.lead);
-      counted = subst (λ is. AreVotes s is leaders group.first n votes pointers) (sym c.deref.ensures.value)
+      known = subst (λ is. IsKnown s
+          (λ lies. blocks_lead s lies is leaders group.first n) group.lead)
+          (sym c.deref.ensures.value)
+          (subst (λ m. IsKnown s (λ lies. blocks_lead s lies items m group.first n) group.lead)
+          (sym c.from.ensures) counted.lead);
+      counted = subst (λ is. AreVotes s is leaders group.first n votes pointers)
+          (sym c.deref.ensures.value)
           (subst (λ m. AreVotes s items m group.first n votes pointers) (sym c.from.ensures)
-          (subst (λ vs. AreVotes s items group.nums.leaders group.first n vs pointers) (sym c.deref-2.ensures.value)
-          (subst (λ ts. AreVotes s items group.nums.leaders group.first n group.votes.items ts) (sym c.deref_mut.ensures.value) counted.votes)));
+          (subst (λ vs. AreVotes s items group.nums.leaders group.first n vs pointers)
+          (sym c.deref-2.ensures.value)
+          (subst (λ ts. AreVotes s items group.nums.leaders group.first n group.votes.items ts)
+          (sym c.deref_mut.ensures.value) counted.votes)));
       room = (
         ap length c.deref-2.ensures.value ∙ (room.votes ∙ sym long),
         (
           ap length c.deref_mut.ensures.value ∙ (room.pointers ∙ sym long),
-          subst (All (λ (t : Votes). n ≤ t.capacity)) (sym c.deref_mut.ensures.value) room.pointers_room,
+          subst (All (λ (t : Votes). n ≤ t.capacity))
+              (sym c.deref_mut.ensures.value) room.pointers_room,
         ),
       );
     }
 
 pub lead_heard-lead-requires-clause-room : goal.lead_heard-lead-requires-clause-room
 lead_heard-lead-requires-clause-room g c =
-    omega (arith, ap length c.deref.ensures.value, (facts c.args.self.now c.requires.stands.room).long, c.requires.room)
+    omega (
+      arith,
+      ap length c.deref.ensures.value,
+      (facts c.args.self.now c.requires.stands.room).long,
+      c.requires.room,
+    )
 
 -- the lead is one of the leaders, whose parts are counted
 pub part_of_lead-requires-clause-lead : goal.part_of_lead-requires-clause-lead
@@ -64,7 +79,8 @@ part_of_lead-requires-clause-lead g c =
     omega (
       arith,
       c.lead_heard-lead.ensures.lead,
-      lead_below c.args.hearing.now.senders.now c.deref.result.now c.from.result group.first group.block c.args.hearing.now.lies.now (omega (arith, c.from.ensures, f.some_leaders)),
+      lead_below c.args.hearing.now.senders.now c.deref.result.now c.from.result group.first
+          group.block c.args.hearing.now.lies.now (omega (arith, c.from.ensures, f.some_leaders)),
     )
 
 pub part_of_lead-requires-clause-stands : goal.part_of_lead-requires-clause-stands
@@ -77,10 +93,13 @@ part_of_lead-requires-clause-stands g c = λ none.
     let is : lead ≡ lead_heard s (contents group) lies =
     c.lead_heard-lead.ensures.lead
     ∙ (ap (λ is. blocks_lead s lies is c.from.result group.first group.block) c.deref.ensures.value
-    ∙ ap (λ m. blocks_lead s lies group.intervals.items m group.first group.block) c.from.ensures) in
+    ∙ ap (λ m. blocks_lead s lies group.intervals.items m group.first group.block)
+    c.from.ensures) in
     ap (λ ts. (get_or ts lead none).values) c.deref_mut-2.ensures.value
-    ∙ counted.parts c.in_default.is lead none (omega (arith, part_of_lead-requires-clause-lead g c, c.from.ensures))
-    (agrees s (lead_heard s (contents group)) group.lead counted.lead lies c.args.hearing.now.told lead is)
+    ∙ counted.parts c.in_default.is lead none
+    (omega (arith, part_of_lead-requires-clause-lead g c, c.from.ensures))
+    (agrees s (lead_heard s (contents group)) group.lead counted.lead lies c.args.hearing.now.told
+    lead is)
 
 -- at most two for each liar
 pub returns-clause-steps : goal.returns-clause-steps
@@ -96,6 +115,8 @@ returns-clause-steps g c =
       arith,
       c.lead_heard-lead.ensures.steps,
       c.part_of_lead.ensures.steps,
-      liars_inside s group.first group.nums.nodes group.first (length c.deref.result.now * n) (omega arith) (omega (arith, blocks, f.size)),
-      liars_inside s group.first group.nums.nodes group.first (c.from.result * n) (omega arith) (omega (arith, leaders, f.size, f.leaders_fit)),
+      liars_inside s group.first group.nums.nodes group.first (length c.deref.result.now * n)
+          (omega arith) (omega (arith, blocks, f.size)),
+      liars_inside s group.first group.nums.nodes group.first (c.from.result * n) (omega arith)
+          (omega (arith, leaders, f.size, f.leaders_fit)),
     )

@@ -13,7 +13,10 @@ returns-in-Some c = λ s node lies stands first last.
     let settled = stands.settled c.if-not-self.false in
     let value : ℕ = c.in-Some.value in
     let same : settled.0 ≡ value = ap (λ o. unwrap_or o 0) (sym settled.1 ∙ c.in-Some.is) in
-    let locked : IsLockedGroup group.first nums.nodes nums.faults (is_liar s) (register_of s) value =
-    subst (λ o. IfSome o (IsLockedGroup group.first nums.nodes nums.faults (is_liar s) (register_of s))) c.in-Some.is stands.locked in
-    locked_heard s nums stands.room.numbers group.first node lies value locked (settled.2 node first last ∙ ap locked_at same)
+    let locked : IsLockedGroup group.first nums.nodes nums.faults (is_liar s)
+    (register_of s) value =
+    subst (λ o. IfSome o (IsLockedGroup group.first nums.nodes nums.faults (is_liar s)
+    (register_of s))) c.in-Some.is stands.locked in
+    locked_heard s nums stands.room.numbers group.first node lies value locked
+    (settled.2 node first last ∙ ap locked_at same)
     ∙ sym c.locked_next.ensures

@@ -12,15 +12,21 @@ returns-clause-register g c =
     let nums = group.nums in
     let s = c.args.senders.now in
     let value : ℕ = c.in-Some.value in
-    let locked : IsLockedGroup group.first nums.nodes nums.faults (is_liar s) (register_of s) value =
-    subst (λ o. IfSome o (IsLockedGroup group.first nums.nodes nums.faults (is_liar s) (register_of s))) c.in-Some.is c.requires.stands.locked in
+    let locked : IsLockedGroup group.first nums.nodes nums.faults (is_liar s)
+    (register_of s) value =
+    subst (λ o. IfSome o (IsLockedGroup group.first nums.nodes nums.faults (is_liar s)
+    (register_of s))) c.in-Some.is c.requires.stands.locked in
     c.locked_next.ensures
-    ∙ sym (locked_heard s nums c.requires.stands.room.numbers group.first c.args.node c.args.lies.now value locked (sym c.register-own.ensures ∙ c.if-is_locked_at.ensures.0 refl))
+    ∙ sym (locked_heard s nums c.requires.stands.room.numbers group.first c.args.node
+    c.args.lies.now value locked
+    (sym c.register-own.ensures ∙ c.if-is_locked_at.ensures.0 refl))
 
 -- the beat is one
 pub obey-requires-clause-beat : goal.obey-requires-clause-beat
 obey-requires-clause-beat g c =
-    subst (λ b. b < c.args.self.now.nums.beat) (sym c.beat_heard-beat.ensures.beat) (beat_below c.args.senders.now (contents c.args.self.now) c.requires.stands.room c.args.lies.now)
+    subst (λ b. b < c.args.self.now.nums.beat) (sym c.beat_heard-beat.ensures.beat)
+    (beat_below c.args.senders.now
+    (contents c.args.self.now) c.requires.stands.room c.args.lies.now)
 
 -- the instruction of the beat heard
 pub returns-2-clause-register : goal.returns-2-clause-register
@@ -28,5 +34,7 @@ returns-2-clause-register g c =
     let group = c.args.self.now in
     let s = c.args.senders.now in
     c.obey.ensures.register
-    ∙ obeyed s group.nums c.requires.stands.room.numbers group.first c.args.node c.args.lies.now c.beat_heard-beat.result c.register-own.result c.register-own.ensures
-    (c.beat_heard-beat.ensures.beat ∙ beat_of_group s (contents group) c.requires.stands.room c.args.lies.now)
+    ∙ obeyed s group.nums c.requires.stands.room.numbers group.first c.args.node c.args.lies.now
+    c.beat_heard-beat.result c.register-own.result c.register-own.ensures
+    (c.beat_heard-beat.ensures.beat
+    ∙ beat_of_group s (contents group) c.requires.stands.room c.args.lies.now)

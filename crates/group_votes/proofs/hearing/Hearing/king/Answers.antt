@@ -11,4 +11,10 @@ value-requires c =
 pub overflow_add-self : goal.overflow_add-self
 overflow_add-self c =
     let at = c.args.self.now in
-    omega (arith, at.within, c.len-nodes.ensures, king_within at.nums.now at.numbers c.args.beat c.requires)
+    omega (
+      arith,
+      at.within,
+      c.len-nodes.ensures,
+      king_within at.nums.now at.numbers c.args.beat
+          c.requires,
+    )

@@ -7,10 +7,22 @@ use Rattle.group_votes.proofs.hearing.Hearing.lies_in.Goals as goal
 pub between-requires-clause-order : goal.between-requires-clause-order
 between-requires-clause-order c =
     let s = c.args.self.now.senders.now in
-    omega (arith, c.liars_below-from.ensures, c.liars_below-to.ensures, shorter (is_liar s) c.args.first (c.args.first + c.args.count) (omega arith))
+    omega (
+      arith,
+      c.liars_below-from.ensures,
+      c.liars_below-to.ensures,
+      shorter
+          (is_liar s) c.args.first (c.args.first + c.args.count) (omega arith),
+    )
 
 -- and no more than there are in all
 pub between-requires-clause-within : goal.between-requires-clause-within
 between-requires-clause-within c =
     let s = c.args.self.now.senders.now in
-    omega (arith, c.liars_below-to.ensures, c.args.self.now.told, shorter (is_liar s) (c.args.first + c.args.count) (length s.registers) c.requires)
+    omega (
+      arith,
+      c.liars_below-to.ensures,
+      c.args.self.now.told,
+      shorter (is_liar s)
+          (c.args.first + c.args.count) (length s.registers) c.requires,
+    )

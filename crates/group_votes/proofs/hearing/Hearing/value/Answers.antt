@@ -10,7 +10,8 @@ pub told_value-requires : goal.told_value-requires
 told_value-requires c =
     let at = c.args.self.now in
     subst (λ k. k < length at.lies.now) (sym c.liars_below.ensures)
-    (liar_told at.senders.now at.lies.now c.args.node at.told c.requires (sym c.is_liar.ensures ∙ c.if-is_liar.true))
+    (liar_told at.senders.now at.lies.now c.args.node at.told c.requires
+    (sym c.is_liar.ensures ∙ c.if-is_liar.true))
 
 -- the liar's lie
 pub returns-then-is_liar : goal.returns-then-is_liar
@@ -19,4 +20,5 @@ returns-then-is_liar c =
     let lies = c.args.self.now.lies.now in
     c.told_value.ensures
     ∙ (ap (λ k. (register_at s.height (state_of lies k)).a) c.liars_below.ensures
-    ∙ ap (λ b. if b then (register_at s.height (told_by s lies c.args.node)).a else (register_of s c.args.node).a) (sym (sym c.is_liar.ensures ∙ c.if-is_liar.true)))
+    ∙ ap (λ b. if b then (register_at s.height (told_by s lies c.args.node)).a
+    else (register_of s c.args.node).a) (sym (sym c.is_liar.ensures ∙ c.if-is_liar.true)))

@@ -5,4 +5,6 @@ use Rattle.group_votes.proofs.laying.Lies.count.Given as goal
 
 -- the places so far
 abbrev pub invariant-loop-lie : goal.invariant-loop-lie
-invariant-loop-lie l = l.count ≡ count_of l.poll.values l.value + count_of (map (λ s. (register_at l.self.height s).a) (take l.lie-index l.self.lies.now)) l.value
+invariant-loop-lie l =
+    l.count ≡ count_of l.poll.values l.value + count_of
+    (map (λ s. (register_at l.self.height s).a) (take l.lie-index l.self.lies.now)) l.value

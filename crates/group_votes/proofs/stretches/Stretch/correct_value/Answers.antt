@@ -10,8 +10,10 @@ returns-else-correct_locked-clause-none c = λ _ value all.
     let at = c.args.self.now in
     let found : ℕ = c.in-Some.value in
     none_correct at.senders.now value at.count at.first all (λ e.
-    let same : found ≡ value = ap (λ o. unwrap_or o 0) (sym c.in-Some.is ∙ (c.first_value.ensures ∙ e)) in
-    true≢false (sym (c.correct_locked.ensures.1 (λ u le lt ok. all u le lt ok ∙ ap locked_at (sym same))) ∙ c.if-correct_locked.false))
+    let same : found ≡ value =
+    ap (λ o. unwrap_or o 0) (sym c.in-Some.is ∙ (c.first_value.ensures ∙ e)) in
+    true≢false (sym (c.correct_locked.ensures.1
+    (λ u le lt ok. all u le lt ok ∙ ap locked_at (sym same))) ∙ c.if-correct_locked.false))
 
 -- the first correct one is infinite
 pub returns-in-None-clause-none : goal.returns-in-None-clause-none

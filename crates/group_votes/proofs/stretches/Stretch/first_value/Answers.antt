@@ -9,13 +9,16 @@ returns-then-not-is_liar c =
     let at = c.args.self.now in
     let i = c.loop-u.invariant in
     ap (λ (r : Reg). r.a) c.register.ensures
-    ∙ sym (first_found at.senders.now at.first at.count c.loop-u.u i.1 (omega (arith, c.loop-u-test.true, c.end-u-end.ensures)) i.0 (sym c.is_liar.ensures ∙ c.if-not-is_liar.true))
+    ∙ sym (first_found at.senders.now at.first at.count c.loop-u.u i.1
+    (omega (arith, c.loop-u-test.true, c.end-u-end.ensures)) i.0
+    (sym c.is_liar.ensures ∙ c.if-not-is_liar.true))
 
 -- one more liar
 pub loop-u-preserved : goal.loop-u-preserved
 loop-u-preserved c =
     let at = c.args.self.now in
     let i = c.loop-u.invariant in (
-      none_found at.senders.now at.first c.loop-u.u i.1 i.0 (sym c.is_liar.ensures ∙ c.if-not-is_liar.false),
+      none_found at.senders.now at.first c.loop-u.u i.1 i.0
+          (sym c.is_liar.ensures ∙ c.if-not-is_liar.false),
       omega (arith, i.1),
     )

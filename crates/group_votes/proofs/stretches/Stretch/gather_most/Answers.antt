@@ -14,7 +14,17 @@ majority_with-requires g c =
     let values = ap (λ (v : Votes). length v.values) c.gather_numbers.ensures.poll in
     let room = ap (λ (v : Votes). v.capacity) c.gather_numbers.ensures.poll in
     let f : ℕ → Option ℕ = λ u. Some (g.R.Reading.reads c.args.reading.now (output_of s u)) in
-    omega (arith, values, room, c.liars.ensures, length-map (correct_in s block.first block.count) f, correct_count s block.first block.count block.within, c.requires)
+    omega (
+      arith,
+      values,
+      room,
+      c.liars.ensures,
+      length-map
+          (correct_in s block.first block.count) f,
+      correct_count s block.first block.count
+          block.within,
+      c.requires,
+    )
 
 -- a majority that stays is the one heard
 pub returns-clause-most : goal.returns-clause-most
@@ -23,10 +33,14 @@ returns-clause-most g c =
     let s = block.senders.now in
     let reads = g.R.Reading.reads c.args.reading.now in
     let values = ap (λ (v : Votes). v.values) c.gather_numbers.ensures.poll in
-    let stays : IsOutlook (liars_in s block.first block.count) (numbers_of s reads block.first block.count) c.majority_with.result =
-    subst (λ more. IsOutlook more (numbers_of s reads block.first block.count) c.majority_with.result) c.liars.ensures
-    (subst (λ vs. IsOutlook c.liars.result vs c.majority_with.result) values c.majority_with.ensures) in
+    let stays : IsOutlook (liars_in s block.first block.count)
+    (numbers_of s reads block.first block.count) c.majority_with.result =
+    subst (λ more. IsOutlook more
+    (numbers_of s reads block.first block.count) c.majority_with.result) c.liars.ensures
+    (subst (λ vs. IsOutlook c.liars.result vs c.majority_with.result) values
+    c.majority_with.ensures) in
     record {
-      known = rw c.known_number.ensures (number_known s block.first block.count block.within reads c.majority_with.result stays);
+      known = rw c.known_number.ensures
+          (number_known s block.first block.count block.within reads c.majority_with.result stays);
       counted = λ _. values;
     }

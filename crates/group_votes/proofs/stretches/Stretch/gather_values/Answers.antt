@@ -12,7 +12,21 @@ gather_value-requires-clause-room g c =
     let n = c.loop-u.u - c.args.self.now.first in
     let long = ap length i.0 in
     let cleared = ap (λ (v : Votes). v.capacity) c.clear.ensures in
-    omega (arith, long, cleared, length-map (correct_in c.args.self.now.senders.now c.args.self.now.first n) (λ u. (register_of c.args.self.now.senders.now u).a), passing_most (λ u. not (is_liar c.args.self.now.senders.now u)) c.args.self.now.first n, i.1, i.3, c.requires, c.loop-u-test.true, c.end-u-end.ensures)
+    omega (
+      arith,
+      long,
+      cleared,
+      length-map
+          (correct_in c.args.self.now.senders.now c.args.self.now.first n)
+          (λ u. (register_of c.args.self.now.senders.now u).a),
+      passing_most
+          (λ u. not (is_liar c.args.self.now.senders.now u)) c.args.self.now.first n,
+      i.1,
+      i.3,
+      c.requires,
+      c.loop-u-test.true,
+      c.end-u-end.ensures,
+    )
 
 -- the next node, where it is correct
 pub loop-u-preserved : goal.loop-u-preserved
@@ -22,8 +36,15 @@ loop-u-preserved g c =
     let q : ℕ → Bool = λ u. not (is_liar c.args.self.now.senders.now u) in (
       ap (λ (v : Votes). v.values) e
           ∙ (ap (λ ys. ys ++ values_of c.args.self.now.senders.now c.loop-u.u 1) i.0
-          ∙ mapped_more q (λ u. (register_of c.args.self.now.senders.now u).a) c.args.self.now.first c.loop-u.u i.3),
+          ∙ mapped_more q (λ u. (register_of c.args.self.now.senders.now u).a) c.args.self.now.first
+          c.loop-u.u i.3),
       ap (λ (v : Votes). v.capacity) e ∙ i.1,
-      omega (arith, c.gather_value.ensures.steps, i.2, length_more q c.args.self.now.first c.loop-u.u i.3),
+      omega (
+        arith,
+        c.gather_value.ensures.steps,
+        i.2,
+        length_more q c.args.self.now.first
+            c.loop-u.u i.3,
+      ),
       omega (arith, i.3),
     )

@@ -7,5 +7,6 @@ abbrev pub invariant-loop-u : goal.invariant-loop-u
 invariant-loop-u g l =
     (l.poll.values ≡ values_of l.self.senders.now l.self.first (l.u - l.self.first))
     × (l.poll.capacity ≡ l.initial.poll.capacity)
-    × (l.steps ≡ l.initial.steps + length (correct_in l.self.senders.now l.self.first (l.u - l.self.first)))
+    × (l.steps ≡ l.initial.steps + length
+    (correct_in l.self.senders.now l.self.first (l.u - l.self.first)))
     × (l.self.first ≤ l.u)

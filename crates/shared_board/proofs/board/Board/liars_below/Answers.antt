@@ -12,7 +12,8 @@ index-requires c =
     let columns : List (List Reg) = map (λ (v : Vec Reg Global). v.items) inside.registers.items in
     let ids : List ℕ = inside.liars.items in
     let size = board_size inside.nodes shows columns ids c.args.self.now c.self.view_is in
-    let long = ap length c.self.invariant.counted ∙ length-map-range_with_len (place_among ids) 0 (inside.nodes + 1) in
+    let long = ap length c.self.invariant.counted
+    ∙ length-map-range_with_len (place_among ids) 0 (inside.nodes + 1) in
     omega (arith, c.requires, size, long, inside.before.ok.0)
 
 pub returns : goal.returns
@@ -26,5 +27,7 @@ returns c =
     let x : ℕ = c.index.result.now in
     c.index.ensures
     ∙ (ap (λ xs. get_or xs u x) c.self.invariant.counted
-    ∙ (get_or-map-range_with_len (place_among ids) 0 (inside.nodes + 1) u u x (omega (arith, c.requires, size)) (omega arith)
-    ∙ ap (λ xs. place_among xs u) (sym (board_faulty inside.nodes shows columns ids c.args.self.now c.self.view_is))))
+    ∙ (get_or-map-range_with_len (place_among ids) 0 (inside.nodes + 1) u u x
+    (omega (arith, c.requires, size)) (omega arith)
+    ∙ ap (λ xs. place_among xs u)
+    (sym (board_faulty inside.nodes shows columns ids c.args.self.now c.self.view_is))))

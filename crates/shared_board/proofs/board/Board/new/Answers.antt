@@ -5,7 +5,8 @@ pub invariant_of-result : goal.invariant_of-result
 invariant_of-result c =
     zero_board c.args.nodes c.args.depth _ _ _ _ _ _
     c.in_ok-zero_outputs.ensures c.in_ok-zero_registers.ensures c.in_ok-with_capacity.ensures.items
-    c.in_ok-zero_marks.ensures c.in_ok-zero_counts.ensures c.in_ok-with_capacity.ensures.capacity c.requires.nodes
+    c.in_ok-zero_marks.ensures c.in_ok-zero_counts.ensures c.in_ok-with_capacity.ensures.capacity
+    c.requires.nodes
 
 pub returns : goal.returns
 returns c =

@@ -17,9 +17,12 @@ index-requires-2 c =
     let ri : Vec Reg Global → List Reg = λ v. v.items in
     let shows : List (List ℕ) = map oi inside.outputs.items in
     let columns : List (List Reg) = map ri inside.registers.items in
-    let size = board_size inside.nodes shows columns inside.liars.items c.args.self.now c.self.view_is in
+    let size = board_size inside.nodes shows columns inside.liars.items c.args.self.now
+    c.self.view_is in
     let column : c.index.result.now.items ≡ get_or shows 0 [] =
-    ap oi c.index.ensures ∙ sym (get_or-map oi inside.outputs.items 0 c.index.result.now [] (omega (arith, c.self.invariant.many, length-map inside.outputs.items oi))) in
+    ap oi c.index.ensures
+    ∙ sym (get_or-map oi inside.outputs.items 0 c.index.result.now []
+    (omega (arith, c.self.invariant.many, length-map inside.outputs.items oi))) in
     let long = c.self.invariant.outputs 0 [] (omega (arith, c.self.invariant.many)) in
     omega (arith, c.requires, size, ap length column, long, c.index.result.now.ok.0)
 
@@ -31,12 +34,16 @@ returns c =
     let ri : Vec Reg Global → List Reg = λ v. v.items in
     let shows : List (List ℕ) = map oi inside.outputs.items in
     let columns : List (List Reg) = map ri inside.registers.items in
-    let size = board_size inside.nodes shows columns inside.liars.items c.args.self.now c.self.view_is in
+    let size = board_size inside.nodes shows columns inside.liars.items c.args.self.now
+    c.self.view_is in
     let column : c.index.result.now.items ≡ get_or shows 0 [] =
-    ap oi c.index.ensures ∙ sym (get_or-map oi inside.outputs.items 0 c.index.result.now [] (omega (arith, c.self.invariant.many, length-map inside.outputs.items oi))) in
+    ap oi c.index.ensures
+    ∙ sym (get_or-map oi inside.outputs.items 0 c.index.result.now []
+    (omega (arith, c.self.invariant.many, length-map inside.outputs.items oi))) in
     let within : u < inside.nodes = omega (arith, c.requires, size) in
     let long = c.self.invariant.outputs 0 [] (omega (arith, c.self.invariant.many)) in
     c.index-2.ensures
     ∙ (ap (λ xs. get_or xs u c.index-2.result.now) column
     ∙ (get_or_default (get_or shows 0 []) u c.index-2.result.now 0 (omega (arith, within, long))
-    ∙ sym (number_at inside.nodes shows columns inside.liars.items c.args.self.now c.self.view_is u within)))
+    ∙ sym (number_at inside.nodes shows columns inside.liars.items c.args.self.now c.self.view_is u
+    within)))

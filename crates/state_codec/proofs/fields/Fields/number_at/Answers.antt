@@ -9,7 +9,8 @@ use Rattle.state_codec.proofs.fields.Fields.number_at.Goals as goal
 pub returns-then-self-eq0 : goal.returns-then-self-eq0
 returns-then-self-eq0 c =
     let fields : Fields = c.args.self.now in
-    let range = read_is_in_range fields (take (bytes_in fields) (drop c.args.start c.args.bytes.now))
+    let range = read_is_in_range fields
+    (take (bytes_in fields) (drop c.args.start c.args.bytes.now))
     (subst IsFields c.self.view_is c.self.invariant.fields) in
     omega (
       arith,

@@ -14,16 +14,19 @@ use Rattle.state_codec.proofs.fields.Fields.read_at.Goals as goal
 register_more : (rs after : List Reg) (state : State) (i : ℕ) (r : Reg) → i < length rs
     → after ≡ set rs i r → r ≡ register_at i state
     → ((j : ℕ) → j < i → register_at j (record { x = 0; registers = rs }) ≡ register_at j state)
-    → (j : ℕ) → j < i + 1 → register_at j (record { x = 0; registers = after }) ≡ register_at j state
+    → (j : ℕ) → j < i + 1
+    → register_at j (record { x = 0; registers = after }) ≡ register_at j state
 register_more rs after state i r lt same is held j less =
     elim (cases_lt j i) [
       | inl below ↦ ap (λ xs. register_at j (record { x = 0; registers = xs })) same
-          ∙ (get_or-set_other rs i j r zero_register (λ e. absurd (omega (arith, e, below))) ∙ held j below)
+          ∙ (get_or-set_other rs i j r zero_register (λ e. absurd (omega (arith, e, below)))
+          ∙ held j below)
       | inr over ↦
           let e : j ≡ i = omega arith in
           ap (λ xs. register_at j (record { x = 0; registers = xs })) same
           ∙ (ap (λ k. register_at k (record { x = 0; registers = set rs i r })) e
-          ∙ (get_or-set_same rs i r zero_register lt ∙ (is ∙ ap (λ k. register_at k state) (sym e))))
+          ∙ (get_or-set_same rs i r zero_register lt
+          ∙ (is ∙ ap (λ k. register_at k state) (sym e))))
     ]
 
 pub loop-i-preserved : goal.loop-i-preserved
@@ -49,7 +52,8 @@ returns-clause-value c =
     let fields : Fields = c.args.self.now in
     let state : State = read fields (take (bytes_in fields) (drop c.args.start c.args.bytes.now)) in
     let moduli = ap (λ (f : Fields). length f.moduli) c.self.view_is in
-    let range = read_is_in_range fields (take (bytes_in fields) (drop c.args.start c.args.bytes.now)) c.tell.ensures in
+    let range = read_is_in_range fields
+    (take (bytes_in fields) (drop c.args.start c.args.bytes.now)) c.tell.ensures in
     state_is c.loop-i.out state.x state.registers i.number
     (ext_get_or zero_register c.loop-i.out.registers state.registers (i.depth ∙ sym range.depth)
     (λ j lt. i.registers j (omega (arith, moduli, lt, i.depth, c.loop-i-test.false))))
@@ -60,7 +64,8 @@ returns-clause-range c =
     let fields : Fields = c.args.self.now in
     let state : State = read fields (take (bytes_in fields) (drop c.args.start c.args.bytes.now)) in
     let moduli = ap (λ (f : Fields). length f.moduli) c.self.view_is in
-    let range = read_is_in_range fields (take (bytes_in fields) (drop c.args.start c.args.bytes.now)) c.tell.ensures in
+    let range = read_is_in_range fields
+    (take (bytes_in fields) (drop c.args.start c.args.bytes.now)) c.tell.ensures in
     subst (InRange fields) (sym (state_is c.loop-i.out state.x state.registers i.number
     (ext_get_or zero_register c.loop-i.out.registers state.registers (i.depth ∙ sym range.depth)
     (λ j lt. i.registers j (omega (arith, moduli, lt, i.depth, c.loop-i-test.false)))))) range

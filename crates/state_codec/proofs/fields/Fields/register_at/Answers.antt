@@ -50,7 +50,8 @@ full_register_at-requires-clause-within c =
     let offset : get_or c.self.inside.offsets c.args.i 0 ≡ width c.args.self.now.base + front =
     c.self.invariant.begins c.args.i inside
     ∙ (ap (λ b. width b + registers_bits (take c.args.i c.self.inside.moduli.items)) base
-    ∙ ap (λ (ms : List ℕ). width c.args.self.now.base + registers_bits (take c.args.i ms)) moduli) in
+    ∙ ap (λ (ms : List ℕ). width c.args.self.now.base + registers_bits (take c.args.i ms))
+    moduli) in
     omega (
       arith,
       c.requires.within,
@@ -76,7 +77,8 @@ returns c =
     let offset : get_or c.self.inside.offsets c.args.i 0 ≡ width c.args.self.now.base + front =
     c.self.invariant.begins c.args.i inside
     ∙ (ap (λ b. width b + registers_bits (take c.args.i c.self.inside.moduli.items)) base
-    ∙ ap (λ (ms : List ℕ). width c.args.self.now.base + registers_bits (take c.args.i ms)) moduli) in
+    ∙ ap (λ (ms : List ℕ). width c.args.self.now.base + registers_bits (take c.args.i ms))
+    moduli) in
     register_found c.args.self.now c.args.bytes.now c.args.start (omega (arith, c.requires.within))
     c.args.i c.requires.register c.index-modulus.result.now (width c.args.self.now.base) front
     c.full_register_at.result

@@ -63,7 +63,8 @@ invariant_of-self c =
       ap length c.deref_mut.ensures.value,
       c.deref_mut.ensures.len,
     ) in
-    put_kept _ _ _ _ _ c.self.invariant _ c.self.view_is c.args.v inside (number_alone c.args.x) range
+    put_kept _ _ _ _ _ c.self.invariant _ c.self.view_is c.args.v inside
+    (number_alone c.args.x) range
     c.deref_mut.result.now _ c.start_of-start.result _ c.deref_mut.ensures.value
     begins ends
     (take_at c.write_number.new.bytes (drop (length c.write_number.new.bytes)
@@ -94,7 +95,8 @@ returns c =
       ap length c.deref_mut.ensures.value,
       c.deref_mut.ensures.len,
     ) in
-    put_view _ _ _ _ _ c.self.invariant _ c.self.view_is c.args.v inside (number_alone c.args.x) range
+    put_view _ _ _ _ _ c.self.invariant _ c.self.view_is c.args.v inside
+    (number_alone c.args.x) range
     c.deref_mut.result.now _ c.start_of-start.result _ c.deref_mut.ensures.value
     begins ends
     (take_at c.write_number.new.bytes (drop (length c.write_number.new.bytes)
