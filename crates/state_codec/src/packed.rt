@@ -15,7 +15,7 @@ use sync_types::{NoMemory, NodeState, Reg};
 
 /// Two configurations as bytes: the current one, whose states are read, and the next one, whose
 /// states are written. Each node has as many bytes as its state.
-#[derive(Debug, Drop)]
+#[derive(Debug)]
 pub struct Packed {
     shape: StateShape,
     nodes: u32,
@@ -23,6 +23,18 @@ pub struct Packed {
     starts: Vec<usize>,
     current: Vec<u8>,
     next: Vec<u8>,
+}
+
+// Written out, so that what lets go of one calls this, and no more.
+impl Drop for Packed {
+    fn drop(self) {
+        let Packed { shape, nodes, starts, current, next } = self;
+        drop(shape);
+        drop(nodes);
+        drop(starts);
+        drop(current);
+        drop(next);
+    }
 }
 
 impl Model for Packed {

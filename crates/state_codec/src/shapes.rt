@@ -19,13 +19,24 @@ use sync_types::{NoMemory, NodeState};
 /// Which fields the states of a plan's nodes have, and so which bits they take: the modulus of the
 /// number, that of each register, the lowest first, each 2 to 2^40, and for each node the level
 /// from which on it takes part. A node that is no spare has all fields.
-#[derive(Debug, Drop)]
+#[derive(Debug)]
 pub struct StateShape {
     base: u64,
     moduli: Vec<u64>,
     lows: Vec<usize>,
     // For each low from 0 on the fields of its nodes.
     kinds: Vec<Fields>,
+}
+
+// Written out, so that what lets go of one calls this, and no more.
+impl Drop for StateShape {
+    fn drop(self) {
+        let StateShape { base, moduli, lows, kinds } = self;
+        drop(base);
+        drop(moduli);
+        drop(lows);
+        drop(kinds);
+    }
 }
 
 impl Model for StateShape {
