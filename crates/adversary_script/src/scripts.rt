@@ -10,13 +10,30 @@ use sync_types::FaultSet;
 
 /// A script: which nodes of a plan are faulty in which era, how all nodes start, what the faulty
 /// ones tell in which rounds, how many rounds are played and which configurations are shown.
-#[derive(Drop)]
 pub struct Script {
     pub(crate) shape: StateShape,
     pub(crate) faulty: FaultSet,
     pub(crate) parts: Parts,
     pub(crate) links: Links,
     pub(crate) alloc: Global,
+}
+
+// Written out, so that what lets go of one calls this, and no more.
+impl Drop for Script {
+    fn drop(self) {
+        let Script {
+            shape,
+            faulty,
+            parts,
+            links,
+            alloc,
+        } = self;
+        drop(shape);
+        drop(faulty);
+        drop(parts);
+        drop(links);
+        drop(alloc);
+    }
 }
 
 impl Model for Script {

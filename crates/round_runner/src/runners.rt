@@ -23,7 +23,6 @@ use sync_types::{FaultSet, NoMemory, NodeState};
 use tower::Tower;
 
 /// Plays a script round by round on the counter of a plan, with a layer above.
-#[derive(Drop)]
 pub struct Runner<O: Overlay> {
     pub(crate) tower: Tower,
     pub(crate) script: Script,
@@ -35,6 +34,30 @@ pub struct Runner<O: Overlay> {
     pub(crate) era: usize,
     // Of each era the first configuration so far that is locked.
     pub(crate) locks: Vec<Option<u64>>,
+}
+
+// Written out, so that what lets go of one calls this, and no more.
+impl<O: Overlay> Drop for Runner<O> {
+    fn drop(self) {
+        let Runner {
+            tower,
+            script,
+            overlay,
+            room,
+            states,
+            at,
+            era,
+            locks,
+        } = self;
+        drop(tower);
+        drop(script);
+        drop(overlay);
+        drop(room);
+        drop(states);
+        drop(at);
+        drop(era);
+        drop(locks);
+    }
 }
 
 impl<O: Overlay> Model for Runner<O> {

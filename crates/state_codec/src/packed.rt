@@ -28,7 +28,13 @@ pub struct Packed {
 // Written out, so that what lets go of one calls this, and no more.
 impl Drop for Packed {
     fn drop(self) {
-        let Packed { shape, nodes, starts, current, next } = self;
+        let Packed {
+            shape,
+            nodes,
+            starts,
+            current,
+            next,
+        } = self;
         drop(shape);
         drop(nodes);
         drop(starts);

@@ -31,7 +31,12 @@ pub struct StateShape {
 // Written out, so that what lets go of one calls this, and no more.
 impl Drop for StateShape {
     fn drop(self) {
-        let StateShape { base, moduli, lows, kinds } = self;
+        let StateShape {
+            base,
+            moduli,
+            lows,
+            kinds,
+        } = self;
         drop(base);
         drop(moduli);
         drop(lows);

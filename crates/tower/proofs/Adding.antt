@@ -48,17 +48,21 @@ module _ (base : ℕ) (xs items : List LevelNums) (top : LevelNums) (e : xs ≡ 
 
   -- behind the group at the top those of all blocks are those of the levels
   pub all_added : (first n b : ℕ) (old after now : List Group) → n ≡ block_nodes top
-      → after ≡ old ++ record { level = level_of top; below = length items; block = block_nodes top;
-          first = first } ∷ []
+      → after ≡ old ++ record {
+        level = level_of top;
+        below = length items;
+        block = block_nodes top;
+        first = first;
+      } ∷ []
       → now ≡ after ++ flat_map (λ b. groups_of (levels_in items) (first + b * n))
-          (range_with_len 0 b)
+      (range_with_len 0 b)
       → b ≡ top.blocks → now ≡ old ++ groups_of (levels_in xs) first
   all_added first n b old after now same h all end =
       let lower : List Level = levels_in items in
       let rest : ℕ → ℕ → List Group =
-          λ n b. flat_map (λ b. groups_of lower (first + b * n)) (range_with_len 0 b) in
+      λ n b. flat_map (λ b. groups_of lower (first + b * n)) (range_with_len 0 b) in
       let group : (d n : ℕ)
-          → Group = λ d n. record { level = level_of top; below = d; block = n; first = first } in
+      → Group = λ d n. record { level = level_of top; below = d; block = n; first = first } in
       let inner : n ≡ nodes_of lower = same ∙ size_is base xs items top e are in
       let block : block_nodes top ≡ nodes_of lower = size_is base xs items top e are in
       all
@@ -68,5 +72,5 @@ module _ (base : ℕ) (xs items : List LevelNums) (top : LevelNums) (e : xs ≡ 
       ∙ (ap (λ k. old ++ group (length items) (block_nodes top) ∷ rest k top.blocks) inner
       ∙ (ap (λ k. old ++ group (length items) k ∷ rest (nodes_of lower) top.blocks) block
       ∙ (ap (λ d. old ++ group d (nodes_of lower) ∷ rest (nodes_of lower) top.blocks)
-          (sym (length-levels_in items))
+      (sym (length-levels_in items))
       ∙ ap (λ ls. old ++ groups_of ls first) (sym (levels_are base xs items top e are))))))))

@@ -36,10 +36,10 @@ module _ (d : ℕ) (faulty : List ℕ) (lies config : List State) where
   all_same =
       let n : ℕ = length config in
       ap (λ k. map (cut d) (map (heard_at faulty lies (map (cut d) config)) (range_with_len 0 k)))
-          (length-map config (cut d))
+      (length-map config (cut d))
       ∙ (map-map (cut d) (heard_at faulty lies (map (cut d) config)) (range_with_len 0 n)
       ∙ (same_range (λ u. cut d (heard_at faulty lies (map (cut d) config) u))
-          (λ u. cut d (heard_at faulty lies config u)) n 0 (λ u le lt. node_same u (omega arith))
+      (λ u. cut d (heard_at faulty lies config u)) n 0 (λ u le lt. node_same u (omega arith))
       ∙ sym (map-map (cut d) (heard_at faulty lies config) (range_with_len 0 n))))
 
 -- a step from the states without them is the step
@@ -47,13 +47,13 @@ pub without_further : (plan : Plan) → IsAccepted plan
     → (node : ℕ) (faulty : List ℕ) (lies config : List State)
     → node < plan_nodes plan → length config ≡ plan_nodes plan
     → step_of plan node (heard_with faulty lies (map (cut (plan_depth plan)) config))
-        ≡ step_of plan node (heard_with faulty lies config)
+    ≡ step_of plan node (heard_with faulty lies config)
 without_further plan accepted node faulty lies config lt size =
     let d : ℕ = plan_depth plan in
     let ignores = plan_ignores plan accepted in
     let long : (config : List State) → length (heard_with faulty lies config) ≡ length config =
     λ config. length-map-range_with_len (heard_at faulty lies config) 0 (length config) in
     sym (ignores.next node (heard_with faulty lies (map (cut d) config)) lt
-        (long (map (cut d) config) ∙ (length-map config (cut d) ∙ size)))
+    (long (map (cut d) config) ∙ (length-map config (cut d) ∙ size)))
     ∙ (ap (step_of plan node) (all_same d faulty lies config)
     ∙ ignores.next node (heard_with faulty lies config) lt (long config ∙ size))

@@ -27,7 +27,7 @@ use Rattle.tower.proofs.Heeding.{settled_shut, leads_in, step_alike}
 
 module _ (version base : ℕ) (items : List LevelNums) (rows : List Row) (made : Bool) (board : Board)
     (groups : List Placing) (scratch : Votes) (all_settled : Bool) (now : Shares) (node : ℕ)
-        (row : Row)
+    (row : Row)
     (kept : IsShared version base items rows made board groups scratch all_settled)
     (stands : shares_of version base items made board ≡ now)
     (size : length now.states ≡ plan_nodes now.plan) (some : node < plan_nodes now.plan)
@@ -62,7 +62,7 @@ module _ (version base : ℕ) (items : List LevelNums) (rows : List Row) (made :
       → LeadsIn board row node groups l
   leads l lt has =
       leads_in (levels_in items) board groups kept.size kept.depth kept.keys kept.ready
-          (kept.stand was_made)
+      (kept.stand was_made)
       row node is_row within l (omega (arith, lt, deep)) has
 
   -- where all groups are settled the node hangs on nothing
@@ -78,7 +78,7 @@ module _ (version base : ℕ) (items : List LevelNums) (rows : List Row) (made :
   own_state lies tells liar =
       ap (λ d. cut d (state_of lies (place_among board.faulty node))) kept.depth
       ∙ (ap (λ ids. cut (length (levels_in items)) (state_of lies (place_among ids node)))
-          faulty_are
+      faulty_are
       ∙ (ap (λ (p : Plan). cut (plan_depth p) (state_of lies (place_among now.faulty node))) plan_is
       ∙ (tells.own (subst (λ ids. is_in ids node ≡ true) faulty_are liar)
       ∙ ap (λ ss. state_of ss node) (sym states_are))))
@@ -100,26 +100,26 @@ module _ (version base : ℕ) (items : List LevelNums) (rows : List Row) (made :
         → IsWithin (group_at (levels_in items) 0 node l) from to)
         → (lies told : List State) → Tells now node lies → Tells now node told
         → ((j : ℕ) → place_among board.faulty from ≤ j → j < place_among board.faulty to
-            → state_of lies j ≡ state_of told j)
+        → state_of lies j ≡ state_of told j)
         → step_of now.plan node (heard_with now.faulty lies now.states)
-            ≡ step_of now.plan node (heard_with now.faulty told now.states)
+        ≡ step_of now.plan node (heard_with now.faulty told now.states)
     enough from to order fits inner lies told tells tells_too alike =
         let long : (ls : List State) → Tells now node ls → length ls ≡ length board.faulty =
         λ ls t. t.size ∙ sym (ap length faulty_are) in
         sym (same_step lies)
         ∙ (step_alike (levels_in items) board groups kept.size kept.depth kept.keys kept.ready row
-            node is_row within liars
+        node is_row within liars
         lies told (long lies tells) (long told tells_too) (own_state lies tells)
-            (own_state told tells_too)
+        (own_state told tells_too)
         n from to order fits alike deep shut inner version base
         ∙ same_step told)
 
     pub none_heeded : n ≡ 0 → (lies told : List State) → Tells now node lies → Tells now node told
         → step_of now.plan node (heard_with now.faulty lies now.states)
-            ≡ step_of now.plan node (heard_with now.faulty told now.states)
+        ≡ step_of now.plan node (heard_with now.faulty told now.states)
     none_heeded none lies told tells tells_too =
         enough 0 0 (omega arith) (omega arith)
-            (λ l lt short low. absurd (omega (arith, lt, none))) lies told tells tells_too
+        (λ l lt short low. absurd (omega (arith, lt, none))) lies told tells tells_too
         (λ j low high. absurd (omega (arith, low, high)))
 
   module _ (n : ℕ) (order : n ≤ length row.places.items) (lowest : row.low ≤ n) (some_open : 0 < n)
@@ -136,8 +136,8 @@ module _ (version base : ℕ) (items : List LevelNums) (rows : List Row) (made :
     pub place_fits : i < length groups
     place_fits =
         let less = place_less
-            (levels_in items) board groups kept.size kept.depth kept.keys kept.ready row node is_row
-            within (n - 1) top has in
+        (levels_in items) board groups kept.size kept.depth kept.keys kept.ready row node is_row
+        within (n - 1) top has in
         omega (arith, less, place_is)
 
     module _ (p : Placing) (is : p ≡ get_or groups i p) where
@@ -145,23 +145,23 @@ module _ (version base : ℕ) (items : List LevelNums) (rows : List Row) (made :
       group_fits =
           subst (λ (q : Placing). q.group.first + q.group.nums.nodes ≤ length board.states) (sym is)
           (groups_fit (levels_in items) board groups kept.size kept.depth kept.keys kept.ready i p
-              place_fits)
+          place_fits)
 
       -- the open groups below are some of its nodes
       inner : (l : ℕ) → l < n → l < length (levels_in items) → low_of (levels_in items) node ≤ l + 1
           → IsWithin (group_at (levels_in items) 0 node l) p.group.first
-              (p.group.first + p.group.nums.nodes)
+          (p.group.first + p.group.nums.nodes)
       inner l lt short low =
           let key : key_of p ≡ group_at (levels_in items) 0 node (n - 1) =
           ap key_of (is ∙ ap (λ k. get_or groups k p) place_is)
-              ∙ key_is (levels_in items) board groups kept.size kept.depth kept.keys kept.ready row
-              node is_row within (n - 1) top has p in
+          ∙ key_is (levels_in items) board groups kept.size kept.depth kept.keys kept.ready row
+          node is_row within (n - 1) top has p in
           let nest = groups_nest (levels_in items) 0 node l (n - 1) within
-              (omega (arith, lt)) top low in
+          (omega (arith, lt)) top low in
           let first = ap (λ (g : Group). g.first) key in
           let count = ap nodes_in key in
           let whole = subst (λ (q : Placing). q.group.nums.nodes ≡ nodes_in (key_of q)) (sym is)
-              (kept.ready i p place_fits).numbers.sized.whole in
+          (kept.ready i p place_fits).numbers.sized.whole in
           record {
             first = omega (arith, nest.first, first);
             last = omega (arith, nest.last, first, count, whole);
@@ -174,10 +174,10 @@ module _ (version base : ℕ) (items : List LevelNums) (rows : List Row) (made :
           → (lies told : List State) → Tells now node lies → Tells now node told
           → ((j : ℕ) → first ≤ j → j < last → state_of lies j ≡ state_of told j)
           → step_of now.plan node (heard_with now.faulty lies now.states)
-              ≡ step_of now.plan node (heard_with now.faulty told now.states)
+          ≡ step_of now.plan node (heard_with now.faulty told now.states)
       some_heeded liars shut first last begins ends lies told tells tells_too same =
           enough liars n shut p.group.first (p.group.first + p.group.nums.nodes)
-              (omega arith) group_fits inner lies told tells tells_too
+          (omega arith) group_fits inner lies told tells tells_too
           (λ j low high. same j (omega (arith, low, begins)) (omega (arith, high, ends)))
 
       -- they are a stretch of all liars
@@ -188,8 +188,19 @@ module _ (version base : ℕ) (items : List LevelNums) (rows : List Row) (made :
       stretch_fits liars first last begins ends =
           let all = places_of_all board.faulty (length board.states) liars.rising liars.below in
           let end : ℕ = p.group.first + p.group.nums.nodes in (
-            omega (arith, begins, ends, shorter (is_in board.faulty) p.group.first end
-                (omega arith)),
-            omega (arith, ends, shorter (is_in board.faulty) end
-                (length board.states) group_fits, all, ap length faulty_are),
+            omega (
+              arith,
+              begins,
+              ends,
+              shorter (is_in board.faulty) p.group.first end
+                  (omega arith),
+            ),
+            omega (
+              arith,
+              ends,
+              shorter (is_in board.faulty) end
+                  (length board.states) group_fits,
+              all,
+              ap length faulty_are,
+            ),
           )

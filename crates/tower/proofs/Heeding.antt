@@ -40,7 +40,7 @@ bare depth s =
 tells_itself : (b : Board) (h : ℕ) (lies : List State) (node : ℕ) → node < length b.states
     → h < b.depth
     → (is_in b.faulty node ≡ true
-        → cut b.depth (state_of lies (place_among b.faulty node)) ≡ state_of b.states node)
+    → cut b.depth (state_of lies (place_among b.faulty node)) ≡ state_of b.states node)
     → TellsItself (sent_of b h) lies node
 tells_itself b h lies node lt low own = λ liar.
     let s : State = state_of lies (place_among b.faulty node) in
@@ -85,7 +85,7 @@ leads_in levels b groups size depth keys ready stand row node is_row within l lt
     let holds : (none : Placing) → Holds b node (get_or groups i none) = λ none.
     let key = key_is levels b groups size depth keys ready row node is_row within l lt has none in
     let height : (get_or groups i none).height ≡ l = ap (λ (g : Group). g.below) key
-        ∙ has_node.below in
+    ∙ has_node.below in
     let first = ap (λ (g : Group). g.first) key in
     let count = ap nodes_in key in
     let whole = (ready i none less).numbers.sized.whole in
@@ -104,16 +104,16 @@ module _ (levels : List Level) (b : Board) (groups : List Placing)
     (liars : AreLiars (length b.states) b.faulty) (lies told : List State)
     (lies_long : length lies ≡ length b.faulty) (told_long : length told ≡ length b.faulty)
     (lies_own : is_in b.faulty node ≡ true
-        → cut b.depth (state_of lies (place_among b.faulty node)) ≡ state_of b.states node)
+    → cut b.depth (state_of lies (place_among b.faulty node)) ≡ state_of b.states node)
     (told_own : is_in b.faulty node ≡ true
-        → cut b.depth (state_of told (place_among b.faulty node)) ≡ state_of b.states node)
+    → cut b.depth (state_of told (place_among b.faulty node)) ≡ state_of b.states node)
     (n from to : ℕ) (order : from ≤ to) (fits : to ≤ length b.states)
     (alike : (j : ℕ) → place_among b.faulty from ≤ j → j < place_among b.faulty to
-        → state_of lies j ≡ state_of told j)
+    → state_of lies j ≡ state_of told j)
     (deep : length row.places.items ≡ length levels)
     (shut : AreShut b row node groups n)
     (inner : (l : ℕ) → l < n → l < length levels → low_of levels node ≤ l + 1
-        → IsWithin (group_at levels 0 node l) from to) where
+    → IsWithin (group_at levels 0 node l) from to) where
   -- the register of a level, by either of two lists of lies that agree where they must
   group_alike : (l : ℕ) → l < length levels → row.low ≤ l + 1 → (none : Placing)
       → register_by b node lies (get_or groups (get_or row.places.items l 0) none)
@@ -124,7 +124,7 @@ module _ (levels : List Level) (b : Board) (groups : List Placing)
       let less = place_less levels b groups size depth keys ready row node is_row within l lt has in
       let key = key_is levels b groups size depth keys ready row node is_row within l lt has none in
       let height : p.height ≡ l = ap (λ (g : Group). g.below) key
-          ∙ (group_has levels 0 node l within lt low).below in
+      ∙ (group_has levels 0 node l within lt low).below in
       let first = ap (λ (g : Group). g.first) key in
       let count = ap nodes_in key in
       let whole = (ready (get_or row.places.items l 0) none less).numbers.sized.whole in
@@ -134,7 +134,7 @@ module _ (levels : List Level) (b : Board) (groups : List Placing)
       (λ below.
       let g = inner l below lt low in
       register_alike b p.height lies told from to order fits alike p.group.nums p.group.first node
-          whole
+      whole
       (omega (arith, first, g.first)) (omega (arith, first, count, whole, g.last)))
       (λ above.
       shut l none above (omega (arith, lt, deep)) has lies told
@@ -148,8 +148,8 @@ module _ (levels : List Level) (b : Board) (groups : List Placing)
   row_alike l lt =
       let place : ℕ = get_or row.places.items l 0 in
       let by : (ls : List State) (t : Bool)
-          → Reg = λ ls t. if t then get_or
-          (map (register_by b node ls) groups) place zero_register else zero_register in
+      → Reg = λ ls t. if t then get_or
+      (map (register_by b node ls) groups) place zero_register else zero_register in
       ⊎_elim
       (λ less.
       let test : nat_le row.low (l + 1) ≡ false = lt-leb row.low (l + 1) less in
@@ -157,41 +157,41 @@ module _ (levels : List Level) (b : Board) (groups : List Placing)
       (λ has.
       let test : nat_le row.low (l + 1) ≡ true = le-leb row.low (l + 1) has in
       let less : place < length groups =
-          place_less levels b groups size depth keys ready row node is_row within l lt has in
+      place_less levels b groups size depth keys ready row node is_row within l lt has in
       let at : (ls : List State) (none : Placing)
-          → get_or (map (register_by b node ls) groups) place zero_register
-          ≡ register_by b node ls (get_or groups place none) =
+      → get_or (map (register_by b node ls) groups) place zero_register
+      ≡ register_by b node ls (get_or groups place none) =
       λ ls none. get_or-map (register_by b node ls) groups place none zero_register less in
       ap (by lies) test
       ∙ (some_group groups (λ none. at lies none ∙ (group_alike l lt has none ∙ sym (at told none)))
-          (omega (arith, less))
+      (omega (arith, less))
       ∙ sym (ap (by told) test)))
       (cases_lt (l + 1) row.low)
 
   pub step_alike : (version base : ℕ)
       → let plan : Plan = record { version = version; base = base; levels = levels } in
       step_of plan node (heard_with b.faulty lies b.states)
-          ≡ step_of plan node (heard_with b.faulty told b.states)
+      ≡ step_of plan node (heard_with b.faulty told b.states)
   step_alike version base =
       let plan : Plan = record { version = version; base = base; levels = levels } in
       let d : ℕ = length levels in
       let x : ℕ = if row.low == 0 then up base (state_of b.states node).x else 0 in
       let own : (ls : List State)
-          → (is_in b.faulty node ≡ true
-          → cut b.depth (state_of ls (place_among b.faulty node)) ≡ state_of b.states node)
+      → (is_in b.faulty node ≡ true
+      → cut b.depth (state_of ls (place_among b.faulty node)) ≡ state_of b.states node)
       → is_in b.faulty node ≡ true
-          → cut d (state_of ls (place_among b.faulty node)) ≡ state_of b.states node =
+      → cut d (state_of ls (place_among b.faulty node)) ≡ state_of b.states node =
       λ ls h liar. subst (λ k. cut k (state_of ls (place_among b.faulty node))
-          ≡ state_of b.states node) depth (h liar) in
+      ≡ state_of b.states node) depth (h liar) in
       let by : (ls : List State)
-          → List Reg = λ ls. map (row_register b row node ls groups) (range_with_len 0 d) in
+      → List Reg = λ ls. map (row_register b row node ls groups) (range_with_len 0 d) in
       let of_lies = step_is levels b groups size depth keys ready row node is_row within base lies
-          (own lies lies_own) version (zero_state 0) in
+      (own lies lies_own) version (zero_state 0) in
       let of_told = step_is levels b groups size depth keys ready row node is_row within base told
-          (own told told_own) version (zero_state 0) in
+      (own told told_own) version (zero_state 0) in
       let same : by lies ≡ by told =
       same_range (row_register b row node lies groups) (row_register b row node told groups) d 0
-          (λ l le lt. row_alike l (omega (arith, lt))) in
+      (λ l le lt. row_alike l (omega (arith, lt))) in
       sym (bare d (step_of plan node (heard_with b.faulty lies b.states)))
       ∙ (of_lies
       ∙ (ap (λ rs. record { x = x; registers = rs ++ drop d [] }) same

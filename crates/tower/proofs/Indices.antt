@@ -34,6 +34,6 @@ module _ (xs items : List LevelNums) (top : LevelNums) (e : xs ≡ items ++ top 
       ap (λ b. 1 + place / n * c + b) is
       ∙ (ap (λ k. 1 + place / n * k + index_at (levels_in items) (place % n) h) count
       ∙ (ap (λ m. 1 + place / m * group_count (levels_in items) + index_at (levels_in items)
-          (place % m) h) nodes
+      (place % m) h) nodes
       ∙ sym (ap (λ ls. index_at ls place h) (ap levels_in e ∙ levels_in_push items top)
       ∙ index_other (level_of top) (levels_in items) place h apart)))

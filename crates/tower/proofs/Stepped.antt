@@ -30,22 +30,22 @@ use Rattle.tower.specs.Sharing.{AllStand}
 -- a state in range has at each level a value below the modulus of the group's level
 pub range_at : (levels : List Level) (first place l : ℕ) (s : State) → l < length levels
     → InRange levels s → IfSome (register_at l s).a
-        (λ a. a < (group_at levels first place l).level.modulus)
+    (λ a. a < (group_at levels first place l).level.modulus)
 range_at [] first place l s lt range = absurd (omega arith)
 range_at (level ∷ below) first place l s lt range =
     let n : ℕ = nodes_of below in
     let again : l < length below
-        → IfSome (register_at l s).a
-        (λ a. a < (group_at below (first + place / n * n) (place % n) l).level.modulus) =
+    → IfSome (register_at l s).a
+    (λ a. a < (group_at below (first + place / n * n) (place % n) l).level.modulus) =
     λ less. range_at below (first + place / n * n) (place % n) l s less range.0 in
     ⊎_elim
     (λ e. subst (λ (g : Group). IfSome (register_at l s).a (λ a. a < g.level.modulus))
-        (sym (group_top level below first place l e))
+    (sym (group_top level below first place l e))
     (subst (λ k. IfSome (register_at k s).a (λ a. a < level.modulus)) (sym e) range.1))
     (λ ne.
     let less : l < length below = omega (arith, lt, ne) in
     subst (λ (g : Group). IfSome (register_at l s).a (λ a. a < g.level.modulus))
-        (sym (group_under level below first place l less)) (again less))
+    (sym (group_under level below first place l less)) (again less))
     (cases_eq l (length below))
 
 module _ (levels : List Level) (b : Board) (groups : List Placing)
@@ -74,8 +74,13 @@ module _ (levels : List Level) (b : Board) (groups : List Placing)
   pub groups_low : All (λ p. p.height < b.depth) groups
   groups_low = λ i none lt.
       let key = ap (λ (g : Group). g.below) (key_at i none lt) in
-      omega (arith, key, levels_low levels 0 i (key_of none)
-          (omega (arith, lt, groups_long)), depth)
+      omega (
+        arith,
+        key,
+        levels_low levels 0 i (key_of none)
+            (omega (arith, lt, groups_long)),
+        depth,
+      )
 
   module _ (row : Row) (node : ℕ) (is_row : IsRow levels node row)
       (within : node < nodes_of levels) where
@@ -90,8 +95,13 @@ module _ (levels : List Level) (b : Board) (groups : List Placing)
 
       pub place_less : get_or row.places.items l 0 < length groups
       place_less =
-          omega (arith, place_is l lt, index_less levels node l within lt low, groups_long,
-              length-groups_of levels 0)
+          omega (
+            arith,
+            place_is l lt,
+            index_less levels node l within lt low,
+            groups_long,
+            length-groups_of levels 0,
+          )
 
       -- the group to which the row leads is the node's
       pub key_is : (none : Placing)
@@ -117,14 +127,14 @@ module _ (levels : List Level) (b : Board) (groups : List Placing)
             let first = ap (λ (g : Group). g.first) key in
             let count = ap nodes_in key in
             let modulus : (group_at levels 0 node l).level.modulus ≡ p.group.nums.modulus =
-                sym (ap (λ (g : Group). g.level.modulus) key) in
+            sym (ap (λ (g : Group). g.level.modulus) key) in
             let whole = (ready i none place_less).numbers.sized.whole in
             let in_range : (s : State) → IsWithin base levels s
-                → IfSome (register_at p.height s).a (λ a. a < p.group.nums.modulus) =
+            → IfSome (register_at p.height s).a (λ a. a < p.group.nums.modulus) =
             λ s h. subst (λ k. IfSome (register_at k s).a (λ a. a < p.group.nums.modulus))
-                (sym height)
+            (sym height)
             (subst (λ m. IfSome (register_at l s).a (λ a. a < m)) modulus
-                (range_at levels 0 node l s lt h.values)) in
+            (range_at levels 0 node l s lt h.values)) in
             record {
               height = omega (arith, height, lt, depth);
               stands = stand i none place_less;
@@ -133,14 +143,16 @@ module _ (levels : List Level) (b : Board) (groups : List Placing)
               within = groups_fit i none place_less;
               below = λ k d less.
                   let inside : k < length b.states =
-                      omega (arith, less, length-map b.states (register_at p.height)) in
+                  omega (arith, less, length-map b.states (register_at p.height)) in
                   subst (λ (r : Reg). IfSome r.a (λ a. a < p.group.nums.modulus))
                   (sym (get_or-map (register_at p.height) b.states k (zero_state 0) d inside))
                   (in_range (state_of b.states k) (range k (zero_state 0) inside));
               told = long;
-              lies_below = λ k d less.
-                  (omega (arith, lies_deep k d less, height, lt), in_range (get_or lies k d)
-                  (lies_range k d less));
+              lies_below = λ k d less. (
+                omega (arith, lies_deep k d less, height, lt),
+                in_range (get_or lies k d)
+                    (lies_range k d less),
+              );
               few_blocks = (ready i none place_less).numbers.sized.most_blocks;
             }
 
@@ -148,18 +160,18 @@ module _ (levels : List Level) (b : Board) (groups : List Placing)
 
     module _ (base : ℕ) (lies : List State)
         (own : is_in b.faulty node ≡ true
-            → cut (length levels) (state_of lies (place_among b.faulty node))
-            ≡ state_of b.states node) where
+        → cut (length levels) (state_of lies (place_among b.faulty node))
+        ≡ state_of b.states node) where
       heard : List State
       heard = heard_with b.faulty lies b.states
 
       own_register : (l : ℕ) → l < length levels → is_in b.faulty node ≡ true
           → register_at l (state_of lies (place_among b.faulty node))
-              ≡ register_at l (state_of b.states node)
+          ≡ register_at l (state_of b.states node)
       own_register l lt liar =
           let s : State = state_of lies (place_among b.faulty node) in
           sym (get_or-take (length levels) s.registers l zero_register lt)
-              ∙ ap (register_at l) (own liar)
+          ∙ ap (register_at l) (own liar)
 
       register_step : (l : ℕ) → l < length levels
           → register_at l (step_at base levels 0 node heard) ≡ row_register b row node lies groups l
@@ -167,36 +179,36 @@ module _ (levels : List Level) (b : Board) (groups : List Placing)
       register_step l lt = ⊎_elim
           (λ less.
           let missing = step_missing base levels 0 node (heard_with b.faulty lies b.states) l
-              (omega (arith, less, is_row.lowest)) in
+          (omega (arith, less, is_row.lowest)) in
           let test : nat_le row.low (l + 1) ≡ false = lt-leb row.low (l + 1) less in
           missing ∙ sym (ap (λ t. if t then get_or (map (register_by b node lies) groups)
-              (get_or row.places.items l 0) zero_register else zero_register) test))
+          (get_or row.places.items l 0) zero_register else zero_register) test))
           (λ has.
           let test : nat_le row.low (l + 1) ≡ true = le-leb row.low (l + 1) has in
           let place : ℕ = get_or row.places.items l 0 in
           let of_group : (none : Placing)
-              → register_at l (step_at base levels 0 node (heard_with b.faulty lies b.states))
-              ≡ get_or (map (register_by b node lies) groups) place zero_register = λ none.
+          → register_at l (step_at base levels 0 node (heard_with b.faulty lies b.states))
+          ≡ get_or (map (register_by b node lies) groups) place zero_register = λ none.
           let p : Placing = get_or groups place none in
           let key = key_is l lt has none in
           let fits = groups_fit place none (place_less l lt has) in
           let height : p.height ≡ l = ap (λ (g : Group). g.below) key
-              ∙ (group_has levels 0 node l within lt (low l lt has)).below in
+          ∙ (group_has levels 0 node l within lt (low l lt has)).below in
           let inside : node < length b.states = omega (arith, within, size) in
           step_register base levels 0 node (heard_with b.faulty lies b.states) l within lt
-              (low l lt has)
+          (low l lt has)
           ∙ (ap (register_for (group_at levels 0 node l) (heard_with b.faulty lies b.states))
-              (omega arith)
+          (omega arith)
           ∙ (ap (λ g. register_for g (heard_with b.faulty lies b.states) node) (sym key)
           ∙ (sym (register_is b p.height lies p.group.nums p.group.first node
-              (ready place none (place_less l lt has)).numbers.sized.whole fits inside
+          (ready place none (place_less l lt has)).numbers.sized.whole fits inside
           (λ liar. subst (λ k. register_at k (state_of lies (place_among b.faulty node))
-              ≡ register_at k (state_of b.states node)) (sym height) (own_register l lt liar)))
+          ≡ register_at k (state_of b.states node)) (sym height) (own_register l lt liar)))
           ∙ sym (get_or-map (register_by b node lies) groups place none zero_register
-              (place_less l lt has))))) in
+          (place_less l lt has))))) in
           some_group (λ none. of_group none) (place_less l lt has)
           ∙ sym (ap (λ t. if t then get_or
-              (map (register_by b node lies) groups) place zero_register else zero_register) test))
+          (map (register_by b node lies) groups) place zero_register else zero_register) test))
           (cases_lt (l + 1) row.low)
         where
           -- there is some group
@@ -215,18 +227,18 @@ module _ (levels : List Level) (b : Board) (groups : List Placing)
           (λ e.
           let test : (row.low == 0) ≡ true = eq-eqb row.low 0 e in
           step_number base levels 0 node (heard_with b.faulty lies b.states)
-              (omega (arith, e, is_row.lowest))
+          (omega (arith, e, is_row.lowest))
           ∙ (ap (λ u. up base (state_of (heard_with b.faulty lies b.states) u).x) (omega arith)
           ∙ (ap (λ (s : State). up base s.x)
-              (get_or-map-range_with_len (heard_at b.faulty lies b.states) 0
-              (length b.states) node node (zero_state 0) (omega (arith, within, size))
-              (omega arith))
+          (get_or-map-range_with_len (heard_at b.faulty lies b.states) 0
+          (length b.states) node node (zero_state 0) (omega (arith, within, size))
+          (omega arith))
           ∙ (own_number (is_in b.faulty node) refl
           ∙ sym (ap (λ t. if t then up base (state_of b.states node).x else 0) test)))))
           (λ ne.
           let test : (row.low == 0) ≡ false = ne_eqb row.low 0 ne in
           step_numberless base levels 0 node (heard_with b.faulty lies b.states)
-              (omega (arith, ne, is_row.lowest))
+          (omega (arith, ne, is_row.lowest))
           ∙ sym (ap (λ t. if t then up base (state_of b.states node).x else 0) test))
           (cases_eq row.low 0)
         where
@@ -235,16 +247,16 @@ module _ (levels : List Level) (b : Board) (groups : List Placing)
               ≡ up base (state_of b.states node).x
           own_number true e =
               ap (λ t. up base (if t then state_of lies
-                  (place_among b.faulty node) else state_of b.states node).x) e
+              (place_among b.faulty node) else state_of b.states node).x) e
               ∙ ap (λ (s : State). up base s.x) (own e)
           own_number false e =
               ap (λ t. up base (if t then state_of lies
-                  (place_among b.faulty node) else state_of b.states node).x) e
+              (place_among b.faulty node) else state_of b.states node).x) e
 
       pub step_is : (version : ℕ) (out : State)
           → written (length levels)
-              (step_of (record { version = version; base = base; levels = levels }) node
-              (heard_with b.faulty lies b.states)) out
+          (step_of (record { version = version; base = base; levels = levels }) node
+          (heard_with b.faulty lies b.states)) out
           ≡ record {
             x = if row.low == 0 then up base (state_of b.states node).x else 0;
             registers = map (row_register b row node lies groups)
@@ -256,23 +268,28 @@ module _ (levels : List Level) (b : Board) (groups : List Placing)
           let heard : List State = heard_with b.faulty lies b.states in
           let s : State = step_at base levels 0 node heard in
           let stretches = steps_by_stretches plan node heard within
-              (length-map-range_with_len (heard_at b.faulty lies b.states) 0 (length b.states)
-              ∙ size) in
+          (length-map-range_with_len (heard_at b.faulty lies b.states) 0 (length b.states)
+          ∙ size) in
           let registers : s.registers
-              ≡ map (row_register b row node lies groups) (range_with_len 0 (length levels)) =
+          ≡ map (row_register b row node lies groups) (range_with_len 0 (length levels)) =
           ext_get_or zero_register s.registers
-              (map (row_register b row node lies groups) (range_with_len 0 (length levels)))
+          (map (row_register b row node lies groups) (range_with_len 0 (length levels)))
           (length-step_at base levels 0 node heard
-              ∙ sym (length-map-range_with_len (row_register b row node lies groups) 0
-              (length levels)))
+          ∙ sym (length-map-range_with_len (row_register b row node lies groups) 0
+          (length levels)))
           (λ l less.
           let lt : l < length levels =
-              omega (arith, less, length-step_at base levels 0 node heard) in
+          omega (arith, less, length-step_at base levels 0 node heard) in
           register_step l lt ∙ sym
-              (get_or-map-range_with_len (row_register b row node lies groups) 0
-              (length levels) l l zero_register lt (omega arith))) in
+          (get_or-map-range_with_len (row_register b row node lies groups) 0
+          (length levels) l l zero_register lt (omega arith))) in
           ap (λ s. written (length levels) s out) stretches
-          ∙ (ap (λ x. record { x = x; registers =
-              s.registers ++ drop (length levels) out.registers }) number_step
-          ∙ ap (λ rs. record { x = if row.low == 0 then up base (state_of b.states node).x else 0;
-              registers = rs ++ drop (length levels) out.registers }) registers)
+          ∙ (ap (λ x. record {
+            x = x;
+            registers =
+                s.registers ++ drop (length levels) out.registers;
+          }) number_step
+          ∙ ap (λ rs. record {
+            x = if row.low == 0 then up base (state_of b.states node).x else 0;
+            registers = rs ++ drop (length levels) out.registers;
+          }) registers)

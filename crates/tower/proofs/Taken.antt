@@ -30,7 +30,7 @@ cut_range plan d states accepted same range =
 -- all groups together have each correct node at most once a level
 pub all_cost : (levels : List Level) (b : Board) (groups : List Placing)
     → map key_of groups ≡ groups_of levels 0 → All IsReady groups
-        → AreLiars (nodes_of levels) b.faulty
+    → AreLiars (nodes_of levels) b.faulty
     → sum_by (cost_of b) groups ≤ length levels * (nodes_of levels - length b.faulty)
 all_cost levels b groups keys ready liars =
     let n : ℕ = nodes_of levels in
@@ -40,10 +40,16 @@ all_cost levels b groups keys ready liars =
     ap (weight _) (ready i none lt).numbers.sized.whole in
     let sums = sum_mapped (cost_of b) weigh key_of groups each ∙ ap (sum_by weigh) keys in
     let most = groups_weigh weight
-        (λ first count more. honest_adds b.faulty first count more) levels 0 in
+    (λ first count more. honest_adds b.faulty first count more) levels 0 in
     let all : 0 + n ≡ n = omega arith in
     let honest : weight 0 n ≡ n - length b.faulty =
-    omega (arith, honest_count b.faulty n 0, ap
-        (place_among b.faulty) all, places_of_all b.faulty n liars.rising liars.below, at_most
-        (is_in b.faulty) n) in
+    omega (
+      arith,
+      honest_count b.faulty n 0,
+      ap
+          (place_among b.faulty) all,
+      places_of_all b.faulty n liars.rising liars.below,
+      at_most
+          (is_in b.faulty) n,
+    ) in
     omega (arith, sums, most, ap (λ w. length levels * w) honest)

@@ -19,7 +19,6 @@ use sync_types::{FaultSet, NodeState};
 
 /// What all receivers of a round share: what is counted of the correct nodes of each group, for one
 /// configuration and faulty set. It is seen as what it stands for.
-#[derive(Drop)]
 pub struct Shared {
     pub(crate) version: u32,
     pub(crate) base: u64,
@@ -34,6 +33,32 @@ pub struct Shared {
     pub(crate) all_settled: bool,
     // Room for a vote of each block of a level.
     pub(crate) scratch: Tally,
+}
+
+// Written out, so that what lets go of one calls this, and no more.
+impl Drop for Shared {
+    fn drop(self) {
+        let Shared {
+            version,
+            base,
+            levels,
+            rows,
+            is_made,
+            board,
+            groups,
+            all_settled,
+            scratch,
+        } = self;
+        drop(version);
+        drop(base);
+        drop(levels);
+        drop(rows);
+        drop(is_made);
+        drop(board);
+        drop(groups);
+        drop(all_settled);
+        drop(scratch);
+    }
 }
 
 impl Model for Shared {

@@ -24,7 +24,7 @@ add_groups-requires t c =
     let a = c.requires.levels in
     let e = c.in-Some.ensures.cases.0 in
     let falls : length c.in-Some.below.now < t =
-        omega (arith, c.decreases, c.in-Some.ensures.cases.1) in (
+    omega (arith, c.decreases, c.in-Some.ensures.cases.1) in (
       falls,
       (
         (a.0, below_levels a.0 _ _ _ e a.1),
@@ -41,7 +41,7 @@ loop-b-init t c =
     let old : List Placing = c.args.groups.now.items in
     let top : Placing = c.in_ok-top.top in
     let one : All IsReady (top ∷ []) =
-        All-cons IsReady top [] c.in_ok-top.ensures.ready (λ k d lt. absurd (omega (arith, lt))) in
+    All-cons IsReady top [] c.in_ok-top.ensures.ready (λ k d lt. absurd (omega (arith, lt))) in
     record {
       added = sym (append-nil (map key_of c.push.new.groups.items));
       ready = subst (All IsReady) (sym c.in_ok-push.ensures)
@@ -64,9 +64,9 @@ returns-clause-added t c =
     let after = ap (map key_of) c.in_ok-push.ensures
     ∙ (map_push key_of old top ∙ ap (λ k. map key_of old ++ k ∷ []) c.in_ok-top.ensures.key) in
     all_added a.0 _ _ _ c.in-Some.ensures.cases.0 a.1 c.args.first c.block_nodes-n.result c.loop-b.b
-        (map key_of old) _ _
+    (map key_of old) _ _
     c.block_nodes-n.ensures after c.loop-b.invariant.added
-        (omega (arith, c.loop-b-test.false, c.loop-b.auto.b-end))
+    (omega (arith, c.loop-b-test.false, c.loop-b.auto.b-end))
 
 pub returns-clause-ready : goal.returns-clause-ready
 returns-clause-ready t c = c.loop-b.invariant.ready

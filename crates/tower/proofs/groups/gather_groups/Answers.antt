@@ -36,7 +36,7 @@ loop-g-preserved g c =
     let cost_at : cost_of board old ≡ cost_of board (get_or first at d) =
     sym (get_or-map (cost_of board) gs at d 0 less)
     ∙ (ap (λ cs. get_or cs at 0) i.costs
-        ∙ get_or-map (cost_of board) first at d 0 c.loop-g-test.true) in
+    ∙ get_or-map (cost_of board) first at d 0 c.loop-g-test.true) in
     let sum = ap (sum_by (cost_of board)) (take_more first at d c.loop-g-test.true)
     ∙ sum_by-append (cost_of board) (take at first) (get_or first at d ∷ []) in
     let one = sum_by-cons (cost_of board) (get_or first at d) [] in
@@ -46,12 +46,27 @@ loop-g-preserved g c =
     let old_within = i.within at d less in
     let key : key_of new ≡ key_of old =
     ap (λ (m : LevelNums).
-        record { level = level_of m; below = new.height; block = block_nodes m; first =
-        new.group.first }) e.same_nums
-    ∙ (ap (λ h. record { level = level_of old.group.nums; below = h; block =
-        block_nodes old.group.nums; first = new.group.first }) e.same_height
-    ∙ ap (λ f. record { level = level_of old.group.nums; below = old.height; block =
-        block_nodes old.group.nums; first = f }) e.same_first) in
+    record {
+      level = level_of m;
+      below = new.height;
+      block = block_nodes m;
+      first =
+          new.group.first;
+    }) e.same_nums
+    ∙ (ap (λ h. record {
+      level = level_of old.group.nums;
+      below = h;
+      block =
+          block_nodes old.group.nums;
+      first = new.group.first;
+    }) e.same_height
+    ∙ ap (λ f. record {
+      level = level_of old.group.nums;
+      below = old.height;
+      block =
+          block_nodes old.group.nums;
+      first = f;
+    }) e.same_first) in
     record {
       keys = map-set_same key_of gs at new d key ∙ i.keys;
       costs = map-set_same (cost_of board) gs at new d cost ∙ i.costs;
@@ -63,8 +78,8 @@ loop-g-preserved g c =
           (omega (arith, e.same_first, nodes, old_within)) i.within;
       stand = λ j none lt. ⊎_elim
           (λ earlier. subst Stands
-              (sym (get_or-set_other gs at j new none (λ (same : j ≡ at). omega arith)))
-              (i.stand j none earlier))
+          (sym (get_or-set_other gs at j new none (λ (same : j ≡ at). omega arith)))
+          (i.stand j none earlier))
           (λ le. let is : j ≡ at = omega arith in
           subst Stands (sym (get_or-set_at gs at j new none is less)) e.stands)
           (cases_lt j at);
@@ -72,8 +87,8 @@ loop-g-preserved g c =
           let both = c.both-all_settled.ensures all in
           ⊎_elim
           (λ earlier. subst Settled
-              (sym (get_or-set_other gs at j new none (λ (same : j ≡ at). omega arith)))
-              (i.settled both.0 j none earlier))
+          (sym (get_or-set_other gs at j new none (λ (same : j ≡ at). omega arith)))
+          (i.settled both.0 j none earlier))
           (λ le. let is : j ≡ at = omega arith in
           subst Settled (sym (get_or-set_at gs at j new none is less)) (sym e.settled ∙ both.1))
           (cases_lt j at);

@@ -15,7 +15,7 @@ returns-then-row-height-clause-register g c =
     let place : ℕ = c.index.result.now in
     let f : Placing → Reg = register_by c.args.board.now c.args.node c.args.lies.now in
     let at : place ≡ get_or places h 0 = c.index.ensures
-        ∙ get_or_default places h place 0 c.requires.height in
+    ∙ get_or_default places h place 0 c.requires.height in
     let leads = c.requires.step c.if-row-height.true in
     let less : place < length groups = subst (λ i. i < length groups) (sym at) leads.0 in
     let test = le-leb c.args.row.now.low (h + 1) c.if-row-height.true in
@@ -23,4 +23,4 @@ returns-then-row-height-clause-register g c =
     ∙ (sym (get_or-map f groups place c.index-groups-index.result zero_register less)
     ∙ (ap (λ i. get_or (map f groups) i zero_register) at
     ∙ sym (ap (λ t. if t then get_or (map f groups)
-        (get_or places h 0) zero_register else zero_register) test)))
+    (get_or places h 0) zero_register else zero_register) test)))

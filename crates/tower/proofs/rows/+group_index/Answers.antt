@@ -15,7 +15,7 @@ overflow_mul-before t c =
     let n : ℕ = c.block_nodes-n.result in
     let block = block_is _ _ _ c.in-Some.ensures.cases.0 c.requires.levels in
     let less : c.group_count.result < n =
-        omega (arith, c.group_count.ensures.few, c.block_nodes-n.ensures, block) in
+    omega (arith, c.group_count.ensures.few, c.block_nodes-n.ensures, block) in
     omega (arith, before_less c.args.place n c.group_count.result less, c.requires.place)
 
 pub overflow_add-result : goal.overflow_add-result
@@ -23,7 +23,7 @@ overflow_add-result t c =
     let n : ℕ = c.block_nodes-n.result in
     let block = block_is _ _ _ c.in-Some.ensures.cases.0 c.requires.levels in
     let less : c.group_count.result < n =
-        omega (arith, c.group_count.ensures.few, c.block_nodes-n.ensures, block) in
+    omega (arith, c.group_count.ensures.few, c.block_nodes-n.ensures, block) in
     omega (arith, before_less c.args.place n c.group_count.result less, c.requires.place)
 
 pub overflow_add-result-2 : goal.overflow_add-result-2
@@ -31,22 +31,32 @@ overflow_add-result-2 t c =
     let n : ℕ = c.block_nodes-n.result in
     let block = block_is _ _ _ c.in-Some.ensures.cases.0 c.requires.levels in
     let less : c.group_count.result < n =
-        omega (arith, c.group_count.ensures.few, c.block_nodes-n.ensures, block) in
-    omega (arith, before_less c.args.place n c.group_count.result less, c.group_index.ensures.small,
-        c.requires.place, c.requires.shallow, c.in-Some.ensures.cases.1)
+    omega (arith, c.group_count.ensures.few, c.block_nodes-n.ensures, block) in
+    omega (
+      arith,
+      before_less c.args.place n c.group_count.result less,
+      c.group_index.ensures.small,
+      c.requires.place,
+      c.requires.shallow,
+      c.in-Some.ensures.cases.1,
+    )
 
 pub returns-clause-index : goal.returns-clause-index
 returns-clause-index t c =
     index_step _ _ _ c.in-Some.ensures.cases.0 c.requires.levels c.args.place c.block_nodes-n.result
-        c.args.height c.group_count.result c.group_index.result
+    c.args.height c.group_count.result c.group_index.result
     c.block_nodes-n.ensures c.if-height-below.false c.group_count.ensures.count
-        c.group_index.ensures.index
+    c.group_index.ensures.index
 
 pub returns-clause-small : goal.returns-clause-small
 returns-clause-small t c =
     let n : ℕ = c.block_nodes-n.result in
     let block = block_is _ _ _ c.in-Some.ensures.cases.0 c.requires.levels in
     let less : c.group_count.result < n =
-        omega (arith, c.group_count.ensures.few, c.block_nodes-n.ensures, block) in
-    omega (arith, before_less c.args.place n c.group_count.result less, c.group_index.ensures.small,
-        c.in-Some.ensures.cases.1)
+    omega (arith, c.group_count.ensures.few, c.block_nodes-n.ensures, block) in
+    omega (
+      arith,
+      before_less c.args.place n c.group_count.result less,
+      c.group_index.ensures.small,
+      c.in-Some.ensures.cases.1,
+    )

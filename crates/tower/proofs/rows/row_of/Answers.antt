@@ -11,7 +11,7 @@ unwrap-requires c =
     let f : ℕ → ℕ = index_at (levels_in c.args.levels.now) c.args.node in
     let long = ap length i.indices ∙ length-map-range_with_len f 0 c.loop-height.height in
     c.push.ensures.succeeds
-        (omega (arith, long, i.room, c.loop-height-test.true, c.loop-height.places.ok.0))
+    (omega (arith, long, i.room, c.loop-height-test.true, c.loop-height.places.ok.0))
 
 pub loop-height-preserved : goal.loop-height-preserved
 loop-height-preserved c =

@@ -13,7 +13,7 @@ returns-clause-steps g c =
     let nodes : ℕ = p.group.nums.nodes in
     let Within : Placing → Type 0 = λ q. q.group.first + q.group.nums.nodes ≤ length board.states in
     let within : first + nodes ≤ length board.states =
-        subst Within (sym c.self.view_is) c.requires.within in
+    subst Within (sym c.self.view_is) c.requires.within in
     let e = ap (λ s. length (correct_in s first nodes)) c.senders-senders.ensures
     ∙ ap length (correct_are board p.height first nodes within) in
     omega (arith, c.gather.ensures.steps, e, ap (cost_of board) c.self.view_is)

@@ -22,7 +22,7 @@ pub is_open-requires-clause-stands : goal.is_open-requires-clause-stands
 is_open-requires-clause-stands c =
     let holds = subst (Holds c.args.board.now c.args.node) (sym c.self.view_is) c.requires in
     subst (λ (s : Sent). Stands s (contents c.self.inside.group))
-        (sym c.senders-senders.ensures) holds.stands
+    (sym c.senders-senders.ensures) holds.stands
 
 pub returns : goal.returns
 returns c = λ shut.
@@ -31,6 +31,6 @@ returns c = λ shut.
     let Shut : Sent → Type 0 = λ s. (lies told : List State) → IsTold s lies → IsTold s told
     → TellsItself s lies node → TellsItself s told node
     → register_heard s p.group.nums p.group.first node lies
-        ≡ register_heard s p.group.nums p.group.first node told in
+    ≡ register_heard s p.group.nums p.group.first node told in
     subst (IsShut c.args.board.now node) c.self.view_is
-        (subst Shut c.senders-senders.ensures (c.is_open.ensures shut))
+    (subst Shut c.senders-senders.ensures (c.is_open.ensures shut))

@@ -10,14 +10,14 @@ pub register-requires-clause-told : goal.register-requires-clause-told
 register-requires-clause-told g c =
     subst (λ (s : Sent). IsTold s c.args.lies.now) (sym c.senders-senders.ensures)
     (told_is c.args.board.now c.self.inside.height c.tell.ensures.liars c.args.lies.now
-        c.requires.step.told)
+    c.requires.step.told)
 
 pub returns-clause-register : goal.returns-clause-register
 returns-clause-register g c =
     let p = c.self.inside in
     c.register.ensures.register
     ∙ (ap (λ s. register_heard s p.group.nums p.group.first c.args.node c.args.lies.now)
-        c.senders-senders.ensures
+    c.senders-senders.ensures
     ∙ ap (register_by c.args.board.now c.args.node c.args.lies.now) c.self.view_is)
 
 pub returns-clause-steps : goal.returns-clause-steps
@@ -28,7 +28,12 @@ returns-clause-steps g c =
     let nodes : ℕ = p.group.nums.nodes in
     let Within : Placing → Type 0 = λ q. q.group.first + q.group.nums.nodes ≤ length board.states in
     let within : first + nodes ≤ length board.states =
-        subst Within (sym c.self.view_is) c.requires.step.within in
+    subst Within (sym c.self.view_is) c.requires.step.within in
     let e = ap (λ s. liars_in s first nodes) c.senders-senders.ensures in
-    omega (arith, c.register.ensures.steps, e, few_in board p.height c.tell.ensures.liars first
-        nodes within)
+    omega (
+      arith,
+      c.register.ensures.steps,
+      e,
+      few_in board p.height c.tell.ensures.liars first
+          nodes within,
+    )

@@ -22,12 +22,12 @@ gather_groups-all_settled-requires-clause-heights g c =
     let size : length board.states ≡ nodes_of levels =
     ap (λ (b : Board). length b.states) c.take.ensures
     ∙ (length-map c.args.config.now.current (cut inside.board.depth)
-        ∙ (c.requires.size ∙ sym nodes)) in
+    ∙ (c.requires.size ∙ sym nodes)) in
     let depth : board.depth ≡ length levels = ap (λ (b : Board). b.depth) c.take.ensures
-        ∙ c.self.invariant.depth in
+    ∙ c.self.invariant.depth in
     subst (All (λ (p : Placing). p.height < board.depth)) (sym c.deref_mut.ensures.value)
     (groups_low levels board inside.groups.items size depth c.self.invariant.keys
-        c.self.invariant.ready)
+    c.self.invariant.ready)
 
 pub gather_groups-all_settled-requires-clause-within : goal.gather_groups-all_settled-requires-clause-within
 gather_groups-all_settled-requires-clause-within g c =
@@ -38,13 +38,13 @@ gather_groups-all_settled-requires-clause-within g c =
     let size : length board.states ≡ nodes_of levels =
     ap (λ (b : Board). length b.states) c.take.ensures
     ∙ (length-map c.args.config.now.current (cut inside.board.depth)
-        ∙ (c.requires.size ∙ sym nodes)) in
+    ∙ (c.requires.size ∙ sym nodes)) in
     let depth : board.depth ≡ length levels = ap (λ (b : Board). b.depth) c.take.ensures
-        ∙ c.self.invariant.depth in
+    ∙ c.self.invariant.depth in
     subst (All (λ (p : Placing). p.group.first + p.group.nums.nodes ≤ length board.states))
-        (sym c.deref_mut.ensures.value)
+    (sym c.deref_mut.ensures.value)
     (groups_fit levels board inside.groups.items size depth c.self.invariant.keys
-        c.self.invariant.ready)
+    c.self.invariant.ready)
 
 pub invariant_of-self : goal.invariant_of-self
 invariant_of-self g c =
@@ -59,21 +59,26 @@ invariant_of-self g c =
     let size : length board.states ≡ nodes_of levels =
     ap (λ (b : Board). length b.states) c.take.ensures
     ∙ (length-map c.args.config.now.current (cut inside.board.depth)
-        ∙ (c.requires.size ∙ sym nodes)) in
+    ∙ (c.requires.size ∙ sym nodes)) in
     let depth : board.depth ≡ length levels = ap (λ (b : Board). b.depth) c.take.ensures
-        ∙ i.depth in
+    ∙ i.depth in
     let keys = c.gather_groups-all_settled.ensures.keys
-        ∙ (ap (map key_of) c.deref_mut.ensures.value ∙ i.keys) in
+    ∙ (ap (map key_of) c.deref_mut.ensures.value ∙ i.keys) in
     let long : length new ≡ inside.groups.len =
-    omega (arith, ap length c.gather_groups-all_settled.ensures.keys, length-map new key_of,
-        length-map c.deref_mut.result.now key_of, c.deref_mut.ensures.len) in
+    omega (
+      arith,
+      ap length c.gather_groups-all_settled.ensures.keys,
+      length-map new key_of,
+      length-map c.deref_mut.result.now key_of,
+      c.deref_mut.ensures.len,
+    ) in
     let range : All (IsInRange plan) board.states =
     subst (All (IsInRange plan)) (sym (ap (λ (b : Board). b.states) c.take.ensures))
     (cut_range plan inside.board.depth c.args.config.now.current i.accepted i.depth
     (subst (λ (p : Plan). All (IsInRange p) c.args.config.now.current)
-        (sym plan_is) c.requires.range)) in
+    (sym plan_is) c.requires.range)) in
     let kept : IsShared inside.version inside.base inside.levels.items inside.rows.items true board
-        new c.gather_groups-all_settled.new.scratch c.gather_groups-all_settled.result = record {
+    new c.gather_groups-all_settled.new.scratch c.gather_groups-all_settled.result = record {
       accepted = i.accepted;
       numbers = i.numbers;
       are_rows = i.are_rows;
@@ -87,7 +92,7 @@ invariant_of-self g c =
       settled = c.gather_groups-all_settled.ensures.settled;
     } in
     subst (λ gs. IsShared inside.version inside.base inside.levels.items inside.rows.items true
-        board gs c.gather_groups-all_settled.new.scratch c.gather_groups-all_settled.result)
+    board gs c.gather_groups-all_settled.new.scratch c.gather_groups-all_settled.result)
     (sym (with_items_is inside.groups new long)) kept
 
 pub returns-clause-cost : goal.returns-clause-cost
@@ -100,15 +105,18 @@ returns-clause-cost g c =
     let plan_is : plan ≡ c.args.self.now.plan = ap (λ (s : Shares). s.plan) c.self.view_is in
     let nodes : nodes_of levels ≡ plan_nodes c.args.self.now.plan = ap plan_nodes plan_is in
     let faulty : board.faulty ≡ c.args.faulty.now.ids =
-        ap (λ (b : Board). b.faulty) c.take.ensures in
+    ap (λ (b : Board). b.faulty) c.take.ensures in
     let rising = subst (λ ids. AreLiars (nodes_of levels) ids) (sym faulty)
-    (record { rising = c.tell.ensures.rising; below =
-        subst (λ n. All (λ id. id < n) c.args.faulty.now.ids) (sym nodes) c.requires.ids }) in
+    (record {
+      rising = c.tell.ensures.rising;
+      below =
+          subst (λ n. All (λ id. id < n) c.args.faulty.now.ids) (sym nodes) c.requires.ids;
+    }) in
     let cost = all_cost levels board inside.groups.items i.keys i.ready rising in
     let sum = ap (sum_by (cost_of board)) c.deref_mut.ensures.value in
     let few : 3 * length levels * (nodes_of levels - length board.faulty)
-        ≡ 3 * plan_depth c.args.self.now.plan *
-        (plan_nodes c.args.self.now.plan - length c.args.faulty.now.ids) =
+    ≡ 3 * plan_depth c.args.self.now.plan *
+    (plan_nodes c.args.self.now.plan - length c.args.faulty.now.ids) =
     ap (λ ids. 3 * length levels * (nodes_of levels - length ids)) faulty
     ∙ ap (λ (p : Plan). 3 * plan_depth p * (plan_nodes p - length c.args.faulty.now.ids)) plan_is in
     omega (arith, c.gather_groups-all_settled.ensures.steps, sum, cost, few)

@@ -16,7 +16,7 @@ returns-clause-out g c =
     let out : State = c.args.out.now in
     c.step.ensures.out
     ∙ (ap (λ (s : Shares). written (plan_depth s.plan)
-        (step_of s.plan node (heard_with faulty lies s.states)) out) c.requires.stands
+    (step_of s.plan node (heard_with faulty lies s.states)) out) c.requires.stands
     ∙ ap (λ (s : State). written (plan_depth plan) s out)
     (without_further plan c.tell.ensures node faulty lies c.args.config.now.current c.requires.node
-        c.requires.size))
+    c.requires.size))
