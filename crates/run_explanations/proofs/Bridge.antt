@@ -1,13 +1,12 @@
 -- What explains is what is seen to explain.
-use Rattle.std.proofs.Common.{◌≡◌, ℕ, zero, suc, ◌+◌, ◌-◌, ◌*◌, ◌%◌, ◌<◌, ◌≤◌, Bool, false, Option, Some, List, [], ◌∷◌, length, refl, sym, ap, ◌∙◌, subst, add-zero, arith}
+use Rattle.std.proofs.Common.{◌≡◌, ℕ, zero, suc, ◌+◌, ◌-◌, ◌%◌, ◌<◌, ◌≤◌, Bool, Option, Some, List, [], ◌∷◌, length, sym, ap, ◌∙◌, subst, add-zero, arith}
 use Rattle.std.proofs.Math.Nat.{mod-add-mod, mod-eq_of_lt}
 use Rattle.sync_types.specs.States.{State}
-use Rattle.construction.specs.Plans.{Level, Plan, plan_depth, beat_of, nodes_of, faults_of}
+use Rattle.construction.specs.Plans.{Level, Plan, beat_of, nodes_of, faults_of}
 use Rattle.level_laws.specs.Explained.{Explains}
 use Rattle.adversary_script.specs.Scripts.{Script}
 use Rattle.round_runner.specs.Played.{played_at}
 use Rattle.run_explanations.specs.declared.seeing.Seen.{Seen}
-use Rattle.run_explanations.specs.declared.tops.Top.{Top}
 use Rattle.run_explanations.specs.Explanations.{ExplainsIn, ExplainsEra, era_begin, is_faulty, outputs_in, seen_at}
 use Rattle.run_explanations.specs.Seeing.{Sees, seen_in}
 use Rattle.run_explanations.specs.Tops.{IsTop, top_over, top_in, top_of}

@@ -1,15 +1,15 @@
 -- What is explained of a script's last era is locked, and where it goes on to the bound, it is
 -- explained.
-use Rattle.std.proofs.Common.{◌≡◌, ℕ, ◌+◌, ◌-◌, ◌*◌, ◌%◌, ◌<◌, ◌≤◌, Bool, false, List, [], ◌∷◌, length, map, if◌then◌else◌, refl, sym, ap, ◌∙◌, subst, arith}
+use Rattle.std.proofs.Common.{◌≡◌, ℕ, ◌+◌, ◌-◌, ◌*◌, ◌<◌, ◌≤◌, Bool, List, [], ◌∷◌, length, if◌then◌else◌, sym, ap, ◌∙◌, subst, arith}
 use Rattle.std.proofs.lemmas.Bool.{le-ltb}
 use Rattle.std.proofs.lemmas.List.{length-map}
 use Rattle.std.proofs.lemmas.List.Elements.{All-get_or}
 use Rattle.std.proofs.lemmas.List.FromFn.{length-map-range_with_len, get_or-map-range_with_len}
 use Rattle.sync_types.specs.States.{State}
-use Rattle.construction.specs.Plans.{Level, Plan, plan_bound, plan_depth, beat_of, nodes_of, faults_of}
+use Rattle.construction.specs.Plans.{Level, Plan, plan_bound, beat_of, nodes_of, faults_of}
 use Rattle.construction.specs.Pointers.{pointer_of, part_of}
 use Rattle.construction.specs.Plans.{leaders_of}
-use Rattle.construction.specs.Runs.{is_in, configuration, IsBorne, IsLocked}
+use Rattle.construction.specs.Runs.{configuration, IsBorne, IsLocked}
 use Rattle.level_laws.specs.Explained.{Explains}
 use Rattle.plan_laws.specs.ExplainedRuns.{inner_in, ExplainedRunsLock, BoundIsExplained}
 use Rattle.adversary_script.specs.Scripts.{Era, Script, faulty_sets}
@@ -19,7 +19,6 @@ use Rattle.round_runner.specs.Played.{played_at, era_run}
 use Rattle.round_runner.proofs.EraRuns.{run_of_era}
 use Rattle.run_explanations.specs.Explanations.{ExplainsEra, era_begin, is_faulty, outputs_in}
 use Rattle.run_explanations.specs.Laws.{ExplainedErasLock, LongErasAreExplained, IsExplainedByBound}
-use Rattle.run_explanations.specs.Tops.{top_of}
 
 -- ---- numbers of configurations from an earlier one on
 

@@ -7,7 +7,6 @@ use Rattle.std.proofs.lemmas.Bool.{false≢true, and_parts, and_from, eqb-true, 
 use Rattle.std.proofs.lemmas.Option.{none-some, same_Some}
 use Rattle.run_explanations.specs.declared.explanations.Explanation.{Explanation}
 use Rattle.run_explanations.specs.declared.seeing.Seen.{Seen}
-use Rattle.run_explanations.specs.declared.searching.Stretch.{Stretch}
 use Rattle.run_explanations.specs.Searching.{stretch_before, begins_phase, first_below, explained_by, explained_in, explained_from, explained_at, found_before}
 use Rattle.run_explanations.proofs.Firsts.{IsFirst, first_is, first_known, IsFirstKnown, known_more}
 use Rattle.run_explanations.proofs.Windows.{IsWindow, Ends, Stands, stands, IsLong, window_long}

@@ -1,6 +1,8 @@
 pub mod TopNumbers
 pub mod Sharing
 pub mod SeenShown
+pub mod Stays
+pub mod Ending
 pub mod Windows
 pub mod Firsts
 pub mod Found

@@ -1,11 +1,10 @@
 -- A configuration is seen to show what it shows.
-use Rattle.std.proofs.Common.{◌≡◌, ℕ, zero, suc, ◌+◌, ◌*◌, ◌/◌, ◌<◌, ◌≤◌, Bool, true, false, Option, Some, None, if◌then◌else◌, refl, sym, ap, ◌∙◌, subst, inl, inr, arith}
+use Rattle.std.proofs.Common.{◌≡◌, ℕ, zero, suc, ◌+◌, ◌*◌, ◌/◌, ◌<◌, Bool, true, false, Some, None, if◌then◌else◌, refl, ap, ◌∙◌, subst, inl, inr, arith}
 use Rattle.std.proofs.Math.Nat.{mod-lt}
 use Rattle.std.proofs.lemmas.Bool.{false≢true, leb-true, le-leb, not_from_false, not-true, cases_lt}
 use Rattle.std.proofs.lemmas.Option.{none-some, same_Some}
 use Rattle.counting.proofs.Places.{one_fails}
 use Rattle.construction.specs.Plans.{interval_of}
-use Rattle.level_laws.specs.Level.{faults_in}
 use Rattle.run_explanations.specs.declared.seeing.Shared.{Shared}
 use Rattle.run_explanations.specs.declared.seeing.Shared.TheVariants.{Nothing, One, Several}
 use Rattle.run_explanations.specs.declared.seeing.Seen.{Seen}

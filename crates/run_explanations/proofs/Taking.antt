@@ -1,5 +1,5 @@
 -- A runner's configuration is taken by a search.
-use Rattle.std.proofs.Common.{◌≡◌, ℕ, suc, ◌+◌, ◌-◌, ◌<◌, ◌≤◌, Bool, Option, Some, None, List, length, add-one, refl, sym, ap, ap₂, ◌∙◌, subst, if◌then◌else◌, arith}
+use Rattle.std.proofs.Common.{◌≡◌, ℕ, ◌+◌, ◌-◌, ◌<◌, ◌≤◌, Bool, Option, Some, None, List, length, add-one, sym, ap, ap₂, ◌∙◌, if◌then◌else◌, arith}
 use Rattle.std.proofs.lemmas.Bool.{lt-leb}
 use Rattle.sync_types.specs.FaultSets.{FaultIds}
 use Rattle.sync_types.specs.States.{State}
@@ -122,12 +122,13 @@ module _ (top : Top) (from : ℕ) (r : Running NoOverlay) (read : IsRead top r) 
     }
 
 -- what is found to the end is the explanation
-pub value_is : (plan : Plan) (top : Top) (from rounds : ℕ) (r : Running NoOverlay) (search : Search)
-    → r.plan ≡ plan → top ≡ top_of plan → from ≡ era_begin r.script → rounds ≡ r.script.rounds
-    → IsFound top from r.plan r.script (rounds + 1) search
-    → search.found ≡ explanation_of plan r.script
-value_is plan top from rounds r search plan_is top_is begin last found =
-    found.found
-    ∙ (ap (λ (p : Plan). found_before top.beat (is_faulty r.script) r.script.rounds from (seen_at p r.script) (rounds + 1)) plan_is
-    ∙ (ap (λ (t : Top). found_before t.beat (is_faulty r.script) r.script.rounds from (seen_at plan r.script) (rounds + 1)) top_is
-    ∙ ap₂ (λ (from rounds : ℕ). found_before (top_of plan).beat (is_faulty r.script) r.script.rounds from (seen_at plan r.script) (rounds + 1)) begin last))
+pub value_is : (plan : Plan) (top : Top) (from : ℕ) (r : Running NoOverlay)
+    (found : Option Explanation) → r.plan ≡ plan → top ≡ top_of plan → from ≡ era_begin r.script
+    → found ≡ found_before top.beat (is_faulty r.script) r.script.rounds from
+    (seen_at r.plan r.script) (r.script.rounds + 1)
+    → found ≡ explanation_of plan r.script
+value_is plan top from r found plan_is top_is begin is =
+    is
+    ∙ (ap (λ (p : Plan). found_before top.beat (is_faulty r.script) r.script.rounds from (seen_at p r.script) (r.script.rounds + 1)) plan_is
+    ∙ (ap (λ (t : Top). found_before t.beat (is_faulty r.script) r.script.rounds from (seen_at plan r.script) (r.script.rounds + 1)) top_is
+    ∙ ap (λ (from : ℕ). found_before (top_of plan).beat (is_faulty r.script) r.script.rounds from (seen_at plan r.script) (r.script.rounds + 1)) begin))

@@ -1,6 +1,6 @@
 -- What explanations say of what is played of a script that was read for an accepted plan.
-use Rattle.std.specs.Prelude.{◌≡◌, ℕ, ◌+◌, ◌≤◌, ◌<◌, length}
-use Rattle.construction.specs.Plans.{Level, Plan, plan_bound, plan_depth, beat_of}
+use Rattle.std.specs.Prelude.{ℕ, ◌+◌, ◌≤◌, length}
+use Rattle.construction.specs.Plans.{Plan, plan_bound, plan_depth}
 use Rattle.construction.specs.Runs.{IsLocked}
 use Rattle.plan_numbers.specs.Premises.{IsAccepted}
 use Rattle.adversary_script.specs.Scripts.{Script}

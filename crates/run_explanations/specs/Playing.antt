@@ -1,9 +1,10 @@
 -- A runner that plays a script without a layer, and what was found before its configuration.
-use Rattle.std.specs.Prelude.{◌≡◌, ℕ, ◌+◌, ◌-◌, []}
+use Rattle.std.specs.Prelude.{◌≡◌, ◌⊎◌, ℕ, ◌+◌, ◌-◌, [], true, is_some}
 use Rattle.counter_core.specs.declared.overlays.NoOverlay.{NoOverlay}
 use Rattle.counter_core.specs.NoLayers.{no_layer}
 use Rattle.construction.specs.Plans.{Plan}
 use Rattle.adversary_script.specs.Scripts.{Script}
+use Rattle.round_runner.specs.Known.{KnowsLocks}
 use Rattle.round_runner.specs.Runners.{Running, IsPlaying}
 use Rattle.run_explanations.specs.declared.explaining.Search.{Search}
 use Rattle.run_explanations.specs.declared.explanations.Explanation.{Explanation}
@@ -37,6 +38,12 @@ pub record IsFound (top : Top) (from : ℕ) (plan : Plan) (script : Script) (c :
   pub stretch : search.stretch ≡ stretch_before top.beat from (seen_at plan script) c
   pub found : search.found ≡ found_before top.beat (is_faulty script) script.rounds from
       (seen_at plan script) c
+
+-- What is left to play would change nothing: an explanation was found, and the first locked
+-- configurations are known; or no round is left.
+abbrev pub IsEnough : Search → Running NoOverlay → Type 0
+IsEnough search r =
+    (r.at ≡ r.script.rounds) ⊎ ((is_some search.found ≡ true) × KnowsLocks r)
 
 -- that a runner that plays its script is read by the numbers of its plan's top level
 pub record IsRead (top : Top) (r : Running NoOverlay) : Type 0 where

@@ -1,5 +1,5 @@
 -- A runner whose nodes are read by the numbers of its plan's top level.
-use Rattle.std.specs.Prelude.{ℕ, ◌*◌, ◌≤◌}
+use Rattle.std.specs.Prelude.{◌*◌, ◌≤◌}
 use Rattle.construction.specs.Plans.{plan_nodes, plan_depth}
 use Rattle.counter_core.specs.declared.overlays.NoOverlay.{NoOverlay}
 use Rattle.round_runner.specs.Runners.{Running}

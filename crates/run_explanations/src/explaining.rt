@@ -1,11 +1,12 @@
-ghost use Rattle.std.specs.Prelude.{◌≡◌, ◌↔◌, ◌≤◌, ◌+◌, true};
+ghost use Rattle.std.specs.Prelude.{◌≡◌, ◌↔◌, ◌≤◌, ◌+◌, true, None};
 ghost use Rattle.construction.specs.Plans.{plan_depth};
-ghost use Rattle.run_explanations.specs.Explanations.{IsExplanation, IsFirstOrNone, explanation_of, seen_at};
+ghost use Rattle.run_explanations.specs.Explanations.{IsExplanation, IsFirstOrNone, explanation_of, is_faulty, seen_at};
 ghost use Rattle.construction.specs.Runs.{is_in};
+ghost use Rattle.round_runner.specs.Known.{KnowsLocks};
 ghost use Rattle.run_explanations.specs.Checking.{Fits, is_of};
-ghost use Rattle.run_explanations.specs.Searching.{stretch_before};
+ghost use Rattle.run_explanations.specs.Searching.{no_stretch, stretch_before, found_before};
 ghost use Rattle.run_explanations.specs.Tops.{IsTop};
-ghost use Rattle.run_explanations.specs.Playing.{IsToPlay, IsRead, IsFound, HasPlayed, HasTested};
+ghost use Rattle.run_explanations.specs.Playing.{IsToPlay, IsRead, IsFound, IsEnough, HasPlayed, HasTested};
 
 use crate::explanations::Explanation;
 use crate::laws::found_is_first;
@@ -70,6 +71,19 @@ fn take(search: Search, top: Top, from: u64, runner: &Runner<NoOverlay>) -> Sear
     Search { stretch, found }
 }
 
+/// A search that has not begun.
+fn begun() -> Search
+    ensures { result ≡ record { stretch = no_stretch; found = None } }
+{
+    Search {
+        stretch: Stretch {
+            seen: None,
+            count: 0,
+        },
+        found: None,
+    }
+}
+
 /// Plays to configuration `end`, and takes each one from configuration `from` on.
 fn look_for(top: Top, from: u64, end: u64, runner: &mut Runner<NoOverlay>) -> Search
     requires at { runner.old.at ≡ 0 }
@@ -79,13 +93,7 @@ fn look_for(top: Top, from: u64, end: u64, runner: &mut Runner<NoOverlay>) -> Se
     ensures played { HasPlayed runner.old end runner.new }
 {
     let _rounds = runner.script().rounds();
-    let mut search = Search {
-        stretch: Stretch {
-            seen: None,
-            count: 0,
-        },
-        found: None,
-    };
+    let mut search = begun();
     for _ in 0..end {
         search = take(search, top, from, runner);
         runner.round();
@@ -93,9 +101,38 @@ fn look_for(top: Top, from: u64, end: u64, runner: &mut Runner<NoOverlay>) -> Se
     take(search, top, from, runner)
 }
 
-/// Plays a script to its end, and answers the first explanation why its last era locks: that of the
-/// first window that has one, and of the first phase in it. None comes exactly where there is none.
-/// It takes no memory.
+/// Whether what is left to play would change nothing: an explanation was found, and the first
+/// locked configuration of each era is known; or no round is left.
+fn is_enough(search: Search, runner: &Runner<NoOverlay>) -> bool
+    ensures { (result ≡ true) ↔ IsEnough search runner.now }
+{
+    runner.at() == runner.script().rounds() || search.found.is_some() && runner.knows_locks()
+}
+
+/// Plays as many rounds as change something, and answers the first explanation of the whole run, of
+/// the configurations from `from` on.
+fn first_found(top: Top, from: u64, runner: &mut Runner<NoOverlay>) -> Option<Explanation>
+    requires at { runner.old.at ≡ 0 }
+    requires read { IsRead top runner.old }
+    ensures found { result ≡ found_before top.beat (is_faulty runner.old.script)
+        runner.old.script.rounds from (seen_at runner.old.plan runner.old.script)
+        (runner.old.script.rounds + 1) }
+    ensures played { HasPlayed runner.old runner.new.at runner.new }
+    ensures knows { KnowsLocks runner.new }
+{
+    let _rounds = runner.script().rounds();
+    let mut search = begun();
+    while !is_enough(search, runner) {
+        search = take(search, top, from, runner);
+        runner.round();
+    }
+    take(search, top, from, runner).found
+}
+
+/// Plays a script, and answers the first explanation why its last era locks: that of the first
+/// window that has one, and of the first phase in it. None comes exactly where there is none. It
+/// plays until there is an explanation and the first locked configuration of each era is known. It
+/// takes no memory.
 ///
 /// The plan has a level, and the runner is one of this plan, at configuration 0.
 pub fn explain(plan: &Plan, runner: &mut Runner<NoOverlay>) -> Option<Explanation>
@@ -103,14 +140,14 @@ pub fn explain(plan: &Plan, runner: &mut Runner<NoOverlay>) -> Option<Explanatio
     requires start { IsToPlay plan.now runner.old }
     ensures first { IsFirstOrNone plan.now runner.old.script result }
     ensures value { result ≡ explanation_of plan.now runner.old.script }
-    ensures played { HasPlayed runner.old runner.old.script.rounds runner.new }
+    ensures played { HasPlayed runner.old runner.new.at runner.new }
+    ensures knows { KnowsLocks runner.new }
 {
     found_is_first();
     plan.tell();
     let script = runner.script();
     let from = script.era_start(script.eras() - 1);
-    let rounds = script.rounds();
-    look_for(top_of(plan), from, rounds, runner).found
+    first_found(top_of(plan), from, runner)
 }
 
 /// Whether a window and a phase are within the last era, and the phase within the window.

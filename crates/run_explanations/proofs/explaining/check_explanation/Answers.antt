@@ -1,9 +1,9 @@
-use Rattle.std.proofs.Common.{◌≡◌, ◌+◌, ◌-◌, ◌≤◌, ◌∙◌, ℕ, refl, sym, ap, subst, arith}
+use Rattle.std.proofs.Common.{◌+◌, ◌-◌, ◌∙◌, ℕ, refl, sym, ap, subst, arith}
 use Rattle.std.proofs.lemmas.Bool.{false≢true}
 use Rattle.adversary_script.specs.Scripts.{Script}
 use Rattle.run_explanations.specs.declared.tops.Top.{Top}
 use Rattle.run_explanations.specs.Checking.{Fits}
-use Rattle.run_explanations.specs.Playing.{FitsEra, HasPlayed}
+use Rattle.run_explanations.specs.Playing.{HasPlayed}
 use Rattle.run_explanations.specs.Explanations.{era_begin}
 use Rattle.run_explanations.specs.Tops.{IsTop}
 use Rattle.run_explanations.proofs.Checked.{check_passes, check_fits, result_is}

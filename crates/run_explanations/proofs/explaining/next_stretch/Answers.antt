@@ -1,4 +1,4 @@
-use Rattle.std.proofs.Common.{arith, subst, sym}
+use Rattle.std.proofs.Common.{arith}
 use Rattle.run_explanations.proofs.Taking.{ids_are, count_now, seen_is, stretch_taken, stretch_left}
 use Rattle.run_explanations.proofs.explaining.next_stretch.Goals as goal
 

@@ -1,4 +1,4 @@
-use Rattle.std.proofs.Common.{◌≡◌, ◌<◌, ◌∙◌, sym, arith}
+use Rattle.std.proofs.Common.{◌∙◌, sym, arith}
 use Rattle.construction.specs.Runs.{is_in}
 use Rattle.run_explanations.specs.Searching.{begins_phase}
 use Rattle.run_explanations.proofs.Firsts.{first_small}
