@@ -1,0 +1,30 @@
+-- What a runner knows of an era at its end is the first locked configuration of what is played.
+use Rattle.std.proofs.Common.{◌≡◌, ℕ, ◌<◌, ◌≤◌, List, [], Option, Some, None, ap, ◌∙◌}
+use Rattle.std.specs.Prelude.{IfSome}
+use Rattle.std.proofs.Math.Path.{fun_ext}
+use Rattle.sync_types.specs.States.{State}
+use Rattle.construction.specs.Plans.{Plan}
+use Rattle.counter_core.specs.declared.overlays.NoOverlay.{NoOverlay}
+use Rattle.counter_core.specs.NoLayers.{no_layer}
+use Rattle.adversary_script.specs.Scripts.{Script}
+use Rattle.adversary_script.specs.Eras.{first_of_era, end_of_era}
+use Rattle.round_runner.specs.Locks.{first_locked, era_locked, IsFirstLocked}
+use Rattle.round_runner.specs.Runners.{Running, configuration_of}
+use Rattle.round_runner.proofs.Playing.{scene_played}
+use Rattle.sweeps.specs.Sweeps.{lock_of}
+
+-- a first locked configuration is one of its era
+pub first_within : (plan : Plan) (script : Script) (config_at : ℕ → List State) (j at : ℕ)
+    (found : Option ℕ) → IsFirstLocked plan script config_at j at found
+    → IfSome found (λ t. (first_of_era script j ≤ t) × (t < end_of_era script j))
+first_within plan script config_at j at None h = tt
+first_within plan script config_at j at (Some t) h = (h.1.from, h.1.before)
+
+pub lock_is : (r : Running NoOverlay) (j : ℕ) (found : Option ℕ)
+    → found ≡ first_locked
+    (era_locked r.plan r.script (configuration_of (λ o. no_layer) [] r) j) r.script.rounds
+    → found ≡ lock_of r.plan r.script j
+lock_is r j found is = is
+    ∙ ap (λ (config_at : ℕ → List State).
+    first_locked (era_locked r.plan r.script config_at j) r.script.rounds)
+    (fun_ext (λ t. scene_played r.plan r.script [] t))

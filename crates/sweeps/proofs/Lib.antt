@@ -1,0 +1,5 @@
+pub mod FirstLocked
+pub mod More
+pub mod Placed
+pub mod Texts
+pub mod Tallied

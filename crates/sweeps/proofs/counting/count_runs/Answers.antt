@@ -1,0 +1,68 @@
+use Rattle.std.proofs.Common.{◌≡◌, ℕ, ◌+◌, ◌-◌, ◌<◌, ◌^◌, List, [], ◌∷◌, ◌++◌, length, take, drop, refl, sym, ap, ◌∙◌, subst, arith}
+use Rattle.std.specs.List.{range_with_len}
+use Rattle.std.proofs.Math.Seq.{take-append_seam}
+use Rattle.std.proofs.lemmas.List.FromFn.{length-range_with_len}
+use Rattle.construction.specs.Plans.{Plan}
+use Rattle.adversary_script.specs.Scripts.{Script}
+use Rattle.sweeps.specs.Keys.{keyed}
+use Rattle.sweeps.specs.Tallies.{EraRuns, AreTallied, HasRoom}
+use Rattle.sweeps.proofs.Tallied.{range_more, room_unkeyed}
+use Rattle.sweeps.proofs.counting.count_runs.Goals as goal
+
+pub loop-seed-init : goal.loop-seed-init
+loop-seed-init c =
+    let runner = c.args.runner.now in
+    let items = c.in_ok-tally.tally.items in
+    let none : 0 ≡ c.args.first - c.args.first = omega arith in
+    record {
+      plan = refl;
+      script = refl;
+      room = subst (λ (s : Script). HasRoom s items) c.script.ensures c.in_ok-tally.ensures.room;
+      counted = subst (λ (n : ℕ). AreTallied runner.plan runner.script
+          (range_with_len c.args.first n) items) none
+          (subst (λ (s : Script). AreTallied runner.plan s [] items) c.script.ensures
+          (c.in_ok-tally.ensures.none runner.plan));
+    }
+
+pub loop-seed-preserved : goal.loop-seed-preserved
+loop-seed-preserved c =
+    let script = c.args.runner.now.script in
+    let seed = c.loop-seed.seed in
+    let first = c.args.first in
+    let held = c.loop-seed.invariant in
+    let items = c.loop-seed.tally.items in
+    let now = c.note.new.tally in
+    let seeds = range_with_len first (seed - first) in
+    let same : c.play.new.runner.script ≡ keyed script seed = c.play.ensures.script
+    ∙ ap (λ (s : Script). keyed s seed) held.script in
+    let plan = c.play.ensures.plan ∙ held.plan in
+    let room : HasRoom script now = room_unkeyed script seed now
+    (subst (λ (s : Script). HasRoom s now) same c.note.ensures.room) in
+    let rest = drop (length now) items in
+    let long : c.loop-seed.tally.len ≡ length now =
+    omega (arith, c.deref_mut.ensures.len, room.size, held.room.size,
+    ap (λ (xs : List EraRuns). length xs) c.deref_mut.ensures.value) in
+    let back : take c.loop-seed.tally.len (now ++ rest) ≡ now =
+    ap (λ (n : ℕ). take n (now ++ rest)) long ∙ take-append_seam now rest in
+    let size = length-range_with_len first (seed - first) in
+    let few : length seeds + 1 < 2 ^ 64 =
+    omega (arith, size, c.loop-seed-test.true, c.requires) in
+    let before : AreTallied c.play.new.runner.plan script seeds c.deref_mut.result.now =
+    subst (λ (xs : List EraRuns). AreTallied c.play.new.runner.plan script seeds xs)
+    (sym c.deref_mut.ensures.value)
+    (subst (λ (p : Plan). AreTallied p script seeds items) (sym plan) held.counted) in
+    let counted : AreTallied c.args.runner.now.plan script (seeds ++ seed ∷ []) now =
+    subst (λ (p : Plan). AreTallied p script (seeds ++ seed ∷ []) now) plan
+    (c.note.ensures.runs script seeds same few before) in
+    let more : seeds ++ seed ∷ [] ≡ range_with_len first (seed + 1 - first) =
+    sym (range_more first (seed - first) seed (omega (arith, c.loop-seed.auto.seed)))
+    ∙ ap (λ (n : ℕ). range_with_len first n) (omega (arith, c.loop-seed.auto.seed)) in
+    record {
+      plan = plan;
+      script = same ∙ ap (λ (key : List ℕ). let s : Script = record script { key = key } in s)
+          (sym (ap (λ (s : Script). s.key) same));
+      room = subst (λ (xs : List EraRuns). HasRoom script xs) (sym back) room;
+      counted = subst (λ (xs : List EraRuns). AreTallied c.args.runner.now.plan script
+          (range_with_len first (seed + 1 - first)) xs) (sym back)
+          (subst (λ (s : List ℕ). AreTallied c.args.runner.now.plan script s now) more counted);
+    }

@@ -1,0 +1,5 @@
+pub mod Ends
+pub mod Keys
+pub mod Sweeps
+pub mod SweepTexts
+pub mod Tallies

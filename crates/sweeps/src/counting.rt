@@ -1,0 +1,88 @@
+//! Counts runs of a script with many keys.
+
+ghost use Rattle.std.specs.Prelude.{◌≡◌, ◌≤◌, ◌<◌, ◌+◌, ◌-◌, ◌++◌, ◌∷◌, ◌^◌, List, ℕ, [], length, map, IfOk};
+ghost use Rattle.std.specs.List.{range_with_len};
+ghost use Rattle.construction.specs.Plans.{Plan};
+ghost use Rattle.counter_core.specs.NoLayers.{no_layer};
+ghost use Rattle.adversary_script.specs.Scripts.{Script};
+ghost use Rattle.adversary_script.specs.Eras.{first_of_era, end_of_era};
+ghost use Rattle.round_runner.specs.Known.{KnowsLocks};
+ghost use Rattle.round_runner.specs.Runners.{IsPlaying};
+ghost use Rattle.sweeps.specs.Keys.{keyed};
+ghost use Rattle.sweeps.specs.Tallies.{AreTallied, HasRoom};
+
+use crate::playing::{lock_of, play};
+use crate::tallies::EraTally;
+use adversary_script::Script;
+use counter_core::NoOverlay;
+use round_runner::Runner;
+use std::alloc::Global;
+use sync_types::NoMemory;
+
+/// The first configuration behind era `j`.
+fn era_end(script: &Script, j: usize) -> u64
+    requires { j ≤ length script.now.eras }
+    ensures { result ≡ end_of_era script.now j }
+{
+    let last = script.eras() - 1;
+    if j < last {
+        script.era_start(j + 1)
+    } else {
+        script.rounds() + 1
+    }
+}
+
+/// No runs of a script. They have room for all that may be counted.
+fn no_runs(alloc: Global, script: &Script) -> Result<Vec<EraTally>, NoMemory>
+    ensures none { IfOk result (λ tally. (plan : Plan)
+        → AreTallied plan script.now [] tally.items) }
+    ensures room { IfOk result (λ tally. HasRoom script.now tally.items) }
+{
+    let _rounds = script.rounds();
+    let mut tally = Vec::with_capacity(alloc, script.eras())?;
+    for j in 0..script.eras() {
+        let first = script.era_start(j);
+        let size = (era_end(script, j) - first) as usize;
+        let era = EraTally::new(alloc, first, size)?;
+        match tally.push(era) {
+            Ok(()) => {}
+            Err(_) => return Err(NoMemory),
+        }
+    }
+    Ok(tally)
+}
+
+/// Notes the first locked configurations of the run with the key of this number.
+fn note(runner: &Runner<NoOverlay>, seed: u64, tally: &mut [EraTally])
+    requires plays { IsPlaying (λ o. no_layer) (λ o. []) [] runner.now }
+    requires known { KnowsLocks runner.now }
+    requires room { HasRoom runner.now.script tally.old }
+    ensures runs { (script : Script) (seeds : List ℕ) → runner.now.script ≡ keyed script seed
+        → length seeds + 1 < 2 ^ 64
+        → AreTallied runner.now.plan script seeds tally.old
+        → AreTallied runner.now.plan script (seeds ++ seed ∷ []) tally.new }
+    ensures room { HasRoom runner.now.script tally.new }
+{
+    for j in 0..tally.len() {
+        tally[j].note(lock_of(runner, j), seed);
+    }
+}
+
+/// Plays a runner's script with the keys of `count` numbers from `first` on, and counts its runs.
+pub fn count_runs(
+    alloc: Global,
+    runner: &mut Runner<NoOverlay>,
+    first: u64,
+    count: u64,
+) -> Result<Vec<EraTally>, NoMemory>
+    requires { first + count < 2 ^ 64 }
+    ensures { IfOk result (λ tally. AreTallied runner.old.plan runner.old.script
+        (range_with_len first count) tally.items) }
+{
+    let mut tally = no_runs(alloc, runner.script())?;
+    for seed in first..first + count {
+        play(runner, seed);
+        note(runner, seed, &mut tally);
+    }
+    Ok(tally)
+}
