@@ -18,3 +18,4 @@ mod words;
 
 pub use answering::answer;
 pub use errors::Unanswered;
+pub use scripted::read_scripted;

@@ -1,0 +1,112 @@
+-- The line of a level in which a node takes part: its register there, and what it hears of its
+-- group.
+use Rattle.std.specs.Prelude.{ℕ, zero, suc, ◌+◌, ◌-◌, ◌*◌, ◌/◌, ◌%◌, nat_lt, List, [], ◌∷◌, ◌++◌, length, map, take, Bool, true, false, ◌||◌, Option, Some, None, if◌then◌else◌, codes, decimal}
+use Rattle.std.specs.List.{concat, flat_map, list_all, range_with_len}
+use Rattle.counting.specs.Values.{count_of, least_above}
+use Rattle.sync_types.specs.FaultSets.{is_in}
+use Rattle.sync_types.specs.States.{State, register_at}
+use Rattle.sync_types.specs.declared.states.Reg.{Reg}
+use Rattle.construction.specs.Plans.{Level, group_size, nodes_of}
+use Rattle.construction.specs.Shown.{shown}
+use Rattle.construction.specs.Steps.{state_of}
+use Rattle.construction.specs.Votes.{block, vote, lead, beat_heard}
+use Rattle.round_runner.specs.Locks.{is_locked_at}
+use Rattle.traces.specs.declared.headings.Heading.{Heading}
+
+-- a number, or that there is none
+abbrev pub number_or_none : Option ℕ → List ℕ
+number_or_none (Some n) = decimal n
+number_or_none None = codes "none"
+
+-- what stands behind the id of a faulty node
+abbrev pub faulty_word : Bool → List ℕ
+faulty_word true = codes " faulty"
+faulty_word false = []
+
+-- ---- the register
+
+-- Whether each correct one of so many nodes has this finite value at a level, marked.
+abbrev pub all_have : (l first many : ℕ) → (faulty : List ℕ) → List State → Option ℕ → Bool
+all_have l first many faulty config None = false
+all_have l first many faulty config (Some a) =
+    list_all (λ u. is_in faulty u || is_locked_at a (register_at l (state_of config u)))
+    (range_with_len first many)
+
+abbrev pub mark_word : (marked all : Bool) → List ℕ
+mark_word false all = codes " unmarked"
+mark_word true false = codes " marked"
+mark_word true true = codes " locked"
+
+-- ---- what the node hears of a group, where the blocks have n nodes and stand above l levels
+
+-- the vote of a block
+abbrev pub vote_word : (n : ℕ) → Level → (outputs : List ℕ) → (i : ℕ) → List ℕ
+vote_word n level outputs i = codes " " ++ decimal (vote level n outputs i)
+
+-- the votes of the blocks
+abbrev pub votes_part : (n : ℕ) → Level → (outputs : List ℕ) → List ℕ
+votes_part n level outputs =
+    codes " votes" ++ flat_map (vote_word n level outputs) (range_with_len 0 level.blocks)
+
+-- the turn at a position of the beat
+abbrev pub turn_word : (kind : ℕ) → List ℕ
+turn_word zero = codes " keep"
+turn_word (suc zero) = codes " mark"
+turn_word (suc (suc _)) = codes " king"
+
+-- whose position is heard, and whose turn that is; the group begins with node `first`
+abbrev pub turn_part : (n : ℕ) → Level → (first : ℕ) → (outputs : List ℕ) → List ℕ
+turn_part n level first outputs =
+    let position = beat_heard level n outputs in
+    concat (codes " lead " ∷ decimal (lead level n outputs)
+    ∷ codes " position " ∷ decimal position ∷ turn_word (position % 3)
+    ∷ codes " king " ∷ decimal (first + position / 3) ∷ [])
+
+-- at how many places the own value is heard, and the least finite one at more than f places
+abbrev pub counts_part : (f : ℕ) → (own : Option ℕ) → (values : List (Option ℕ)) → List ℕ
+counts_part f own values =
+    concat (codes " same " ∷ decimal (count_of values own)
+    ∷ codes " least " ∷ number_or_none (least_above f values) ∷ [])
+
+abbrev pub heard_part : (l n : ℕ) → Level → (first : ℕ) → (own : Option ℕ) → (group : List State)
+    → List ℕ
+heard_part l n level first own group =
+    let outputs = map (shown l) (take (level.blocks * n) group) in
+    votes_part n level outputs ++ (turn_part n level first outputs
+    ++ counts_part level.faults own (map (λ s. (register_at l s).a) group))
+
+abbrev pub heard_if : (hears : Bool) → (l n : ℕ) → Level → (first : ℕ) → (own : Option ℕ)
+    → (group : List State) → List ℕ
+heard_if true l n level first own group = heard_part l n level first own group
+heard_if false l n level first own group = []
+
+-- ---- the lines of the levels
+
+-- the front of a level's line, up to the node's own register there, which this is
+abbrev pub level_front : Heading → (faulty : List ℕ) → List State → (l first many : ℕ) → Reg
+    → List ℕ
+level_front h faulty config l first many own =
+    concat (codes "at " ∷ decimal h.at ∷ codes " node " ∷ decimal h.node ∷ faulty_word h.faulty
+    ∷ codes " level " ∷ decimal (l + 1) ∷ codes " value " ∷ number_or_none own.a
+    ∷ mark_word own.d (all_have l first many faulty config own.a) ∷ [])
+
+-- Of a heading, with the faulty nodes and the configuration. Where no round follows nothing is
+-- heard.
+module _ (h : Heading) (faulty : List ℕ) (config : List State) (hears : Bool) where
+  -- the line of a level above l levels whose group begins with node `first`
+  abbrev pub level_line : (l n : ℕ) → Level → (first : ℕ) → (group : List State) → List ℕ
+  level_line l n level first group =
+      let own = register_at l (state_of config h.node) in
+      concat (level_front h faulty config l first (group_size level n) own
+      ∷ heard_if hears l n level first own.a group ∷ codes "\n" ∷ [])
+
+  -- The lines of the levels in which the node at a place of a group takes part, the lowest first,
+  -- from what it hears of the group's nodes. A node of a block takes part in the levels of its
+  -- block.
+  abbrev pub level_lines : List Level → (place : ℕ) → (group : List State) → List ℕ
+  level_lines [] place group = []
+  level_lines (level ∷ below) place group =
+      let n = nodes_of below in
+      (if nat_lt place (level.blocks * n)
+      then level_lines below (place % n) (block n (place / n) group) else [])
+      ++ level_line (length below) n level (h.node - place) group

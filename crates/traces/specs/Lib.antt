@@ -1,0 +1,6 @@
+pub mod Desks
+pub mod LevelTexts
+pub mod NodeTexts
+pub mod TraceTexts
+pub mod Views
+pub mod Wants
