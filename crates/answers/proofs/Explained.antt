@@ -1,6 +1,7 @@
 -- A runner that plays its script, and is explained.
-use Rattle.std.proofs.Common.{◌≡◌, ◌≢◌, ℕ, ◌+◌, ◌<◌, List, [], ◌∷◌, ◌++◌, length, Option, Result, codes, refl, sym, ap, ◌∙◌, subst}
+use Rattle.std.proofs.Common.{◌≡◌, ◌≢◌, ◌↔◌, ℕ, ◌+◌, ◌<◌, ◌≤◌, inl, inr, Bool, true, false, List, [], ◌∷◌, ◌++◌, length, Option, Result, codes, refl, sym, ap, ◌∙◌, subst, arith}
 use Rattle.std.proofs.Math.Path.{fun_ext}
+use Rattle.std.proofs.lemmas.Bool.{true≢false, cases_eq}
 use Rattle.std.proofs.lemmas.List.{nil_from_length}
 use Rattle.texts.specs.Growth.{Told, Puts}
 use Rattle.sync_types.specs.States.{State}
@@ -8,6 +9,7 @@ use Rattle.construction.specs.Plans.{Level, Plan, plan_depth}
 use Rattle.counter_core.specs.declared.overlays.NoOverlay.{NoOverlay}
 use Rattle.counter_core.specs.NoLayers.{no_layer}
 use Rattle.adversary_script.specs.Scripts.{Script}
+use Rattle.round_runner.specs.Known.{KnowsLocks}
 use Rattle.round_runner.specs.Played.{played_at}
 use Rattle.round_runner.specs.Runners.{Running, Advances, IsPlaying, configuration_of}
 use Rattle.round_runner.proofs.Playing.{scene_played}
@@ -27,7 +29,7 @@ Plays r = IsPlaying (λ o. no_layer) (λ o. []) [] r
 
 -- the lock lines of the plan, at the end of all lines
 pub puts_after_why : {T E : Type 0} (result : Result T E) (plan : Plan) (old new : Running NoOverlay)
-    (s t : Told) → old.plan ≡ plan → HasPlayedAlone old old.script.rounds new
+    (s t : Told) → old.plan ≡ plan → HasPlayedAlone old new.at new
     → Puts result (lock_lines new.plan new.script (configuration_of (λ o. no_layer) [] new)) s t
     → Puts result (lock_lines plan old.script (played_at plan old.script) ++ []) s t
 puts_after_why result plan old new s t is played puts =
@@ -36,31 +38,35 @@ puts_after_why result plan old new s t is played puts =
     (subst (λ (config_at : ℕ → List State).
     Puts result (lock_lines old.plan old.script config_at) s t)
     (fun_ext (λ c. scene_played old.plan old.script [] c))
-    (locks_after (λ o. no_layer) (λ o. []) row_wording old result new s t played puts)))
+    (locks_after (λ o. no_layer) (λ o. []) row_wording old result new.at new s t played puts)))
 
--- ---- a runner that plays all rounds
+-- ---- a runner that plays
 
-module _ (begun : Running NoOverlay) (t : ℕ) (r : Running NoOverlay)
-    (after : HasPlayedAlone begun t r) where
-  pub round_left : (rounds : ℕ) → rounds ≡ begun.script.rounds → t < rounds → r.at < r.script.rounds
-  round_left rounds is lt = rw (after.at, after.script, ← is) lt
+module _ (begun r : Running NoOverlay) (after : HasPlayedAlone begun r.at r)
+    (within : r.at ≤ begun.script.rounds) where
+  -- where locks are not known, a round is left
+  pub round_left : (knows : Bool) → ((knows ≡ true) ↔ KnowsLocks r) → knows ≡ false
+      → r.at < r.script.rounds
+  round_left knows exact not =
+      let last = ap (λ (s : Script). s.rounds) after.script in
+      elim (cases_eq r.at r.script.rounds) [
+        | inl end ↦ absurd (true≢false (sym (exact.1 (inl end)) ∙ not))
+        | inr other ↦ omega (arith, within, last, other)
+      ]
 
   pub after_round : (new : Running NoOverlay) → Advances (λ o. no_layer) (λ o. []) r new
-      → (Plays r → Plays new) → HasPlayedAlone begun (t + 1) new
+      → (Plays r → Plays new) → HasPlayedAlone begun new.at new
   after_round new step played = record {
     plan = step.plan ∙ after.plan;
     script = step.script ∙ after.script;
     layer = refl;
-    at = step.at ∙ ap (λ (i : ℕ). i + 1) after.at;
+    at = refl;
     plays = played after.plays;
   }
 
-  pub after_all : t ≡ begun.script.rounds → HasPlayedAlone begun begun.script.rounds r
-  after_all last = subst (λ (i : ℕ). HasPlayedAlone begun i r) last after
-
--- a runner that is explained is at the end
-pub explained_plays : (begun r : Running NoOverlay) → explained.HasPlayed begun begun.script.rounds r
-    → HasPlayedAlone begun begun.script.rounds r
+-- a runner that is explained has played
+pub explained_plays : (begun r : Running NoOverlay) → explained.HasPlayed begun r.at r
+    → HasPlayedAlone begun r.at r
 explained_plays begun r played = record {
   plan = played.plan;
   script = played.script;

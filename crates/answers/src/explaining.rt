@@ -1,5 +1,6 @@
 ghost use Rattle.std.specs.Prelude.{◌≡◌};
 ghost use Rattle.texts.specs.Growth.{Puts};
+ghost use Rattle.round_runner.specs.Known.{KnowsLocks};
 ghost use Rattle.outcomes.specs.ExplainText.{explain_text, explanation_lines, why_lines};
 ghost use Rattle.answers.specs.ScriptedRuns.{IsToPlayAlone, HasPlayedAlone};
 
@@ -37,18 +38,20 @@ fn put_explanation<K: TextSink>(
     )
 }
 
-/// Plays all rounds of a script.
+/// Plays until the first locked configuration of each era is known.
 fn play(runner: &mut Runner<NoOverlay>)
     requires { IsToPlayAlone runner.old }
-    ensures { HasPlayedAlone runner.old runner.old.script.rounds runner.new }
+    ensures played { HasPlayedAlone runner.old runner.new.at runner.new }
+    ensures knows { KnowsLocks runner.new }
 {
-    let rounds = runner.script().rounds();
-    for _ in 0..rounds {
+    let _rounds = runner.script().rounds();
+    while !runner.knows_locks() {
         runner.round();
     }
 }
 
-/// Plays all rounds, and writes why the last era locks.
+/// Plays until the first locked configuration of each era is known, and writes why the last era
+/// locks.
 fn put_why<K: TextSink>(
     sink: &mut K,
     plan: &Plan,
@@ -58,7 +61,8 @@ fn put_why<K: TextSink>(
     requires start { IsToPlayAlone runner.old }
     ensures lines { Puts result (why_lines plan.now runner.old.script)
         (K.Sink.told sink.old) (K.Sink.told sink.new) }
-    ensures played { HasPlayedAlone runner.old runner.old.script.rounds runner.new }
+    ensures played { HasPlayedAlone runner.old runner.new.at runner.new }
+    ensures knows { KnowsLocks runner.new }
 {
     if plan.depth() == 0 {
         play(runner);
@@ -84,8 +88,8 @@ fn put_explained_lines<K: TextSink>(
 }
 
 /// Writes what the word `explain` writes: the bound, why the last era locks, and the first locked
-/// configuration of each era. It plays all rounds, and takes no memory. The runner is one of this
-/// plan, at configuration 0.
+/// configuration of each era. It plays until these are known, and takes no memory. The runner is
+/// one of this plan, at configuration 0.
 pub fn put_explained<K: Sink>(
     sink: &mut K,
     plan: &Plan,

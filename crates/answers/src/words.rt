@@ -17,7 +17,7 @@ use plan_certificate::{read_table, write_plan, write_table};
 use plan_finder::{find, read_find, write_found};
 use plan_reader::read_whole_plan;
 use run_checker::write_run;
-use run_lines::{Rows, put_played};
+use run_lines::{Rows, put_counting, put_played};
 use std::alloc::Global;
 
 /// The run of a plan and a script.
@@ -26,7 +26,7 @@ pub fn run<K: Sink>(alloc: Global, input: &[u8], sink: &mut K) -> Result<(), Una
     ensures { Answers K.told result (answer_of batch.Run input.now) sink.old sink.new }
 {
     let (_, mut runner) = read_scripted(alloc, input)?;
-    put_played(sink, &mut runner, &Rows)?;
+    put_counting(sink, &mut runner, &Rows)?;
     Ok(())
 }
 
@@ -93,7 +93,7 @@ pub fn slots<K: Sink>(alloc: Global, input: &[u8], sink: &mut K) -> Result<(), U
     ensures { Answers K.told result (answer_of batch.Slots input.now) sink.old sink.new }
 {
     let (lines, mut runner) = read_slotted(alloc, input)?;
-    put_played(sink, &mut runner, &lines)?;
+    put_counting(sink, &mut runner, &lines)?;
     Ok(())
 }
 

@@ -21,8 +21,9 @@ use Rattle.layer_laws.proofs.NodesSteps.{shown_at}
 use Rattle.layer_laws.proofs.PlanSlots.{quorum_of, few_of, counts_of}
 use Rattle.round_runner.proofs.Firsts.{era_within, of_one_era}
 use Rattle.run_lines.specs.PlayedTexts.{scene_in}
-use Rattle.run_lines.specs.SlotTexts.{lowest_correct, lead_output, counts_at, begins_at}
-use Rattle.run_lines.proofs.LowestCorrect.{lowest_among}
+use Rattle.round_runner.specs.Known.{lowest_correct}
+use Rattle.run_lines.specs.SlotTexts.{lead_output, counts_at, begins_at}
+use Rattle.round_runner.proofs.LowestCorrect.{lowest_among}
 use Rattle.run_promises.specs.LayeredEras.{IsReadFor, era_scenes}
 use Rattle.run_promises.proofs.EraRuns.{eras_are_layer_runs}
 

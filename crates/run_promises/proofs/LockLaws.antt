@@ -1,5 +1,5 @@
 -- The W of the line of each era is its first locked configuration.
-use Rattle.std.proofs.Common.{◌≡◌, ℕ, ◌+◌, ◌≤◌, List, length, map, refl, subst, arith}
+use Rattle.std.proofs.Common.{◌≡◌, ℕ, ◌+◌, ◌≤◌, inl, List, length, map, refl, subst, arith}
 use Rattle.std.specs.List.{range_with_len}
 use Rattle.sync_types.specs.States.{State}
 use Rattle.construction.specs.Plans.{Plan, plan_bound}
@@ -12,6 +12,7 @@ use Rattle.round_runner.specs.Played.{played_at}
 use Rattle.round_runner.specs.Runners.{Running, IsPlaying}
 use Rattle.round_runner.proofs.FirstLocked.{first_is_locked}
 use Rattle.round_runner.proofs.Firsts.{end_within}
+use Rattle.round_runner.proofs.LocksKnown.{known_at_end}
 use Rattle.round_runner.proofs.ScenesLock.{known_by_bound}
 use Rattle.run_lines.specs.RunTexts.{lock_of_era}
 use Rattle.run_lines.specs.PlayedTexts.{scene_in, configuration_in}
@@ -71,7 +72,9 @@ module _ {Kept : Type 0} (layer : Layer Kept) (plan : Plan) (script : Script)
     first = line_is_first plan script config_at is.whole j among;
     by_bound = λ reaches.
         subst (IsUpTo (first_of_era script j + plan_bound plan))
-        (lock_at_end (λ overlay. overlay) kept_there began ended j among refl plays)
+        (lock_at_end (λ overlay. overlay) kept_there began ended j _
+        (known_at_end (λ overlay. overlay) kept_there ended is.whole (omega arith) j among began
+        plays (inl refl)))
         (known_by_bound (λ overlay. overlay) kept_there ended is.whole (omega arith) j among
         is.accepted is.right is.sound began plays reaches
         (end_within script is.whole j (first_of_era script j + plan_bound plan) among reaches));

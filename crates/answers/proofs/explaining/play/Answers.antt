@@ -1,28 +1,42 @@
-use Rattle.std.proofs.Common.{refl, ap, ◌∙◌, arith}
+use Rattle.std.proofs.Common.{refl, sym, ap, ◌∙◌, arith}
 use Rattle.adversary_script.specs.Scripts.{Script}
-use Rattle.answers.proofs.Explained.{round_left, after_round, after_all}
+use Rattle.answers.proofs.Explained.{round_left, after_round}
 use Rattle.answers.proofs.explaining.play.Goals as goal
 
-pub loop-init : goal.loop-init
-loop-init c = record {
-  plan = refl;
-  script = refl;
-  layer = refl;
-  at = c.requires.at;
-  plays = c.requires.plays;
+pub loop-runner-init : goal.loop-runner-init
+loop-runner-init c = record {
+  played = record { plan = refl; script = refl; layer = refl; at = refl; plays = c.requires.plays };
+  within = omega (arith, c.requires.at);
 }
 
 pub round-requires : goal.round-requires
 round-requires c =
-    let rounds = c.rounds-rounds.ensures.value ∙ ap (λ (s : Script). s.rounds) c.script.ensures in
-    round_left _ _ _ c.loop.invariant _ rounds c.loop-test.true
+    let is = c.loop-runner.invariant in
+    round_left _ _ is.played is.within _ c.knows_locks.ensures c.loop-runner-test.true
 
-pub loop-preserved : goal.loop-preserved
-loop-preserved c =
-    after_round _ _ _ c.loop.invariant _ c.round.ensures.advances (c.round.ensures.played _)
+pub loop-runner-preserved : goal.loop-runner-preserved
+loop-runner-preserved c =
+    let is = c.loop-runner.invariant in
+    let step = c.round.ensures.advances in
+    let left = round_left _ _ is.played is.within _ c.knows_locks.ensures
+    c.loop-runner-test.true in
+    let rounds = ap (λ (s : Script). s.rounds) is.played.script in
+    record {
+      played = after_round _ _ is.played is.within _ step (c.round.ensures.played _);
+      within = omega (arith, left, rounds, step.at);
+    }
 
-pub returns : goal.returns
-returns c =
-    let rounds = c.rounds-rounds.ensures.value ∙ ap (λ (s : Script). s.rounds) c.script.ensures in
-    after_all _ _ _ c.loop.invariant
-    (omega (arith, rounds, c.loop.auto.counter-end, c.loop-test.false))
+pub loop-runner-smaller : goal.loop-runner-smaller
+loop-runner-smaller c =
+    let is = c.loop-runner.invariant in
+    let step = c.round.ensures.advances in
+    let left = round_left _ _ is.played is.within _ c.knows_locks.ensures
+    c.loop-runner-test.true in
+    let rounds = ap (λ (s : Script). s.rounds) is.played.script in
+    omega (arith, left, rounds, step.at)
+
+pub returns-clause-played : goal.returns-clause-played
+returns-clause-played c = c.loop-runner.invariant.played
+
+pub returns-clause-knows : goal.returns-clause-knows
+returns-clause-knows c = c.knows_locks.ensures.0 c.loop-runner-test.false

@@ -1,5 +1,4 @@
-use Rattle.std.proofs.Common.{[], sym, ap, ◌∙◌}
-use Rattle.adversary_script.specs.Scripts.{Script}
+use Rattle.std.proofs.Common.{[]}
 use Rattle.texts.proofs.Growth.{puts_exit, puts_then, cut_more, cut_then}
 use Rattle.answers.proofs.Explained.{puts_after_why}
 use Rattle.answers.proofs.explaining.put_explained_lines.Goals as goal
@@ -16,9 +15,7 @@ returns-in_err-put_why g c =
     (cut_then _ _ _ _ _ bound (cut_more _ _ _ _ c.in_err-put_why.ensures.lines))
 
 pub put_locks-requires : goal.put_locks-requires
-put_locks-requires g c =
-    let played = c.in_ok-put_why.ensures.played in
-    played.at ∙ ap (λ (s : Script). s.rounds) (sym played.script)
+put_locks-requires g c = c.in_ok-put_why.ensures.knows
 
 pub returns : goal.returns
 returns g c =

@@ -10,16 +10,16 @@ returns-in_err-runner g c =
     (refuses_text (λ (s : Scripted). run_text s.plan s.script) _ (scripted_of c.args.input.now) c.in_err-runner.ensures)
     c.from_residual.ensures.1
 
-pub put_played-requires : goal.put_played-requires
-put_played-requires g c = c.in_ok-runner.ensures.plays
+pub put_counting-requires : goal.put_counting-requires
+put_counting-requires g c = c.in_ok-runner.ensures.plays
 
-pub returns-in_err-put_played : goal.returns-in_err-put_played
-returns-in_err-put_played g c =
+pub returns-in_err-put_counting : goal.returns-in_err-put_counting
+returns-in_err-put_counting g c =
     unwritten g.K.Sink.told _ _ _ _ _
     (run_is c.args.input.now _ c.in_ok-runner.runner c.in_ok-runner.ensures)
-    c.from_residual-in_err-put_played.ensures.1 c.in_err-put_played.ensures
+    c.from_residual-in_err-put_counting.ensures.1 c.in_err-put_counting.ensures
 
 pub returns : goal.returns
 returns g c =
     rw (run_is c.args.input.now _ c.in_ok-runner.runner c.in_ok-runner.ensures)
-    c.in_ok-put_played.ensures
+    c.in_ok-put_counting.ensures
