@@ -3,3 +3,4 @@ pub mod More
 pub mod Placed
 pub mod Texts
 pub mod Tallied
+pub mod Exits

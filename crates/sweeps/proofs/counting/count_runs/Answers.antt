@@ -40,8 +40,13 @@ loop-seed-preserved c =
     (subst (λ (s : Script). HasRoom s now) same c.note.ensures.room) in
     let rest = drop (length now) items in
     let long : c.loop-seed.tally.len ≡ length now =
-    omega (arith, c.deref_mut.ensures.len, room.size, held.room.size,
-    ap (λ (xs : List EraRuns). length xs) c.deref_mut.ensures.value) in
+    omega (
+      arith,
+      c.deref_mut.ensures.len,
+      room.size,
+      held.room.size,
+      ap (λ (xs : List EraRuns). length xs) c.deref_mut.ensures.value,
+    ) in
     let back : take c.loop-seed.tally.len (now ++ rest) ≡ now =
     ap (λ (n : ℕ). take n (now ++ rest)) long ∙ take-append_seam now rest in
     let size = length-range_with_len first (seed - first) in

@@ -37,5 +37,11 @@ returns-clause-known c =
     let rounds = c.rounds-end.ensures.value ∙ ap (λ (s : Script). s.rounds) c.script.ensures
     ∙ ap (λ (r : Running _). r.script.rounds) c.restart.ensures.begun in
     let same = ap (λ (s : Script). s.rounds) c.loop.invariant.script in
-    inl (omega (arith, c.loop.invariant.at, same, rounds, c.loop-test.false,
-    c.loop.auto.counter-end))
+    inl (omega (
+      arith,
+      c.loop.invariant.at,
+      same,
+      rounds,
+      c.loop-test.false,
+      c.loop.auto.counter-end,
+    ))

@@ -1,0 +1,15 @@
+-- What is written for `--help` and `--version`.
+use Rattle.std.specs.Prelude.{ℕ, List, [], ◌∷◌, codes}
+use Rattle.std.specs.List.{concat}
+
+abbrev pub help_text : List ℕ
+help_text = concat (
+    codes "usage: sweep FIRST COUNT\n"
+    ∷ codes "Reads a plan and a script from standard input, as counterlab run does,\n"
+    ∷ codes "plays the script with COUNT keys, those of the numbers from FIRST on,\n"
+    ∷ codes "and writes for each era how many runs first lock with which\n"
+    ∷ codes "configuration, and the least number of these. The key of a number is\n"
+    ∷ codes "the number as 16 hex digits, with 48 zeros behind.\n" ∷ [])
+
+abbrev pub version_text : List ℕ
+version_text = codes "sweep 1.0\n"

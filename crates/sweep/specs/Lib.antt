@@ -1,0 +1,5 @@
+pub mod Asked
+pub mod Conduct
+pub mod Errors
+pub mod HelpText
+pub mod Requests

@@ -1,0 +1,58 @@
+//! Does what the words ask for.
+
+ghost use Rattle.std.specs.Prelude.{map, string_bytes};
+ghost use Rattle.texts.specs.Growth.{Puts};
+ghost use Rattle.sweep.specs.Asked.{DoesAsked};
+ghost use Rattle.sweep.specs.HelpText.{help_text};
+ghost use Rattle.sweep.specs.Requests.{request_of};
+
+use crate::calling::sweep_input;
+use crate::errors::SweepError;
+use crate::requests::{Request, request_of};
+use edge_io::{Piece, Sink, Source, WriteFault, put_all, put_pieces};
+use std::alloc::Global;
+
+/// Writes how the program is used.
+fn write_help<K: Sink>(sink: &mut K) -> Result<(), WriteFault>
+    ensures { Puts result help_text (K.told sink.old) (K.told sink.new) }
+{
+    put_pieces(
+        sink,
+        &[
+            Piece::Text(b"usage: sweep FIRST COUNT\n"),
+            Piece::Text(b"Reads a plan and a script from standard input, as counterlab run does,\n"),
+            Piece::Text(b"plays the script with COUNT keys, those of the numbers from FIRST on,\n"),
+            Piece::Text(b"and writes for each era how many runs first lock with which\n"),
+            Piece::Text(b"configuration, and the least number of these. The key of a number is\n"),
+            Piece::Text(b"the number as 16 hex digits, with 48 zeros behind.\n"),
+        ],
+    )
+}
+
+/// Does what the words ask for. `FIRST COUNT` asks for a sweep over COUNT numbers from FIRST on:
+/// both have at most 15 digits, and COUNT is at least 1. `--help` and `--version`, alone, ask for
+/// what they say.
+///
+/// `Usage` comes exactly where the words ask for nothing. When the other errors come,
+/// [`sweep_input`] says.
+pub fn answer<S: Source, K: Sink>(
+    alloc: Global,
+    words: &[String],
+    source: &mut S,
+    sink: &mut K,
+) -> Result<(), SweepError>
+    // What was read and written, by how it ended: of a sweep, the text that is defined for the plan,
+    // the script and the numbers.
+    ensures { DoesAsked (request_of (map string_bytes words.now)) result
+        (S.left source.old) (S.left source.new) (S.faults source.old) (S.faults source.new)
+        (K.told sink.old) (K.told sink.new) }
+{
+    match request_of(words) {
+        None => Err(SweepError::Usage),
+        Some(Request::Help) => Ok(write_help(sink)?),
+        Some(Request::Version) => Ok(put_all(sink, b"sweep 1.0\n")?),
+        Some(Request::Sweep(numbers)) => {
+            sweep_input(alloc, numbers.first, numbers.count, source, sink)
+        }
+    }
+}

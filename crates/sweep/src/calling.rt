@@ -1,0 +1,57 @@
+//! Reads an input, and writes its sweep.
+
+ghost use Rattle.std.specs.Prelude.{◌+◌, ◌<◌, ◌≤◌, ◌^◌, length};
+ghost use Rattle.sweep.specs.Conduct.{Answers, Does};
+
+use crate::errors::SweepError;
+use answers::read_scripted;
+use edge_io::{Sink, Source, read_all};
+use std::alloc::Global;
+use sweeps::sweep;
+
+/// How many bytes an input may have.
+const LONGEST_INPUT: usize = 1 << 20;
+
+/// Writes the sweep of an input of at most 2^20 bytes.
+fn answer<K: Sink>(
+    alloc: Global,
+    first: u64,
+    count: u64,
+    input: &[u8],
+    sink: &mut K,
+) -> Result<(), SweepError>
+    requires numbers { first + count < 2 ^ 64 }
+    requires short { length input.now ≤ 2 ^ 20 }
+    ensures { Answers result first count input.now (K.told sink.old) (K.told sink.new) }
+{
+    let (_, mut runner) = read_scripted(alloc, input)?;
+    if !runner.script().says_noise() {
+        return Err(SweepError::NoNoise);
+    }
+    sweep(alloc, &mut runner, first, count, sink)?;
+    Ok(())
+}
+
+/// Reads a plan and a script, plays the script with the key of each of `count` numbers from `first`
+/// on in place of its own, and writes how soon its eras lock.
+///
+/// The whole source is read first, at most 2^20 bytes. `Refused` comes exactly where `run` refuses
+/// the input; `NoNoise` where it is a plan and a script that says no noise; `TooLong` only where
+/// the byte behind the limit was there. `ReadFault` and `WriteFault` come only where the source or
+/// the sink counted a fault, and `NoMemory` where memory was refused. Nothing was written then, but
+/// at `WriteFault` a front of the text. `Usage` never comes.
+pub fn sweep_input<S: Source, K: Sink>(
+    alloc: Global,
+    first: u64,
+    count: u64,
+    source: &mut S,
+    sink: &mut K,
+) -> Result<(), SweepError>
+    requires { first + count < 2 ^ 64 }
+    ensures { Does result first count
+        (S.left source.old) (S.left source.new) (S.faults source.old) (S.faults source.new)
+        (K.told sink.old) (K.told sink.new) }
+{
+    let input = read_all(alloc, source, LONGEST_INPUT)?;
+    answer(alloc, first, count, &input, sink)
+}

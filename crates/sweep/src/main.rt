@@ -1,0 +1,48 @@
+//! Writes how soon a script locks, over many keys of its noise. `sweep FIRST COUNT` reads a plan
+//! and a script from standard input, as `counterlab run` does, plays the script with COUNT keys,
+//! those of the numbers from FIRST on, and writes for each era a line for each first locked
+//! configuration that occurs, with how many runs have it and the least number of these. The key of
+//! a number is the number as 16 hex digits with 48 zeros behind.
+//!
+//! `--help` and `--version` write what they say. Other words are answered by one line of usage on
+//! standard error, and what is refused by one line there. The exit codes are those of `counterlab`.
+//!
+//! All that is proved, of [`asking::answer`] and [`errors::put_error`]; that the line goes to
+//! standard error is not.
+#![tactic(auto)]
+
+mod asking;
+mod calling;
+mod errors;
+mod requests;
+
+use crate::asking::answer;
+use crate::errors::{SweepError, put_error};
+use edge_io::{StdSink, StdSource};
+use program_words::{arguments, words};
+use std::io;
+use std::process::ExitCode;
+
+/// Does what the words ask for.
+fn run(rt: &HostRuntime) -> Result<(), SweepError> {
+    let arguments = match arguments(rt) {
+        Ok(arguments) => arguments,
+        Err(_) => return Err(SweepError::NoMemory),
+    };
+    let mut source = StdSource::new(rt.stdin());
+    let mut sink = StdSink::new(io::writer(rt));
+    answer(rt.alloc(), words(&arguments), &mut source, &mut sink)
+}
+
+fn main(rt: HostRuntime) -> ExitCode {
+    match run(&rt) {
+        Ok(()) => ExitCode::SUCCESS,
+        Err(error) => {
+            let stderr = rt.stderr();
+            let mut sink = StdSink::new(io::writer(&stderr));
+            // Where standard error is closed, the code alone says it.
+            let _ = put_error(&mut sink, error);
+            ExitCode::from(error.code())
+        }
+    }
+}
