@@ -6,11 +6,11 @@
 //! are known.
 #![tactic(auto)]
 
-mod counting;
 mod keys;
 mod playing;
 mod sweeping;
 mod tallies;
+mod tallying;
 mod writing;
 
 pub use sweeping::{SweepFault, sweep};

@@ -3,7 +3,7 @@ ghost use Rattle.std.specs.List.{range_with_len};
 ghost use Rattle.sweeps.specs.Ends.{Sweeps};
 ghost use Rattle.sweeps.specs.SweepTexts.{sweep_text};
 
-use crate::counting::count_runs;
+use crate::tallying::count_runs;
 use crate::writing::write_tally;
 use counter_core::NoOverlay;
 use edge_io::{Sink, WriteFault};

@@ -1,7 +1,7 @@
 use Rattle.std.proofs.Common.{◌≡◌}
 use Rattle.adversary_script.specs.Scripts.{IsScript}
 use Rattle.sweeps.proofs.Tallied.{all_begun}
-use Rattle.sweeps.proofs.counting.no_runs.Given as goal
+use Rattle.sweeps.proofs.tallying.no_runs.Given as goal
 
 abbrev pub invariant-loop-j : goal.invariant-loop-j
 invariant-loop-j l = l.tally.items ≡ all_begun l.script l.j

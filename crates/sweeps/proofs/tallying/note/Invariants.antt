@@ -3,7 +3,7 @@ use Rattle.adversary_script.specs.Scripts.{Script}
 use Rattle.sweeps.specs.Keys.{keyed}
 use Rattle.sweeps.specs.Tallies.{AreTallied, HasRoom}
 use Rattle.sweeps.proofs.Tallied.{CountedBelow}
-use Rattle.sweeps.proofs.counting.note.Given as goal
+use Rattle.sweeps.proofs.tallying.note.Given as goal
 
 abbrev pub invariant-loop-j : goal.invariant-loop-j
 invariant-loop-j l = record {

@@ -2,7 +2,7 @@ use Rattle.std.proofs.Common.{◌≡◌, ◌<◌, length, get_or, ◌∙◌, ari
 use Rattle.std.proofs.lemmas.List.{get_or_default}
 use Rattle.sweeps.specs.Tallies.{no_runs}
 use Rattle.sweeps.proofs.Tallied.{room_more, one_counted, known_with}
-use Rattle.sweeps.proofs.counting.note.Goals as goal
+use Rattle.sweeps.proofs.tallying.note.Goals as goal
 
 pub loop-j-preserved : goal.loop-j-preserved
 loop-j-preserved c =

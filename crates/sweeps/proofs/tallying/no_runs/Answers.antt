@@ -1,6 +1,6 @@
 use Rattle.std.proofs.Common.{◌≡◌, ℕ, ◌+◌, length, subst, ap, ap₂, ◌-◌, ◌∙◌, arith}
 use Rattle.sweeps.proofs.Tallied.{all_begun, begun_more, all_none, all_roomy}
-use Rattle.sweeps.proofs.counting.no_runs.Goals as goal
+use Rattle.sweeps.proofs.tallying.no_runs.Goals as goal
 
 pub loop-j-preserved : goal.loop-j-preserved
 loop-j-preserved c =

@@ -1,7 +1,7 @@
 use Rattle.std.proofs.Common.{◌≡◌, ◌-◌}
 use Rattle.std.specs.List.{range_with_len}
 use Rattle.sweeps.specs.Tallies.{AreTallied, HasRoom}
-use Rattle.sweeps.proofs.counting.count_runs.Given as goal
+use Rattle.sweeps.proofs.tallying.count_runs.Given as goal
 
 abbrev pub invariant-loop-seed : goal.invariant-loop-seed
 invariant-loop-seed l = record {

@@ -7,7 +7,7 @@ use Rattle.adversary_script.specs.Scripts.{Script}
 use Rattle.sweeps.specs.Keys.{keyed}
 use Rattle.sweeps.specs.Tallies.{EraRuns, AreTallied, HasRoom}
 use Rattle.sweeps.proofs.Tallied.{range_more, room_unkeyed}
-use Rattle.sweeps.proofs.counting.count_runs.Goals as goal
+use Rattle.sweeps.proofs.tallying.count_runs.Goals as goal
 
 pub loop-seed-init : goal.loop-seed-init
 loop-seed-init c =
