@@ -1,7 +1,8 @@
-//! Tries the calls that read and write bytes, numbers, plans and their texts, and that count votes.
-//! There is nothing here but tests: one module a crate, in which each call that can answer want of
-//! memory succeeds once, where there is memory. They stand at the top so that the crates below are
-//! proved once. `try_layers` and `try_runs` try the crates above these.
+//! Tries the calls that read and write bytes and numbers, that count votes, and the numbers of
+//! plans. There is nothing here but tests: one module a crate, in which each call that can answer
+//! want of memory succeeds once, where there is memory. They stand at the top so that the crates
+//! below are proved once. `try_texts`, `try_states`, `try_counters`, `try_layers` and `try_runs` try
+//! the crates above these.
 #![tactic(auto)]
 
 #[cfg(test)]
@@ -13,16 +14,8 @@ mod leader_pointers_calls;
 #[cfg(test)]
 mod majority_votes_calls;
 #[cfg(test)]
-mod node_header_calls;
-#[cfg(test)]
 mod phase_king_calls;
 #[cfg(test)]
-mod plan_certificate_calls;
-#[cfg(test)]
-mod plan_finder_calls;
-#[cfg(test)]
 mod plan_numbers_calls;
-#[cfg(test)]
-mod plan_reader_calls;
 #[cfg(test)]
 mod sync_types_calls;

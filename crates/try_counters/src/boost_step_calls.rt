@@ -25,11 +25,11 @@ fn a_spare_steps_at_its_level_alone(rt: HostRuntime) -> Result<(), Fail> {
     ];
     states[3].set_reg(0, plain(Some(7)));
     let heard = Heard::of(&states);
-    assert_eq!(rt; boost.output(3, heard.state(3)), 7);
+    assert!(rt; boost.output(3, heard.state(3)) == 7);
     boost.advance(0, &heard, &mut work, &mut out);
-    assert_eq!(rt; (out.x(), out.reg(0)), (1, plain(Some(1))));
+    assert!(rt; out.x() == 1 && out.reg(0) == plain(Some(1)));
     boost.advance(3, &heard, &mut work, &mut out);
-    assert_eq!(rt; (out.x(), out.reg(0)), (0, plain(None)));
+    assert!(rt; out.x() == 0 && out.reg(0) == plain(None));
     Ok(())
 }
 
@@ -37,29 +37,38 @@ fn a_spare_steps_at_its_level_alone(rt: HostRuntime) -> Result<(), Fail> {
 fn levels_stand_on_levels(rt: HostRuntime) {
     let below = Boost::new(Trivial::new(576), 3, 1, 960, 1).unwrap();
     let boost = Boost::new(below, 3, 3, 10, 1).unwrap();
-    assert_eq!(rt; (boost.nodes(), boost.faults(), boost.depth()), (13, 3, 2));
-    assert_eq!(rt; (boost.modulus(), boost.bound()), (10, 1536));
+    assert!(rt; boost.nodes() == 13 && boost.faults() == 3 && boost.depth() == 2);
+    assert!(rt; boost.modulus() == 10 && boost.bound() == 1536);
     for (place, low) in [(0, 0), (3, 1), (6, 0), (7, 1), (11, 1), (12, 2)] {
-        assert_eq!(rt; boost.low(place), low, "node {place}");
+        assert!(rt; boost.low(place) == low, "node {place}");
     }
+}
+
+/// Blocks, faults, a modulus and spares of a level over one node, and the premise that they fail.
+const REFUSED: [(u64, u64, u64, u64, Premise); 7] = [
+    (17, 1, 10, 0, Premise::Limit),
+    (3, 1, 10, 254, Premise::Limit),
+    (2, 0, 10, 0, Premise::Blocks),
+    (4, 1, 1, 0, Premise::Modulus),
+    (3, 1, 10, 0, Premise::Quorum),
+    (4, 2, 10, 4, Premise::Share),
+    (5, 1, 10, 0, Premise::Multiple),
+];
+
+/// The premise that a level over one node fails.
+fn refusal(k: u64, f: u64, c: u64, s: u64) -> Option<Premise> {
+    Boost::new(Trivial::new(2304), k, f, c, s).err()
 }
 
 #[test]
 fn a_level_that_fails_a_premise_is_refused(rt: HostRuntime) {
-    for (k, f, c, s, premise) in [
-        (17, 1, 10, 0, Premise::Limit),
-        (3, 1, 10, 254, Premise::Limit),
-        (2, 0, 10, 0, Premise::Blocks),
-        (4, 1, 1, 0, Premise::Modulus),
-        (3, 1, 10, 0, Premise::Quorum),
-        (4, 2, 10, 4, Premise::Share),
-        (5, 1, 10, 0, Premise::Multiple),
-    ] {
-        let refused = Boost::new(Trivial::new(2304), k, f, c, s).err();
-        assert_eq!(rt;
-            refused,
-            Some(premise),
-            "{k} blocks, {f} faults, {s} spares"
+    for row in &REFUSED {
+        let refused = refusal(row.0, row.1, row.2, row.3);
+        assert!(rt;
+            refused == Some(row.4),
+            "{} blocks, {} faults",
+            row.0,
+            row.1
         );
     }
 }

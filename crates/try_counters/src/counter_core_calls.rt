@@ -96,6 +96,21 @@ fn step_with<C: Counter, O: Overlay>(
     layer.advance(node, output, heard, work, out);
 }
 
+const ZERO: Reg = Reg {
+    a: Some(0),
+    d: false,
+};
+
+const FOUR: Reg = Reg {
+    a: Some(4),
+    d: false,
+};
+
+const SEVEN: Reg = Reg {
+    a: Some(7),
+    d: true,
+};
+
 #[test]
 fn one_node_steps_below_layers(rt: HostRuntime) -> Result<(), Fail> {
     let counter = Trivial::new(5);
@@ -113,59 +128,45 @@ fn one_node_steps_below_layers(rt: HostRuntime) -> Result<(), Fail> {
     let heard = Heard::of(&states);
     let mut bare = NodeState::zero(rt.alloc(), 0)?;
     step_with(&counter, &mut NoOverlay, 0, &heard, &mut work, &mut bare);
-    assert_eq!(rt; bare.x(), 0);
+    assert!(rt; bare.x() == 0);
     step_with(&counter, &mut repeat, 0, &heard, &mut work, &mut out);
-    assert_eq!(rt; out.x(), 0);
-    assert_eq!(rt;
-        out.reg(0),
-        Reg {
-            a: Some(4),
-            d: false
-        }
-    );
+    assert!(rt; out.x() == 0 && out.reg(0) == FOUR);
     Ok(())
 }
 
 #[test]
 fn clearing_ends_at_the_depth(rt: HostRuntime) -> Result<(), Fail> {
-    let seven = Reg {
-        a: Some(7),
-        d: true,
-    };
     let mut state = NodeState::zero(rt.alloc(), 2)?;
     state.set_x(3);
-    state.set_reg(0, seven);
-    state.set_reg(1, seven);
+    state.set_reg(0, SEVEN);
+    state.set_reg(1, SEVEN);
     clear(1, &mut state);
-    assert_eq!(rt; state.x(), 0);
-    assert_eq!(rt;
-        state.reg(0),
-        Reg {
-            a: Some(0),
-            d: false
-        }
-    );
-    assert_eq!(rt; state.reg(1), seven);
+    assert!(rt; state.x() == 0 && state.reg(0) == ZERO && state.reg(1) == SEVEN);
     Ok(())
 }
 
 #[test]
 fn work_keeps_inner_outputs(rt: HostRuntime) -> Result<(), Fail> {
     let mut work = Work::new(rt.alloc(), 3)?;
-    assert_eq!(rt; work.inner(2), 0);
+    assert!(rt; work.inner(2) == 0);
     work.set_inner(1, 7);
-    assert_eq!(rt; work.inner(0), 0);
-    assert_eq!(rt; work.inner(1), 7);
+    assert!(rt; work.inner(0) == 0 && work.inner(1) == 7);
     Ok(())
 }
 
+/// A node, how many nodes a group has, the group that the node is in, and its place there.
+const PLACES: [(u32, u32, u32, u32); 4] = [(0, 4, 0, 0), (3, 4, 0, 3), (4, 4, 1, 0), (11, 4, 2, 3)];
+
 #[test]
 fn nodes_stand_in_groups_and_blocks(rt: HostRuntime) {
-    for (v, nodes, group, place) in [(0, 4, 0, 0), (3, 4, 0, 3), (4, 4, 1, 0), (11, 4, 2, 3)] {
-        assert_eq!(rt; group_of(v, nodes), group, "node {v}");
-        assert_eq!(rt; place_in(v, nodes), place, "node {v}");
+    for row in &PLACES {
+        let (v, nodes) = (row.0, row.1.max(1));
+        assert!(rt;
+            group_of(v, nodes) == row.2 && place_in(v, nodes) == row.3,
+            "node {v}"
+        );
     }
-    assert_eq!(rt; block_of(5, 2), 2);
+    assert!(rt; block_of(5, 2) == 2);
 }
 
 #[test]
@@ -178,8 +179,7 @@ fn a_block_is_heard_alone(rt: HostRuntime) -> Result<(), Fail> {
     ];
     states[3].set_x(9);
     let block = Heard::of(&states).block(1, 2);
-    assert_eq!(rt; block.len(), 2);
-    assert_eq!(rt; block.state(0).x(), 0);
-    assert_eq!(rt; block.state(1).x(), 9);
+    assert!(rt; block.len() == 2);
+    assert!(rt; block.state(0).x() == 0 && block.state(1).x() == 9);
     Ok(())
 }

@@ -1,16 +1,9 @@
-//! Tries the calls of states and of counters: of `state_codec`, `counter_core`, `group_votes`,
-//! `boost_step` and `tower`. There is nothing here but tests,
-//! and the plans that they and those of `try_layers` use.
+//! Tries the calls of counters: of `counter_core` and `boost_step`. There is nothing here but tests,
+//! as in `try_states`, which tries how states are read and written, and `try_towers`, which tries
+//! the counters of plans.
 #![tactic(auto)]
 
 #[cfg(test)]
 mod boost_step_calls;
 #[cfg(test)]
 mod counter_core_calls;
-#[cfg(test)]
-mod group_votes_calls;
-pub mod plans;
-#[cfg(test)]
-mod state_codec_calls;
-#[cfg(test)]
-mod tower_calls;

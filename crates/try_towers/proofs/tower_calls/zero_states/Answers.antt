@@ -5,7 +5,7 @@ use Rattle.construction.specs.Plans.{Plan}
 use Rattle.plan_laws.specs.PlanMeaning.{IsInRange}
 use Rattle.plan_laws.proofs.PlanCounter.{plan_zero}
 use Rattle.state_codec.specs.Packs.{Pack}
-use Rattle.try_counters.proofs.tower_calls.zero_states.Goals as goal
+use Rattle.try_towers.proofs.tower_calls.zero_states.Goals as goal
 
 pub returns-clause-range : goal.returns-clause-range
 returns-clause-range c =

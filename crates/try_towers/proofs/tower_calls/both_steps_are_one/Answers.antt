@@ -1,7 +1,7 @@
 use Rattle.std.proofs.Common.{◌≡◌, ℕ, zero, suc, ◌<◌, Bool, true, false, List, [], ◌∷◌, ◌++◌, Option, Some, None, get_or, refl, sym, ap, ◌∙◌, subst, arith}
 use Rattle.sync_types.specs.FaultSets.{FaultIds, is_in}
 use Rattle.construction.specs.Plans.{Plan, plan_nodes}
-use Rattle.try_counters.proofs.tower_calls.both_steps_are_one.Goals as goal
+use Rattle.try_towers.proofs.tower_calls.both_steps_are_one.Goals as goal
 
 -- a row: what is told, a node, its new register, and the liars that it heeds
 abbrev Row : Type 0

@@ -4,7 +4,6 @@ ghost use Rattle.construction.specs.Plans.{plan_nodes, plan_depth};
 ghost use Rattle.plan_numbers.specs.Numbers.{line};
 ghost use Rattle.plan_laws.specs.PlanMeaning.{IsWithin, IsInRange};
 
-use crate::plans;
 use counter_core::{Counter, Heard};
 use majority_votes::Steps;
 use plan_numbers::{Plan, PremiseError};
@@ -15,6 +14,7 @@ use std::sync::ledger::{Blank, Ledger};
 use std::test::Fail;
 use sync_types::{FaultSet, NoMemory, NodeState, Reg};
 use tower::{Tower, build};
+use try_states::plans;
 
 /// Four nodes, one of which may be faulty, that count by ten.
 fn four(alloc: Global) -> Result<Tower, PremiseError>
@@ -81,12 +81,23 @@ fn plain(a: Option<u64>) -> Reg
     Reg { a, d: false }
 }
 
-/// A value that is marked.
-fn marked(a: u64) -> Reg {
-    Reg {
-        a: Some(a),
-        d: true,
-    }
+/// Whether a state has this number and this register.
+fn is(state: &NodeState, x: u64, register: Reg) -> bool {
+    state.depth() == 1 && state.x() == x && state.reg(0) == register
+}
+
+/// Whether a state has this number and these registers.
+fn has_both(state: &NodeState, x: u64, first: Reg, second: Reg) -> bool {
+    state.depth() == 2 && state.x() == x && state.reg(0) == first && state.reg(1) == second
+}
+
+/// Whether a tower has so many nodes, faults and levels, this bound, and counts by ten.
+fn has_numbers(tower: &Tower, nodes: u32, faults: u32, depth: usize, bound: u64) -> bool {
+    tower.nodes() == nodes
+        && tower.faults() == faults
+        && tower.depth() == depth
+        && tower.bound() == bound
+        && tower.modulus() == 10
 }
 
 /// A state with one register, whose value is below ten and not marked.
@@ -107,8 +118,7 @@ fn state(alloc: Global, x: u64, value: Option<u64>) -> Result<NodeState, NoMemor
 #[test]
 fn four_nodes_step_together(rt: HostRuntime) -> Result<(), Fail> {
     let tower = four(rt.alloc())?;
-    assert_eq!(rt; (tower.nodes(), tower.faults(), tower.depth()), (4, 1, 1));
-    assert_eq!(rt; (tower.modulus(), tower.bound()), (10, 2304));
+    assert!(rt; has_numbers(&tower, 4, 1, 1, 2304));
     let mut states = [
         NodeState::zero(rt.alloc(), 1)?,
         NodeState::zero(rt.alloc(), 1)?,
@@ -116,48 +126,69 @@ fn four_nodes_step_together(rt: HostRuntime) -> Result<(), Fail> {
         NodeState::zero(rt.alloc(), 1)?,
     ];
     states[3].set_reg(0, plain(Some(7)));
-    assert_eq!(rt; tower.output(3, &states[3]), 7);
+    assert!(rt; tower.output(3, &states[3]) == 7);
     let out = stepped(rt.alloc(), &tower, 0, &states)?;
-    assert_eq!(rt; (out.x(), out.reg(0)), (1, plain(Some(1))));
+    assert!(rt; is(&out, 1, plain(Some(1))));
     let out = stepped(rt.alloc(), &tower, 3, &states)?;
-    assert_eq!(rt; (out.x(), out.reg(0)), (1, plain(None)));
+    assert!(rt; is(&out, 1, plain(None)));
     Ok(())
 }
 
-/// In each row: the number and the values that a node hears, its place, and its new state.
+/// The number and the values that a node hears, its place, and its new number, value and mark.
+type Row = (u64, [Option<u64>; 4], u32, u64, Option<u64>, bool);
+
+/// The node at place 3 is the spare: it has no number, and hears those of the others.
+const ROWS: [Row; 7] = [
+    (1, [Some(1), Some(1), Some(1), None], 0, 2, Some(2), true),
+    (1, [Some(1), Some(1), Some(1), None], 3, 0, Some(2), false),
+    (2, [Some(2), Some(2), Some(2), Some(2)], 3, 0, Some(3), true),
+    // a spare that lies: nodes 0 and 1 hear different values of it
+    (
+        0,
+        [Some(0), Some(0), Some(5), Some(0)],
+        0,
+        1,
+        Some(1),
+        false,
+    ),
+    (0, [Some(0), Some(0), Some(5), Some(5)], 1, 1, None, false),
+    // a node of a block that lies: it tells the spare something else than node 0
+    (
+        0,
+        [Some(0), Some(5), Some(0), Some(0)],
+        0,
+        1,
+        Some(1),
+        false,
+    ),
+    (0, [Some(0), Some(5), Some(5), Some(0)], 3, 0, None, false),
+];
+
+/// Whether the node of a row has its new state.
+fn steps_so(alloc: Global, tower: &Tower, row: &Row) -> Result<bool, NoMemory>
+    requires { tower.now ≡ record { version = 2; base = 576; levels = line 3 1 10 1 ∷ [] } }
+{
+    let states = [
+        state(alloc, row.0, row.1[0])?,
+        state(alloc, row.0, row.1[1])?,
+        state(alloc, row.0, row.1[2])?,
+        state(alloc, 0, row.1[3])?,
+    ];
+    let out = stepped(alloc, tower, row.2 % 4, &states)?;
+    let register = Reg { a: row.4, d: row.5 };
+    Ok(is(&out, row.3, register))
+}
+
 #[test]
 fn a_spare_votes_for_nothing_and_is_counted(rt: HostRuntime) -> Result<(), Fail> {
     let tower = three_and_one(rt.alloc())?;
-    for (x, heard, place, new) in [
-        // the node at place 3 is the spare; it has no number, and hears those of the others
-        (1, [Some(1), Some(1), Some(1), None], 0, (2, marked(2))),
-        (1, [Some(1), Some(1), Some(1), None], 3, (0, plain(Some(2)))),
-        (2, [Some(2), Some(2), Some(2), Some(2)], 3, (0, marked(3))),
-        // a spare that lies: nodes 0 and 1 hear different values of it
-        (
-            0,
-            [Some(0), Some(0), Some(5), Some(0)],
-            0,
-            (1, plain(Some(1))),
-        ),
-        (0, [Some(0), Some(0), Some(5), Some(5)], 1, (1, plain(None))),
-        // a node of a block that lies: it tells the spare something else than node 0
-        (
-            0,
-            [Some(0), Some(5), Some(0), Some(0)],
-            0,
-            (1, plain(Some(1))),
-        ),
-        (0, [Some(0), Some(5), Some(5), Some(0)], 3, (0, plain(None))),
-    ] {
-        let states = [
-            state(rt.alloc(), x, heard[0])?,
-            state(rt.alloc(), x, heard[1])?,
-            state(rt.alloc(), x, heard[2])?,
-            state(rt.alloc(), 0, heard[3])?,
-        ];
-        let out = stepped(rt.alloc(), &tower, place, &states)?;
-        assert_eq!(rt; (out.x(), out.reg(0)), new, "number {x}, node {place}");
+    for row in &ROWS {
+        assert!(rt;
+            steps_so(rt.alloc(), &tower, row)?,
+            "number {}, node {}",
+            row.0,
+            row.2
+        );
     }
     Ok(())
 }
@@ -166,8 +197,7 @@ fn a_spare_votes_for_nothing_and_is_counted(rt: HostRuntime) -> Result<(), Fail>
 #[test]
 fn each_level_has_its_own_spares(rt: HostRuntime) -> Result<(), Fail> {
     let tower = thirteen(rt.alloc())?;
-    assert_eq!(rt; (tower.nodes(), tower.faults(), tower.depth()), (13, 3, 2));
-    assert_eq!(rt; (tower.modulus(), tower.bound()), (10, 1536));
+    assert!(rt; has_numbers(&tower, 13, 3, 2, 1536));
     let mut states = [
         NodeState::zero(rt.alloc(), 2)?,
         NodeState::zero(rt.alloc(), 2)?,
@@ -193,11 +223,10 @@ fn each_level_has_its_own_spares(rt: HostRuntime) -> Result<(), Fail> {
         (7, 1, 0, Some(1), Some(1)),
         (12, 2, 0, Some(0), None),
     ] {
-        assert_eq!(rt; tower.low(place), low, "node {place}");
+        assert!(rt; tower.low(place) == low, "node {place}");
         let out = stepped(rt.alloc(), &tower, place, &states)?;
-        assert_eq!(rt;
-            (out.x(), out.reg(0), out.reg(1)),
-            (x, plain(first), plain(second)),
+        assert!(rt;
+            has_both(&out, x, plain(first), plain(second)),
             "node {place}"
         );
     }
@@ -297,9 +326,8 @@ fn both_steps_are_one(rt: HostRuntime) -> Result<(), Fail> {
         (5, 0, None, (0, 1)),
         (5, 3, Some(1), (0, 0)),
     ] {
-        let wanted = (1, plain(first), plain(Some(1)));
         let out = heard_step(rt.alloc(), &tower, node, value)?;
-        assert_eq!(rt; (out.x(), out.reg(0), out.reg(1)), wanted);
+        assert!(rt; has_both(&out, 1, plain(first), plain(Some(1))));
         let lies = [lie(rt.alloc(), value)?];
         let (out, from, to) = shared_step::<Brand>(
             rt.alloc(),
@@ -310,8 +338,8 @@ fn both_steps_are_one(rt: HostRuntime) -> Result<(), Fail> {
             &liars,
             &lies,
         )?;
-        assert_eq!(rt; (out.x(), out.reg(0), out.reg(1)), wanted);
-        assert_eq!(rt; (from, to), heeded);
+        assert!(rt; has_both(&out, 1, plain(first), plain(Some(1))));
+        assert!(rt; (from, to) == heeded);
     }
     Ok(())
 }

@@ -120,7 +120,7 @@ fn heard<G: Ledger>(
 fn told_one(
     alloc: Global,
     x: u64,
-    values: [(Option<u64>, bool); 4],
+    values: [Value; 4],
     told: u64,
     value: Option<u64>,
     node: usize,
@@ -133,73 +133,86 @@ fn told_one(
     Ok(found)
 }
 
-/// In each row: the number that all nodes show, their values and marks, the number and the value
-/// that node 0 tells, a node that hears it, whether its new register may hang on that, and this.
+/// A value and a mark.
+type Value = (Option<u64>, bool);
+
+const INFINITE: Value = (None, false);
+
+const SPLIT: [Value; 4] = [
+    (Some(4), false),
+    (Some(1), false),
+    (Some(1), false),
+    (Some(2), false),
+];
+
+const SAME: [Value; 4] = [
+    (Some(4), false),
+    (Some(1), false),
+    (Some(1), false),
+    (Some(1), false),
+];
+
+const OTHER: [Value; 4] = [
+    (Some(4), false),
+    (Some(0), false),
+    (Some(1), false),
+    (Some(1), false),
+];
+
+const LOCKED: [Value; 4] = [INFINITE, (Some(9), true), (Some(9), true), (Some(9), true)];
+
+const PARTLY: [Value; 4] = [
+    (Some(4), false),
+    (Some(1), true),
+    INFINITE,
+    (Some(2), false),
+];
+
+/// The number that all nodes show, their values and marks, the number and the value that node 0
+/// tells, a node that hears it, whether its new register may hang on that, and this.
+type Row = (u64, [Value; 4], u64, Option<u64>, usize, bool, Value);
+
+const ROWS: [Row; 22] = [
+    // from 765 on all point to node 1: kind 0, whether three have the own value
+    (765, SPLIT, 0, Some(1), 1, true, (Some(2), false)),
+    (765, SPLIT, 0, Some(5), 1, true, INFINITE),
+    (765, SPLIT, 0, Some(2), 3, false, INFINITE),
+    (765, SAME, 0, Some(5), 1, false, (Some(2), false)),
+    (765, PARTLY, 0, None, 2, false, INFINITE),
+    // kind 1: whether three have it, and the least value that two have
+    (766, SPLIT, 0, Some(1), 1, true, (Some(2), true)),
+    (766, SPLIT, 0, Some(2), 1, true, (Some(2), false)),
+    (766, OTHER, 0, Some(0), 1, true, (Some(1), false)),
+    (766, OTHER, 0, Some(5), 1, true, (Some(2), false)),
+    (766, SAME, 0, Some(0), 1, false, (Some(2), true)),
+    // kind 2: the value of the king, the liar or, three rounds later, node 1
+    (767, SPLIT, 0, Some(5), 1, true, (Some(6), true)),
+    (767, SPLIT, 0, None, 3, true, (Some(1), true)),
+    (767, PARTLY, 0, Some(5), 1, false, (Some(2), true)),
+    (767, SPLIT, 0, Some(4), 0, false, (Some(5), true)),
+    (770, SPLIT, 0, Some(5), 3, false, (Some(2), true)),
+    // all point to the liar: it tells the beat
+    (0, SPLIT, 0, Some(5), 1, true, INFINITE),
+    (0, SPLIT, 1, Some(1), 1, true, (Some(2), true)),
+    (0, SPLIT, 2, Some(5), 1, true, (Some(6), true)),
+    // two of the correct nodes point to node 1, and one to the liar: it decides who leads
+    (189, SPLIT, 10, Some(1), 1, true, (Some(2), false)),
+    (189, SPLIT, 1, Some(1), 1, true, (Some(2), true)),
+    // the registers of the correct nodes are locked
+    (765, LOCKED, 1, Some(5), 1, false, (Some(0), true)),
+    (1, LOCKED, 1, None, 0, true, (Some(0), false)),
+];
+
+/// Whether a row's node is open and gets its new register, and no register is common.
+fn is_decided(alloc: Global, row: &Row) -> Result<bool, NoMemory> {
+    let (common, open, found) = told_one(alloc, row.0, row.1, row.2, row.3, row.4 % 4)?;
+    Ok(common.is_none() && open == row.5 && found.a == row.6.0 && found.d == row.6.1)
+}
+
 #[test]
 fn a_liar_decides_what_is_open(rt: HostRuntime) -> Result<(), Fail> {
-    let infinite = (None, false);
-    let split = [
-        (Some(4), false),
-        (Some(1), false),
-        (Some(1), false),
-        (Some(2), false),
-    ];
-    let same = [
-        (Some(4), false),
-        (Some(1), false),
-        (Some(1), false),
-        (Some(1), false),
-    ];
-    let other = [
-        (Some(4), false),
-        (Some(0), false),
-        (Some(1), false),
-        (Some(1), false),
-    ];
-    let locked = [infinite, (Some(9), true), (Some(9), true), (Some(9), true)];
-    let partly = [
-        (Some(4), false),
-        (Some(1), true),
-        infinite,
-        (Some(2), false),
-    ];
-    for (x, values, told, value, node, open, new) in [
-        // from 765 on all point to node 1: kind 0, whether three have the own value
-        (765, split, 0, Some(1), 1, true, (Some(2), false)),
-        (765, split, 0, Some(5), 1, true, infinite),
-        (765, split, 0, Some(2), 3, false, infinite),
-        (765, same, 0, Some(5), 1, false, (Some(2), false)),
-        (765, partly, 0, None, 2, false, infinite),
-        // kind 1: whether three have it, and the least value that two have
-        (766, split, 0, Some(1), 1, true, (Some(2), true)),
-        (766, split, 0, Some(2), 1, true, (Some(2), false)),
-        (766, other, 0, Some(0), 1, true, (Some(1), false)),
-        (766, other, 0, Some(5), 1, true, (Some(2), false)),
-        (766, same, 0, Some(0), 1, false, (Some(2), true)),
-        // kind 2: the value of the king, the liar or, three rounds later, node 1
-        (767, split, 0, Some(5), 1, true, (Some(6), true)),
-        (767, split, 0, None, 3, true, (Some(1), true)),
-        (767, partly, 0, Some(5), 1, false, (Some(2), true)),
-        (767, split, 0, Some(4), 0, false, (Some(5), true)),
-        (770, split, 0, Some(5), 3, false, (Some(2), true)),
-        // all point to the liar: it tells the beat
-        (0, split, 0, Some(5), 1, true, infinite),
-        (0, split, 1, Some(1), 1, true, (Some(2), true)),
-        (0, split, 2, Some(5), 1, true, (Some(6), true)),
-        // two of the correct nodes point to node 1, and one to the liar: it decides who leads
-        (189, split, 10, Some(1), 1, true, (Some(2), false)),
-        (189, split, 1, Some(1), 1, true, (Some(2), true)),
-        // the registers of the correct nodes are locked
-        (765, locked, 1, Some(5), 1, false, (Some(0), true)),
-        (1, locked, 1, None, 0, true, (Some(0), false)),
-    ] {
-        let (common, is_open, found) = told_one(rt.alloc(), x, values, told, value, node % 4)?;
-        assert_eq!(rt; common, None);
-        assert_eq!(rt;
-            (is_open, found.a, found.d),
-            (open, new.0, new.1),
-            "number {x}, node {node}"
-        );
+    for (i, row) in ROWS.iter().enumerate() {
+        assert!(rt; is_decided(rt.alloc(), row)?, "row {i}");
     }
     Ok(())
 }
@@ -208,7 +221,7 @@ fn a_liar_decides_what_is_open(rt: HostRuntime) -> Result<(), Fail> {
 #[test]
 fn a_settled_group_has_one_register(rt: HostRuntime) -> Result<(), Fail> {
     let (common, is_open, found) = told_one(rt.alloc(), 7, [(Some(3), true); 4], 5, Some(5), 2)?;
-    assert_eq!(rt; (common, is_open), (Some(found), false));
-    assert_eq!(rt; (found.a, found.d), (Some(4), true));
+    assert!(rt; common == Some(found) && !is_open);
+    assert!(rt; found.a == Some(4) && found.d);
     Ok(())
 }
