@@ -6,6 +6,10 @@ mod check_tests;
 #[cfg(test)]
 mod node_tests;
 #[cfg(test)]
+mod one_node_tests;
+#[cfg(test)]
+mod record_tests;
+#[cfg(test)]
 mod tests;
 
 use edge_io::{StdSink, StdSource};

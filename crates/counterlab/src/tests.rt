@@ -73,9 +73,19 @@ fn words_of(alloc: Global, line: &str) -> Result<Vec<String>, Fail> {
 
 /// What the workbench answers to some words and an input, and the sink that it wrote to.
 pub fn answer(alloc: Global, line: &str, input: &[u8]) -> Result<(Status, MemSink), Fail> {
+    answer_in(alloc, line, input, 4096)
+}
+
+/// The same, where the sink has room for so many bytes.
+pub fn answer_in(
+    alloc: Global,
+    line: &str,
+    input: &[u8],
+    room: usize,
+) -> Result<(Status, MemSink), Fail> {
     let none = Vec::new(alloc);
     let mut source = MemSource::new(Vec::from_slice(alloc, input)?, Vec::new(alloc), none);
-    let mut sink = MemSink::new(alloc, 4096, Vec::new(alloc), Vec::new(alloc))?;
+    let mut sink = MemSink::new(alloc, room, Vec::new(alloc), Vec::new(alloc))?;
     let words = words_of(alloc, line)?;
     let status = counterlab(alloc, &words, &mut source, &mut sink);
     Ok((status, sink))
