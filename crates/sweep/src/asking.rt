@@ -20,7 +20,9 @@ fn write_help<K: Sink>(sink: &mut K) -> Result<(), WriteFault>
         sink,
         &[
             Piece::Text(b"usage: sweep FIRST COUNT\n"),
-            Piece::Text(b"Reads a plan and a script from standard input, as counterlab run does,\n"),
+            Piece::Text(
+                b"Reads a plan and a script from standard input, as counterlab run does,\n",
+            ),
             Piece::Text(b"plays the script with COUNT keys, those of the numbers from FIRST on,\n"),
             Piece::Text(b"and writes for each era how many runs first lock with which\n"),
             Piece::Text(b"configuration, and the least number of these. The key of a number is\n"),
