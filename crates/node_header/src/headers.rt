@@ -132,6 +132,7 @@ pub fn read_header<S: Source>(
         }));
     }
     let shape = StateShape::of(alloc, &plan)?;
+    shape.tell();
     let node_lines = HeaderLines::new(alloc, &shape);
     let node = feed_part(feed, line, node_lines, Rule::Form, first, LONGEST_HEADER)?;
     Ok(HeaderRead {

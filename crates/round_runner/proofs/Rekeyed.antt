@@ -43,7 +43,6 @@ module _ (script : Script) (key : List ℕ) where
     nodes = right.nodes;
     shape = right.shape;
     over = right.over;
-    deaf = right.deaf;
     borne = right.borne;
   }
 

@@ -1,6 +1,5 @@
-use Rattle.std.proofs.Common.{◌∙◌, subst}
+use Rattle.std.proofs.Common.{◌∙◌}
 use Rattle.std.proofs.lemmas.Result.{err_from_is_err_and}
-use Rattle.state_codec.specs.Shapes.{IsShape}
 use Rattle.node_header.proofs.Chained.{first_failed, plan_whole, plan_cause, ends_first, halts_between, node_unread, node_whole, node_fits, node_cause, second_failed, whole_second}
 use Rattle.node_header.proofs.headers.read_header.Goals as goal
 
@@ -61,5 +60,4 @@ returns-clause-header g c =
 pub returns-clause-fits : goal.returns-clause-fits
 returns-clause-fits g c =
     node_fits _ _ _ _ _ c.in_ok-part.part.value _ _
-    c.in_ok-shape.ensures.shape c.new-node_lines.ensures
-    (subst IsShape c.shape.view_is c.shape.invariant.sound) _ c.in_ok-node.ensures.fed
+    c.in_ok-shape.ensures.shape c.new-node_lines.ensures c.tell.ensures _ c.in_ok-node.ensures.fed
