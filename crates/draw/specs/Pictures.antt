@@ -88,13 +88,17 @@ end_picture chart end =
 abbrev pub last_of : Frame → ℕ
 last_of frame = frame.first + frame.columns - 1
 
+-- two configurations in a line of the caption
+abbrev pub span_at : (y first last : ℕ) → List ℕ
+span_at y first last = concat (
+    codes "<text text-anchor='start' x='4' y='" ∷ decimal y
+    ∷ codes "'>configurations " ∷ decimal first
+    ∷ codes " to " ∷ decimal last
+    ∷ codes "</text>\n" ∷ [])
+
 -- which configurations a picture shows
 abbrev pub span_caption : Frame → List ℕ
-span_caption frame = concat (
-    codes "<text text-anchor='start' x='4' y='" ∷ decimal (bottom frame + 12)
-    ∷ codes "'>configurations " ∷ decimal frame.first
-    ∷ codes " to " ∷ decimal (last_of frame)
-    ∷ codes "</text>\n" ∷ [])
+span_caption frame = span_at (bottom frame + 12) frame.first (last_of frame)
 
 -- a word and a number in a line of the caption
 abbrev pub number_caption : (y : ℕ) (word : List ℕ) (n : ℕ) → List ℕ
@@ -128,12 +132,18 @@ sized_front chart =
     picture_front (picture_width (frame_of chart))
     (bottom (frame_of chart) + 50 + 16 * length chart.ends.items)
 
+-- how many nodes there are, and the bound, below a height
+abbrev pub counts : (under nodes bound : ℕ) → List ℕ
+counts under nodes bound =
+    number_caption (under + 28) (codes "nodes") nodes
+    ++ number_caption (under + 44) (codes "bound") bound
+
 -- what the picture is of: configurations, nodes and the bound
+abbrev pub facts_in : Frame → (nodes bound : ℕ) → List ℕ
+facts_in frame nodes bound = span_caption frame ++ counts (bottom frame) nodes bound
+
 abbrev pub facts : Chart → List ℕ
-facts chart =
-    span_caption (frame_of chart)
-    ++ (number_caption (bottom (frame_of chart) + 28) (codes "nodes") chart.nodes
-    ++ number_caption (bottom (frame_of chart) + 44) (codes "bound") chart.bound)
+facts chart = facts_in (frame_of chart) chart.nodes chart.bound
 
 abbrev pub picture_text : Chart → List ℕ
 picture_text chart =

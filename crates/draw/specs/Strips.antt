@@ -25,20 +25,18 @@ ground (Some value) Unmarked = codes "#fde9b0'/>\n"
 ground (Some value) Marked = codes "#b5d3f2'/>\n"
 ground (Some value) Locked = codes "#a6dba0'/>\n"
 
--- a path in a cell, from its left upper corner on
-abbrev pub path_from : (x y : ℕ) → List ℕ
-path_from x y = concat (codes "<path d='M" ∷ decimal x ∷ codes " " ∷ decimal y ∷ [])
-
 -- what lies on it: nothing, dots, or a frame
 abbrev pub cover : (x y width : ℕ) → Held → List ℕ
 cover x y width Unmarked = []
 cover x y width Marked = concat (
-    path_from x y
+    codes "<path d='M" ∷ decimal x
+    ∷ codes " " ∷ decimal y
     ∷ codes "h" ∷ decimal width
     ∷ codes "v18H" ∷ decimal x
     ∷ codes "z' fill='url(#marked)'/>\n" ∷ [])
 cover x y width Locked = concat (
-    path_from (x + 2) (y + 2)
+    codes "<path d='M" ∷ decimal (x + 2)
+    ∷ codes " " ∷ decimal (y + 2)
     ∷ codes "h" ∷ decimal (width - 4)
     ∷ codes "v14H" ∷ decimal (x + 2)
     ∷ codes "z' fill='none' stroke='darkgreen' stroke-width='2'/>\n" ∷ [])
@@ -47,7 +45,8 @@ cover x y width Locked = concat (
 abbrev pub value_text : (x y : ℕ) → Option ℕ → List ℕ
 value_text x y (Some value) = number_text x (y + 13) value
 value_text x y None = concat (
-    path_from (x - 3) (y + 6)
+    codes "<path d='M" ∷ decimal (x - 3)
+    ∷ codes " " ∷ decimal (y + 6)
     ∷ codes "l6 6m0 -6l-6 6' stroke='dimgray'/>\n" ∷ [])
 
 abbrev pub register_at : (x y width : ℕ) → Register → List ℕ
@@ -100,17 +99,23 @@ abbrev pub edge : Bool → List ℕ
 edge true = codes "z' fill='none' stroke='black'/>\n"
 edge false = codes "z' fill='none' stroke='black' stroke-dasharray='2'/>\n"
 
--- the turn: its front in gold, and a frame
-abbrev pub reign_box : (x y width : ℕ) → Reign → List ℕ
-reign_box x y width reign = concat (
-    path_from x y
-    ∷ codes "h" ∷ decimal (share width reign.turn)
+-- a part of a cell in gold, and a frame about the cell
+abbrev pub gold_part : (x y width part : ℕ) (edge : List ℕ) → List ℕ
+gold_part x y width part edge = concat (
+    codes "<path d='M" ∷ decimal x
+    ∷ codes " " ∷ decimal y
+    ∷ codes "h" ∷ decimal part
     ∷ codes "v14H" ∷ decimal x
     ∷ codes "z' fill='gold'/>\n<path d='M" ∷ decimal x
     ∷ codes " " ∷ decimal y
     ∷ codes "h" ∷ decimal width
     ∷ codes "v14H" ∷ decimal x
-    ∷ edge reign.is_common ∷ [])
+    ∷ edge ∷ [])
+
+-- the turn: its front in gold, and a frame
+abbrev pub reign_box : (x y width : ℕ) → Reign → List ℕ
+reign_box x y width reign =
+    gold_part x y width (share width reign.turn) (edge reign.is_common)
 
 abbrev pub reign_at : (x y width : ℕ) → Reign → List ℕ
 reign_at x y width reign =

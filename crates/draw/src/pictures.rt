@@ -2,9 +2,9 @@
 
 ghost use Rattle.std.specs.Prelude.{◌≡◌, ◌<◌, ◌≤◌, ◌^◌, length};
 ghost use Rattle.texts.specs.Growth.{Puts};
-ghost use Rattle.draw.specs.Pictures.{facts, last_of, number_caption, picture_front};
-ghost use Rattle.draw.specs.Pictures.{picture_ground, picture_text, picture_width, sized_front};
-ghost use Rattle.draw.specs.Pictures.{span_caption};
+ghost use Rattle.draw.specs.Pictures.{counts, facts, facts_in, last_of, number_caption};
+ghost use Rattle.draw.specs.Pictures.{picture_front, picture_ground, picture_text, picture_width};
+ghost use Rattle.draw.specs.Pictures.{sized_front, span_at, span_caption};
 
 use crate::charts::Chart;
 use crate::frames::{Frame, bottom, right};
@@ -72,21 +72,33 @@ fn last_of(frame: Frame) -> u64
     if behind == 0 { 0 } else { behind - 1 }
 }
 
-/// Writes which configurations a picture shows.
-pub fn put_span<K: Sink>(sink: &mut K, frame: Frame) -> Result<(), WriteFault>
-    ensures { Puts result (span_caption frame) (K.told sink.old) (K.told sink.new) }
+/// Writes two configurations in a line of the caption.
+fn put_span_at<K: Sink>(sink: &mut K, y: u64, first: u64, last: u64) -> Result<(), WriteFault>
+    ensures { Puts result (span_at y first last) (K.told sink.old) (K.told sink.new) }
 {
     put_pieces(
         sink,
         &[
             Piece::Text(b"<text text-anchor='start' x='4' y='"),
-            Piece::Number(bottom(frame) + 12),
+            Piece::Number(y),
             Piece::Text(b"'>configurations "),
-            Piece::Number(u64::from(frame.first)),
+            Piece::Number(first),
             Piece::Text(b" to "),
-            Piece::Number(last_of(frame)),
+            Piece::Number(last),
             Piece::Text(b"</text>\n"),
         ],
+    )
+}
+
+/// Writes which configurations a picture shows.
+pub fn put_span<K: Sink>(sink: &mut K, frame: Frame) -> Result<(), WriteFault>
+    ensures { Puts result (span_caption frame) (K.told sink.old) (K.told sink.new) }
+{
+    put_span_at(
+        sink,
+        bottom(frame) + 12,
+        u64::from(frame.first),
+        last_of(frame),
     )
 }
 
@@ -113,15 +125,33 @@ pub fn put_number_caption<'a, K: Sink>(
     )
 }
 
+/// Writes how many nodes there are, and the bound.
+fn put_counts<K: Sink>(sink: &mut K, under: u64, nodes: u64, bound: u64) -> Result<(), WriteFault>
+    requires { under ≤ 2 ^ 60 }
+    ensures { Puts result (counts under nodes bound) (K.told sink.old) (K.told sink.new) }
+{
+    put_number_caption(sink, under + 28, b"nodes", nodes)?;
+    put_number_caption(sink, under + 44, b"bound", bound)
+}
+
+/// Writes what a picture is of, in its frame.
+fn put_facts_in<K: Sink>(
+    sink: &mut K,
+    frame: Frame,
+    nodes: u64,
+    bound: u64,
+) -> Result<(), WriteFault>
+    ensures { Puts result (facts_in frame nodes bound) (K.told sink.old) (K.told sink.new) }
+{
+    put_span(sink, frame)?;
+    put_counts(sink, bottom(frame), nodes, bound)
+}
+
 /// Writes what a picture is of.
 fn put_facts<K: Sink>(sink: &mut K, chart: &Chart) -> Result<(), WriteFault>
     ensures { Puts result (facts chart.now) (K.told sink.old) (K.told sink.new) }
 {
-    let frame = chart.frame();
-    let under = bottom(frame);
-    put_span(sink, frame)?;
-    put_number_caption(sink, under + 28, b"nodes", u64::from(chart.nodes))?;
-    put_number_caption(sink, under + 44, b"bound", chart.bound)
+    put_facts_in(sink, chart.frame(), u64::from(chart.nodes), chart.bound)
 }
 
 /// Writes all parts of a picture.

@@ -224,8 +224,8 @@ pub fn put_note_pictures<K: Sink>(
     ensures { Puts result (flat_map (note_picture frame) notes.now)
         (K.told sink.old) (K.told sink.new) }
 {
-    for i in 0..notes.len() {
-        match put_note_picture(sink, frame, &notes[i]) {
+    for note in notes {
+        match put_note_picture(sink, frame, note) {
             Ok(()) => {}
             Err(WriteFault) => return Err(WriteFault),
         }

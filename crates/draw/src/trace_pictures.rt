@@ -173,8 +173,12 @@ fn put_trace_facts<K: Sink>(sink: &mut K, trace: &Trace) -> Result<(), WriteFaul
     ensures { Puts result (trace_facts trace.now) (K.told sink.old) (K.told sink.new) }
 {
     put_span(sink, trace.frame)?;
-    let y = bottom(trace.frame) + 28;
-    put_number_caption(sink, y, b"nodes", u64::from(trace.nodes))
+    put_number_caption(
+        sink,
+        bottom(trace.frame) + 28,
+        b"nodes",
+        u64::from(trace.nodes),
+    )
 }
 
 /// Writes the front, with the picture's width and height.

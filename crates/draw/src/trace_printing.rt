@@ -192,8 +192,8 @@ fn put_note<K: Sink>(sink: &mut K, first: u32, note: &Note) -> Result<(), WriteF
 pub fn put_trace<K: Sink>(sink: &mut K, first: u32, notes: &[Note]) -> Result<(), WriteFault>
     ensures { Puts result (trace_text first notes.now) (K.told sink.old) (K.told sink.new) }
 {
-    for i in 0..notes.len() {
-        match put_note(sink, first, &notes[i]) {
+    for note in notes {
+        match put_note(sink, first, note) {
             Ok(()) => {}
             Err(WriteFault) => return Err(WriteFault),
         }

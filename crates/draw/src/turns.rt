@@ -3,7 +3,7 @@
 ghost use Rattle.std.specs.Prelude.{◌≡◌, ◌<◌, ◌≤◌, ◌^◌};
 ghost use Rattle.std.specs.List.{flat_map};
 ghost use Rattle.texts.specs.Growth.{Puts};
-ghost use Rattle.draw.specs.Strips.{edge, reign_at, reign_box, reign_picture, share};
+ghost use Rattle.draw.specs.Strips.{edge, gold_part, reign_at, reign_box, reign_picture, share};
 
 use crate::frames::{Frame, band_top, column_left, column_width};
 use crate::squares::put_number_at;
@@ -32,6 +32,41 @@ fn edge(is_common: bool) -> &'static [u8]
     }
 }
 
+/// Draws a part of a cell in gold, and a frame about the cell.
+fn put_gold_part<'a, K: Sink>(
+    sink: &mut K,
+    x: u64,
+    y: u64,
+    width: u64,
+    part: u64,
+    edge: &'a [u8],
+) -> Result<(), WriteFault>
+    ensures { Puts result (gold_part x y width part edge.now) (K.told sink.old) (K.told sink.new) }
+{
+    put_pieces(
+        sink,
+        &[
+            Piece::Text(b"<path d='M"),
+            Piece::Number(x),
+            Piece::Text(b" "),
+            Piece::Number(y),
+            Piece::Text(b"h"),
+            Piece::Number(part),
+            Piece::Text(b"v14H"),
+            Piece::Number(x),
+            Piece::Text(b"z' fill='gold'/>\n<path d='M"),
+            Piece::Number(x),
+            Piece::Text(b" "),
+            Piece::Number(y),
+            Piece::Text(b"h"),
+            Piece::Number(width),
+            Piece::Text(b"v14H"),
+            Piece::Number(x),
+            Piece::Text(edge),
+        ],
+    )
+}
+
 /// Draws a turn: its front in gold, and a frame.
 fn put_reign_box<K: Sink>(
     sink: &mut K,
@@ -43,27 +78,13 @@ fn put_reign_box<K: Sink>(
     requires { width ≤ 2 ^ 60 }
     ensures { Puts result (reign_box x y width reign) (K.told sink.old) (K.told sink.new) }
 {
-    put_pieces(
+    put_gold_part(
         sink,
-        &[
-            Piece::Text(b"<path d='M"),
-            Piece::Number(x),
-            Piece::Text(b" "),
-            Piece::Number(y),
-            Piece::Text(b"h"),
-            Piece::Number(share(width, reign.turn)),
-            Piece::Text(b"v14H"),
-            Piece::Number(x),
-            Piece::Text(b"z' fill='gold'/>\n<path d='M"),
-            Piece::Number(x),
-            Piece::Text(b" "),
-            Piece::Number(y),
-            Piece::Text(b"h"),
-            Piece::Number(width),
-            Piece::Text(b"v14H"),
-            Piece::Number(x),
-            Piece::Text(edge(reign.is_common)),
-        ],
+        x,
+        y,
+        width,
+        share(width, reign.turn),
+        edge(reign.is_common),
     )
 }
 

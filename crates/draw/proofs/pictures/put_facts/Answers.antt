@@ -1,24 +1,4 @@
-use Rattle.texts.proofs.Growth.{cut_more, cut_then, puts_exit, puts_then}
-use Rattle.std.specs.Prelude.{◌+◌, codes}
-use Rattle.draw.specs.Frames.{bottom}
-use Rattle.draw.specs.Charts.{frame_of}
-use Rattle.draw.specs.Pictures.{number_caption, span_caption}
 use Rattle.draw.proofs.pictures.put_facts.Goals as goal
 
-pub returns-in_err-put_span : goal.returns-in_err-put_span
-returns-in_err-put_span g c =
-    puts_exit _ _ _ _ _ c.from_residual.ensures.1
-    (cut_more _ _ (span_caption (frame_of c.args.chart.now)) _ c.in_err-put_span.ensures)
-
-pub returns-in_err-put_number_caption : goal.returns-in_err-put_number_caption
-returns-in_err-put_number_caption g c =
-    puts_exit _ _ _ _ _ c.from_residual-in_err-put_number_caption.ensures.1
-    (cut_then _ _ _ (span_caption (frame_of c.args.chart.now)) _ c.in_ok-put_span.ensures
-    (cut_more _ _ (number_caption (bottom (frame_of c.args.chart.now) + 28) (codes "nodes")
-    c.args.chart.now.nodes) _ c.in_err-put_number_caption.ensures))
-
 pub returns : goal.returns
-returns g c =
-    puts_then _ _ _ _ (span_caption (frame_of c.args.chart.now)) _ c.in_ok-put_span.ensures
-    (puts_then _ _ _ _ (number_caption (bottom (frame_of c.args.chart.now) + 28) (codes "nodes")
-    c.args.chart.now.nodes) _ c.in_ok-put_number_caption.ensures c.put_number_caption-2.ensures)
+returns g c = rw (c.frame.ensures, c.from.ensures) at c.put_facts_in.ensures

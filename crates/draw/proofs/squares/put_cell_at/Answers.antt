@@ -12,10 +12,10 @@ returns-in_err-put_node_label g c =
     puts_exit _ _ _ _ _ c.from_residual-in_err-put_node_label.ensures.1
     (cut_then _ _ _ (cell_head c.args.frame c.args.cell) _ c.in_ok-put_cell_head.ensures
     (cut_more _ _ (node_label c.args.frame c.args.cell.row c.args.top c.args.cell.node) _
-    c.in_err-put_node_label.ensures))
+    (rw c.from.ensures at c.in_err-put_node_label.ensures)))
 
 pub returns : goal.returns
 returns g c =
     puts_then _ _ _ _ (cell_head c.args.frame c.args.cell) _ c.in_ok-put_cell_head.ensures
     (puts_then _ _ _ _ (node_label c.args.frame c.args.cell.row c.args.top c.args.cell.node) _
-    c.in_ok-put_node_label.ensures c.put_shown.ensures)
+    (rw c.from.ensures at c.in_ok-put_node_label.ensures) c.put_shown.ensures)

@@ -3,3 +3,9 @@ use Rattle.draw.proofs.strips.put_cover.Goals as goal
 
 pub returns-in-Unmarked : goal.returns-in-Unmarked
 returns-in-Unmarked g c = rw c.in-Unmarked.is (wrote_none _)
+
+pub returns-in-Marked : goal.returns-in-Marked
+returns-in-Marked g c = rw c.in-Marked.is c.put_pieces.ensures
+
+pub returns-in-Locked : goal.returns-in-Locked
+returns-in-Locked g c = rw c.in-Locked.is c.put_pieces-in-Locked.ensures

@@ -4,7 +4,7 @@ use Rattle.texts.specs.Growth.{Wrote}
 use Rattle.draw.specs.Strips.{note_picture}
 use Rattle.draw.proofs.strips.put_note_pictures.Given as goal
 
-abbrev pub invariant-loop-i : goal.invariant-loop-i
-invariant-loop-i g l =
-    Wrote (flat_map (note_picture l.frame) (take l.i l.notes))
+abbrev pub invariant-loop-note : goal.invariant-loop-note
+invariant-loop-note g l =
+    Wrote (flat_map (note_picture l.frame) (take l.note-index l.notes))
     (g.K.Sink.told l.fn.sink) (g.K.Sink.told l.sink)

@@ -10,4 +10,4 @@ returns-in_err-put_span g c =
 pub returns : goal.returns
 returns g c =
     puts_then _ _ _ _ (span_caption c.args.trace.now.frame) _ c.in_ok-put_span.ensures
-    c.put_number_caption.ensures
+    (rw (c.bottom.ensures.value, c.from.ensures) at c.put_number_caption.ensures)

@@ -13,18 +13,21 @@ pub returns-in_err-put_votes : goal.returns-in_err-put_votes
 returns-in_err-put_votes g c =
     puts_exit _ _ _ _ _ c.from_residual-in_err-put_votes.ensures.1
     (cut_then _ _ _ (codes " votes") _ c.in_ok-put_all.ensures
-    (cut_more _ _ (flat_map vote_word c.args.heard.now.votes.items) _ c.in_err-put_votes.ensures))
+    (cut_more _ _ (flat_map vote_word c.args.heard.now.votes.items) _
+    (rw c.deref.ensures.value at c.in_err-put_votes.ensures)))
 
 pub returns-in_err-put_counts : goal.returns-in_err-put_counts
 returns-in_err-put_counts g c =
     puts_exit _ _ _ _ _ c.from_residual-in_err-put_counts.ensures.1
     (cut_then _ _ _ (codes " votes") _ c.in_ok-put_all.ensures
-    (cut_then _ _ _ (flat_map vote_word c.args.heard.now.votes.items) _ c.in_ok-put_votes.ensures
+    (cut_then _ _ _ (flat_map vote_word c.args.heard.now.votes.items) _
+    (rw c.deref.ensures.value at c.in_ok-put_votes.ensures)
     (cut_more _ _ (count_words c.args.heard.now) _ c.in_err-put_counts.ensures)))
 
 pub returns : goal.returns
 returns g c =
     puts_then _ _ _ _ (codes " votes") _ c.in_ok-put_all.ensures
-    (puts_then _ _ _ _ (flat_map vote_word c.args.heard.now.votes.items) _ c.in_ok-put_votes.ensures
+    (puts_then _ _ _ _ (flat_map vote_word c.args.heard.now.votes.items) _
+    (rw c.deref.ensures.value at c.in_ok-put_votes.ensures)
     (puts_then _ _ _ _ (count_words c.args.heard.now) _ c.in_ok-put_counts.ensures
     c.put_number_or_none.ensures))

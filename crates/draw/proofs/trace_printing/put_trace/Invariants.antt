@@ -4,7 +4,7 @@ use Rattle.texts.specs.Growth.{Wrote}
 use Rattle.draw.specs.Traces.{note_line}
 use Rattle.draw.proofs.trace_printing.put_trace.Given as goal
 
-abbrev pub invariant-loop-i : goal.invariant-loop-i
-invariant-loop-i g l =
-    Wrote (flat_map (note_line l.first) (take l.i l.notes))
+abbrev pub invariant-loop-note : goal.invariant-loop-note
+invariant-loop-note g l =
+    Wrote (flat_map (note_line l.first) (take l.note-index l.notes))
     (g.K.Sink.told l.fn.sink) (g.K.Sink.told l.sink)
