@@ -14,8 +14,9 @@ ghost use Rattle.edge_io.specs.Pieces.{piece_text};
 ghost use Rattle.traces.specs.LevelTexts.{number_or_none, votes_part, turn_word, turn_part, counts_part, heard_part, vote_word};
 
 use crate::places::Place;
+use crate::tallies::tally_values;
 use boost_step::{beat, lead, vote};
-use counter_core::{Heard, Work, tally_values};
+use counter_core::{Heard, Work};
 use edge_io::{Piece, TextSink, WriteFault, put_pieces};
 use plan_numbers::LevelNums;
 use tower::set_outputs;

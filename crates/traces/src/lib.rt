@@ -11,6 +11,7 @@ mod level_lines;
 mod level_parts;
 mod node_lines;
 mod places;
+mod tallies;
 mod tracing;
 mod views;
 mod wants;
