@@ -6,7 +6,7 @@ abbrev pub help_text : List ℕ
 help_text = concat (
     codes "usage: sweep FIRST COUNT\n"
     ∷ codes "Reads a plan and a script from standard input, as counterlab run does,\n"
-    ∷ codes "plays the script with COUNT keys, those of the numbers from FIRST on,\n"
+    ∷ codes "plays the script with the keys of COUNT numbers from FIRST on,\n"
     ∷ codes "and writes for each era how many runs first lock with which\n"
     ∷ codes "configuration, and the least number of these. The key of a number is\n"
     ∷ codes "the number as 16 hex digits, with 48 zeros behind.\n" ∷ [])

@@ -23,7 +23,7 @@ fn write_help<K: Sink>(sink: &mut K) -> Result<(), WriteFault>
             Piece::Text(
                 b"Reads a plan and a script from standard input, as counterlab run does,\n",
             ),
-            Piece::Text(b"plays the script with COUNT keys, those of the numbers from FIRST on,\n"),
+            Piece::Text(b"plays the script with the keys of COUNT numbers from FIRST on,\n"),
             Piece::Text(b"and writes for each era how many runs first lock with which\n"),
             Piece::Text(b"configuration, and the least number of these. The key of a number is\n"),
             Piece::Text(b"the number as 16 hex digits, with 48 zeros behind.\n"),
@@ -43,8 +43,8 @@ pub fn answer<S: Source, K: Sink>(
     source: &mut S,
     sink: &mut K,
 ) -> Result<(), SweepError>
-    // What was read and written, by how it ended: of a sweep, the text that is defined for the plan,
-    // the script and the numbers.
+    // What was read and written, by how it ended: of a sweep, the text that is defined for the
+    // plan, the script and the numbers.
     ensures { DoesAsked (request_of (map string_bytes words.now)) result
         (S.left source.old) (S.left source.new) (S.faults source.old) (S.faults source.new)
         (K.told sink.old) (K.told sink.new) }

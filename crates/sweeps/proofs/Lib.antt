@@ -4,3 +4,4 @@ pub mod Placed
 pub mod Texts
 pub mod Tallied
 pub mod Exits
+pub mod SameRun

@@ -11,7 +11,8 @@ use Rattle.sweeps.specs.declared.tallies.Found.{Found}
 
 -- of what is played of a script, the first locked configuration of era j
 abbrev pub lock_of : Plan → Script → (j : ℕ) → Option ℕ
-lock_of plan script j = first_locked (era_locked plan script (played_at plan script) j) script.rounds
+lock_of plan script j =
+    first_locked (era_locked plan script (played_at plan script) j) script.rounds
 
 -- the same with the key of a number
 abbrev pub lock_with : Plan → Script → (j seed : ℕ) → Option ℕ

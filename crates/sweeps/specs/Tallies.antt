@@ -40,8 +40,8 @@ abbrev pub IsWithin : EraRuns → Option ℕ → Type 0
 IsWithin runs locked =
     IfSome locked (λ t. (runs.first ≤ t) × (t < runs.first + length runs.locked))
 
--- These are the runs of an era of so many configurations, for keys of these numbers, where the first
--- locked configuration of each is in a table.
+-- These are the runs of an era of so many configurations, for keys of these numbers, where the
+-- first locked configuration of each is in a table.
 pub record AreRuns (lock : ℕ → Option ℕ) (first size : ℕ) (seeds : List ℕ) (runs : EraRuns)
     : Type 0 where
   pub from : runs.first ≡ first
@@ -77,7 +77,8 @@ pub record AreTallied (plan : Plan) (script : Script) (seeds : List ℕ) (tally 
 
 -- the line of place k
 abbrev pub place_line : EraRuns → (k : ℕ) → List ℕ
-place_line runs k = line_of runs.first (Some (runs.first + k)) (slice_index_or runs.locked k nothing)
+place_line runs k =
+    line_of runs.first (Some (runs.first + k)) (slice_index_or runs.locked k nothing)
 
 -- the lines of the runs of an era that lock
 abbrev pub locked_text : EraRuns → List ℕ

@@ -7,10 +7,12 @@
 #![tactic(auto)]
 
 mod keys;
+mod noiseless;
 mod playing;
 mod sweeping;
 mod tallies;
 mod tallying;
 mod writing;
 
+pub use noiseless::one_run_without_noise;
 pub use sweeping::{SweepFault, sweep};

@@ -59,7 +59,8 @@ impl Model for EraTally {
 }
 
 impl EraTally {
-    ghost use Rattle.std.specs.Prelude.{ℕ, List, Option, Some, length, ◌++◌, ◌∷◌, [], slice_index_or};
+    ghost use Rattle.std.specs.Prelude.{ℕ, List, Option, length, ◌++◌, ◌∷◌, []};
+    ghost use Rattle.std.specs.Prelude.{slice_index_or};
     ghost use Rattle.sweeps.specs.Tallies.{AreRuns, IsWithin, with_lock};
 
     /// No runs of an era that begins with this configuration and has so many.

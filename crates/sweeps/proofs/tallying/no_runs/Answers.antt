@@ -1,4 +1,4 @@
-use Rattle.std.proofs.Common.{◌≡◌, ℕ, ◌+◌, length, subst, ap, ap₂, ◌-◌, ◌∙◌, arith}
+use Rattle.std.proofs.Common.{◌≡◌, ℕ, ◌+◌, length, ap, ap₂, ◌-◌, ◌∙◌, arith}
 use Rattle.sweeps.proofs.Tallied.{all_begun, begun_more, all_none, all_roomy}
 use Rattle.sweeps.proofs.tallying.no_runs.Goals as goal
 

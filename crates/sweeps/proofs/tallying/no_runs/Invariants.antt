@@ -1,5 +1,4 @@
 use Rattle.std.proofs.Common.{◌≡◌}
-use Rattle.adversary_script.specs.Scripts.{IsScript}
 use Rattle.sweeps.proofs.Tallied.{all_begun}
 use Rattle.sweeps.proofs.tallying.no_runs.Given as goal
 

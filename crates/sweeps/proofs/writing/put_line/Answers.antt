@@ -1,4 +1,4 @@
-use Rattle.std.proofs.Common.{◌≡◌, ℕ, Option, [], refl, subst, sym}
+use Rattle.std.proofs.Common.{ℕ, Option, subst, sym}
 use Rattle.texts.specs.Growth.{Wrote}
 use Rattle.texts.proofs.Growth.{wrote_none}
 use Rattle.sweeps.specs.SweepTexts.{line_if}

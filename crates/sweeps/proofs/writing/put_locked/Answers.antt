@@ -1,4 +1,4 @@
-use Rattle.std.proofs.Common.{◌≡◌, List, ℕ, length, subst, arith}
+use Rattle.std.proofs.Common.{List, ℕ, length, subst, arith}
 use Rattle.texts.specs.Growth.{Wrote, Cut}
 use Rattle.texts.proofs.Growth.{wrote_none}
 use Rattle.sweeps.specs.Tallies.{place_line}
