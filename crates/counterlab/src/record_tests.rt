@@ -94,14 +94,24 @@ fn rows_of(alloc: Global, text: &[u8], shown: &Shown) -> Result<Vec<u8>, AllocEr
     Ok(rows)
 }
 
+/// How many lines a text has.
+fn line_count(text: &[u8]) -> u64 {
+    let mut count: u64 = 0;
+    for byte in text {
+        if *byte == b'\n' {
+            count = count.wrapping_add(1);
+        }
+    }
+    count
+}
+
 /// Whether `run` writes the rows, as many as are shown, that stand in what `record` writes.
 fn are_recorded(alloc: Global, shown: &Shown) -> Result<bool, Fail> {
     let run = written(alloc, "run", shown.0.as_bytes())?;
     let record = written(alloc, "record", shown.0.as_bytes())?;
     let rows = rows_of(alloc, run.taken(), shown)?;
     let recorded = rows_of(alloc, record.taken(), shown)?;
-    let count = Lines::new(&rows, 1).count() as u64;
-    let all = shown.1.checked_add(count) == shown.2.checked_add(1);
+    let all = shown.1.checked_add(line_count(&rows)) == shown.2.checked_add(1);
     Ok(all && rows == recorded && run.taken().ends_with(shown.3.as_bytes()))
 }
 
