@@ -1,4 +1,0 @@
-pub mod Answers
-pub mod HelpText
-pub mod Names
-pub mod Requests
