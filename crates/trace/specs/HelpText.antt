@@ -1,0 +1,16 @@
+-- What is written for `--help` and `--version`, and for words that ask for nothing.
+use Rattle.std.specs.Prelude.{ℕ, List, [], ◌∷◌, codes}
+use Rattle.std.specs.List.{concat}
+
+abbrev pub usage_text : List ℕ
+usage_text = codes "usage: trace FROM TO [NODE ..] < PLAN_AND_SCRIPT, or trace --help\n"
+
+abbrev pub help_text : List ℕ
+help_text = concat (
+    codes "usage: trace FROM TO [NODE ..] < PLAN_AND_SCRIPT\n"
+    ∷ codes "Plays a script on the counter of its plan, as counterlab run does, and\n"
+    ∷ codes "writes of each configuration from FROM to TO what the nodes hold, and\n"
+    ∷ codes "what they make of what they hear: of all nodes, or of these.\n" ∷ [])
+
+abbrev pub version_text : List ℕ
+version_text = codes "trace 1.0\n"

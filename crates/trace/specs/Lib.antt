@@ -1,0 +1,4 @@
+pub mod Answers
+pub mod HelpText
+pub mod Names
+pub mod Requests

@@ -1,0 +1,33 @@
+-- What the words ask for: `FROM TO [NODE ..]`, `--help` or `--version`.
+use Rattle.std.specs.Prelude.{ℕ, List, [], ◌∷◌, nat_lt, Bool, Option, Some, None, codes, if◌then◌else◌}
+use Rattle.std.specs.List.{list_all}
+use Rattle.std.specs.Option.{is_some, option_map}
+use Rattle.std.specs.Str.{bytes_eq}
+use Rattle.texts.specs.Numbers.{number_of}
+use Rattle.traces.specs.declared.wants.Want.{Want}
+use Rattle.trace.specs.declared.requests.Request.{Request}
+use Rattle.trace.specs.declared.requests.Request.TheVariants as request
+
+-- what a single word asks for
+abbrev pub asked_alone : List ℕ → Option Request
+asked_alone word =
+    if bytes_eq word (codes "--help") then Some request.Help
+    else if bytes_eq word (codes "--version") then Some request.Version
+    else None
+
+-- whether each word is a number
+abbrev pub are_numbers : List (List ℕ) → Bool
+are_numbers words = list_all (λ word. is_some (number_of word)) words
+
+-- the configurations from the one number to the other, in this order
+abbrev pub want_by : (first last : Option ℕ) → Option Want
+want_by (Some first) (Some last) =
+    if nat_lt last first then None else Some (record { first = first; last = last })
+want_by first last = None
+
+abbrev pub request_of : List (List ℕ) → Option Request
+request_of [] = None
+request_of (word ∷ []) = asked_alone word
+request_of (first ∷ last ∷ nodes) =
+    if are_numbers nodes then option_map request.Trace (want_by (number_of first) (number_of last))
+    else None

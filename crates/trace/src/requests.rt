@@ -1,0 +1,78 @@
+//! What the words ask for.
+
+ghost use Rattle.std.specs.Prelude.{◌≡◌, map, string_bytes};
+ghost use Rattle.texts.specs.Numbers.{number_of};
+ghost use Rattle.trace.specs.Requests.{are_numbers, asked_alone, request_of, want_by};
+
+use edge_io::number;
+use traces::Want;
+
+/// What is asked for.
+#[derive(Clone, Copy, Debug, PartialEq, Eq)]
+pub enum Request {
+    /// How the program is used.
+    Help,
+    /// Its name and version.
+    Version,
+    /// A trace of these configurations.
+    Trace(Want),
+}
+
+/// What a single word asks for.
+fn asked_alone(word: &str) -> Option<Request>
+    ensures { result ≡ asked_alone word.now }
+{
+    if word == "--help" {
+        Some(Request::Help)
+    } else if word == "--version" {
+        Some(Request::Version)
+    } else {
+        None
+    }
+}
+
+/// Whether each word is a number.
+fn are_numbers(words: &[String]) -> bool
+    ensures { result ≡ are_numbers (map string_bytes words.now) }
+{
+    for word in words {
+        if number(word.as_bytes()).is_none() {
+            return false;
+        }
+    }
+    true
+}
+
+/// The configurations from the one number to the other, where each is one and they are in order.
+fn want_by(first: Option<u64>, last: Option<u64>) -> Option<Want>
+    ensures { result ≡ want_by first last }
+{
+    match (first, last) {
+        (Some(first), Some(last)) => {
+            if last < first {
+                None
+            } else {
+                Some(Want { first, last })
+            }
+        }
+        _ => None,
+    }
+}
+
+/// What these words ask for: None exactly where they ask for nothing. Behind the numbers of the
+/// configurations stand those of nodes, which only the plan can say to be some.
+pub fn request_of(words: &[String]) -> Option<Request>
+    ensures { result ≡ request_of (map string_bytes words.now) }
+{
+    match words {
+        [word] => asked_alone(word.as_str()),
+        [first, last, nodes @ ..] => {
+            if !are_numbers(nodes) {
+                return None;
+            }
+            let want = want_by(number(first.as_bytes()), number(last.as_bytes()))?;
+            Some(Request::Trace(want))
+        }
+        _ => None,
+    }
+}
