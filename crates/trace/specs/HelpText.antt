@@ -1,9 +1,6 @@
--- What is written for `--help` and `--version`, and for words that ask for nothing.
+-- What is written for `--help` and `--version`.
 use Rattle.std.specs.Prelude.{ℕ, List, [], ◌∷◌, codes}
 use Rattle.std.specs.List.{concat}
-
-abbrev pub usage_text : List ℕ
-usage_text = codes "usage: trace FROM TO [NODE ..] < PLAN_AND_SCRIPT, or trace --help\n"
 
 abbrev pub help_text : List ℕ
 help_text = concat (

@@ -1,5 +1,5 @@
 -- The nodes that words name.
-use Rattle.std.specs.Prelude.{◌≡◌, ℕ, nat_lt, nat_eq, List, length, filter, Bool, true, false, ◌==◌, ◌||◌, Option, Some, None, if◌then◌else◌}
+use Rattle.std.specs.Prelude.{◌≡◌, ℕ, nat_lt, nat_eq, List, length, filter, Bool, true, false, ◌==◌, ◌||◌, Option, Some, None}
 use Rattle.std.specs.List.{list_any, list_all, range_with_len}
 use Rattle.std.specs.Option.{option_eq}
 use Rattle.texts.specs.Numbers.{number_of}
@@ -7,6 +7,10 @@ use Rattle.texts.specs.Numbers.{number_of}
 -- whether one of these words names node v
 abbrev pub is_named : List (List ℕ) → (v : ℕ) → Bool
 is_named words v = list_any (λ word. option_eq nat_eq (number_of word) (Some v)) words
+
+-- whether node v is wanted: it is named, or there is no word
+abbrev pub is_wanted : List (List ℕ) → (v : ℕ) → Bool
+is_wanted words v = length words == 0 || is_named words v
 
 -- a number below this one
 abbrev pub is_below : (n : ℕ) → Option ℕ → Bool
@@ -19,10 +23,9 @@ are_nodes words n = list_all (λ word. is_below n (number_of word)) words
 
 -- the nodes that these words name, each once, in rising order; all where there is no word
 abbrev pub named_nodes : List (List ℕ) → (n : ℕ) → List ℕ
-named_nodes words n =
-    filter (λ v. length words == 0 || is_named words v) (range_with_len 0 n)
+named_nodes words n = filter (is_wanted words) (range_with_len 0 n)
 
 -- these, where each word names one of n nodes, and else none
 abbrev pub IsNaming : List (List ℕ) → (n : ℕ) → Option (List ℕ) → Type 0
-IsNaming words n named =
-    named ≡ (if are_nodes words n then Some (named_nodes words n) else None)
+IsNaming words n None = are_nodes words n ≡ false
+IsNaming words n (Some ids) = (are_nodes words n ≡ true) × (ids ≡ named_nodes words n)

@@ -1,5 +1,5 @@
 -- What the words ask for: `FROM TO [NODE ..]`, `--help` or `--version`.
-use Rattle.std.specs.Prelude.{ℕ, List, [], ◌∷◌, nat_lt, Bool, Option, Some, None, codes, if◌then◌else◌}
+use Rattle.std.specs.Prelude.{ℕ, ◌≤◌, List, [], ◌∷◌, nat_lt, Bool, Option, Some, None, codes, if◌then◌else◌}
 use Rattle.std.specs.List.{list_all}
 use Rattle.std.specs.Option.{is_some, option_map}
 use Rattle.std.specs.Str.{bytes_eq}
@@ -31,3 +31,18 @@ request_of (word ∷ []) = asked_alone word
 request_of (first ∷ last ∷ nodes) =
     if are_numbers nodes then option_map request.Trace (want_by (number_of first) (number_of last))
     else None
+
+-- the words of the nodes: those behind the two numbers
+abbrev pub node_words : List (List ℕ) → List (List ℕ)
+node_words [] = []
+node_words (word ∷ []) = []
+node_words (first ∷ last ∷ nodes) = nodes
+
+-- the configurations are in order
+abbrev pub IsInOrder : Want → Type 0
+IsInOrder want = want.first ≤ want.last
+
+abbrev pub WantsInOrder : Request → Type 0
+WantsInOrder request.Help = Unit {0}
+WantsInOrder request.Version = Unit {0}
+WantsInOrder (request.Trace want) = IsInOrder want

@@ -1,82 +1,39 @@
-//! Does what the words ask for.
+//! Reads an input, and writes its trace.
 
-ghost use Rattle.std.specs.Prelude.{map, string_bytes};
+ghost use Rattle.std.specs.Prelude.{◌≤◌, map, string_bytes};
+ghost use Rattle.trace.specs.Conduct.{Does};
 
 use crate::answering::write_trace;
-use crate::requests::{Request, request_of};
-use crate::writing::{write_help, write_usage, write_version};
-use answers::Unanswered;
-use edge_io::{InputFault, Sink, Source, WriteFault, read_all};
-use outcomes::{Refusal, put_refusal};
+use crate::errors::TraceError;
+use edge_io::{Sink, Source, read_all};
 use std::alloc::Global;
-use sync_types::Status;
 use traces::Want;
 
 /// How many bytes an input may have.
 const LONGEST_INPUT: usize = 1 << 20;
 
-/// The status of a text that was written, or of which a front was.
-fn written(end: Result<(), WriteFault>) -> Status {
-    match end {
-        Ok(()) => Status::Ok,
-        Err(WriteFault) => Status::WriteFault,
-    }
-}
-
-/// Writes the line of a refusal. Where that cannot be written, the status alone says it.
-fn refuse<E: Sink>(refusal: Refusal, errors: &mut E) -> Status {
-    let _ = match refusal {
-        Refusal::Usage => write_usage(errors),
-        refusal => put_refusal(errors, refusal),
-    };
-    refusal.status()
-}
-
-/// The words behind those of the configurations.
-fn node_words(words: &[String]) -> &[String] {
-    match words {
-        [_, _, nodes @ ..] => nodes,
-        _ => &[],
-    }
-}
-
-/// Reads the input, and writes its trace.
-fn trace_input<S: Source, K: Sink, E: Sink>(
+/// Reads a plan and a script, plays the script, and writes of each wanted configuration what the
+/// nodes hold that the words name, or all where there is no word, and what they make of what they
+/// hear.
+///
+/// The whole source is read first, at most 2^20 bytes. `Refused` comes exactly where `run` refuses
+/// the input; `NotPlayed` where it is a plan and a script of fewer rounds than the last wanted
+/// configuration; `NoNode` where that one is played, and a word names no node of the plan.
+/// `TooLong` comes only where the byte behind the limit was there, `ReadFault` and `WriteFault`
+/// only where the source or the sink counted a fault, and `NoMemory` where memory was refused.
+/// Nothing was written then, but at `WriteFault` a front of the text. `Usage` never comes.
+pub fn trace_input<S: Source, K: Sink>(
     alloc: Global,
     want: Want,
-    nodes: &[String],
-    source: &mut S,
-    sink: &mut K,
-    errors: &mut E,
-) -> Status {
-    let input = match read_all(alloc, source, LONGEST_INPUT) {
-        Ok(input) => input,
-        Err(InputFault::ReadFault) => return Status::ReadFault,
-        Err(InputFault::TooLong) => return Status::TooLong,
-        Err(InputFault::NoMemory) => return Status::NoMemory,
-    };
-    match write_trace(alloc, want, nodes, &input, sink) {
-        Ok(()) => Status::Ok,
-        Err(Unanswered::NoMemory) => Status::NoMemory,
-        Err(Unanswered::WriteFault) => Status::WriteFault,
-        Err(Unanswered::Refused(refusal)) => refuse(refusal, errors),
-    }
-}
-
-/// All that the program does.
-pub fn trace<S: Source, K: Sink, E: Sink>(
-    alloc: Global,
     words: &[String],
     source: &mut S,
     sink: &mut K,
-    errors: &mut E,
-) -> Status {
-    match request_of(words) {
-        None => refuse(Refusal::Usage, errors),
-        Some(Request::Help) => written(write_help(sink)),
-        Some(Request::Version) => written(write_version(sink)),
-        Some(Request::Trace(want)) => {
-            trace_input(alloc, want, node_words(words), source, sink, errors)
-        }
-    }
+) -> Result<(), TraceError>
+    requires { want.first ≤ want.last }
+    ensures { Does result want (map string_bytes words.now)
+        (S.left source.old) (S.left source.new) (S.faults source.old) (S.faults source.new)
+        (K.told sink.old) (K.told sink.new) }
+{
+    let input = read_all(alloc, source, LONGEST_INPUT)?;
+    write_trace(alloc, want, words, &input, sink)
 }

@@ -1,42 +1,49 @@
-//! Writes what the nodes of a script's run hold and hear. `trace FROM TO [NODE ..]` reads a plan and
-//! a script from standard input, as `counterlab run` does, and writes of each configuration from
-//! FROM to TO, and of each node that is named, or of all, a line of its state and one of each level
-//! in which it takes part.
+//! Writes what the nodes of a script's run hold and hear. `trace FROM TO [NODE ..]` reads a plan
+//! and a script from standard input, as `counterlab run` does, and writes of each configuration
+//! from FROM to TO, and of each node that is named, or of all, a line of its state and one of each
+//! level in which it takes part.
 //!
-//! `--help` and `--version` write what they say. Other words, and an input that is refused, are
-//! answered by one line on standard error. The exit codes are those of `counterlab`.
+//! `--help` and `--version` write what they say. Other words are answered by one line of usage on
+//! standard error, and what is refused by one line there. The exit codes are those of `counterlab`.
+//!
+//! All that is proved, of [`asking::answer`] and [`errors::put_error`]; that the line goes to
+//! standard error is not.
 #![tactic(auto)]
 
 mod answering;
+mod asking;
 mod calling;
+mod errors;
 mod naming;
 mod requests;
-mod writing;
 
-use crate::calling::trace;
+use crate::asking::answer;
+use crate::errors::{TraceError, put_error};
 use edge_io::{StdSink, StdSource};
-use program_words::{arguments, exit_code, words};
+use program_words::{arguments, words};
 use std::io;
 use std::process::ExitCode;
-use sync_types::Status;
 
-/// The status that the program ends with.
-fn run(rt: &HostRuntime) -> Status {
-    let Ok(arguments) = arguments(rt) else {
-        return Status::NoMemory;
+/// Does what the words ask for.
+fn run(rt: &HostRuntime) -> Result<(), TraceError> {
+    let arguments = match arguments(rt) {
+        Ok(arguments) => arguments,
+        Err(_) => return Err(TraceError::NoMemory),
     };
     let mut source = StdSource::new(rt.stdin());
     let mut sink = StdSink::new(io::writer(rt));
-    let mut errors = StdSink::new(rt.stderr());
-    trace(
-        rt.alloc(),
-        words(&arguments),
-        &mut source,
-        &mut sink,
-        &mut errors,
-    )
+    answer(rt.alloc(), words(&arguments), &mut source, &mut sink)
 }
 
 fn main(rt: HostRuntime) -> ExitCode {
-    exit_code(run(&rt))
+    match run(&rt) {
+        Ok(()) => ExitCode::SUCCESS,
+        Err(error) => {
+            let stderr = rt.stderr();
+            let mut sink = StdSink::new(io::writer(&stderr));
+            // Where standard error is closed, the code alone says it.
+            let _ = put_error(&mut sink, error);
+            ExitCode::from(error.code())
+        }
+    }
 }

@@ -1,8 +1,8 @@
 //! The nodes that words name.
 
-ghost use Rattle.std.specs.Prelude.{◌≡◌, ◌<◌, All, IfOk, IfSome, map, string_bytes};
+ghost use Rattle.std.specs.Prelude.{◌≡◌, IfOk, map, string_bytes};
 ghost use Rattle.std.specs.Option.{option_map};
-ghost use Rattle.trace.specs.Names.{IsNaming, are_nodes, is_named};
+ghost use Rattle.trace.specs.Names.{IsNaming, are_nodes, is_named, is_wanted};
 
 use edge_io::number;
 use std::alloc::Global;
@@ -18,6 +18,13 @@ fn is_named(words: &[String], v: u32) -> bool
         }
     }
     false
+}
+
+/// Whether node `v` is wanted: one of these words names it, or there is no word.
+fn is_wanted(words: &[String], v: u32) -> bool
+    ensures { result ≡ is_wanted (map string_bytes words.now) v }
+{
+    words.is_empty() || is_named(words, v)
 }
 
 /// Whether each of these words names one of so many nodes.
@@ -48,7 +55,7 @@ pub fn named_nodes(
     }
     let mut named = Vec::with_capacity(alloc, nodes as usize)?;
     for v in 0..nodes {
-        if words.is_empty() || is_named(words, v) {
+        if is_wanted(words, v) {
             named.push(v).map_err(|_| NoMemory)?;
         }
     }

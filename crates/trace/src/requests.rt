@@ -1,8 +1,8 @@
 //! What the words ask for.
 
-ghost use Rattle.std.specs.Prelude.{◌≡◌, map, string_bytes};
-ghost use Rattle.texts.specs.Numbers.{number_of};
-ghost use Rattle.trace.specs.Requests.{are_numbers, asked_alone, request_of, want_by};
+ghost use Rattle.std.specs.Prelude.{◌≡◌, map, string_bytes, IfSome};
+ghost use Rattle.trace.specs.Requests.{are_numbers, asked_alone, node_words, request_of, want_by};
+ghost use Rattle.trace.specs.Requests.{IsInOrder, WantsInOrder};
 
 use edge_io::number;
 use traces::Want;
@@ -20,7 +20,8 @@ pub enum Request {
 
 /// What a single word asks for.
 fn asked_alone(word: &str) -> Option<Request>
-    ensures { result ≡ asked_alone word.now }
+    ensures value { result ≡ asked_alone word.now }
+    ensures order { IfSome result WantsInOrder }
 {
     if word == "--help" {
         Some(Request::Help)
@@ -45,7 +46,8 @@ fn are_numbers(words: &[String]) -> bool
 
 /// The configurations from the one number to the other, where each is one and they are in order.
 fn want_by(first: Option<u64>, last: Option<u64>) -> Option<Want>
-    ensures { result ≡ want_by first last }
+    ensures value { result ≡ want_by first last }
+    ensures order { IfSome result IsInOrder }
 {
     match (first, last) {
         (Some(first), Some(last)) => {
@@ -62,7 +64,8 @@ fn want_by(first: Option<u64>, last: Option<u64>) -> Option<Want>
 /// What these words ask for: None exactly where they ask for nothing. Behind the numbers of the
 /// configurations stand those of nodes, which only the plan can say to be some.
 pub fn request_of(words: &[String]) -> Option<Request>
-    ensures { result ≡ request_of (map string_bytes words.now) }
+    ensures value { result ≡ request_of (map string_bytes words.now) }
+    ensures order { IfSome result WantsInOrder }
 {
     match words {
         [word] => asked_alone(word.as_str()),
@@ -74,5 +77,15 @@ pub fn request_of(words: &[String]) -> Option<Request>
             Some(Request::Trace(want))
         }
         _ => None,
+    }
+}
+
+/// The words behind those of the configurations.
+pub fn node_words(words: &[String]) -> &[String]
+    ensures { map string_bytes result.now ≡ node_words (map string_bytes words.now) }
+{
+    match words {
+        [_, _, nodes @ ..] => nodes,
+        _ => &[],
     }
 }

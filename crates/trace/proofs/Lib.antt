@@ -1,0 +1,2 @@
+mod NamedNodes
+mod Traced

@@ -1,0 +1,101 @@
+-- What is written of an input, by what was read of it.
+use Rattle.std.proofs.Common.{◌≡◌, ℕ, ◌<◌, ◌≤◌, Bool, true, false, List, length, Result, Ok, Err, refl, sym, ap, ap₂, ◌∙◌, subst}
+use Rattle.std.specs.Prelude.{not, nat_lt, if◌then◌else◌}
+use Rattle.std.specs.Result.{IsErrAnd}
+use Rattle.std.proofs.lemmas.Bool.{lt-ltb, le-ltb}
+use Rattle.std.proofs.lemmas.Result.{err_from_is_err_and}
+use Rattle.texts.specs.Growth.{Told, Cut}
+use Rattle.construction.specs.Plans.{Plan, plan_nodes, plan_depth}
+use Rattle.state_codec.specs.Shapes.{Shape}
+use Rattle.state_codec.proofs.Plans.{depth_of_shape}
+use Rattle.counter_core.specs.declared.overlays.NoOverlay.{NoOverlay}
+use Rattle.round_runner.specs.Runners.{Running}
+use Rattle.outcomes.specs.Inputs.{scripted_of}
+use Rattle.answers.specs.declared.errors.Unanswered.{Unanswered}
+use Rattle.answers.specs.declared.errors.Unanswered.TheVariants as end
+use Rattle.answers.specs.Readings.{Refuses}
+use Rattle.answers.specs.ScriptedRuns.{IsScriptedRun}
+use Rattle.traces.specs.declared.desks.Desk.{Desk}
+use Rattle.traces.specs.declared.wants.Want.{Want}
+use Rattle.traces.specs.Desks.{IsFitFor, IsMade}
+use Rattle.traces.specs.TraceTexts.{trace_text}
+use Rattle.traces.specs.Wants.{IsToTrace}
+use Rattle.trace.specs.declared.errors.TraceError.{TraceError}
+use Rattle.trace.specs.declared.errors.TraceError.TheVariants as error
+use Rattle.trace.specs.Answers.{trace_or, trace_of}
+use Rattle.trace.specs.Conduct.{Answers}
+use Rattle.trace.specs.Errors.{scripted_error}
+use Rattle.trace.specs.Names.{are_nodes, named_nodes}
+
+-- ---- the exit of a `?`
+
+module _ {T : Type 0} (want : Want) (words : List (List ℕ)) (input : List ℕ) where
+  by_error : (result : Result T TraceError) (e : Unanswered) (s : Told)
+      → Refuses e (scripted_of input) → result ≡ Err (scripted_error e)
+      → Answers result (trace_of want words input) s s
+  by_error result end.NoMemory s h is = rw is refl
+  by_error result (end.Refused refusal) s h is = rw is (ap (trace_or want words) h, refl)
+  by_error result end.WriteFault s h is = absurd h
+
+  -- behind a reading that failed
+  pub unread : (result : Result T TraceError) (e : Unanswered) (s : Told)
+      → Refuses e (scripted_of input) → IsErrAnd result (λ given. given ≡ scripted_error e)
+      → Answers result (trace_of want words input) s s
+  unread result e s h given =
+      let p = err_from_is_err_and result given in
+      by_error result e s h (p.1 ∙ ap (λ (x : TraceError). Err x) p.2)
+
+-- behind a write that failed
+pub unwritten : {T : Type 0} (result : Result T TraceError) (answer : Result (List ℕ) TraceError)
+    (text : List ℕ) (s t : Told) → answer ≡ Ok text → IsErrAnd result (λ e. e ≡ error.WriteFault)
+    → Cut text s t → Answers result answer s t
+unwritten result answer text s t is given cut =
+    let p = err_from_is_err_and result given in
+    rw (p.1, p.2) (record { text = text; traced = is; has = cut })
+
+-- ---- what is answered to a plan and a script
+
+module _ (want : Want) (words : List (List ℕ)) (input : List ℕ) (plan : Plan)
+    (r : Running NoOverlay) (is : IsScriptedRun input (plan, r)) where
+  by_tests : (late all : Bool) → nat_lt r.script.rounds want.last ≡ late
+      → are_nodes words (plan_nodes plan) ≡ all
+      → trace_of want words input ≡ (if late then Err error.NotPlayed
+      else if not all then Err error.NoNode
+      else Ok (trace_text plan r.script (named_nodes words (plan_nodes plan)) want.first want.last))
+  by_tests late all e e' =
+      ap (trace_or want words) is.read
+      ∙ ap₂ (λ (late all : Bool). if late then Err error.NotPlayed
+      else if not all then Err error.NoNode
+      else Ok (trace_text plan r.script (named_nodes words (plan_nodes plan)) want.first want.last))
+      e e'
+
+  pub not_played : r.script.rounds < want.last → trace_of want words input ≡ Err error.NotPlayed
+  not_played lt = by_tests true (are_nodes words (plan_nodes plan)) (lt-ltb _ _ lt) refl
+
+  pub no_node : want.last ≤ r.script.rounds → are_nodes words (plan_nodes plan) ≡ false
+      → trace_of want words input ≡ Err error.NoNode
+  no_node le none = by_tests false false (le-ltb _ _ le) none
+
+  pub traced : want.last ≤ r.script.rounds → (ids : List ℕ)
+      → (are_nodes words (plan_nodes plan) ≡ true) × (ids ≡ named_nodes words (plan_nodes plan))
+      → trace_of want words input
+      ≡ Ok (trace_text r.plan r.script ids want.first want.last)
+  traced le ids named =
+      by_tests false true (le-ltb _ _ le) named.0
+      ∙ ap₂ (λ (p : Plan) (ids : List ℕ). Ok (trace_text p r.script ids want.first want.last))
+      (sym is.plan_is) (sym named.1)
+
+  -- ---- what its trace wants
+
+  pub to_trace : IsToTrace r
+  to_trace = record { at = is.plays.at; plays = is.records.plays }
+
+  pub deep : length r.script.shape.moduli ≡ plan_depth plan
+  deep = ap (λ (s : Shape). length s.moduli) is.records.shape
+      ∙ (depth_of_shape r.plan ∙ ap plan_depth is.plan_is)
+
+  pub fits : (depth : ℕ) (desk : Desk) → depth ≡ length r.script.shape.moduli
+      → IsMade plan depth desk → IsFitFor r desk
+  fits depth desk e made =
+      subst (λ (p : Plan). IsMade p (length r.script.shape.moduli) desk) (sym is.plan_is)
+      (subst (λ (d : ℕ). IsMade plan d desk) e made)

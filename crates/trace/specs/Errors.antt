@@ -1,0 +1,46 @@
+-- The line that an error writes, and the exit code.
+use Rattle.std.specs.Prelude.{ℕ, List, codes}
+use Rattle.sync_types.specs.Codes.{code_of}
+use Rattle.sync_types.specs.declared.status.Status.TheVariants as status
+use Rattle.outcomes.specs.Refusals.{refusal_line, refusal_status}
+use Rattle.answers.specs.declared.errors.Unanswered.{Unanswered}
+use Rattle.answers.specs.declared.errors.Unanswered.TheVariants as end
+use Rattle.edge_io.specs.declared.read.InputFault.{InputFault}
+use Rattle.edge_io.specs.declared.read.InputFault.TheVariants as fault
+use Rattle.trace.specs.declared.errors.TraceError.{TraceError}
+use Rattle.trace.specs.declared.errors.TraceError.TheVariants as error
+
+-- an input that is refused has the line that `run` writes
+abbrev pub error_line : TraceError → List ℕ
+error_line error.Usage =
+    codes "usage: trace FROM TO [NODE ..] < PLAN_AND_SCRIPT, or trace --help\n"
+error_line (error.Refused refusal) = refusal_line refusal
+error_line error.NotPlayed = codes "refused words: TO is above the script's rounds\n"
+error_line error.NoNode = codes "refused words: the plan has no such node\n"
+error_line error.ReadFault = codes "the input could not be read\n"
+error_line error.WriteFault = codes "the answer could not be written\n"
+error_line error.TooLong = codes "the input has more than 1048576 bytes\n"
+error_line error.NoMemory = codes "out of memory\n"
+
+-- the code is that of `run` for the same cause
+abbrev pub error_code : TraceError → ℕ
+error_code error.Usage = code_of status.Usage
+error_code (error.Refused refusal) = code_of (refusal_status refusal)
+error_code error.NotPlayed = code_of status.Usage
+error_code error.NoNode = code_of status.Usage
+error_code error.ReadFault = code_of status.ReadFault
+error_code error.WriteFault = code_of status.WriteFault
+error_code error.TooLong = code_of status.TooLong
+error_code error.NoMemory = code_of status.NoMemory
+
+-- the error of an input that was not read
+abbrev pub input_error : InputFault → TraceError
+input_error fault.ReadFault = error.ReadFault
+input_error fault.TooLong = error.TooLong
+input_error fault.NoMemory = error.NoMemory
+
+-- the error of one that is no plan and script
+abbrev pub scripted_error : Unanswered → TraceError
+scripted_error (end.Refused refusal) = error.Refused refusal
+scripted_error end.NoMemory = error.NoMemory
+scripted_error end.WriteFault = error.WriteFault

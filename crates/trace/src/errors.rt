@@ -1,0 +1,122 @@
+ghost use Rattle.std.specs.Prelude.{◌≡◌};
+ghost use Rattle.texts.specs.Growth.{Puts};
+ghost use Rattle.trace.specs.Errors.{error_code, error_line};
+
+use answers::Unanswered;
+use edge_io::{InputFault, Sink, WriteFault, put_all};
+use outcomes::{Refusal, put_refusal};
+use sync_types::{NoMemory, Status};
+use thiserror::Error;
+
+/// Why a trace was not written, or not all of it.
+#[derive(Clone, Copy, Debug, PartialEq, Eq, Error)]
+pub enum TraceError {
+    /// The words ask for nothing.
+    #[error("the words ask for nothing")]
+    Usage,
+    /// The input is refused, as `run` refuses it.
+    #[error("the input is refused: {0:?}")]
+    Refused(Refusal),
+    /// The script does not play the last wanted configuration.
+    #[error("the script does not play the last configuration")]
+    NotPlayed,
+    /// A word names no node of the plan.
+    #[error("a word names no node")]
+    NoNode,
+    /// A read failed.
+    #[error("a read failed")]
+    ReadFault,
+    /// A write failed.
+    #[error("a write failed")]
+    WriteFault,
+    /// The input is longer than its limit.
+    #[error("the input is too long")]
+    TooLong,
+    /// Memory was refused.
+    #[error("out of memory")]
+    NoMemory,
+}
+
+impl TraceError {
+    /// The exit code, 1 to 10: that of `counterlab` for the same cause, and of words that the input
+    /// refuses that of words which ask for nothing.
+    pub fn code(self) -> u8
+        ensures { result ≡ error_code self }
+    {
+        match self {
+            TraceError::Usage | TraceError::NotPlayed | TraceError::NoNode => Status::Usage.code(),
+            TraceError::Refused(refusal) => refusal.status().code(),
+            TraceError::ReadFault => Status::ReadFault.code(),
+            TraceError::WriteFault => Status::WriteFault.code(),
+            TraceError::TooLong => Status::TooLong.code(),
+            TraceError::NoMemory => Status::NoMemory.code(),
+        }
+    }
+}
+
+/// Writes the line of an error: of an input that is refused, that which `run` writes.
+pub fn put_error<K: Sink>(sink: &mut K, error: TraceError) -> Result<(), WriteFault>
+    ensures { Puts result (error_line error) (K.told sink.old) (K.told sink.new) }
+{
+    match error {
+        TraceError::Usage => put_all(
+            sink,
+            b"usage: trace FROM TO [NODE ..] < PLAN_AND_SCRIPT, or trace --help\n",
+        ),
+        TraceError::Refused(refusal) => put_refusal(sink, refusal),
+        TraceError::NotPlayed => put_all(sink, b"refused words: TO is above the script's rounds\n"),
+        TraceError::NoNode => put_all(sink, b"refused words: the plan has no such node\n"),
+        TraceError::ReadFault => put_all(sink, b"the input could not be read\n"),
+        TraceError::WriteFault => put_all(sink, b"the answer could not be written\n"),
+        TraceError::TooLong => put_all(sink, b"the input has more than 1048576 bytes\n"),
+        TraceError::NoMemory => put_all(sink, b"out of memory\n"),
+    }
+}
+
+impl From<InputFault> for TraceError {
+    ghost use Rattle.trace.specs.Errors.{input_error};
+
+    ghost from_gives = { λ fault e. e ≡ input_error fault };
+
+    fn from(fault: InputFault) -> Self {
+        match fault {
+            InputFault::ReadFault => TraceError::ReadFault,
+            InputFault::TooLong => TraceError::TooLong,
+            InputFault::NoMemory => TraceError::NoMemory,
+        }
+    }
+}
+
+impl From<Unanswered> for TraceError {
+    ghost use Rattle.trace.specs.Errors.{scripted_error};
+
+    ghost from_gives = { λ error e. e ≡ scripted_error error };
+
+    fn from(error: Unanswered) -> Self {
+        match error {
+            Unanswered::Refused(refusal) => TraceError::Refused(refusal),
+            Unanswered::NoMemory => TraceError::NoMemory,
+            Unanswered::WriteFault => TraceError::WriteFault,
+        }
+    }
+}
+
+impl From<NoMemory> for TraceError {
+    ghost use Rattle.trace.specs.declared.errors.TraceError.TheVariants as error;
+
+    ghost from_gives = { λ _ e. e ≡ error.NoMemory };
+
+    fn from(_: NoMemory) -> Self {
+        TraceError::NoMemory
+    }
+}
+
+impl From<WriteFault> for TraceError {
+    ghost use Rattle.trace.specs.declared.errors.TraceError.TheVariants as error;
+
+    ghost from_gives = { λ _ e. e ≡ error.WriteFault };
+
+    fn from(_: WriteFault) -> Self {
+        TraceError::WriteFault
+    }
+}
