@@ -2,7 +2,7 @@
 use Rattle.std.proofs.Common.{◌≡◌, ℕ, zero, suc, ◌+◌, ◌-◌, ◌<◌, ◌≤◌, true, false, eqb, List, [], ◌∷◌, ◌++◌, length, take, drop, get_or, Option, Some, None, refl, sym, ap, ◌∙◌, append_assoc, arith}
 use Rattle.std.specs.List.{position}
 use Rattle.std.specs.Io.KnownBytes.{prepend_known, Consumes}
-use Rattle.std.proofs.lemmas.List.{drop-drop, drop-take, length-take-le, take-append-drop}
+use Rattle.std.proofs.lemmas.List.{drop-drop, drop-take, length-take, length-take-le, take-append-drop}
 use Rattle.std.proofs.lemmas.List.Quantifiers.{position-Some}
 use Rattle.std.proofs.lemmas.Bool.{eqb-true}
 use Rattle.texts.specs.Lines.{is_one_line}
@@ -38,13 +38,15 @@ line_of bytes end most found lt =
       one = one_from end bytes (omega (arith, at.0)) at.2;
     }
 
--- the front of a front
-pub front_of_front : (n m : ℕ) (bytes : List ℕ) → n ≤ m → take n (take m bytes) ≡ take n bytes
-front_of_front zero m bytes le = refl
-front_of_front (suc n) zero bytes le = absurd (omega (arith, le))
-front_of_front (suc n) (suc m) [] le = refl
-front_of_front (suc n) (suc m) (b ∷ bytes) le =
-    ap (λ bs. b ∷ bs) (front_of_front n m bytes (omega (arith, le)))
+-- so many bytes of the buffer are passed
+pub buffer_passed : (buffer : List ℕ) (at end count : ℕ) → count ≤ end - at
+    → take (end - (at + count)) (drop (at + count) buffer)
+    ≡ drop count (take (end - at) (drop at buffer))
+buffer_passed buffer at end count le =
+    let size : end - at ≡ count + (end - (at + count)) = omega (arith, le) in
+    sym (ap (λ n. drop count (take n (drop at buffer))) size
+    ∙ (drop-take count (end - (at + count)) (drop at buffer)
+    ∙ ap (take (end - (at + count))) (drop-drop count at buffer)))
 
 -- so many bytes of the buffer were read
 pub buffer_read : (buffer : List ℕ) (left : Option (List ℕ)) (at end count : ℕ)
@@ -55,11 +57,11 @@ pub buffer_read : (buffer : List ℕ) (left : Option (List ℕ)) (at end count :
 buffer_read buffer None at end count le = tt
 buffer_read buffer (Some ys) at end count le =
     let held = take (end - at) (drop at buffer) in
-    let size : end - at ≡ count + (end - (at + count)) = omega (arith, le) in
-    let rest : drop count held ≡ take (end - (at + count)) (drop (at + count) buffer) =
-    ap (λ n. drop count (take n (drop at buffer))) size
-    ∙ (drop-take count (end - (at + count)) (drop at buffer)
-    ∙ ap (take (end - (at + count))) (drop-drop count at buffer)) in
     ap (λ xs. xs ++ ys) (sym (take-append-drop count held))
     ∙ (append_assoc (take count held) (drop count held) ys
-    ∙ ap (λ xs. take count held ++ (xs ++ ys)) rest)
+    ∙ ap (λ xs. take count held ++ (xs ++ ys)) (sym (buffer_passed buffer at end count le)))
+
+-- no more bytes are held than stand there
+pub held_few : (buffer : List ℕ) (at end count : ℕ)
+    → count ≤ length (take (end - at) (drop at buffer)) → count ≤ end - at
+held_few buffer at end count le = omega (arith, le, length-take (end - at) (drop at buffer))

@@ -48,13 +48,13 @@ pub struct Feed<'a, S> {
 }
 
 impl<'a, S: Source> Feed<'a, S> {
-    ghost use Rattle.std.specs.Prelude.{◌≡◌, ◌<◌, ◌≤◌, ◌+◌, ℕ, [], true, false, not, ◌||◌, length, Ok, OnErr, IfOk};
+    ghost use Rattle.std.specs.Prelude.{◌≡◌, ◌<◌, ◌≤◌, ◌+◌, ◌^◌, ℕ, [], true, false, not, ◌||◌, length, take, drop, Ok, OnErr, IfOk};
     ghost use Rattle.std.specs.Option.{is_none};
     ghost use Rattle.edge_io.specs.declared.feed.Line.TheVariants as how;
     ghost use Rattle.std.specs.Io.KnownBytes.{Consumes, Keeps, IsAtEnd};
     ghost use Rattle.texts.specs.Causes.{HasCause};
     ghost use Rattle.texts.specs.Lines.{is_one_line};
-    ghost use Rattle.edge_io.specs.Feeds.{feed_left, TakesByte, TakesLineByte, LineIs, HasLineCause, IsDry, meets_end};
+    ghost use Rattle.edge_io.specs.Feeds.{buffered, feed_left, TakesByte, TakesLineByte, LineIs, HasLineCause, IsDry, meets_end};
 
     /// A feed of all that the source has left, of which no line was read.
     pub fn new(source: &'a mut S) -> Feed<'a, S>
@@ -71,6 +71,46 @@ impl<'a, S: Source> Feed<'a, S> {
             end: 0,
             line_bytes: 0,
         }
+    }
+
+    /// The bytes that stand in the buffer and nobody has read.
+    pub fn held(&self) -> &[u8]
+        ensures { result.now ≡ buffered self.now }
+    {
+        &self.buffer[self.at..self.end]
+    }
+
+    /// How many bytes the lines had that were read, newlines included.
+    pub fn line_bytes(&self) -> u64
+        ensures { result ≡ self.now.line_bytes }
+    {
+        self.line_bytes
+    }
+
+    /// Reads so many of the held bytes, which are those of no line.
+    pub fn pass(&mut self, count: usize)
+        requires { count ≤ length (buffered self.old) }
+        ensures passed { Consumes (feed_left S.left self.old) (feed_left S.left self.new)
+            (take count (buffered self.old)) }
+        ensures held { buffered self.new ≡ drop count (buffered self.old) }
+        ensures source { self.new.source ≡ self.old.source }
+        ensures still { self.new.line_bytes ≡ self.old.line_bytes }
+    {
+        self.at += count;
+    }
+
+    /// Reads so many of the held bytes, and counts them as bytes of lines.
+    pub fn pass_line(&mut self, count: usize)
+        requires some { count ≤ length (buffered self.old) }
+        requires few { self.old.line_bytes + count < 2 ^ 64 }
+        ensures passed { Consumes (feed_left S.left self.old) (feed_left S.left self.new)
+            (take count (buffered self.old)) }
+        ensures held { buffered self.new ≡ drop count (buffered self.old) }
+        ensures source { self.new.source ≡ self.old.source }
+        ensures counted { self.new.line_bytes ≡ self.old.line_bytes + count }
+    {
+        self.pass(count);
+        self.line_bytes += count as u64;
     }
 
     /// Sees that a byte is in the buffer, where one is left.
@@ -157,10 +197,9 @@ impl<'a, S: Source> Feed<'a, S> {
         ensures source { self.new.source ≡ self.old.source }
     {
         let most = limit.saturating_sub(self.line_bytes);
-        match line.copy_line(&self.buffer[self.at..self.end], most) {
+        match line.copy_line(self.held(), most) {
             Some(count) => {
-                self.at += count;
-                self.line_bytes += count as u64;
+                self.pass_line(count);
                 true
             }
             None => false,
@@ -177,11 +216,12 @@ impl<'a, S: Source> Feed<'a, S> {
         ensures still { self.new.line_bytes ≡ self.old.line_bytes }
     {
         let count = bytes.len();
-        if self.end - self.at < count {
+        let held = self.held();
+        if held.len() < count {
             return false;
         }
-        bytes.copy_from_slice(&self.buffer[self.at..self.at + count]);
-        self.at += count;
+        bytes.copy_from_slice(&held[..count]);
+        self.pass(count);
         true
     }
 
