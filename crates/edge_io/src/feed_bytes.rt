@@ -17,6 +17,7 @@ pub fn skip_bytes<S: Source>(feed: &mut Feed<'_, S>, count: usize) -> Result<boo
     ensures met { IfOk result (λ all. S.met feed.new.source.now
         ≡ (not all || S.met feed.old.source.now)) }
     ensures dry { OnErr result (IsDry S.met feed.old feed.new) }
+    ensures still { feed.new.line_bytes ≡ feed.old.line_bytes }
 {
     for _ in 0..count {
         match feed.byte() {
@@ -40,6 +41,7 @@ pub fn take_bytes<S: Source>(feed: &mut Feed<'_, S>, buf: &mut [u8]) -> Result<b
     ensures met { IfOk result (λ all. S.met feed.new.source.now
         ≡ (not all || S.met feed.old.source.now)) }
     ensures dry { OnErr result (IsDry S.met feed.old feed.new) }
+    ensures still { feed.new.line_bytes ≡ feed.old.line_bytes }
 {
     if feed.take_held_bytes(buf) {
         return Ok(true);

@@ -23,7 +23,7 @@ pub trait Source {
     /// How many reads have failed, up to 2 ^ 64 - 1.
     ghost faults: { Self → ℕ };
 
-    /// Whether the end was met: a read gave nothing.
+    /// Whether the end was met: a read gave nothing, or no read can fail.
     ghost met: { Self → Bool };
 
     /// Places bytes at the front of the buffer, which is not empty, and answers how many: 0 only at

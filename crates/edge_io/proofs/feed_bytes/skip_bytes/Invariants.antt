@@ -8,6 +8,7 @@ invariant-loop g l = record {
   same : l.feed.source.ghost_name ≡ l.fn.feed.source.ghost_name;
   still : g.S.Source.faults l.feed.source.now ≡ g.S.Source.faults l.fn.feed.source.now;
   met : g.S.Source.met l.feed.source.now ≡ g.S.Source.met l.fn.feed.source.now;
+  lines : l.feed.line_bytes ≡ l.fn.feed.line_bytes;
   so_far : SoMany (feed_left g.S.Source.left l.fn.feed) (feed_left g.S.Source.left l.feed)
       l.counter;
 }
