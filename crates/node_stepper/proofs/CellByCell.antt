@@ -1,11 +1,11 @@
 -- One cell after another.
-use Rattle.std.proofs.Common.{◌*◌, ◌<◌, ◌≢◌, Bool, true, false, drop, Option, Some, None, Result, Ok, Err, length-append, sym, ◌-◌, ◌/◌, ◌%◌, ◌≡◌, ℕ, ◌+◌, ◌≤◌, List, [], ◌∷◌, ◌++◌, length, take, set, refl, ap, ◌∙◌, arith}
+use Rattle.std.proofs.Common.{◌*◌, ◌<◌, ◌≢◌, Bool, true, false, drop, Option, Some, None, Result, Ok, Err, length-append, sym, ◌-◌, ◌/◌, ◌%◌, ◌≡◌, ℕ, suc, ◌+◌, ◌≤◌, List, [], ◌∷◌, ◌++◌, length, take, set, get_or, refl, ap, ◌∙◌, subst, arith}
 use Rattle.std.specs.Prelude.{◌==◌, if◌then◌else◌, slice_set}
 use Rattle.std.specs.Io.KnownBytes.{Consumes}
 use Rattle.std.proofs.KnownBytes.{Consumes-trans}
 use Rattle.std.proofs.Math.Seq.{take-append_seam, drop-append_seam}
 use Rattle.std.proofs.lemmas.Bool.{le-leb, lt-leb, ne_eqb}
-use Rattle.std.proofs.lemmas.List.{length-set}
+use Rattle.std.proofs.lemmas.List.{length-set, length-take-le}
 use Rattle.std.proofs.lemmas.Slice.{take-put_mid}
 use Rattle.state_codec.proofs.Bytes.{length-bytes_of_bits}
 use Rattle.sync_types.specs.States.{State, zero_state}
@@ -15,7 +15,7 @@ use Rattle.state_codec.specs.Writing.{written, bits_of_state, padding}
 use Rattle.state_codec.specs.Reading.{read}
 use Rattle.node_stepper.specs.Packets.{cell_at}
 use Rattle.node_stepper.specs.Nodes.{Standing, IsOther, fields_of, hearing, cell_text, state_cell}
-use Rattle.node_stepper.specs.Hearing.{BodyFed, CellFed}
+use Rattle.node_stepper.specs.Hearing.{BodyFed, WholeCell, CellFed}
 use borrow.Rule.Slice.PartMut.{put_mid}
 
 -- the first two of a list in which these were put there
@@ -107,16 +107,40 @@ rest_fed high low sender before after s t u (Err e) first (body, fed, heard) = (
   heard,
 )
 
--- its first byte was read, and then the others
+-- a cell that stands at the front of bytes was read there
+pub held_cell : (n sender : ℕ) (before after : Standing) (s t : Option (List ℕ)) (bytes : List ℕ)
+    → 2 + n ≤ length bytes → 256 * get_or bytes 0 0 + get_or bytes 1 0 ≡ n
+    → Consumes s t (take (2 + n) bytes) → after ≡ hearing before sender (take n (drop 2 bytes))
+    → WholeCell [] sender before after s t
+held_cell n sender before after s t [] within size fed heard = absurd (omega (arith, within))
+held_cell n sender before after s t (high ∷ []) within size fed heard =
+    absurd (omega (arith, within))
+held_cell n sender before after s t (high ∷ low ∷ bytes) within size fed heard =
+    let two : 2 + n ≡ suc (suc n) = omega arith in (
+      high ∷ low ∷ take n bytes,
+      take n bytes,
+      subst (λ (k : ℕ). Consumes s t (take k (high ∷ low ∷ bytes))) two fed,
+      λ rest. whole_cell high low (take n bytes) rest
+          (length-take-le n bytes (omega (arith, within)) ∙ sym size),
+      heard,
+    )
+
+-- the first byte of a cell was read, and then the others
+pub first_then : (high sender : ℕ) (before after : Standing) (s t u : Option (List ℕ))
+    → Consumes s t (high ∷ []) → WholeCell (high ∷ []) sender before after t u
+    → WholeCell [] sender before after s u
+first_then high sender before after s t u first (bytes, cell, fed, is, heard) =
+    (high ∷ bytes, cell, Consumes-trans s t u (high ∷ []) bytes first fed, is, heard)
+
 pub cell_fed : {E : Type 0} (high sender : ℕ) (before after : Standing)
     (s t u : Option (List ℕ)) (result : Result Bool E) → Consumes s t (high ∷ [])
     → CellFed (high ∷ []) sender before after t u result → CellFed [] sender before after s u result
-cell_fed high sender before after s t u (Ok true) first (bytes, cell, read, is, heard) =
-    (high ∷ bytes, cell, Consumes-trans s t u (high ∷ []) bytes first read, is, heard)
-cell_fed high sender before after s t u (Ok false) first (bytes, read, is, ended, heard) =
-    (high ∷ bytes, Consumes-trans s t u (high ∷ []) bytes first read, is, ended, heard)
-cell_fed high sender before after s t u (Err e) first (bytes, read, is, heard) =
-    (high ∷ bytes, Consumes-trans s t u (high ∷ []) bytes first read, is, heard)
+cell_fed high sender before after s t u (Ok true) first whole =
+    first_then high sender before after s t u first whole
+cell_fed high sender before after s t u (Ok false) first (bytes, fed, is, ended, heard) =
+    (high ∷ bytes, Consumes-trans s t u (high ∷ []) bytes first fed, is, ended, heard)
+cell_fed high sender before after s t u (Err e) first (bytes, fed, is, heard) =
+    (high ∷ bytes, Consumes-trans s t u (high ∷ []) bytes first fed, is, heard)
 
 -- bytes that are no state's are read as none are
 zero_by : (fields : Fields) (bytes : List ℕ) (test : Bool)

@@ -11,7 +11,7 @@ use Rattle.construction.specs.Steps.{state_of, step_of}
 use Rattle.state_codec.specs.Reading.{read}
 use Rattle.node_stepper.specs.Packets.{cell_at, onto_cell, cells_of}
 use Rattle.node_stepper.specs.Nodes.{Standing, own, fields_of, heard_of, heard_in, state_after, hearing, stepped, AllHeard}
-use Rattle.node_stepper.specs.Hearing.{IsSame, HeardCells, CellFed, PacketFed, PacketCut}
+use Rattle.node_stepper.specs.Hearing.{IsSame, HeardCells, WholeCell, CellFed, PacketFed, PacketCut}
 
 -- the packet's cells behind others
 abbrev pub onto_cells : List (List ℕ) → Result (List (List ℕ) × List ℕ) ℕ
@@ -190,24 +190,25 @@ cells_more E before mid after s t u count lt h (bytes, cell, read, is, heard) =
     }
 
 -- the first cell
-pub cells_first : (E : Type 0) (before after : Standing) (s t u : Option (List ℕ)) (high : ℕ)
-    → 0 < plan_nodes before.plan → length before.states ≡ plan_nodes before.plan
-    → length before.since ≡ plan_nodes before.plan → Consumes s t (high ∷ [])
-    → CellFed (high ∷ []) 0 before after t u (let r : Result Bool E = Ok true in r)
-    → CellsFed before after s u 1
-cells_first E before after s t u high lt states marks first (bytes, cell, read, is, heard) =
+pub cells_first : (before after : Standing) (s t : Option (List ℕ)) → 0 < plan_nodes before.plan
+    → length before.states ≡ plan_nodes before.plan → length before.since ≡ plan_nodes before.plan
+    → WholeCell [] 0 before after s t → CellsFed before after s t 1
+cells_first before after s t lt states marks ([], cell, fed, is, heard) =
+    let e : cell_at [] ≡ Some (cell, []) = is [] in
+    absurd (cc)
+cells_first before after s t lt states marks (b ∷ bytes, cell, fed, is, heard) =
     let nodes = plan_nodes before.plan in
     let left : nodes ≡ suc (nodes - 1) = omega (arith, lt) in
     record {
-      bytes = high ∷ bytes;
+      bytes = b ∷ bytes;
       cells = cell ∷ [];
-      read = Consumes-trans s t u (high ∷ []) bytes first read;
+      read = fed;
       some = omega arith;
       short = omega (arith, lt);
       long = refl;
       cells_are = λ rest.
-          ap (λ n. cells_of n 0 (high ∷ (bytes ++ rest))) left
-          ∙ cells_next (nodes - 1) 0 (high ∷ (bytes ++ rest)) cell rest (is rest)
+          ap (λ n. cells_of n 0 (b ∷ (bytes ++ rest))) left
+          ∙ cells_next (nodes - 1) 0 (b ∷ (bytes ++ rest)) cell rest (is rest)
           ∙ sym (onto_none (onto_cell cell (cells_of (nodes - 1) 1 rest)))
           ∙ onto_one_more [] cell (cells_of (nodes - 1) 1 rest);
       heard = heard_more before before [] cell (heard_none before states marks) lt after heard;

@@ -23,13 +23,18 @@ abbrev pub BodyFed : {E : Type 0} → (n sender : ℕ) → (before after : Stand
 BodyFed n sender before after old new result =
     (bytes : List ℕ) × ReadsSoMany n old new bytes result × HeardIf before after sender bytes result
 
--- what hearing one cell did, of which these bytes were read before
-abbrev pub CellFed : {E : Type 0} → (front : List ℕ) (sender : ℕ) → (before after : Standing)
-    → (old new : Option (List ℕ)) → Result Bool E → Type 0
-CellFed front sender before after old new (Ok true) =
+-- one cell was heard, of which these bytes were read before
+abbrev pub WholeCell : (front : List ℕ) (sender : ℕ) → (before after : Standing)
+    → (old new : Option (List ℕ)) → Type 0
+WholeCell front sender before after old new =
     (bytes : List ℕ) × (cell : List ℕ) × Consumes old new bytes
     × ((rest : List ℕ) → cell_at (front ++ (bytes ++ rest)) ≡ Some (cell, rest))
     × (after ≡ hearing before sender cell)
+
+-- what hearing one cell did, of which these bytes were read before
+abbrev pub CellFed : {E : Type 0} → (front : List ℕ) (sender : ℕ) → (before after : Standing)
+    → (old new : Option (List ℕ)) → Result Bool E → Type 0
+CellFed front sender before after old new (Ok true) = WholeCell front sender before after old new
 CellFed front sender before after old new (Ok false) =
     (bytes : List ℕ) × Consumes old new bytes × (cell_at (front ++ bytes) ≡ None) × IsAtEnd new
     × (after ≡ before)
@@ -77,13 +82,23 @@ pub record PacketCut (nodes sender : ℕ) (old new : Option (List ℕ)) : Type 0
   pub some : 0 < length bytes
   pub cut : cells_of nodes 0 bytes ≡ Err sender
 
-abbrev pub PacketHeard : {E : Type 0} → (before after : Standing) → (old new : Option (List ℕ))
-    → Result Amount E → Type 0
-PacketHeard before after old new (Ok amount.Whole) = PacketFed before after old new
-PacketHeard before after old new (Ok (amount.Cut sender)) =
+-- what hearing a packet, or a front of it, did, where it is `Whole` that all of that was heard
+abbrev pub HeardTo : {E : Type 0} → (Whole : Type 0) → (before after : Standing)
+    → (old new : Option (List ℕ)) → Result Amount E → Type 0
+HeardTo Whole before after old new (Ok amount.Whole) = Whole
+HeardTo Whole before after old new (Ok (amount.Cut sender)) =
     PacketCut (plan_nodes before.plan) sender old new × IsAtEnd new × IsSame before after
-PacketHeard before after old new (Ok amount.Nothing) =
+HeardTo Whole before after old new (Ok amount.Nothing) =
     Consumes old new [] × IsAtEnd new × (after ≡ before)
-PacketHeard before after old new (Err e) =
+HeardTo Whole before after old new (Err e) =
     (Consumes old new [] ⊎ ((sender : ℕ) × PacketCut (plan_nodes before.plan) sender old new))
     × IsSame before after
+
+abbrev pub PacketHeard : {E : Type 0} → (before after : Standing) → (old new : Option (List ℕ))
+    → Result Amount E → Type 0
+PacketHeard before after old new = HeardTo (PacketFed before after old new) before after old new
+
+-- what hearing the first cell of a packet did
+abbrev pub FirstHeard : {E : Type 0} → (before after : Standing) → (old new : Option (List ℕ))
+    → Result Amount E → Type 0
+FirstHeard before after old new = HeardTo (WholeCell [] 0 before after old new) before after old new

@@ -6,11 +6,12 @@ use edge_io::{Feed, ReadFault, Source, skip_bytes, take_bytes};
 const MOST_BYTES: usize = 128;
 
 impl NodeEngine {
-    ghost use Rattle.std.specs.Prelude.{◌≡◌, ◌<◌, ◌||◌, not, [], ◌∷◌, OnErr, IfOk};
+    ghost use Rattle.std.specs.Prelude.{◌≡◌, ◌<◌, ◌||◌, true, false, not, [], ◌∷◌, OnErr, IfOk};
     ghost use Rattle.texts.specs.Causes.{HasCause};
     ghost use Rattle.edge_io.specs.Feeds.{feed_left, IsDry};
     ghost use Rattle.construction.specs.Plans.{plan_nodes};
-    ghost use Rattle.node_stepper.specs.Hearing.{BodyFed, CellFed, PacketHeard, meets_end};
+    ghost use Rattle.node_stepper.specs.Hearing.{BodyFed, WholeCell, CellFed, FirstHeard};
+    ghost use Rattle.node_stepper.specs.Hearing.{PacketHeard, meets_end};
 
     /// Hears the bytes of a cell, of which there are to be so many. Bytes that are not just so many
     /// as a state of that node has are not kept.
@@ -74,6 +75,29 @@ impl NodeEngine {
         self.hear_body(feed, sender, 256 * usize::from(high) + usize::from(low))
     }
 
+    /// Hears the next cell where it stands, if it has just so many bytes as a state of that node
+    /// has, and these stand whole in the buffer with eight bytes more behind them. Else nothing
+    /// changes.
+    fn hear_held<S: Source>(&mut self, feed: &mut Feed<'_, S>, sender: u32) -> bool
+        requires { sender < plan_nodes self.old.plan }
+        ensures cell { result ≡ true → WholeCell [] sender self.old self.new
+            (feed_left S.left feed.old) (feed_left S.left feed.new) }
+        ensures none { result ≡ false → (self.new ≡ self.old) × (feed.new ≡ feed.old) }
+        ensures source { feed.new.source ≡ feed.old.source }
+    {
+        let size = self.bytes_of(sender);
+        let held = feed.held();
+        if held.len() < size + 10 {
+            return false;
+        }
+        if 256 * usize::from(held[0]) + usize::from(held[1]) != size {
+            return false;
+        }
+        self.hear_front(sender, &held[2..]);
+        feed.pass(2 + size);
+        true
+    }
+
     /// Hears the next cell: true where it was whole.
     fn hear_cell<S: Source>(
         &mut self,
@@ -90,12 +114,42 @@ impl NodeEngine {
             ≡ (not whole || S.met feed.old.source.now)) }
         ensures dry { OnErr result (IsDry S.met feed.old feed.new) }
     {
+        if self.hear_held(feed, sender) {
+            return Ok(true);
+        }
         let high = match feed.byte() {
             Ok(Some(high)) => high,
             Ok(None) => return Ok(false),
             Err(ReadFault) => return Err(ReadFault),
         };
         self.hear_rest(feed, sender, high)
+    }
+
+    /// Hears the first cell of a packet.
+    fn hear_first<S: Source>(&mut self, feed: &mut Feed<'_, S>) -> Result<Amount, ReadFault>
+        requires { 0 < plan_nodes self.old.plan }
+        ensures same_reference { feed.new.source.ghost_name ≡ feed.old.source.ghost_name }
+        ensures first { FirstHeard self.old self.new
+            (feed_left S.left feed.old) (feed_left S.left feed.new) result }
+        ensures cause { HasCause (S.faults feed.old.source.now)
+            (S.faults feed.new.source.now) result }
+        ensures met { IfOk result (λ amount. S.met feed.new.source.now
+            ≡ (meets_end amount || S.met feed.old.source.now)) }
+        ensures dry { OnErr result (IsDry S.met feed.old feed.new) }
+    {
+        if self.hear_held(feed, 0) {
+            return Ok(Amount::Whole);
+        }
+        let high = match feed.byte() {
+            Ok(Some(high)) => high,
+            Ok(None) => return Ok(Amount::Nothing),
+            Err(ReadFault) => return Err(ReadFault),
+        };
+        match self.hear_rest(feed, 0, high) {
+            Ok(true) => Ok(Amount::Whole),
+            Ok(false) => Ok(Amount::Cut(0)),
+            Err(ReadFault) => Err(ReadFault),
+        }
     }
 
     /// Hears the cells of a packet.
@@ -114,14 +168,9 @@ impl NodeEngine {
         ensures dry { OnErr result (IsDry S.met feed.old feed.new) }
     {
         let nodes = self.nodes();
-        let high = match feed.byte() {
-            Ok(Some(high)) => high,
-            Ok(None) => return Ok(Amount::Nothing),
-            Err(ReadFault) => return Err(ReadFault),
-        };
-        match self.hear_rest(feed, 0, high) {
-            Ok(true) => {}
-            Ok(false) => return Ok(Amount::Cut(0)),
+        match self.hear_first(feed) {
+            Ok(Amount::Whole) => {}
+            Ok(less) => return Ok(less),
             Err(ReadFault) => return Err(ReadFault),
         }
         for sender in 1..nodes {

@@ -1,42 +1,24 @@
 use Rattle.std.proofs.Common.{ℕ, ◌≡◌, ◌<◌, ◌∙◌, arith, inr, subst, sym}
 use Rattle.construction.specs.Plans.{plan_nodes}
-use Rattle.node_stepper.proofs.PacketByPacket.{first_end, cells_first, cells_end, cells_more, cells_whole, unchanged, same_as}
+use Rattle.node_stepper.proofs.PacketByPacket.{cells_first, cells_end, cells_more, cells_whole, same_as}
 use Rattle.node_stepper.proofs.engine.NodeEngine.hear_packet.Goals as goal
+
+pub loop-sender-init : goal.loop-sender-init
+loop-sender-init g c =
+    let nodes = c.nodes-nodes.ensures in
+    let some : 0 < plan_nodes c.args.self.now.plan = omega (arith, nodes.value, nodes.id) in
+    record {
+      same = c.in-Ok-Whole.ensures.same_reference;
+      still = c.in-Ok-Whole.ensures.cause;
+      met = rw c.in-Ok-Whole.field-0-is at c.in-Ok-Whole.ensures.met;
+      cells = cells_first c.args.self.now c.hear_first.new.self _ _ some
+          (nodes.states ∙ nodes.value) (nodes.marks ∙ nodes.value)
+          (rw c.in-Ok-Whole.field-0-is at c.in-Ok-Whole.ensures.first);
+    }
 
 pub returns-in-Ok-false-clause-packet : goal.returns-in-Ok-false-clause-packet
 returns-in-Ok-false-clause-packet g c =
     let h = rw c.in-Ok-false.field-0-test at c.in-Ok-false.ensures.cell in
-    let first = rw c.in-Ok-Some.field-0-is at c.in-Ok-Some.ensures.bytes in
-    let nodes = c.nodes-nodes.ensures in
-    let some : 0 < plan_nodes c.args.self.now.plan = omega (arith, nodes.value, nodes.id) in
-    (first_end _ _ _ _ _ _ some first h.1 h.2, h.3, unchanged _ _ h.4)
-
-pub returns-in-Err-hear_rest-clause-packet : goal.returns-in-Err-hear_rest-clause-packet
-returns-in-Err-hear_rest-clause-packet g c =
-    let h = c.in-Err-hear_rest.ensures.cell in
-    let first = rw c.in-Ok-Some.field-0-is at c.in-Ok-Some.ensures.bytes in
-    let nodes = c.nodes-nodes.ensures in
-    let some : 0 < plan_nodes c.args.self.now.plan = omega (arith, nodes.value, nodes.id) in
-    (inr (0, first_end _ _ _ _ _ _ some first h.1 h.2), unchanged _ _ h.3)
-
-pub loop-sender-init : goal.loop-sender-init
-loop-sender-init g c =
-    let h = rw c.in-Ok-true.field-0-test at c.in-Ok-true.ensures.cell in
-    let first = rw c.in-Ok-Some.field-0-is at c.in-Ok-Some.ensures.bytes in
-    let nodes = c.nodes-nodes.ensures in
-    let some : 0 < plan_nodes c.args.self.now.plan = omega (arith, nodes.value, nodes.id) in
-    record {
-      same = c.in-Ok-true.ensures.same_reference ∙ c.in-Ok-Some.ensures.same_reference;
-      still = c.in-Ok-true.ensures.cause ∙ c.in-Ok-Some.ensures.cause;
-      met = rw c.in-Ok-true.field-0-test at c.in-Ok-true.ensures.met
-          ∙ rw c.in-Ok-Some.field-0-is at c.in-Ok-Some.ensures.met;
-      cells = cells_first ℕ _ _ _ _ _ _ some (nodes.states ∙ nodes.value) (nodes.marks
-          ∙ nodes.value) first h;
-    }
-
-pub returns-in-Ok-false-hear_cell-clause-packet : goal.returns-in-Ok-false-hear_cell-clause-packet
-returns-in-Ok-false-hear_cell-clause-packet g c =
-    let h = rw c.in-Ok-false-hear_cell.field-0-test at c.in-Ok-false-hear_cell.ensures.cell in
     let nodes = c.nodes-nodes.ensures in
     let less : c.loop-sender.sender < plan_nodes c.args.self.now.plan =
     omega (arith, nodes.value, c.loop-sender-test.true) in
@@ -61,14 +43,14 @@ hear_cell-requires g c =
 
 pub loop-sender-preserved : goal.loop-sender-preserved
 loop-sender-preserved g c =
-    let h = rw c.in-Ok-true-hear_cell.field-0-test at c.in-Ok-true-hear_cell.ensures.cell in
+    let h = rw c.in-Ok-true.field-0-test at c.in-Ok-true.ensures.cell in
     let nodes = c.nodes-nodes.ensures in
     let less : c.loop-sender.sender < plan_nodes c.args.self.now.plan =
     omega (arith, nodes.value, c.loop-sender-test.true) in
     record {
-      same = c.in-Ok-true-hear_cell.ensures.same_reference ∙ c.loop-sender.invariant.same;
-      still = c.in-Ok-true-hear_cell.ensures.cause ∙ c.loop-sender.invariant.still;
-      met = rw c.in-Ok-true-hear_cell.field-0-test at c.in-Ok-true-hear_cell.ensures.met
+      same = c.in-Ok-true.ensures.same_reference ∙ c.loop-sender.invariant.same;
+      still = c.in-Ok-true.ensures.cause ∙ c.loop-sender.invariant.still;
+      met = rw c.in-Ok-true.field-0-test at c.in-Ok-true.ensures.met
           ∙ c.loop-sender.invariant.met;
       cells = cells_more ℕ _ _ _ _ _ _ _ less c.loop-sender.invariant.cells h;
     }
