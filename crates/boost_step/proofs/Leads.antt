@@ -1,11 +1,12 @@
 -- A number that leads is the only one that more than half can be.
-use Rattle.std.proofs.Common.{◌≡◌, ◌≢◌, ℕ, ◌+◌, ◌*◌, ◌<◌, ◌≤◌, Bool, if◌then◌else◌, List, [], ◌∷◌, ◌++◌, map, length, nat_eq, Option, Some, unwrap_or, refl, sym, ap, ◌∙◌, subst, ⊎_elim, arith}
+use Rattle.std.proofs.Common.{◌≡◌, ◌≢◌, ℕ, zero, suc, ◌+◌, ◌*◌, ◌<◌, ◌≤◌, Bool, if◌then◌else◌, List, [], ◌∷◌, ◌++◌, map, length, nat_eq, Option, Some, None, unwrap_or, All, refl, sym, ap, ◌∙◌, subst, ⊎_elim, arith}
 use Rattle.std.proofs.lemmas.Bool.{cases_eq, eq-eqb, ne_eqb}
-use Rattle.std.proofs.lemmas.List.{length-map, length_push}
+use Rattle.std.proofs.lemmas.List.{length-map, length_push, get_or-map}
+use Rattle.std.proofs.lemmas.List.Elements.{All-get_or}
 use Rattle.std.proofs.lemmas.List.Sums.{sum_by_push}
-use Rattle.counting.specs.Values.{majority_or_zero}
+use Rattle.counting.specs.Values.{majority_of, majority_or_zero}
 use Rattle.counting.proofs.Counts.{count_of_numbers}
-use Rattle.counting.proofs.Majority.{majority_is, no_majority}
+use Rattle.counting.proofs.Majority.{majority_is, no_majority, majority_has, majority_below_at}
 use Rattle.boost_step.specs.Leads.{Leads, times_of}
 
 -- the number comes once more behind itself
@@ -115,3 +116,26 @@ pub none_leads : (numbers : List ℕ) (number : ℕ) → Leads numbers number 0
     → 0 ≡ majority_or_zero numbers
 none_leads numbers number leads =
     none_most numbers number 0 leads (half_at_most numbers number number leads)
+
+-- a majority of zeros and ones is 0 where 1 is not most
+zero_by : (numbers : List ℕ) (found : Option ℕ) → majority_of (map Some numbers) ≡ found
+    → unwrap_or found 0 < 2 → 2 * times_of numbers 1 ≤ length numbers → 0 ≡ unwrap_or found 0
+zero_by numbers None e lt few = refl
+zero_by numbers (Some zero) e lt few = refl
+zero_by numbers (Some (suc z)) e lt few =
+    let one : suc z ≡ 1 = omega (arith, lt) in
+    let more = majority_has (map Some numbers) (suc z) e in
+    let long = length-map numbers Some in
+    let count = count_of_numbers numbers (suc z) in
+    absurd (omega (arith, more, long, count, few, ap (times_of numbers) one))
+
+-- the majority of zeros and ones
+pub zero_is_most : (f : ℕ → ℕ) (numbers : List ℕ) → All (λ n. f n < 2) numbers
+    → 2 * times_of (map f numbers) 1 ≤ length numbers → 0 ≡ majority_or_zero (map f numbers)
+zero_is_most f numbers two few =
+    let long = length-map numbers f in
+    zero_by (map f numbers) (majority_of (map Some (map f numbers))) refl
+    (majority_below_at (map f numbers) 2 (omega arith)
+    (λ i lt. subst (λ (y : ℕ). y < 2) (sym (get_or-map f numbers i 0 0 (omega (arith, lt, long))))
+    (All-get_or (λ n. f n < 2) numbers i 0 (omega (arith, lt, long)) two)))
+    (omega (arith, few, long))

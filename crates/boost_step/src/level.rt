@@ -7,7 +7,7 @@ ghost use Rattle.counter_core.specs.Working.{IsFor};
 ghost use Rattle.boost_step.specs.Numbers.{AreNumbers, block_nodes, in_blocks};
 ghost use Rattle.boost_step.specs.Kept.{KeepsOutputs};
 
-use crate::most::most;
+use crate::most::most_below;
 use crate::obeying::obey;
 use crate::readings::Itself;
 use crate::votes::{block_beat, block_vote};
@@ -34,7 +34,7 @@ pub fn lead(nums: &LevelNums, work: &mut Work) -> u32
         interval *= 2 * leaders;
         start += n;
     }
-    most(&Itself, &work.votes[..nums.blocks as usize]) as u32
+    most_below(&Itself, &work.votes[..nums.blocks as usize], leaders) as u32
 }
 
 /// The beat heard: the part of the beat at which most nodes of the leading block are, by the inner

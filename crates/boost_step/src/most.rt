@@ -1,6 +1,6 @@
 //! The number that most places of a list hold, by a candidate and a recount.
 
-ghost use Rattle.std.specs.Prelude.{◌≡◌, ◌+◌, ◌<◌, ◌≤◌, ◌^◌, ℕ, List, [], ◌∷◌, ◌++◌, map};
+ghost use Rattle.std.specs.Prelude.{◌≡◌, ◌+◌, ◌<◌, ◌≤◌, ◌^◌, ℕ, List, [], ◌∷◌, ◌++◌, map, All};
 ghost use Rattle.counting.specs.Values.{majority_or_zero};
 ghost use Rattle.boost_step.specs.Leads.{Leads, times_of};
 
@@ -73,5 +73,29 @@ pub(crate) fn most<R: Reading>(reading: &R, numbers: &[u64]) -> u64
         leading.number
     } else {
         0
+    }
+}
+
+/// The same where no number but 0 and 1 is read of these.
+pub(crate) fn most_of_two<R: Reading>(reading: &R, numbers: &[u64]) -> u64
+    requires { All (λ n. R.read reading.now n < 2) numbers.now }
+    ensures { result ≡ majority_or_zero (map (R.read reading.now) numbers.now) }
+{
+    if numbers.len() / 2 < times(reading, numbers, 1) {
+        1
+    } else {
+        0
+    }
+}
+
+/// The same where all that is read of these is below a bound.
+pub(crate) fn most_below<R: Reading>(reading: &R, numbers: &[u64], bound: u64) -> u64
+    requires { All (λ n. R.read reading.now n < bound) numbers.now }
+    ensures { result ≡ majority_or_zero (map (R.read reading.now) numbers.now) }
+{
+    if bound == 2 {
+        most_of_two(reading, numbers)
+    } else {
+        most(reading, numbers)
     }
 }

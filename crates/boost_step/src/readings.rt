@@ -31,6 +31,23 @@ impl Reading for Pointer {
     }
 }
 
+/// The leader to which an output points, in a block of this interval, where there are two leaders.
+#[derive(Drop)]
+pub(crate) struct PointerOfTwo {
+    pub interval: u64,
+    ghost interval_some: { 1 ≤ interval },
+}
+
+impl Reading for PointerOfTwo {
+    ghost use Rattle.std.specs.Prelude.{◌/◌, ◌%◌};
+
+    ghost read = { λ p o. o / p.interval % 2 };
+
+    fn of(&self, number: u64) -> u64 {
+        number / self.interval % 2
+    }
+}
+
 /// The part of the beat at which an output is.
 #[derive(Drop)]
 pub(crate) struct Part {

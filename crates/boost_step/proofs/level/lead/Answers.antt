@@ -1,4 +1,4 @@
-use Rattle.std.proofs.Common.{◌≡◌, ℕ, ◌+◌, ◌/◌, ◌<◌, ◌≤◌, length, ◌-◌, ◌%◌, List, map, take, drop, ap, sym, ◌∙◌, subst, arith, refl}
+use Rattle.std.proofs.Common.{◌≡◌, ℕ, ◌+◌, ◌/◌, ◌<◌, ◌≤◌, length, ◌-◌, ◌%◌, List, All, map, take, drop, ap, sym, ◌∙◌, subst, arith, refl}
 use Rattle.std.specs.List.{range_with_len}
 use Rattle.std.proofs.lemmas.List.{length-set, map-id}
 use Rattle.counting.specs.Values.{majority_or_zero}
@@ -9,7 +9,7 @@ use Rattle.plan_numbers.specs.declared.numbers.LevelNums.{LevelNums}
 use Rattle.plan_numbers.specs.Numbers.{level_of}
 use Rattle.boost_step.specs.Numbers.{block_nodes, in_blocks}
 use Rattle.boost_step.proofs.Numbers.{Related, related, interval_most}
-use Rattle.boost_step.proofs.LevelVotes.{lead_below, vote_of_slice, interval_more}
+use Rattle.boost_step.proofs.LevelVotes.{lead_below, votes_below, votes_counted, vote_of_slice, interval_more}
 use Rattle.boost_step.proofs.Stepping.{output_more}
 use Rattle.boost_step.proofs.level.lead.Goals as goal
 
@@ -85,27 +85,41 @@ lead_below_leaders nums r outputs l e =
     let below = lead_below (level_of nums) (block_nodes nums) outputs (omega arith) in
     omega arith
 
+pub most_below-requires : goal.most_below-requires
+most_below-requires c =
+    let nums = c.args.nums.now in
+    let r = related nums c.requires.numbers in
+    let leaders = r.sized.leaders in
+    let same : leaders_of (level_of nums) ≡ c.from-leaders.result =
+    sym (c.from-leaders.ensures ∙ r.leaders) in
+    let all : c.loop-i.i ≡ nums.blocks =
+    omega (arith, c.loop-i-test.false, c.loop-i.auto.i-end) in
+    subst (λ (votes : List ℕ). All (λ v. v < c.from-leaders.result) votes)
+    (sym (votes_counted (level_of nums) (block_nodes nums) (in_blocks nums) nums.blocks c.loop-i.i
+    c.deref-2.result.now c.loop-i.work.votes.items c.loop-i.work.outputs.items
+    c.args.work.now.outputs.items all c.deref-2.ensures.value c.loop-i.invariant.votes
+    (ap (λ o. o.items) c.loop-i.invariant.outputs)))
+    (subst (λ (m : ℕ). All (λ v. v < m) (map (vote (level_of nums) (block_nodes nums)
+    (take (in_blocks nums) c.args.work.now.outputs.items)) (range_with_len 0 nums.blocks))) same
+    (votes_below (level_of nums) (block_nodes nums) nums.blocks
+    (take (in_blocks nums) c.args.work.now.outputs.items)
+    (let many = r.leaders in omega arith)))
+
 pub returns-clause-lead : goal.returns-clause-lead
 returns-clause-lead c =
     let nums = c.args.nums.now in
-    let n : ℕ = block_nodes nums in
-    let test = c.loop-i-test.false in
-    let end = c.loop-i.auto.i-end in
-    let all : c.loop-i.i ≡ nums.blocks = omega arith in
-    let by : (k : ℕ) → List ℕ → List ℕ = λ k items.
-    map (vote (level_of nums) n (take (in_blocks nums) items)) (range_with_len 0 k) in
-    let votes : take nums.blocks c.deref-2.result.now
-    ≡ by nums.blocks c.args.work.now.outputs.items =
-    ap (take nums.blocks) c.deref-2.ensures.value
-    ∙ (ap (λ k. take k c.loop-i.work.votes.items) (sym all)
-    ∙ (c.loop-i.invariant.votes ∙ (ap (λ k. by k c.loop-i.work.outputs.items) all
-    ∙ ap (λ o. by nums.blocks o.items) c.loop-i.invariant.outputs))) in
-    c.most.ensures ∙ ap majority_or_zero (map-id _ ∙ votes)
+    let all : c.loop-i.i ≡ nums.blocks =
+    omega (arith, c.loop-i-test.false, c.loop-i.auto.i-end) in
+    c.most_below.ensures ∙ ap majority_or_zero (map-id _
+    ∙ votes_counted (level_of nums) (block_nodes nums) (in_blocks nums) nums.blocks c.loop-i.i
+    c.deref-2.result.now c.loop-i.work.votes.items c.loop-i.work.outputs.items
+    c.args.work.now.outputs.items all c.deref-2.ensures.value c.loop-i.invariant.votes
+    (ap (λ o. o.items) c.loop-i.invariant.outputs))
 
 pub returns-clause-below : goal.returns-clause-below
 returns-clause-below c =
     lead_below_leaders c.args.nums.now (related c.args.nums.now c.requires.numbers)
-    (take (in_blocks c.args.nums.now) c.args.work.now.outputs.items) c.most.result
+    (take (in_blocks c.args.nums.now) c.args.work.now.outputs.items) c.most_below.result
     (returns-clause-lead c)
 
 pub overflow_cast-result : goal.overflow_cast-result
