@@ -15,8 +15,4 @@ pub mod PlanStates
 pub mod Further
 pub mod Windows
 pub mod PackedFields
-pub mod Packing
-pub mod PackFacts
-pub mod ZeroBytes
-pub mod FrontBytes
-pub mod NumbersAlone
+pub mod Configurations

@@ -1,5 +1,5 @@
 -- Fields of a state whose bytes stand among others.
-use Rattle.std.proofs.Common.{◌≡◌, ℕ, zero, suc, ◌+◌, ◌*◌, ◌<◌, ◌≤◌, Bool, true, false, cond, length, take, drop, get_or, List, [], ◌∷◌, ◌++◌, refl, sym, ap, ap₂, ◌∙◌, arith, ◌==◌, nat_lt, Option, Some, None}
+use Rattle.std.proofs.Common.{◌≡◌, ℕ, zero, suc, ◌+◌, ◌*◌, ◌<◌, ◌≤◌, Bool, true, false, cond, length, take, drop, get_or, List, [], ◌∷◌, ◌++◌, refl, sym, ap, ap₂, ◌∙◌, arith, ◌==◌, Option}
 use Rattle.std.specs.Prelude.{unwrap_or}
 use Rattle.std.proofs.Math.Seq.{drop-append-add}
 use Rattle.std.proofs.lemmas.Bool.{eq-eqb}
@@ -83,14 +83,6 @@ bits_through cs i lt =
     (get_or cs i 0) lt refl refl refl in
     omega (arith, more, sum_by-take-le register_bits cs (i + 1))
 
-zero_by : (b : Bool) → ◌≡◌ {A = ℕ} 0 (unwrap_or (cond b (Some 0) None) 0)
-zero_by true = refl
-zero_by false = refl
-
-no_number : number_of [] ≡ 0
-unfolding number_of
-no_number = refl
-
 module _ (fields : Fields) (bytes : List ℕ) (start : ℕ)
     (within : start + bytes_in fields ≤ length bytes) where
   abbrev own : List ℕ
@@ -143,14 +135,6 @@ module _ (fields : Fields) (bytes : List ℕ) (start : ℕ)
       is ∙ (ap (λ a. unwrap_or a 0) (is_found
       ∙ ap₂ below same_base (is_number ∙ ap
       (λ k. number_of (take k (drop (8 * start) (bits_of_bytes bytes)))) same_width))
-      ∙ sym number_among)
-
-  -- a number that has no bits is 0
-  pub number_lacking : width fields.base ≡ 0 → 0 ≡ (read fields own).x
-  number_lacking none =
-      zero_by (nat_lt 0 fields.base)
-      ∙ (ap (λ n. unwrap_or (below fields.base n) 0)
-      (sym (ap (λ k. number_of (take k (drop (8 * start) (bits_of_bytes bytes)))) none ∙ no_number))
       ∙ sym number_among)
 
   -- a register that is there is what is read of its bits

@@ -1,7 +1,6 @@
-ghost use Rattle.std.specs.Prelude.{◌≡◌, ◌+◌, ◌*◌, ◌/◌, ◌^◌, ◌<◌, ◌≤◌, ◌++◌, ℕ, take, drop, length};
-ghost use Rattle.std.specs.Prelude.{slice_index_or};
+ghost use Rattle.std.specs.Prelude.{◌≡◌, ◌+◌, ◌*◌, ◌/◌, ◌<◌, ◌≤◌, ℕ, take, drop, length};
 ghost use Rattle.byteorder.specs.Endian.{big_number};
-ghost use Rattle.state_codec.specs.Bits.{bits, number_of, bits_of_bytes, bytes_of_bits};
+ghost use Rattle.state_codec.specs.Bits.{number_of, bits_of_bytes};
 
 use byteorder::{BigEndian, ByteOrder};
 
@@ -30,28 +29,10 @@ pub fn front_at(bytes: &[u8], start: usize, width: u32) -> u64
     word_at(bytes, start) >> (64 - width)
 }
 
-/// The number that eight bytes from a place on write, and that these are bytes.
+/// The number that eight bytes from a place on write.
 fn word_at(bytes: &[u8], start: usize) -> u64
     requires { start + 8 ≤ length bytes.now }
-    ensures value { result ≡ big_number 8 (take 8 (drop start bytes.now)) }
-    ensures bytes { (i : ℕ) → slice_index_or (take 8 (drop start bytes.now)) i 0 < 256 }
+    ensures { result ≡ big_number 8 (take 8 (drop start bytes.now)) }
 {
     BigEndian::read_u64(&bytes[start..start + 8])
-}
-
-/// Writes a number as `count` bytes, 1 to 7, from a place on, by one load and one store of eight
-/// bytes. These stand from that place on.
-pub fn set_bytes(bytes: &mut [u8], start: usize, count: u32, value: u64)
-    requires least { 1 ≤ count }
-    requires most { count ≤ 7 }
-    requires value { value < 2 ^ (8 * count) }
-    requires within { start + 8 ≤ length bytes.old }
-    ensures length { length bytes.new ≡ length bytes.old }
-    ensures value { bytes.new
-        ≡ (take start bytes.old ++ bytes_of_bits count (bits (8 * count) value))
-        ++ drop (start + count) bytes.old }
-{
-    let behind = 64 - 8 * count;
-    let rest = word_at(bytes, start) & ((1 << behind) - 1);
-    BigEndian::write_u64(&mut bytes[start..start + 8], (value << behind) | rest);
 }

@@ -1,30 +1,23 @@
-ghost use Rattle.std.specs.Prelude.{◌≡◌, ◌<◌, ◌≤◌, ◌+◌, ◌*◌, ◌^◌, ◌++◌, ℕ, length, take, drop};
+ghost use Rattle.std.specs.Prelude.{◌≡◌, ◌<◌, ◌≤◌, ◌+◌, ◌*◌, ◌^◌, ℕ, length, take, drop};
 ghost use Rattle.std.specs.Prelude.{slice_index, slice_index_or, All};
-ghost use Rattle.state_codec.specs.Bits.{bits, bytes_of_bits};
 ghost use Rattle.std.specs.Int.{div_ceil};
 ghost use Rattle.sync_types.specs.States.{register_at};
 ghost use Rattle.state_codec.specs.Shapes.{Fields, register_bits, registers_bits, bits_in};
 ghost use Rattle.state_codec.specs.Shapes.{bytes_in, IsFields};
 ghost use Rattle.state_codec.specs.Ranges.{InRange};
-ghost use Rattle.state_codec.specs.Writing.{bits_of_state, padding, number_alone, written};
+ghost use Rattle.state_codec.specs.Writing.{written};
 ghost use Rattle.state_codec.specs.Reading.{read};
 
-use crate::field_bits::{front_at, set_bytes};
+use crate::field_bits::front_at;
 use crate::reader::BitReader;
-use crate::registers::{
-    ZERO, below, full_register_at, push_registers, put_registers, set_zero, take_registers,
-};
+use crate::registers::{ZERO, below, full_register_at, put_registers, set_zero, take_registers};
 use crate::widths::bit_length;
-use crate::words::{Word, push};
 use crate::writer::{Pending, put};
 use std::marker::Model;
 use sync_types::{NodeState, Reg};
 
 /// A state has no more registers.
 const MOST_REGISTERS: usize = 16;
-
-/// States of more bits are not written by one word.
-const MOST_IN_WORD: u32 = 56;
 
 /// The fields of a node's state, and so which bits it takes: the modulus of the number, and that of
 /// each register, the lowest first. A number that the node lacks has the modulus 1, and a register
@@ -178,95 +171,6 @@ impl Fields {
         let end = put_registers(out, front, &self.moduli, &self.sizes, state);
         let padding = self.size.div_ceil(8) * 8 - self.size;
         let _whole = put(out, end, padding, 0);
-    }
-
-    /// The bits of a state that are at most 56, as a number.
-    fn word(&self, state: &NodeState) -> Word
-        requires range { InRange self.now state.now }
-        requires few { bits_in self.now ≤ 56 }
-        ensures text { bits result.count result.value ≡ bits_of_state self.now state.now }
-        ensures count { result.count ≡ bits_in self.now }
-    {
-        let front = Word {
-            value: state.x(),
-            count: self.front,
-        };
-        push_registers(front, &self.moduli, &self.sizes, state)
-    }
-
-    /// Writes the bytes of a state into the place from `from` to before `to`.
-    fn write_between(&self, state: &NodeState, bytes: &mut [u8], from: usize, to: usize)
-        requires range { InRange self.now state.now }
-        requires place { to ≡ from + bytes_in self.now }
-        requires within { to ≤ length bytes.old }
-        ensures length { length bytes.new ≡ length bytes.old }
-        ensures value { bytes.new ≡ (take from bytes.old ++ written self.now state.now)
-            ++ drop to bytes.old }
-    {
-        self.write_state(state, &mut bytes[from..to]);
-    }
-
-    /// Writes the bits of a state, 1 to 56, as its bytes from `start` on; eight bytes more stand
-    /// behind them.
-    fn write_bits(&self, word: Word, bytes: &mut [u8], start: usize)
-        requires count { word.count ≡ bits_in self.now }
-        requires least { 1 ≤ bits_in self.now }
-        requires within { start + bytes_in self.now + 8 ≤ length bytes.old }
-        ensures length { length bytes.new ≡ length bytes.old }
-        ensures value { bytes.new ≡ (take start bytes.old ++ bytes_of_bits (bytes_in self.now)
-            (bits word.count word.value ++ padding self.now))
-            ++ drop (start + bytes_in self.now) bytes.old }
-    {
-        let count = self.size.div_ceil(8);
-        let whole = push(word, 8 * count - self.size, 0);
-        set_bytes(bytes, start, count, whole.value);
-    }
-
-    /// Writes the bytes of a state that is a number alone from `start` on; eight bytes more stand
-    /// behind them.
-    pub fn write_number(&self, x: u64, bytes: &mut [u8], start: usize)
-        requires range { InRange self.now (number_alone x) }
-        requires within { start + bytes_in self.now + 8 ≤ length bytes.old }
-        ensures length { length bytes.new ≡ length bytes.old }
-        ensures value { bytes.new ≡ (take start bytes.old ++ written self.now (number_alone x))
-            ++ drop (start + bytes_in self.now) bytes.old }
-    {
-        if self.size > 0 {
-            let word = Word {
-                value: x,
-                count: self.front,
-            };
-            self.write_bits(word, bytes, start);
-        }
-    }
-
-    /// Writes the bytes of a state of 1 to 56 bits from `start` on; eight bytes more stand behind
-    /// them.
-    fn write_word(&self, state: &NodeState, bytes: &mut [u8], start: usize)
-        requires range { InRange self.now state.now }
-        requires least { 1 ≤ bits_in self.now }
-        requires most { bits_in self.now ≤ 56 }
-        requires within { start + bytes_in self.now + 8 ≤ length bytes.old }
-        ensures length { length bytes.new ≡ length bytes.old }
-        ensures value { bytes.new ≡ (take start bytes.old ++ written self.now state.now)
-            ++ drop (start + bytes_in self.now) bytes.old }
-    {
-        self.write_bits(self.word(state), bytes, start);
-    }
-
-    /// Writes the bytes of a state from `start` on; eight bytes more stand behind them.
-    pub fn write_at(&self, state: &NodeState, bytes: &mut [u8], start: usize)
-        requires range { InRange self.now state.now }
-        requires within { start + bytes_in self.now + 8 ≤ length bytes.old }
-        ensures length { length bytes.new ≡ length bytes.old }
-        ensures value { bytes.new ≡ (take start bytes.old ++ written self.now state.now)
-            ++ drop (start + bytes_in self.now) bytes.old }
-    {
-        if self.size == 0 || self.size > MOST_IN_WORD {
-            self.write_between(state, bytes, start, start + self.bytes());
-        } else {
-            self.write_word(state, bytes, start);
-        }
     }
 
     /// Reads a state from any bytes into `out`, which has the fields' depth. Bytes that are not

@@ -17,7 +17,6 @@ mod registers;
 mod shapes;
 mod texts;
 mod widths;
-mod words;
 mod writer;
 
 pub use packed::Packed;

@@ -1,11 +1,10 @@
-ghost use Rattle.std.specs.Prelude.{◌≡◌, ◌<◌, ◌≤◌, ◌+◌, ◌*◌, ◌^◌, ℕ, length, map, slice_set, IfOk};
-ghost use Rattle.std.specs.List.{range_with_len};
-ghost use Rattle.sync_types.specs.States.{register_at};
+ghost use Rattle.std.specs.Prelude.{◌≡◌, ◌<◌, ◌≤◌, ℕ, length, replicate, slice_set, IfOk};
+ghost use Rattle.sync_types.specs.States.{zero_state, register_at};
 ghost use Rattle.construction.specs.Steps.{state_of};
 ghost use Rattle.state_codec.specs.Shapes.{fields_at, IsShape};
 ghost use Rattle.state_codec.specs.Ranges.{InRange};
-ghost use Rattle.state_codec.specs.Writing.{number_alone, written};
-ghost use Rattle.state_codec.specs.Packs.{zeros, start};
+ghost use Rattle.state_codec.specs.Writing.{number_alone};
+ghost use Rattle.state_codec.specs.Packs.{zeros};
 
 use crate::shapes::StateShape;
 use std::alloc::Global;
@@ -13,16 +12,13 @@ use std::marker::Model;
 use std::mem;
 use sync_types::{NoMemory, NodeState, Reg};
 
-/// Two configurations as bytes: the current one, whose states are read, and the next one, whose
-/// states are written. Each node has as many bytes as its state.
+/// Two configurations: the current one, whose states are read, and the next one, whose states are
+/// written.
 #[derive(Debug)]
 pub struct Packed {
     shape: StateShape,
-    nodes: u32,
-    // Where the bytes of each node begin, and at the end where the last ones end.
-    starts: Vec<usize>,
-    current: Vec<u8>,
-    next: Vec<u8>,
+    current: Vec<NodeState>,
+    next: Vec<NodeState>,
 }
 
 // Written out, so that what lets go of one calls this, and no more.
@@ -30,45 +26,39 @@ impl Drop for Packed {
     fn drop(self) {
         let Packed {
             shape,
-            nodes,
-            starts,
             current,
             next,
         } = self;
         drop(shape);
-        drop(nodes);
-        drop(starts);
         drop(current);
         drop(next);
     }
 }
 
 impl Model for Packed {
-    ghost use Rattle.state_codec.specs.Packs.{Pack, IsPack, pack_of};
+    ghost use Rattle.state_codec.specs.Packs.{Pack, IsPack};
 
     ghost Value = { Pack };
 
-    ghost view = { λ p. pack_of p.shape p.nodes p.current.items p.next.items };
+    ghost view = { λ p. record {
+      shape = p.shape;
+      current = p.current.items;
+      next = p.next.items;
+    } };
 
-    ghost invariant = { λ p. IsPack p.shape p.nodes p.starts.items p.current.items p.next.items };
+    ghost invariant = { λ p. IsPack p.shape p.current.items p.next.items };
 }
 
-/// Where the bytes of each of so many nodes begin, and at the end where the last ones end.
-#[tactic(auto, using(crate::proofs::Lows::made_more, crate::proofs::Packing::start_more, crate::proofs::Packing::start_of_none))]
-fn starts(alloc: Global, shape: &StateShape, nodes: u32) -> Result<Vec<usize>, NoMemory>
-    requires { nodes ≤ length shape.now.lows }
-    ensures begins { IfOk result (λ starts. starts.items
-        ≡ map (start shape.now) (range_with_len 0 (nodes + 1))) }
-    ensures small { IfOk result (λ starts. start shape.now nodes ≤ 128 * nodes) }
+/// Zero states of that depth, one for each node.
+fn zero_states(alloc: Global, nodes: u32, depth: usize) -> Result<Vec<NodeState>, NoMemory>
+    ensures { IfOk result (λ states. states.items ≡ replicate nodes (zero_state depth)) }
 {
-    let mut starts = Vec::with_capacity(alloc, nodes as usize + 1)?;
-    let mut at = 0;
-    for v in 0..nodes {
-        starts.push(at).map_err(|_| NoMemory)?;
-        at += shape.bytes_of(v);
+    let mut states = Vec::with_capacity(alloc, nodes as usize)?;
+    for _ in 0..nodes {
+        let state = NodeState::zero(alloc, depth)?;
+        states.push(state).map_err(|_| NoMemory)?;
     }
-    starts.push(at).map_err(|_| NoMemory)?;
-    Ok(starts)
+    Ok(states)
 }
 
 impl Packed {
@@ -81,14 +71,11 @@ impl Packed {
     {
         shape.tell();
         let most = shape.nodes();
-        let starts = starts(alloc, &shape, nodes)?;
-        let size = starts[nodes as usize] + 8;
-        let current = vec![in alloc; 0; size]?;
-        let next = vec![in alloc; 0; size]?;
+        let depth = shape.depth();
+        let current = zero_states(alloc, nodes, depth)?;
+        let next = zero_states(alloc, nodes, depth)?;
         Ok(Packed {
             shape,
-            nodes,
-            starts,
             current,
             next,
         })
@@ -107,7 +94,7 @@ impl Packed {
         ensures next { result ≡ length self.now.next }
         ensures most { result ≤ 256 }
     {
-        self.nodes
+        self.current.len() as u32
     }
 
     /// Tells a caller's proof that each configuration has a state in range for each node, and at
@@ -121,24 +108,15 @@ impl Packed {
         ensures next { (v : ℕ) → v < length self.now.next
             → InRange (fields_at self.now.shape v) (state_of self.now.next v) }
     {
-        let _nodes = self.nodes;
+        let _nodes = self.current.len();
     }
 
-    /// Where the bytes of node `v` begin, or behind the last node where they end.
-    fn start_of(&self, v: u32) -> usize
-        requires { v ≤ length self.now.current }
-        ensures value { result ≡ start self.now.shape v }
-        ensures small { result < 2 ^ 16 }
-    {
-        self.starts[v as usize]
-    }
-
-    /// The bytes of the current state of node `v`.
-    pub fn bytes(&self, v: u32) -> &[u8]
+    /// The current state of node `v`.
+    pub fn state(&self, v: u32) -> &NodeState
         requires { v < length self.now.current }
-        ensures { result.now ≡ written (fields_at self.now.shape v) (state_of self.now.current v) }
+        ensures { result.now ≡ state_of self.now.current v }
     {
-        &self.current[self.start_of(v)..self.start_of(v + 1)]
+        &self.current[v as usize]
     }
 
     /// Reads the current state of node `v` into `out`, which has the depth of the shape.
@@ -147,8 +125,8 @@ impl Packed {
         requires depth { length out.old.registers ≡ length self.now.shape.moduli }
         ensures { out.new ≡ state_of self.now.current v }
     {
-        let start = self.start_of(v);
-        self.shape.fields(v).read_at(&self.current, start, out);
+        self.tell();
+        out.copy_from(self.state(v));
     }
 
     /// The number of the current state of node `v`.
@@ -156,8 +134,7 @@ impl Packed {
         requires { v < length self.now.current }
         ensures { result ≡ (state_of self.now.current v).x }
     {
-        let start = self.start_of(v);
-        self.shape.fields(v).number_at(&self.current, start)
+        self.state(v).x()
     }
 
     /// Register `i` of the current state of node `v`, the lowest being 0.
@@ -166,8 +143,8 @@ impl Packed {
         requires register { i < length self.now.shape.moduli }
         ensures { result ≡ register_at i (state_of self.now.current v) }
     {
-        let start = self.start_of(v);
-        self.shape.fields(v).register_at(&self.current, start, i)
+        self.tell();
+        self.state(v).reg(i)
     }
 
     /// Makes a state the next one of node `v`.
@@ -176,8 +153,7 @@ impl Packed {
         requires range { InRange (fields_at self.old.shape v) state.now }
         ensures { self.new ≡ record self.old { next = slice_set self.old.next v state.now } }
     {
-        let start = self.start_of(v);
-        self.shape.fields(v).write_at(state, &mut self.next, start);
+        self.next[v as usize].copy_from(state);
     }
 
     /// Makes a number alone the next state of node `v`, where states have no registers.
@@ -187,8 +163,7 @@ impl Packed {
         ensures { self.new
             ≡ record self.old { next = slice_set self.old.next v (number_alone x) } }
     {
-        let start = self.start_of(v);
-        self.shape.fields(v).write_number(x, &mut self.next, start);
+        self.next[v as usize].set_x(x);
     }
 
     /// Makes a state the current one of node `v`.

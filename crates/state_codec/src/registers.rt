@@ -12,7 +12,6 @@ ghost use Rattle.state_codec.specs.Cursors.{so_far};
 use crate::field_bits::field_at;
 use crate::reader::BitReader;
 use crate::widths::bit_length;
-use crate::words::{Word, push};
 use crate::writer::{Pending, put};
 use sync_types::{NodeState, Reg};
 
@@ -46,57 +45,6 @@ fn put_full(out: &mut [u8], pending: Pending, modulus: u64, size: u32, register:
 {
     let value = full_value(modulus, register);
     put(out, pending, size, value)
-}
-
-/// Puts a register that is there, of `size` bits, behind the bits of a word.
-fn push_full(word: Word, modulus: u64, size: u32, register: Reg) -> Word
-    requires modulus { modulus ≤ 2 ^ 40 }
-    requires value { IfSome register.a (λ a. a < modulus) }
-    requires size { size ≡ width (modulus + 1) + 1 }
-    requires few { word.count + size ≤ 56 }
-    ensures text { bits result.count result.value
-        ≡ bits word.count word.value ++ full_bits modulus register }
-    ensures count { result.count ≡ word.count + size }
-{
-    let value = full_value(modulus, register);
-    push(word, size, value)
-}
-
-/// Puts a register of `size` bits behind the bits of a word; one that is lacking has none.
-fn push_register(word: Word, modulus: u64, size: u32, register: Reg) -> Word
-    requires modulus { modulus ≤ 2 ^ 40 }
-    requires value { IsField modulus register }
-    requires size { size ≡ register_bits modulus }
-    requires few { word.count + register_bits modulus ≤ 56 }
-    ensures text { bits result.count result.value
-        ≡ bits word.count word.value ++ bits_of_register modulus register }
-    ensures count { result.count ≡ word.count + register_bits modulus }
-{
-    if modulus == 0 {
-        word
-    } else {
-        push_full(word, modulus, size, register)
-    }
-}
-
-/// Puts all registers, each of so many bits, behind the bits of a word.
-pub fn push_registers(start: Word, moduli: &[u64], sizes: &[u32], state: &NodeState) -> Word
-    requires moduli { All (λ modulus. modulus ≤ 2 ^ 40) moduli.now }
-    requires depth { length state.now.registers ≡ length moduli.now }
-    requires values { AreBelow moduli.now state.now.registers }
-    requires room { length moduli.now ≤ length sizes.now }
-    requires sizes { (i : ℕ) → i < length moduli.now
-        → slice_index_or sizes.now i 0 ≡ register_bits (slice_index_or moduli.now i 0) }
-    requires few { start.count + registers_bits moduli.now ≤ 56 }
-    ensures text { bits result.count result.value
-        ≡ bits start.count start.value ++ bits_of_registers moduli.now state.now.registers }
-    ensures count { result.count ≡ start.count + registers_bits moduli.now }
-{
-    let mut word = start;
-    for i in 0..moduli.len() {
-        word = push_register(word, moduli[i], sizes[i], state.reg(i));
-    }
-    word
 }
 
 /// Writes a register of `size` bits behind what was written; one that is lacking has none.

@@ -20,7 +20,7 @@ returns c =
     omega (arith, c.word_at.type_inv, pow-add 2 w r, ap (λ k. 2 ^ k) all) in
     sym (mod-eq_of_lt (div_below n (2 ^ r) (2 ^ w) (pow_pos r) fits))
     ∙ (ap₂ (λ a b. a / 2 ^ b % 2 ^ w)
-    (c.word_at.ensures.value ∙ ap (λ q. big_from 0 8 (take 8 (drop q bytes))) (sym first))
+    (c.word_at.ensures ∙ ap (λ q. big_from 0 8 (take 8 (drop q bytes))) (sym first))
     (sym none)
     ∙ sym (field bytes (8 * start) w (λ j. let fits = c.type_inv.bytes j in omega (arith, fits))
     c.requires.most (omega (arith, c.requires.within, first))))

@@ -1,15 +1,9 @@
 use Rattle.std.proofs.Common.{◌≡◌, ◌+◌, ◌-◌, take, drop, ap, ◌∙◌, arith}
 use Rattle.byteorder.specs.Endian.{big_number}
-use Rattle.state_codec.proofs.FrontBytes.{eight_below}
 use Rattle.state_codec.proofs.field_bits.word_at.Goals as goal
 
-pub returns-clause-value : goal.returns-clause-value
-returns-clause-value c =
+pub returns : goal.returns
+returns c =
     let size : c.args.start + 8 - c.args.start ≡ 8 = omega arith in
     c.read_u64.ensures
     ∙ ap (λ k. big_number 8 (take k (drop c.args.start c.args.bytes.now))) size
-
-pub returns-clause-bytes : goal.returns-clause-bytes
-returns-clause-bytes c =
-    eight_below c.args.bytes.now c.args.start 8
-    (λ j. let fits = c.type_inv.bytes j in omega (arith, fits))
