@@ -3,3 +3,4 @@ pub mod ListsAndPlaces
 pub mod ClearedRegisters
 pub mod Layers
 pub mod Quorum
+pub mod Heeded
