@@ -1,6 +1,6 @@
-ghost use Rattle.std.specs.Prelude.{◌≡◌, ◌≤◌, ℕ};
+ghost use Rattle.std.specs.Prelude.{◌≡◌, ℕ};
 
-use leader_pointers::part;
+use quick_division::Divisor;
 
 /// What is read of a number.
 pub(crate) trait Reading {
@@ -15,10 +15,8 @@ pub(crate) trait Reading {
 /// The leader to which an output points, in a block of this interval.
 #[derive(Drop)]
 pub(crate) struct Pointer {
-    pub interval: u64,
-    pub leaders: u64,
-    ghost interval_some: { 1 ≤ interval },
-    ghost leaders_some: { 1 ≤ leaders },
+    pub interval: Divisor,
+    pub leaders: Divisor,
 }
 
 impl Reading for Pointer {
@@ -27,15 +25,14 @@ impl Reading for Pointer {
     ghost read = { λ p o. o / p.interval % p.leaders };
 
     fn of(&self, number: u64) -> u64 {
-        number / self.interval % self.leaders
+        self.leaders.rest(self.interval.of(number))
     }
 }
 
 /// The leader to which an output points, in a block of this interval, where there are two leaders.
 #[derive(Drop)]
 pub(crate) struct PointerOfTwo {
-    pub interval: u64,
-    ghost interval_some: { 1 ≤ interval },
+    pub interval: Divisor,
 }
 
 impl Reading for PointerOfTwo {
@@ -44,15 +41,14 @@ impl Reading for PointerOfTwo {
     ghost read = { λ p o. o / p.interval % 2 };
 
     fn of(&self, number: u64) -> u64 {
-        number / self.interval % 2
+        self.interval.of(number) % 2
     }
 }
 
 /// The part of the beat at which an output is.
 #[derive(Drop)]
 pub(crate) struct Part {
-    pub beat: u64,
-    ghost beat_some: { 1 ≤ beat },
+    pub beat: Divisor,
 }
 
 impl Reading for Part {
@@ -61,7 +57,7 @@ impl Reading for Part {
     ghost read = { λ p o. part_of p.beat o };
 
     fn of(&self, number: u64) -> u64 {
-        part(self.beat, number)
+        self.beat.rest(number)
     }
 }
 
