@@ -215,6 +215,18 @@ fn puts(alloc: Global, packed: &mut Packed, v: u32, bytes: &[u8]) -> Result<bool
     Ok(v < packed.nodes() && packed.x(v) == 0)
 }
 
+/// Whether the current state of a node is written as these bytes.
+fn has_bytes(packed: &Packed, v: u32, bytes: &[u8]) -> bool {
+    packed.tell();
+    if v >= packed.nodes() {
+        return false;
+    }
+    let mut room = [0; 128];
+    let own = &mut room[..packed.shape().bytes_of(v)];
+    packed.shape().write_state(v, packed.state(v), own);
+    &*own == bytes
+}
+
 /// Whether the current state of a node is that of a row.
 fn holds(alloc: Global, packed: &Packed, row: &Bytes) -> Result<bool, Fail> {
     let v = row.0;
@@ -223,7 +235,7 @@ fn holds(alloc: Global, packed: &Packed, row: &Bytes) -> Result<bool, Fail> {
     }
     let mut state = NodeState::zero(alloc, packed.shape().depth())?;
     packed.old(v, &mut state);
-    let same = packed.bytes(v) == row.1 && packed.x(v) == row.2 && packed.reg(v, 0) == row.3;
+    let same = has_bytes(packed, v, row.1) && packed.x(v) == row.2 && packed.reg(v, 0) == row.3;
     Ok(same && is(&state, row.2, row.3))
 }
 
@@ -295,9 +307,9 @@ fn with_one(alloc: Global, row: &Long) -> Result<Packed, Fail> {
 fn stand(packed: &Packed, row: &Long) -> bool {
     packed.nodes() == 28
         && packed.shape().depth() == 2
-        && packed.bytes(0) == row.2
-        && packed.bytes(1) == row.3
-        && packed.bytes(2) == row.2
+        && has_bytes(packed, 0, row.2)
+        && has_bytes(packed, 1, row.3)
+        && has_bytes(packed, 2, row.2)
         && packed.x(1) == 5
         && packed.reg(1, 0) == MARKED
         && packed.reg(1, 1) == row.4
