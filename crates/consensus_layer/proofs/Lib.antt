@@ -3,3 +3,4 @@ pub mod Decisions
 mod Examples
 pub mod FitInputs
 pub mod SlotLengths
+pub mod TrueCounts

@@ -1,4 +1,5 @@
 pub mod Agreeing
+pub mod Heeding
 pub mod Agreements
 pub mod AgreementsSeen
 pub mod AgreeLaws

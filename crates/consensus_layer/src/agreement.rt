@@ -3,10 +3,11 @@ ghost use Rattle.layer_laws.specs.Slots.{slot_length};
 
 use crate::agree_parts::AgreePart;
 use crate::agreeing::{agree, slot_length};
+use crate::heeding::heeded;
 use counter_core::{Heard, HeardRegister, Overlay, Work};
 use plan_numbers::Plan;
 use std::alloc::{AllocError, Global};
-use sync_types::NodeState;
+use sync_types::{FaultSet, NodeState};
 
 /// Consensus on the counter of a plan: each node has an input, and keeps the decision of the last
 /// slot that ended.
@@ -104,6 +105,17 @@ impl Overlay for Agreement {
     }
 
     fn begin(&mut self, _at: u64) {}
+
+    fn heeded(
+        &self,
+        node: u32,
+        output: u64,
+        heard: &Heard<'_>,
+        faulty: &FaultSet,
+    ) -> (usize, usize) {
+        let values = HeardRegister::of(heard, self.depth, self.nodes, self.faults);
+        heeded(&values, node, output, faulty)
+    }
 
     fn advance(
         &mut self,

@@ -3,13 +3,14 @@
 //! Each node has an input. In slots of three rounds for each of F + 1 kings, whose turns the
 //! counter's outputs tell, all correct nodes agree on one of them: the common one where there is
 //! one. [`Agreement`] is the layer, and [`agree`] the round of one register of agreement, for any
-//! layer that has one.
+//! layer that has one; [`heeded`] says on which lies it hangs.
 #![tactic(auto)]
 
 mod agree_lines;
 mod agree_parts;
 mod agreeing;
 mod agreement;
+mod heeding;
 mod input_lines;
 pub mod laws;
 mod reading;
@@ -19,5 +20,6 @@ pub use agree_lines::{AgreeLines, AgreeStage};
 pub use agree_parts::AgreePart;
 pub use agreeing::{Agreed, agree, agree_at, slot_length};
 pub use agreement::Agreement;
+pub use heeding::{heeded, heeded_at, liar_at};
 pub use reading::read_agree;
 pub use refusals::{AgreeError, AgreeRefusal};

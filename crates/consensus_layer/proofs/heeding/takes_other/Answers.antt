@@ -1,0 +1,8 @@
+use Rattle.std.proofs.Common.{inl, sym, ◌∙◌}
+use Rattle.consensus_layer.proofs.TrueCounts.{locked_by}
+use Rattle.consensus_layer.proofs.heeding.takes_other.Goals as goal
+
+-- the register is locked
+pub returns-then-is_some : goal.returns-then-is_some
+returns-then-is_some c =
+    λ _. inl (locked_by c.args.own c.if-own.true (sym c.is_some.ensures ∙ c.if-is_some.true))
