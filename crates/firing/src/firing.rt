@@ -2,11 +2,11 @@ ghost use Rattle.std.specs.Prelude.{◌≡◌, ◌*◌, ◌<◌, ◌≤◌, leng
 
 use crate::fires::Fire;
 use crate::requests::Requests;
-use consensus_layer::agree;
+use consensus_layer::{agree, heeded};
 use counter_core::{Heard, HeardRegister, Overlay, Work};
 use plan_numbers::Plan;
 use std::alloc::{AllocError, Global};
-use sync_types::NodeState;
+use sync_types::{FaultSet, NodeState};
 
 /// Simultaneous firing over the counter of a plan: consensus on whether to fire, in slots, where a
 /// node is for it if it requests in the round before the slot.
@@ -98,6 +98,17 @@ impl Overlay for Firing {
 
     fn begin(&mut self, at: u64) {
         self.round = at;
+    }
+
+    fn heeded(
+        &self,
+        node: u32,
+        output: u64,
+        heard: &Heard<'_>,
+        faulty: &FaultSet,
+    ) -> (usize, usize) {
+        let values = HeardRegister::of(heard, self.depth, self.nodes, self.faults);
+        heeded(&values, node, output, faulty)
     }
 
     fn advance(
