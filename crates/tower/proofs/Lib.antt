@@ -10,3 +10,4 @@ pub mod Made
 pub mod Further
 pub mod Heeding
 pub mod Heeded
+pub mod SettledGroups

@@ -13,6 +13,7 @@ mod groups;
 pub mod laws;
 mod registers;
 mod rows;
+mod settled;
 mod shared;
 mod sharing;
 mod steps;
