@@ -5,3 +5,4 @@ pub mod SameLogs
 pub mod Replicated
 mod Examples
 pub mod EntryLengths
+pub mod Turns

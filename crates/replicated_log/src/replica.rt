@@ -14,11 +14,11 @@ use crate::log_lines::entry_length;
 use crate::log_parts::LogPart;
 use crate::refusals::LogError;
 use circular_buffer::HeapCircularBuffer;
-use consensus_layer::{agree_at, slot_length};
+use consensus_layer::{agree_at, heeded_at, liar_at, slot_length};
 use counter_core::{Heard, HeardRegister, Overlay, Work};
 use plan_numbers::Plan;
 use std::alloc::Global;
-use sync_types::{NodeState, Reg};
+use sync_types::{FaultSet, NodeState, Reg};
 
 /// A replicated log over the counter of a plan. The nodes own slots in turn; in each slot all
 /// correct nodes put one and the same entry into their logs, which is what the owner commands where
@@ -205,6 +205,17 @@ impl Overlay for Replica {
     }
 
     fn begin(&mut self, _at: u64) {}
+
+    fn heeded(&self, node: u32, output: u64, heard: &Heard<'_>, faulty: &FaultSet) -> (usize, usize) {
+        let turn = output % self.entry_length();
+        if turn == 0 {
+            liar_at(faulty, owner_at(self.nodes, self.faults, output))
+        } else {
+            let slot_turn = turn - 1;
+            let values = HeardRegister::of(heard, self.depth, self.nodes, self.faults);
+            heeded_at(&values, node, slot_turn % 3, (slot_turn / 3) as u32, faulty)
+        }
+    }
 
     fn advance(
         &mut self,
