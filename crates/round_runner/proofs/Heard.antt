@@ -1,26 +1,18 @@
 -- What a node hears, where the states of faulty nodes are replaced by what they tell.
-use Rattle.std.proofs.Common.{◌≡◌, ℕ, zero, suc, ◌<◌, inl, inr, Bool, true, false, cond, not, ◌||◌, List, [], ◌∷◌, length, map, refl, sym, ap, ◌∙◌, subst, arith}
+use Rattle.std.proofs.Common.{◌≡◌, ℕ, zero, suc, ◌<◌, Bool, true, false, cond, not, ◌||◌, List, [], ◌∷◌, length, map, refl, sym, ap, ◌∙◌, subst, arith}
 use Rattle.std.specs.Prelude.{◌==◌, slice_index, slice_index_or}
 use Rattle.std.specs.List.{range_with_len}
-use Rattle.std.proofs.lemmas.Bool.{eq-eqb, eqb-true, true≢false, or_cases}
+use Rattle.std.proofs.lemmas.Bool.{eq-eqb, true≢false}
 use Rattle.std.proofs.Math.Bool.{or-true}
 use Rattle.std.proofs.lemmas.List.FromFn.{fill_by_all, get_or-map-range_with_len}
 use Rattle.sync_types.specs.FaultSets.{is_in}
 use Rattle.sync_types.specs.States.{State, zero_state}
 use Rattle.construction.specs.Steps.{state_of}
 use Rattle.construction.specs.Runs.{heard_of, heard_by}
+pub use Rattle.counter_core.proofs.Heeded.{place_of}
 use Rattle.round_runner.proofs.Places.{placed}
 
--- an id that is among others has a place among them
-pub place_of : (ids : List ℕ) (u : ℕ) → is_in ids u ≡ true → (j : ℕ) × (j < length ids)
-    × (slice_index ids j ≡ u)
-place_of [] u is = absurd (true≢false (sym is))
-place_of (id ∷ ids) u is = elim (or_cases (u == id) (is_in ids u) is) [
-  | inl here ↦ (0, omega arith, sym (eqb-true u id here))
-  | inr there ↦ let rest = place_of ids u there in (suc rest.0, omega (arith, rest.1), rest.2)
-]
-
--- and the id at a place is among them
+-- the id at a place is among the ids
 pub is_among : (ids : List ℕ) (j : ℕ) → j < length ids → is_in ids (slice_index ids j) ≡ true
 is_among [] j lt = absurd (omega arith)
 is_among (id ∷ ids) zero lt = ap (λ b. b || is_in ids id) (eq-eqb id id refl)

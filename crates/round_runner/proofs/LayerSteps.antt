@@ -12,15 +12,18 @@ use Rattle.plan_laws.proofs.PlanCounter.{plan_sizes}
 use Rattle.state_codec.specs.Shapes.{Shape, IsShape, fields_at}
 use Rattle.state_codec.specs.Ranges.{InRange}
 use Rattle.counter_core.specs.Meanings.{written}
-use Rattle.counter_core.specs.Overlays.{Layer, IsDeaf, StandsOver, HasRegisters, CanStep, MayHear, AreNew, KeepsRange, after, layered}
+use Rattle.counter_core.specs.Overlays.{Layer, IsDeaf, StandsOver, HasRegisters, HasValues, CanStep, MayHear, AreNew, KeepsRange, after, layered}
 use Rattle.adversary_script.specs.Scripts.{Script, IsScript}
 use Rattle.adversary_script.specs.Lies.{AreStates}
 use Rattle.round_runner.specs.Fits.{Fits}
+use Rattle.round_runner.specs.Hearing.{AreOfNodes}
 use Rattle.round_runner.specs.Played.{heard_at}
 use Rattle.round_runner.specs.Scenes.{layer_step, new_state}
 use Rattle.round_runner.proofs.HeardAt.{heard_long, heard_counts, heard_deep, heard_values}
 use Rattle.round_runner.proofs.Layered.{layered_written}
 use Rattle.round_runner.proofs.Layering.{same_step, shown_itself}
+use Rattle.round_runner.proofs.Liars.{deep_lies}
+use Rattle.round_runner.proofs.Places.{all_places}
 
 module _ {Kept : Type 0} (plan : Plan) (script : Script) (layer : Layer Kept) (kept : List Kept)
     (t v : ℕ) (config : List State) (accepted : IsAccepted plan) (whole : IsScript script)
@@ -69,19 +72,39 @@ module _ {Kept : Type 0} (plan : Plan) (script : Script) (layer : Layer Kept) (k
       (new_state (plan_meaning plan) layer kept v heard)
   new_in_range = fits.stepped v (omega (arith, node, nodes)) heard _ new_are.size new_are.range
 
-  -- the layer's step, from what it hears and what the node shows
-  module _ (told : List State) (shown : ℕ) (shows : shown ≡ (plan_meaning plan).shows v (state_of config v))
-      (hears : 0 < layer.extra → told ≡ heard) where
+  -- the layer's step, from what is laid for it and what the node shows
+  module _ (told items : List State) (same : told ≡ items) (shown : ℕ)
+      (shows : shown ≡ (plan_meaning plan).shows v (state_of config v))
+      (long : length items ≡ script.nodes) where
     shows_it : shown ≡ output
     shows_it =
         shows ∙ ap ((plan_meaning plan).shows v) (sym (shown_itself script t v config node))
 
+    laid_values : AreOfNodes script items → All (HasValues layer) items
+    laid_values are = all_places (HasValues layer) items (λ u lt.
+        let some = are u (zero_state 0) lt in
+        fits.values some.node (omega (arith, some.inside, nodes)) _ some.range)
+
+    pub laid_may_hear : 0 < layer.extra → AreOfNodes script items → MayHear layer v shown told
+    laid_may_hear some are =
+        let may = may_hear some in
+        let depth = (over some).depth in
+        let fit = fits.depth in
+        subst (MayHear layer v shown) (sym same) (record {
+          node = may.node;
+          output = omega (arith, may.output, shows_it);
+          size = long ∙ nodes ∙ sym (over some).nodes;
+          deep = All-weaker (λ (s : State). length s.registers ≡ length script.shape.moduli)
+              (HasRegisters layer) (λ s deep. omega (arith, deep, depth, fit)) items
+              (deep_lies script items are);
+          range = laid_values are;
+        })
+
     pub can_step : (out : State) → length out.registers ≡ length script.shape.moduli
+        → (0 < layer.extra → AreOfNodes script items)
         → 0 < layer.extra → CanStep layer v shown told out
-    can_step out room some =
-        let may : MayHear layer v shown told =
-        subst (MayHear layer v shown) (sym (hears some))
-        (subst (λ (o : ℕ). MayHear layer v o heard) (sym shows_it) (may_hear some)) in
+    can_step out room are some =
+        let may = laid_may_hear some (are some) in
         let depth = (over some).depth in
         let fit = fits.depth in
         record {
@@ -93,9 +116,16 @@ module _ {Kept : Type 0} (plan : Plan) (script : Script) (layer : Layer Kept) (k
           room = omega (arith, room, fit, depth);
         }
 
-    pub step_is_that : after layer kept v shown told
-        ≡ layer_step (plan_meaning plan) layer kept v heard
-    step_is_that = same_step layer deaf kept v shown output told heard shows_it hears
+    pub step_is_that : (0 < layer.extra
+        → after layer kept v ((plan_meaning plan).shows v (state_of config v)) items
+        ≡ after layer kept v ((plan_meaning plan).shows v (state_of config v)) heard)
+        → after layer kept v shown told ≡ layer_step (plan_meaning plan) layer kept v heard
+    step_is_that enough =
+        ap (after layer kept v shown) same
+        ∙ ap (λ (o : ℕ). after layer kept v o items) shows
+        ∙ same_step layer deaf kept v ((plan_meaning plan).shows v (state_of config v)) items heard
+        enough
+        ∙ ap (λ (o : ℕ). after layer kept v o heard) (sym shows ∙ shows_it)
 
   -- the counter's step leaves room for that of the layer
   pub counted_room : (before counted : State)

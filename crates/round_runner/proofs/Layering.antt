@@ -1,58 +1,50 @@
--- A layer hears what the node hears, where it has registers; where it has none its step does not
+-- A layer's step hangs on what is laid for it where it has registers; where it has none it does not
 -- hang on what is heard.
-use Rattle.std.proofs.Common.{◌≡◌, ℕ, ◌<◌, inl, inr, false, List, length, ap, ◌∙◌, subst}
-use Rattle.std.specs.Prelude.{slice_index}
-use Rattle.sync_types.specs.FaultSets.{is_in}
+use Rattle.std.proofs.Common.{◌≡◌, ℕ, ◌<◌, inl, inr, List, length, set, ◌∙◌}
+use Rattle.std.proofs.lemmas.List.{length-set}
+use Rattle.std.proofs.lemmas.List.Elements.{All-set}
 use Rattle.sync_types.specs.States.{State}
 use Rattle.construction.specs.Steps.{state_of}
 use Rattle.counter_core.specs.Overlays.{Layer, IsDeaf, after}
 use Rattle.adversary_script.specs.Scripts.{Script}
 use Rattle.adversary_script.specs.Eras.{faulty_at}
 use Rattle.adversary_script.specs.Lies.{lie_of}
-use Rattle.round_runner.specs.Hearing.{heard_from, AreHonest}
+use Rattle.round_runner.specs.Hearing.{HasRoom, IsOfSome}
+use Rattle.round_runner.specs.Laying.{IsLaid}
 use Rattle.round_runner.specs.Played.{heard_at}
-use Rattle.round_runner.proofs.Heard.{place_of, heard_is, heard_own}
+use Rattle.round_runner.proofs.Heard.{heard_own}
 use Rattle.round_runner.proofs.Layered.{none_or_some}
+use Rattle.round_runner.proofs.Places.{set_has}
 
-module _ (script : Script) (t v : ℕ) (config lies before heard : List State)
-    (node : v < script.nodes) (size : length heard ≡ script.nodes)
-    (honest : AreHonest script t config before)
-    (told : (j : ℕ) → j < length (faulty_at script t)
-    → state_of lies j ≡ heard_from script t v config (slice_index (faulty_at script t) j)) where
-  laid_at : ((u : ℕ) → is_in (faulty_at script t) u ≡ false → state_of heard u ≡ state_of before u)
-      → ((j : ℕ) → j < length (faulty_at script t)
-      → state_of heard (slice_index (faulty_at script t) j) ≡ state_of lies j)
-      → heard ≡ heard_at script t config v
-  laid_at rest laid =
-      heard_is script.nodes (faulty_at script t) config (λ u w. lie_of script t u w config) v heard
-      node size (λ u lt correct. rest u correct ∙ honest u lt correct) (λ u lt is.
-      let p = place_of (faulty_at script t) u is in
-      subst (λ (w : ℕ). state_of heard w ≡ heard_from script t v config w) p.2
-      (laid p.0 p.1 ∙ told p.0 p.1))
+-- a true state that is laid leaves what is laid
+pub state_laid : (script : Script) (t v : ℕ) (config heard : List State) (out : State)
+    → IsLaid script t config heard → v < length heard → out ≡ state_of config v
+    → IsOfSome script out → IsLaid script t config (set heard v out)
+state_laid script t v config heard out laid lt is some = record {
+  honest = λ u ult ok. set_has (λ u s. s ≡ state_of config u) heard v out lt is u
+      (λ other. laid.honest u ult ok);
+  some = All-set (IsOfSome script) heard v out some laid.some;
+}
 
-  -- with the lies laid over the states of the correct nodes it is what node v hears
-  pub laid_is : (ids : List ℕ) → ids ≡ faulty_at script t
-      → ((u : ℕ) → is_in ids u ≡ false → state_of heard u ≡ state_of before u)
-      → ((j : ℕ) → j < length ids → state_of heard (slice_index ids j) ≡ state_of lies j)
-      → heard ≡ heard_at script t config v
-  laid_is ids same rest laid =
-      laid_at
-      (subst (λ (xs : List ℕ). (u : ℕ) → is_in xs u ≡ false
-      → state_of heard u ≡ state_of before u) same rest)
-      (subst (λ (xs : List ℕ). (j : ℕ) → j < length xs
-      → state_of heard (slice_index xs j) ≡ state_of lies j) same laid)
+-- and room for the states
+pub room_laid : (script : Script) (v : ℕ) (heard : List State) (out : State)
+    → HasRoom script heard → length out.registers ≡ length script.shape.moduli
+    → HasRoom script (set heard v out)
+room_laid script v heard out room deep = record {
+  size = length-set heard v out ∙ room.size;
+  deep = All-set (λ (s : State). length s.registers ≡ length script.shape.moduli) heard v out deep
+      room.deep;
+}
 
 -- the layer's step is that of what is heard
 pub same_step : {Kept : Type 0} (layer : Layer Kept) → IsDeaf layer → (kept : List Kept)
-    (v shown output : ℕ) (told heard : List State) → shown ≡ output
-    → (0 < layer.extra → told ≡ heard)
-    → after layer kept v shown told ≡ after layer kept v output heard
-same_step layer deaf kept v shown output told heard same hears =
-    ap (λ (o : ℕ). after layer kept v o told) same
-    ∙ elim (none_or_some layer.extra) [
-      | inl none ↦ deaf none v _ output told heard
-      | inr some ↦ ap (after layer kept v output) (hears some)
-    ]
+    (v output : ℕ) (told heard : List State)
+    → (0 < layer.extra → after layer kept v output told ≡ after layer kept v output heard)
+    → after layer kept v output told ≡ after layer kept v output heard
+same_step layer deaf kept v output told heard enough = elim (none_or_some layer.extra) [
+  | inl none ↦ deaf none v _ output told heard
+  | inr some ↦ enough some
+]
 
 -- what a node shows is what it shows in what it hears, where its own state stands
 pub shown_itself : (script : Script) (t v : ℕ) (config : List State) → v < script.nodes

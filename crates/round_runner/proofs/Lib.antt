@@ -17,6 +17,7 @@ pub mod Laid
 pub mod LayerSteps
 pub mod Layered
 pub mod Layering
+pub mod Laying
 pub mod Liars
 pub mod LiesLaid
 pub mod Locked

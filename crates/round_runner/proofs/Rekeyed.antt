@@ -6,7 +6,6 @@ use Rattle.counter_core.specs.Overlays.{Layer}
 use Rattle.adversary_script.specs.Scripts.{Script, IsScript}
 use Rattle.state_codec.specs.Packs.{Pack}
 use Rattle.round_runner.specs.declared.stepping.Room.{Room}
-use Rattle.round_runner.specs.Hearing.{HasRoom, AreOfNodes}
 use Rattle.round_runner.specs.Kept.{IsKept}
 use Rattle.round_runner.specs.Rooms.{IsReady}
 use Rattle.round_runner.specs.Played.{starts}

@@ -1,6 +1,7 @@
 pub mod Beginnings
 pub mod Fits
 pub mod Hearing
+pub mod Laying
 pub mod Kept
 pub mod Known
 pub mod Laws

@@ -16,7 +16,7 @@ use Rattle.round_runner.specs.declared.stepping.Room.{Room}
 use Rattle.round_runner.specs.declared.turns.Round.{Round}
 use Rattle.round_runner.specs.Beginnings.{BeginsAt}
 use Rattle.round_runner.specs.Fits.{Fits}
-use Rattle.round_runner.specs.Hearing.{AreHonest}
+use Rattle.round_runner.specs.Laying.{IsLaid}
 use Rattle.round_runner.specs.Rooms.{IsReady}
 
 -- It is one of the script, which bears no more faulty nodes than the plan.
@@ -57,4 +57,4 @@ pub record IsGathered {Kept : Type 0} (round : Round) (layer : Layer Kept) (conf
     (room : Room) : Type 0 where
   pub stands : room.shared
       ≡ stands_for round.tower.now config (faulty_at round.script.now round.t)
-  pub honest : 0 < layer.extra → AreHonest round.script.now round.t config room.heard.items
+  pub laid : 0 < layer.extra → IsLaid round.script.now round.t config room.heard.items

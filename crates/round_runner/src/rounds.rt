@@ -8,7 +8,8 @@ ghost use Rattle.adversary_script.specs.Scripts.{IsScript};
 ghost use Rattle.adversary_script.specs.Eras.{era_of, faulty_at};
 ghost use Rattle.adversary_script.specs.Lookup.{hit_at};
 ghost use Rattle.round_runner.specs.Beginnings.{BeginsAt};
-ghost use Rattle.round_runner.specs.Hearing.{HasRoom, AreHonest};
+ghost use Rattle.round_runner.specs.Hearing.{HasRoom};
+ghost use Rattle.round_runner.specs.Laying.{IsLaid};
 ghost use Rattle.round_runner.specs.Played.{heard_at};
 ghost use Rattle.round_runner.specs.Rooms.{IsReady};
 ghost use Rattle.round_runner.specs.Scenes.{layer_step, state_behind, kept_at};
@@ -41,7 +42,7 @@ fn lay_where(hears: bool, script: &Script, t: u64, states: &Packed, heard: &mut 
     requires size { length states.now.current ≡ script.now.nodes }
     requires room { HasRoom script.now heard.old }
     ensures room { HasRoom script.now heard.new }
-    ensures honest { hears ≡ true → AreHonest script.now t states.now.current heard.new }
+    ensures laid { hears ≡ true → IsLaid script.now t states.now.current heard.new }
 {
     states.tell();
     if hears {

@@ -1,5 +1,4 @@
-ghost use Rattle.std.specs.Prelude.{◌≡◌, ◌+◌, ◌*◌, ◌<◌, ◌≤◌, ℕ, List, true, false, length, slice_set, slice_index};
-ghost use Rattle.sync_types.specs.FaultSets.{is_in};
+ghost use Rattle.std.specs.Prelude.{◌≡◌, ◌+◌, ◌*◌, ◌<◌, ◌≤◌, ℕ, List, length, slice_set, slice_index};
 ghost use Rattle.sync_types.specs.States.{State};
 ghost use Rattle.construction.specs.Plans.{plan_nodes, plan_depth};
 ghost use Rattle.construction.specs.Shown.{shown};
@@ -9,10 +8,12 @@ ghost use Rattle.state_codec.specs.Shapes.{fields_at};
 ghost use Rattle.state_codec.specs.Ranges.{InRange};
 ghost use Rattle.shared_board.specs.Sharing.{heard_with, stands_for, Tells};
 ghost use Rattle.counter_core.specs.Meanings.{written};
-ghost use Rattle.counter_core.specs.Overlays.{layered};
+ghost use Rattle.counter_core.specs.Heeding.{HeedsOnly};
+ghost use Rattle.counter_core.specs.Overlays.{after, layered};
 ghost use Rattle.counter_core.specs.Working.{IsFor};
 ghost use Rattle.adversary_script.specs.Eras.{faulty_at};
 ghost use Rattle.round_runner.specs.Hearing.{heard_from, HasRoom, AreOfNodes};
+ghost use Rattle.round_runner.specs.Laying.{IsEnough, IsLaid, IsLaidFor, IsSameOrTold};
 ghost use Rattle.round_runner.specs.Played.{heard_at};
 ghost use Rattle.round_runner.specs.Rooms.{IsReady};
 ghost use Rattle.round_runner.specs.Scenes.{layer_step, new_state};
@@ -58,38 +59,51 @@ pub fn shown_at(states: &Packed, v: u32, depth: usize) -> u64
     }
 }
 
-/// The faulty nodes on whose lies the step of a node hangs, as a stretch of their places, or all of
-/// them.
-fn stretch_for(tower: &Tower, v: u32, all: bool, liars: usize, shared: &Shared) -> (usize, usize)
+/// The shortest stretch of places that has two others.
+fn hull(one: (usize, usize), other: (usize, usize)) -> (usize, usize)
+    ensures one { (j : ℕ) → one.0 ≤ j → j < one.1 → (result.0 ≤ j) × (j < result.1) }
+    ensures other { (j : ℕ) → other.0 ≤ j → j < other.1 → (result.0 ≤ j) × (j < result.1) }
+    ensures within { (n : ℕ) → one.1 ≤ n → other.1 ≤ n → result.1 ≤ n }
+{
+    if one.0 >= one.1 {
+        return other;
+    }
+    if other.0 >= other.1 {
+        return one;
+    }
+    (one.0.min(other.0), one.1.max(other.1))
+}
+
+/// The faulty nodes on whose lies the counter's step of a node hangs, with those that its layer's
+/// step hangs on, as a stretch of their places.
+fn stretch_for(tower: &Tower, v: u32, layers: (usize, usize), shared: &Shared) -> (usize, usize)
     requires plan { shared.now.plan ≡ tower.now }
     requires size { length shared.now.states ≡ plan_nodes tower.now }
     requires node { v < plan_nodes tower.now }
-    requires liars { liars ≡ length shared.now.faulty }
+    requires layers { layers.1 ≤ length shared.now.faulty }
     ensures within { result.1 ≤ length shared.now.faulty }
-    ensures all { all ≡ true → (result.0 ≡ 0) × (result.1 ≡ length shared.now.faulty) }
+    ensures layers { (j : ℕ) → layers.0 ≤ j → j < layers.1 → (result.0 ≤ j) × (j < result.1) }
     ensures enough { (lies told : List State) → Tells shared.now v lies → Tells shared.now v told
         → ((j : ℕ) → result.0 ≤ j → j < result.1 → state_of lies j ≡ state_of told j)
         → step_of tower.now v (heard_with shared.now.faulty lies shared.now.states)
         ≡ step_of tower.now v (heard_with shared.now.faulty told shared.now.states) }
 {
-    if all {
-        return (0, liars);
-    }
-    tower.heeded(v, shared)
+    hull(tower.heeded(v, shared), layers)
 }
 
 /// The counter's step of node `v` in a round, by what is shared and what the faulty nodes tell it:
-/// those that it heeds, or all.
+/// those that it heeds, and those of a stretch that its layer heeds.
 fn step_shared<G: Ledger>(
     round: &Round<'_>,
     v: u32,
-    all: bool,
+    layers: (usize, usize),
     states: &Packed,
     room: &mut Room,
     steps: &mut Steps<G>,
 )
     requires round { IsRound round.now }
     requires node { v < round.now.script.now.nodes }
+    requires layers { layers.1 ≤ length (faulty_at round.now.script.now round.now.t) }
     requires config { IsConfiguration round.now.script.now states.now }
     requires takes { TakesStates round.now }
     requires ready { IsReady round.now.tower.now round.now.script.now room.old }
@@ -98,7 +112,7 @@ fn step_shared<G: Ledger>(
     ensures out { room.new.out ≡ written (plan_depth round.now.tower.now)
         (step_of round.now.tower.now v
         (heard_at round.now.script.now round.now.t states.now.current v)) room.old.out }
-    ensures told { all ≡ true → (j : ℕ) → j < length (faulty_at round.now.script.now round.now.t)
+    ensures told { (j : ℕ) → layers.0 ≤ j → j < layers.1
         → state_of room.new.lies.items j ≡ heard_from round.now.script.now round.now.t v
         states.now.current (slice_index (faulty_at round.now.script.now round.now.t) j) }
     ensures lies { (length room.new.lies.items ≡ round.now.script.now.nodes)
@@ -109,7 +123,7 @@ fn step_shared<G: Ledger>(
 {
     let tower = round.tower;
     let liars = round.faulty.len();
-    let stretch = stretch_for(tower, v, all, liars, &room.shared);
+    let stretch = stretch_for(tower, v, layers, &room.shared);
     tell(round, v, stretch, &mut room.noise, states, &mut room.lies);
     let lies = &room.lies[..liars];
     tower.advance_shared(v, states, lies, &mut room.shared, &mut room.out, steps);
@@ -126,34 +140,83 @@ fn step_number(tower: &Tower, v: u32, states: &Packed, out: &mut NodeState)
     out.set_x(tower.next_number(states.x(v)));
 }
 
-/// Lays what the faulty nodes tell into their places among what is heard, where a layer hears it.
+/// Lays the own state of node `v`, where it is faulty, into its place among what is heard.
+fn lay_itself(round: &Round<'_>, v: u32, states: &Packed, heard: &mut [NodeState])
+    requires round { IsRound round.now }
+    requires node { v < round.now.script.now.nodes }
+    requires config { IsConfiguration round.now.script.now states.now }
+    requires room { HasRoom round.now.script.now heard.old }
+    requires laid { IsLaid round.now.script.now round.now.t states.now.current heard.old }
+    ensures room { HasRoom round.now.script.now heard.new }
+    ensures laid { IsLaid round.now.script.now round.now.t states.now.current heard.new }
+    ensures own { state_of heard.new v ≡ state_of states.now.current v }
+{
+    states.tell();
+    if round.faulty.contains(v) {
+        states.old(v, &mut heard[v as usize]);
+    }
+}
+
+/// Lays what the faulty nodes of a stretch tell into their places among what is heard.
 fn lay_lies(
-    hears: bool,
     script: &Script,
     faulty: &FaultSet,
+    stretch: (usize, usize),
     lies: &[NodeState],
     heard: &mut [NodeState],
 )
     requires nodes { faulty.now.nodes ≡ script.now.nodes }
-    requires told { length lies.now ≡ script.now.nodes }
+    requires stretch { stretch.1 ≤ length faulty.now.ids }
+    requires told { stretch.1 ≤ length lies.now }
     requires lies { AreOfNodes script.now lies.now }
     requires room { HasRoom script.now heard.old }
     ensures room { HasRoom script.now heard.new }
-    ensures told { hears ≡ true → (j : ℕ) → j < length faulty.now.ids
+    ensures told { (j : ℕ) → stretch.0 ≤ j → j < stretch.1
         → state_of heard.new (slice_index faulty.now.ids j) ≡ state_of lies.now j }
-    ensures rest { (u : ℕ) → is_in faulty.now.ids u ≡ false
-        → state_of heard.new u ≡ state_of heard.old u }
+    ensures each { (u : ℕ) → IsSameOrTold faulty.now.ids stretch.0 stretch.1 lies.now
+        (state_of heard.old u) u (state_of heard.new u) }
 {
     faulty.tell();
-    let liars = faulty.len();
-    let end = if hears { liars } else { 0 };
-    for j in 0..end {
+    for j in stretch.0..stretch.1 {
         heard[faulty.at(j) as usize].copy_from(&lies[j]);
     }
 }
 
+/// The faulty nodes on whose lies the layer's step of node `v` hangs, as a stretch of their places.
+/// Where the layer has registers, the node's own state is laid for it.
+fn heed<O: Overlay>(
+    round: &Round<'_>,
+    overlay: &O,
+    v: u32,
+    states: &Packed,
+    room: &mut Room,
+) -> (usize, usize)
+    requires round { IsRound round.now }
+    requires set { IsSet round.now (O.layer overlay.now) states.now room.old }
+    requires node { v < round.now.script.now.nodes }
+    requires laid { 0 < (O.layer overlay.now).extra → IsLaid round.now.script.now round.now.t
+        states.now.current room.old.heard.items }
+    ensures within { result.1 ≤ length (faulty_at round.now.script.now round.now.t) }
+    ensures room { HasRoom round.now.script.now room.new.heard.items }
+    ensures same { room.new ≡ record room.old { heard = room.new.heard } }
+    ensures laid { 0 < (O.layer overlay.now).extra → IsLaidFor round.now v
+        states.now.current room.new.heard.items }
+    ensures enough { 0 < (O.layer overlay.now).extra → HeedsOnly (after (O.layer overlay.now)
+        (O.kept overlay.now) v ((plan_meaning round.now.tower.now).shows v
+        (state_of states.now.current v))) (faulty_at round.now.script.now round.now.t) v
+        room.new.heard.items result.0 result.1 }
+{
+    if overlay.extra() == 0 {
+        return (0, 0);
+    }
+    states.tell();
+    lay_itself(round, v, states, &mut room.heard);
+    let output = shown_at(states, v, round.tower.depth());
+    overlay.heeded(v, output, &Heard::of(&room.heard), round.faulty)
+}
+
 /// The layer's step of node `v` in a round, behind that of the counter, which stands in `out`.
-/// Where the layer has registers it hears what the node hears.
+/// Where the layer has registers, what is laid for it is enough.
 fn step_layer<O: Overlay>(
     round: &Round<'_>,
     overlay: &mut O,
@@ -164,8 +227,8 @@ fn step_layer<O: Overlay>(
     requires round { IsRound round.now }
     requires set { IsSet round.now (O.layer overlay.old) states.now room.old }
     requires node { v < round.now.script.now.nodes }
-    requires hears { 0 < (O.layer overlay.old).extra → room.old.heard.items
-        ≡ heard_at round.now.script.now round.now.t states.now.current v }
+    requires enough { 0 < (O.layer overlay.old).extra → IsEnough round.now (O.layer overlay.old)
+        (O.kept overlay.old) v states.now.current room.old.heard.items }
     ensures layer { O.layer overlay.new ≡ O.layer overlay.old }
     ensures kept { O.kept overlay.new ≡ slice_set (O.kept overlay.old) v
         (layer_step (plan_meaning round.now.tower.now) (O.layer overlay.old) (O.kept overlay.old) v
@@ -210,12 +273,12 @@ pub fn step_with<O: Overlay, G: Ledger>(
         * length (faulty_at round.now.script.now round.now.t) }
 {
     states.tell();
-    let hears = overlay.extra() > 0;
-    step_shared(round, v, hears, states, room, steps);
+    let layers = heed(round, overlay, v, states, room);
+    step_shared(round, v, layers, states, room, steps);
     lay_lies(
-        hears,
         round.script,
         round.faulty,
+        layers,
         &room.lies,
         &mut room.heard,
     );

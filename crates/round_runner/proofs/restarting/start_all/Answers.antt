@@ -1,7 +1,6 @@
 use Rattle.std.proofs.Common.{◌≡◌, ◌+◌, ◌<◌, ◌∙◌, List, length, refl, sym, ap, subst, arith}
 use Rattle.sync_types.specs.FaultSets.{FaultIds}
 use Rattle.sync_types.specs.States.{State}
-use Rattle.state_codec.specs.Shapes.{Shape}
 use Rattle.state_codec.specs.Packs.{Pack}
 use Rattle.adversary_script.proofs.LiesInRange.{depth_of_node}
 use Rattle.round_runner.proofs.Begun.{StartedBelow, one_started, all_started}

@@ -1,10 +1,11 @@
-use Rattle.std.proofs.Common.{◌≡◌, List, length, sym, ap, subst}
+use Rattle.std.proofs.Common.{◌≡◌, length, refl, sym, subst, arith}
 use Rattle.sync_types.specs.States.{State}
 use Rattle.construction.specs.Steps.{state_of}
 use Rattle.state_codec.specs.Shapes.{Shape, fields_at}
 use Rattle.state_codec.specs.Ranges.{InRange}
 use Rattle.adversary_script.proofs.LiesInRange.{depth_of_node}
-use Rattle.round_runner.specs.Hearing.{HasRoom}
+use Rattle.round_runner.specs.Hearing.{HasRoom, IsOfSome}
+use Rattle.round_runner.specs.Laying.{IsLaid}
 use Rattle.round_runner.proofs.Places.{all_places}
 use Rattle.round_runner.proofs.rounds.lay_where.Goals as goal
 
@@ -20,6 +21,16 @@ returns-then-hears-clause-room c =
           (c.tell.ensures.current u lt)));
     })
 
-pub returns-then-hears-clause-honest : goal.returns-then-hears-clause-honest
-returns-then-hears-clause-honest c = λ is u lt correct.
-    ap (λ (heard : List State). state_of heard u) c.lay.ensures
+pub returns-then-hears-clause-laid : goal.returns-then-hears-clause-laid
+returns-then-hears-clause-laid c = λ is.
+    let script = c.args.script.now in
+    let config = c.args.states.now.current in
+    subst (IsLaid script c.args.t config) (sym c.lay.ensures) (record {
+      honest = λ u lt correct. refl;
+      some = all_places (IsOfSome script) config (λ u lt. record {
+        node = u;
+        inside = omega (arith, lt, c.requires.size);
+        range = subst (λ (s : Shape). InRange (fields_at s u) (state_of config u)) c.requires.shape
+            (c.tell.ensures.current u lt);
+      });
+    })

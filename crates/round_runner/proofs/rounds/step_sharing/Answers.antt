@@ -13,7 +13,8 @@ use Rattle.state_codec.specs.Shapes.{Shape, fields_at}
 use Rattle.state_codec.specs.Ranges.{InRange}
 use Rattle.shared_board.specs.Sharing.{Shares, stands_for}
 use Rattle.adversary_script.specs.Eras.{faulty_at}
-use Rattle.round_runner.specs.Hearing.{HasRoom, AreHonest}
+use Rattle.round_runner.specs.Hearing.{HasRoom}
+use Rattle.round_runner.specs.Laying.{IsLaid}
 use Rattle.round_runner.proofs.Places.{all_places}
 use Rattle.round_runner.proofs.Costs.{round_cost}
 use Rattle.round_runner.proofs.rounds.step_sharing.Goals as goal
@@ -88,8 +89,8 @@ loop-v-init g c =
         stands = c.gather.ensures.stands
             ∙ ap (λ (s : FaultIds). stands_for c.args.round.now.tower.now config s.ids)
             c.requires.round.faulty;
-        honest = λ some. subst (AreHonest script c.args.round.now.t config) (sym is)
-            (c.lay_where.ensures.honest
+        laid = λ some. subst (IsLaid script c.args.round.now.t config) (sym is)
+            (c.lay_where.ensures.laid
             (lt-ltb 0 c.extra.result (omega (arith, some, c.extra.ensures))));
       };
       cost =

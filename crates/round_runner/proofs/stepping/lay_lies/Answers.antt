@@ -1,22 +1,36 @@
-use Rattle.std.proofs.Common.{length, sym, ap, ◌∙◌, subst, arith}
+use Rattle.std.proofs.Common.{◌<◌, length, inl, refl, sym, ap, ◌∙◌, subst, arith}
 use Rattle.sync_types.specs.States.{State}
 use Rattle.adversary_script.proofs.LiesInRange.{depth_of_node}
 use Rattle.round_runner.specs.Hearing.{IsOfSome}
 use Rattle.round_runner.proofs.Places.{read_at}
-use Rattle.round_runner.proofs.LiesLaid.{one_laid}
+use Rattle.round_runner.proofs.LiesLaid.{one_laid, all_laid}
 use Rattle.round_runner.proofs.stepping.lay_lies.Goals as goal
+
+pub loop-j-init : goal.loop-j-init
+loop-j-init c = record {
+  low = omega arith;
+  high = λ some. absurd (omega (arith, some));
+  size = refl;
+  deep = c.requires.room.deep;
+  told = λ k low lt. absurd (omega (arith, low, lt));
+  each = λ u. inl refl;
+}
 
 pub loop-j-preserved : goal.loop-j-preserved
 loop-j-preserved c =
     let script = c.args.script.now in
     let size = c.requires.room.size in
+    let lt : c.loop-j.j < c.args.stretch.1 = omega (arith, c.loop-j-test.true) in
+    let ids : c.loop-j.j < length c.args.faulty.now.ids = omega (arith, lt, c.requires.stretch) in
+    let lies : c.loop-j.j < length c.args.lies.now = omega (arith, lt, c.requires.told) in
     let some = subst (IsOfSome script) (sym c.index-lies-j.is)
-    (c.requires.lies c.loop-j.j c.index-lies-j.result (omega arith)) in
-    one_laid (length script.shape.moduli) c.args.faulty.now.ids c.args.lies.now c.args.heard.now
+    (c.requires.lies c.loop-j.j c.index-lies-j.result lies) in
+    one_laid (length script.shape.moduli) c.args.faulty.now.ids c.args.stretch.0 c.args.stretch.1
+    c.args.lies.now c.args.heard.now
     c.tell.ensures.rising c.loop-j.j c.at.result c.loop-j.heard c.copy_from.new.self
-    (omega arith) (omega (arith, c.at.ensures.node, c.requires.nodes, size))
+    lt ids (omega (arith, c.at.ensures.node, c.requires.nodes, size))
     (sym c.at.ensures.id) c.loop-j.invariant (c.copy_from.ensures
-    ∙ read_at c.args.lies.now c.loop-j.j c.index-lies-j.result (omega arith) c.index-lies-j.is)
+    ∙ read_at c.args.lies.now c.loop-j.j c.index-lies-j.result lies c.index-lies-j.is)
     (ap (λ (s : State). length s.registers) c.copy_from.ensures
     ∙ depth_of_node script.shape some.node _ some.range)
 
@@ -26,11 +40,22 @@ returns-clause-room c = record {
   deep = c.loop-j.invariant.deep;
 }
 
+pub returns-clause-told : goal.returns-clause-told
+returns-clause-told c = λ j low lt.
+    c.loop-j.invariant.told j low (omega (arith, lt, c.loop-j-test.false))
+
+pub returns-clause-each : goal.returns-clause-each
+returns-clause-each c =
+    all_laid (length c.args.script.now.shape.moduli) c.args.faulty.now.ids c.args.stretch.0
+    c.args.stretch.1 c.args.lies.now c.args.heard.now c.loop-j.j c.loop-j.heard c.loop-j.invariant
+
 pub copy_from-requires : goal.copy_from-requires
 copy_from-requires c =
     let script = c.args.script.now in
+    let lies : c.loop-j.j < length c.args.lies.now =
+    omega (arith, c.loop-j-test.true, c.requires.told) in
     let some = subst (IsOfSome script) (sym c.index-lies-j.is)
-    (c.requires.lies c.loop-j.j c.index-lies-j.result (omega arith)) in
+    (c.requires.lies c.loop-j.j c.index-lies-j.result lies) in
     let long = c.requires.room.size in
     let size = c.loop-j.invariant.size in
     depth_of_node script.shape some.node _ some.range

@@ -19,9 +19,11 @@ advance-requires-clause-step g c =
     (g.met.O.Overlay.deaf c.args.overlay.now) c.requires.round.nodes c.requires.node
     (range_of c.args.states.now.shape script.shape script.nodes config c.requires.set.shape
     c.requires.set.size c.tell.ensures.current)
-    _ c.shown_at-output.result (c.shown_at-output.ensures
-    ∙ ap (λ (d : ℕ). shown d (state_of config c.args.v)) c.depth.ensures) (λ some.
-    c.of-heard.ensures ∙ c.deref.ensures.value ∙ c.requires.hears some) c.args.room.now.out c.requires.set.ready.out
+    _ c.args.room.now.heard.items (c.of-heard.ensures ∙ c.deref.ensures.value)
+    c.shown_at-output.result (c.shown_at-output.ensures
+    ∙ ap (λ (d : ℕ). shown d (state_of config c.args.v)) c.depth.ensures)
+    c.requires.set.ready.heard.size c.args.room.now.out
+    c.requires.set.ready.out (λ some. let e = c.requires.enough some in e.some)
 
 pub returns-clause-out : goal.returns-clause-out
 returns-clause-out g c =
@@ -36,9 +38,11 @@ returns-clause-out g c =
     (g.met.O.Overlay.deaf c.args.overlay.now) c.requires.round.nodes c.requires.node
     (range_of c.args.states.now.shape script.shape script.nodes config c.requires.set.shape
     c.requires.set.size c.tell.ensures.current)
-    _ c.shown_at-output.result (c.shown_at-output.ensures
-    ∙ ap (λ (d : ℕ). shown d (state_of config c.args.v)) c.depth.ensures) (λ some.
-    c.of-heard.ensures ∙ c.deref.ensures.value ∙ c.requires.hears some))
+    _ c.args.room.now.heard.items (c.of-heard.ensures ∙ c.deref.ensures.value)
+    c.shown_at-output.result (c.shown_at-output.ensures
+    ∙ ap (λ (d : ℕ). shown d (state_of config c.args.v)) c.depth.ensures)
+    c.requires.set.ready.heard.size
+    (λ some. let e = c.requires.enough some in e.step))
 
 pub returns-clause-kept : goal.returns-clause-kept
 returns-clause-kept g c =
@@ -53,9 +57,11 @@ returns-clause-kept g c =
     (g.met.O.Overlay.deaf c.args.overlay.now) c.requires.round.nodes c.requires.node
     (range_of c.args.states.now.shape script.shape script.nodes config c.requires.set.shape
     c.requires.set.size c.tell.ensures.current)
-    _ c.shown_at-output.result (c.shown_at-output.ensures
-    ∙ ap (λ (d : ℕ). shown d (state_of config c.args.v)) c.depth.ensures) (λ some.
-    c.of-heard.ensures ∙ c.deref.ensures.value ∙ c.requires.hears some))
+    _ c.args.room.now.heard.items (c.of-heard.ensures ∙ c.deref.ensures.value)
+    c.shown_at-output.result (c.shown_at-output.ensures
+    ∙ ap (λ (d : ℕ). shown d (state_of config c.args.v)) c.depth.ensures)
+    c.requires.set.ready.heard.size
+    (λ some. let e = c.requires.enough some in e.step))
 
 pub returns-clause-work : goal.returns-clause-work
 returns-clause-work g c = as_roomy c.args.round.now.script.now.nodes c.args.room.now.work c.advance.new.work

@@ -20,11 +20,11 @@ stretch_for-stretch-requires-clause-size g c =
     ∙ length-map c.args.states.now.current (cut (plan_depth c.args.round.now.tower.now))
     ∙ c.requires.config.size ∙ c.requires.round.nodes
 
-pub stretch_for-stretch-requires-clause-liars : goal.stretch_for-stretch-requires-clause-liars
-stretch_for-stretch-requires-clause-liars g c =
-    c.len-liars.ensures.exact
-    ∙ ap (λ (s : FaultIds). length s.ids) c.requires.round.faulty
-    ∙ sym (ap (λ (s : Shares). length s.faulty) c.requires.stands)
+pub stretch_for-stretch-requires-clause-layers : goal.stretch_for-stretch-requires-clause-layers
+stretch_for-stretch-requires-clause-layers g c =
+    let same = ap (λ (s : Shares). length s.faulty) c.requires.stands in
+    let layers = c.requires.layers in
+    omega (arith, same, layers)
 
 pub tell-requires-clause-stretch : goal.tell-requires-clause-stretch
 tell-requires-clause-stretch g c =
@@ -126,12 +126,11 @@ returns-clause-out g c =
     (λ j low high. ap (λ (xs : List State). state_of xs j) is ∙ c.tell.ensures.told j low high))
 
 pub returns-clause-told : goal.returns-clause-told
-returns-clause-told g c = λ yes j lt.
-    let all = c.stretch_for-stretch.ensures.all yes in
+returns-clause-told g c = λ j low high.
+    let told = c.stretch_for-stretch.ensures.layers j low high in
     let ids = ap (λ (s : FaultIds). s.ids) c.requires.round.faulty in
-    let same = ap (λ (s : Shares). length s.faulty) c.requires.stands in
     ap (λ (xs : List State). state_of xs j) (with_items_is c.args.room.now.lies c.tell.new.lies
     (c.tell.auto.lies ∙ c.deref_mut.ensures.len))
-    ∙ (c.tell.ensures.told j (omega (arith, all.0)) (omega (arith, lt, all.1, same))
+    ∙ (c.tell.ensures.told j told.0 told.1
     ∙ ap (λ (xs : List ℕ). heard_from c.args.round.now.script.now c.args.round.now.t c.args.v
     c.args.states.now.current (slice_index xs j)) ids)

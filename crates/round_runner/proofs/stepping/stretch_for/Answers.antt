@@ -1,8 +1,10 @@
-use Rattle.std.proofs.Common.{arith}
-use Rattle.round_runner.proofs.Liars.{all_enough}
 use Rattle.round_runner.proofs.stepping.stretch_for.Goals as goal
 
-pub returns-then-all-clause-enough : goal.returns-then-all-clause-enough
-returns-then-all-clause-enough c = λ lies told first second same.
-    all_enough c.args.tower.now c.args.v c.args.shared.now lies told first second (λ j low high.
-    same j low (let is = c.requires.liars in omega (arith, high, is)))
+pub returns-clause-within : goal.returns-clause-within
+returns-clause-within c =
+    c.hull.ensures.within _ c.heeded.ensures.range.1 c.requires.layers
+
+pub returns-clause-enough : goal.returns-clause-enough
+returns-clause-enough c = λ lies told first second same.
+    c.heeded.ensures.enough lies told first second (λ j low high.
+    let in_hull = c.hull.ensures.one j low high in same j in_hull.0 in_hull.1)
