@@ -1,30 +1,16 @@
 -- What the faulty nodes tell, as far as they are many.
-use Rattle.std.proofs.Common.{◌≡◌, ℕ, ◌<◌, ◌≤◌, List, length, take, All, arith, ◌∙◌, sym, ap, subst}
-use Rattle.std.proofs.lemmas.List.{ext_get_or, length-take-le, get_or-take}
+use Rattle.std.proofs.Common.{◌≡◌, ℕ, ◌<◌, ◌≤◌, List, length, take, All, arith, sym, subst}
+use Rattle.std.proofs.lemmas.List.{length-take-le, get_or-take}
 use Rattle.sync_types.specs.States.{State, zero_state}
 use Rattle.construction.specs.Plans.{Plan}
-use Rattle.construction.specs.Steps.{state_of, step_of}
+use Rattle.construction.specs.Steps.{state_of}
 use Rattle.plan_laws.specs.PlanMeaning.{IsInRange}
 use Rattle.state_codec.specs.Shapes.{fields_at}
 use Rattle.state_codec.specs.Ranges.{InRange}
-use Rattle.shared_board.specs.Sharing.{Shares, heard_with, Tells}
 use Rattle.adversary_script.specs.Scripts.{Script}
 use Rattle.adversary_script.proofs.LiesInRange.{depth_of_node}
 use Rattle.round_runner.specs.Hearing.{IsOfSome, AreOfNodes}
 use Rattle.round_runner.proofs.Places.{all_places}
-
--- where all of them tell the same, so does the step
-pub all_enough : (plan : Plan) (v : ℕ) (shares : Shares) (lies told : List State)
-    → Tells shares v lies → Tells shares v told
-    → ((j : ℕ) → 0 ≤ j → j < length shares.faulty → state_of lies j ≡ state_of told j)
-    → step_of plan v (heard_with shares.faulty lies shares.states)
-    ≡ step_of plan v (heard_with shares.faulty told shares.states)
-all_enough plan v shares lies told first second same =
-    let one = first.size in
-    let two = second.size in
-    ap (λ (xs : List State). step_of plan v (heard_with shares.faulty xs shares.states))
-    (ext_get_or (zero_state 0) lies told (one ∙ sym two) (λ j lt.
-    same j (omega arith) (omega (arith, lt, one))))
 
 module _ (script : Script) (lies : List State) (are : AreOfNodes script lies) where
   -- each has the depth of the shape
