@@ -8,6 +8,7 @@ pub mod EraRuns
 pub mod FirstLocked
 pub mod Firsts
 pub mod Fitting
+pub mod Grown
 pub mod Heard
 pub mod HeardAt
 pub mod HeardFrom
@@ -25,11 +26,13 @@ pub mod LocksKnown
 pub mod LowestCorrect
 pub mod Own
 pub mod Places
+pub mod PlayedAhead
 pub mod Playing
 pub mod Rekeyed
 pub mod ScenesLock
 pub mod ScenesRun
 pub mod SetOn
+pub mod SettledSteps
 pub mod Stepped
 pub mod Told
 pub mod ToldBelow

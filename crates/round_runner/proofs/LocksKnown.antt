@@ -14,7 +14,7 @@ use Rattle.round_runner.proofs.Playing.{same_known, other_era}
 use Rattle.round_runner.proofs.ScenesLock.{known_is}
 
 -- where none of the numbers behind one passes, or one up to it did, nothing new is known later
-still_known : (passes : ℕ → Bool) (t d : ℕ) (known : Option ℕ) → first_locked passes t ≡ known
+pub still_known : (passes : ℕ → Bool) (t d : ℕ) (known : Option ℕ) → first_locked passes t ≡ known
     → ((u : ℕ) → t < u → u ≤ t + d → is_some known ≡ false → passes u ≡ false)
     → first_locked passes (t + d) ≡ known
 still_known passes t zero known is none =

@@ -10,4 +10,5 @@ pub mod Played
 pub mod Rooms
 pub mod Runners
 pub mod Scenes
+pub mod Skipping
 pub mod Turns

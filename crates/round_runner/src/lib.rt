@@ -5,6 +5,7 @@
 //! configuration shows, and whether it is locked, can be asked of any.
 #![tactic(auto)]
 
+mod growing;
 mod hearing;
 mod knowing;
 pub mod laws;
@@ -12,6 +13,7 @@ mod locks;
 mod restarting;
 mod rounds;
 mod runners;
+mod skipping;
 mod stepping;
 mod telling;
 mod turns;

@@ -1,0 +1,21 @@
+use Rattle.std.proofs.Common.{◌∙◌, sym, ap, arith, length, slice_index}
+use Rattle.std.proofs.lemmas.List.FromFn.{fill_by_all}
+use Rattle.sync_types.specs.States.{register_at, zero_register}
+use Rattle.construction.specs.Steps.{state_of}
+use Rattle.state_codec.specs.Shapes.{Shape, fields_at}
+use Rattle.state_codec.proofs.Lows.{length-moduli_from}
+use Rattle.state_codec.proofs.RegisterSteps.{state_is}
+use Rattle.adversary_script.specs.Lies.{shifted_register}
+use Rattle.round_runner.proofs.growing.grow_registers.Goals as goal
+
+pub returns : goal.returns
+returns c =
+    let size = length-moduli_from _ c.args.states.now.shape.moduli in
+    let depth = ap (λ (s : Shape). length s.moduli) c.shape.ensures in
+    state_is c.loop-i.out _ _ c.loop-i.invariant.number
+    (fill_by_all
+    (λ i. shifted_register c.args.by
+    (slice_index (fields_at c.args.states.now.shape c.args.v).moduli i)
+    (register_at i (state_of c.args.states.now.current c.args.v))) c.loop-i.out.registers _ zero_register
+    (c.loop-i.invariant.depth ∙ sym size)
+    (λ k lt. c.loop-i.invariant.filled k (omega (arith, size, depth))))

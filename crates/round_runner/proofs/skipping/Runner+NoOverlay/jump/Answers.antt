@@ -1,0 +1,78 @@
+use Rattle.std.proofs.Common.{◌≡◌, ◌-◌, ◌<◌, ◌≤◌, ℕ, List, [], length, sym, ap, ap₂, ◌∙◌, subst}
+use Rattle.std.proofs.lemmas.List.FromFn.{length-map-range_with_len}
+use Rattle.sync_types.specs.States.{State}
+use Rattle.counter_core.specs.NoLayers.{no_layer}
+use Rattle.state_codec.specs.Packs.{Pack}
+use Rattle.state_codec.specs.Shapes.{Shape}
+use Rattle.adversary_script.specs.Eras.{era_of, end_of_era}
+use Rattle.round_runner.specs.Runners.{Running, IsPlaying}
+use Rattle.round_runner.specs.Skipping.{grown}
+use Rattle.round_runner.proofs.Firsts.{era_within, end_within}
+use Rattle.round_runner.proofs.LayerSteps.{range_of}
+use Rattle.round_runner.proofs.PlayedAhead.{bare_shape, same_era, jumps}
+use Rattle.round_runner.proofs.skipping.Runner+NoOverlay.jump.Goals as goal
+
+pub grow-requires : goal.grow-requires
+grow-requires c =
+    c.self.invariant.ready.out ∙ sym (ap (λ (s : Shape). length s.moduli) c.self.invariant.shape)
+
+pub invariant_of-self : goal.invariant_of-self
+invariant_of-self c =
+    let kept = c.self.invariant in
+    let script = c.self.inside.script in
+    let at : ℕ = c.self.inside.at in
+    let from = subst (λ (r : Running _). r.at ≤ c.args.to) (sym c.self.view_is) c.requires.from in
+    let to = subst (λ (r : Running _). c.args.to < end_of_era r.script (era_of r.script r.at))
+    (sym c.self.view_is) c.requires.to in
+    let ready = kept.ready in
+    record {
+      accepted = kept.accepted;
+      right = kept.right;
+      sound = kept.sound;
+      whole = kept.whole;
+      fits = kept.fits;
+      ready = record {
+        noise = ready.noise;
+        heard = ready.heard;
+        told = ready.told;
+        lies = ready.lies;
+        shared = ready.shared;
+        work = ready.work;
+        out = c.grow.ensures.depth ∙ ready.out;
+      };
+      shape = ap (λ (p : Pack). p.shape) c.flip.ensures
+          ∙ (ap (λ (p : Pack). p.shape) c.grow.ensures.states ∙ kept.shape);
+      size = ap (λ (p : Pack). length p.current) c.flip.ensures
+          ∙ (ap (λ (p : Pack). length p.next) c.grow.ensures.states
+          ∙ (length-map-range_with_len _ 0 (length c.self.inside.states.current) ∙ kept.size));
+      within = end_within script kept.whole (era_of script at) c.args.to (era_within script at) to;
+      here = kept.here ∙ sym (same_era script kept.whole at c.args.to from to);
+      eras = kept.eras;
+    }
+
+pub returns-clause-played : goal.returns-clause-played
+returns-clause-played c = λ began plays.
+    let inside = c.self.inside in
+    let kept = c.self.invariant in
+    let script = inside.script in
+    let config : List State = inside.states.current in
+    let to : ℕ = c.args.to in
+    let view : Running _ = record {
+      plan = inside.tower;
+      script = script;
+      overlay = inside.overlay;
+      at = inside.at;
+      states = config;
+      locks = inside.locks.items;
+    } in
+    let range = range_of inside.states.shape script.shape script.nodes config kept.shape kept.size
+    c.tell.ensures.current in
+    let states : c.flip.new.self.current ≡ grown script.shape script.nodes (to - inside.at) config =
+    ap (λ (p : Pack). p.current) c.flip.ensures
+    ∙ (ap (λ (p : Pack). p.next) c.grow.ensures.states
+    ∙ ap₂ (λ (s : Shape) (n : ℕ). grown s n (to - inside.at) config) kept.shape kept.size) in
+    subst (λ (states : List State). IsPlaying (λ o. no_layer) (λ o. []) began
+    (record view { at = to; states = states })) (sym states)
+    (jumps view c.args.self.now to c.self.view_is kept.accepted kept.right.nodes
+    (bare_shape inside.tower script.shape kept.right.shape) kept.whole kept.size range kept.within
+    c.requires.from c.requires.to c.requires.settled c.requires.known began plays)
