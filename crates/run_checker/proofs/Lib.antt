@@ -5,9 +5,11 @@ mod EraFound
 mod HeardLaid
 mod HeardSteps
 mod LevelLines
+mod LieFronts
 mod LineTexts
 mod MoreRoom
 mod NextIds
+mod NextLies
 mod PendingTexts
 mod Ranges
 mod RecordTexts

@@ -1,17 +1,15 @@
 -- Bytes that do not show what decides a text are the lines that begin a certificate, and a line that
 -- is open.
-use Rattle.std.proofs.Common.{◌≡◌, ℕ, ◌+◌, ◌^◌, ◌≤◌, Bool, false, List, [], ◌∷◌, ◌++◌, length, map, Option, Result, Ok, Err, refl, sym, ap, ◌∙◌, subst, length-append, arith}
+use Rattle.std.proofs.Common.{◌≡◌, ℕ, ◌+◌, ◌^◌, ◌≤◌, Bool, false, List, [], ◌∷◌, length, Result, Ok, Err, refl, sym, ap, ◌∙◌, subst, length-append, arith}
 use Rattle.std.proofs.lemmas.Bool.{le-ltb}
 use Rattle.std.proofs.lemmas.Grind.{flat_map-append}
 use Rattle.texts.specs.Lines.{whole_lines}
 use Rattle.texts.specs.Parts.{At}
-use Rattle.texts.specs.Limits.{Limited, by}
+use Rattle.texts.specs.Limits.{Limited}
 use Rattle.texts.specs.Words.{ended, text_of, open_rest}
 use Rattle.texts.proofs.Texts.{whole_text}
 use Rattle.edge_io.specs.EndedReads.{RefusedOnlyAt}
 use Rattle.run_certificates.specs.declared.Verdict.{Verdict}
-use Rattle.run_certificates.specs.Items.{item_line}
-use Rattle.run_certificates.specs.Certificates.{items_of, certificate_text}
 use Rattle.run_certificates.specs.Grammar.{AreFirstLines}
 use Rattle.run_certificates.specs.Checking.{checked}
 use Rattle.run_certificates.specs.Laws.{IsAnswer, TextsAreChecked}

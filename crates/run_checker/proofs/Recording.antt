@@ -2,7 +2,6 @@
 use Rattle.std.proofs.Common.{◌≡◌, ℕ, ◌+◌, ◌<◌, ◌≤◌, Bool, true, false, cond, List, [], ◌++◌, append-nil, Result, refl, sym, ap, ap₂, ◌∙◌, subst, arith}
 use Rattle.std.specs.Prelude.{OnErr, OnOk, Ok, Err}
 use Rattle.sync_types.specs.FaultSets.{FaultIds}
-use Rattle.sync_types.specs.States.{State}
 use Rattle.adversary_script.specs.Eras.{faulty_at}
 use Rattle.texts.specs.Growth.{Told, Wrote, Cut, Puts, gathering}
 use Rattle.texts.proofs.Growth.{wrote_none, puts_lent}

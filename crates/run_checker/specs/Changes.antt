@@ -47,11 +47,12 @@ abbrev pub next_sender : BodySeen → ℕ
 next_sender b =
     (slice_index_or (pairs_in b) (length b.told) (0, 0)).0
 
--- a state more was told, or the digits are those of no state
+-- a state more was told, or the digits are those of no state, and nothing changed
 abbrev pub Tells : (u : ℕ) → (digits : List ℕ) → (old new : BodySeen) → Bool → Type 0
 Tells u digits old new true = (is_state_text (fields_of old.known.plan u) digits ≡ true)
     × (new ≡ record old { told = old.told ++ read_text (fields_of old.known.plan u) digits ∷ [] })
-Tells u digits old new false = is_state_text (fields_of old.known.plan u) digits ≡ false
+Tells u digits old new false =
+    (is_state_text (fields_of old.known.plan u) digits ≡ false) × (new ≡ old)
 
 -- the round that was told was played
 abbrev pub played_on : BodySeen → BodySeen

@@ -3,6 +3,7 @@ pub mod Sets
 pub mod Rows
 pub mod Rounds
 pub mod Hearing
+pub mod NextLies
 pub mod Tellings
 pub mod Bodies
 pub mod Changes

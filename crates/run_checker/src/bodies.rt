@@ -77,6 +77,7 @@ impl Body {
     ghost use Rattle.run_certificates.specs.Checking.{has_round, all_told, verdict_now, step, step_by};
     ghost use Rattle.run_checker.specs.Bodies.{stage_of};
     ghost use Rattle.run_checker.specs.Sets.{no_ids};
+    ghost use Rattle.run_checker.specs.NextLies.{TakesNext};
     ghost use Rattle.run_checker.specs.Changes.{first_body, may_put, Puts, pairs_in, may_tell, next_sender, Tells, played_on, may_begin, era_more, played_into, has_states, Marks, ComesToRow, is_at_row};
 
     /// What is known behind the head: the plan and its faulty nodes. It takes all the memory that
@@ -214,6 +215,21 @@ impl Body {
             return Err(TakeError::Refused(()));
         }
         Ok(None)
+    }
+
+    /// Takes a line that is of the next pair. Else nothing changes.
+    pub fn take_next(&mut self, line: &[u8]) -> bool
+        ensures { TakesNext line.now (stage_of self.old) (stage_of self.new) result }
+    {
+        if self.is_putting() || !self.has_round() {
+            return false;
+        }
+        self.tower.tell();
+        self.faulty.tell();
+        match self.tellings.digits_in(line) {
+            Some(digits) => self.tell_state(digits),
+            None => false,
+        }
     }
 
     /// Whether all of a round was told.

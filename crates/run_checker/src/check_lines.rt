@@ -152,6 +152,7 @@ fn take_inside(body: &mut Body, said: Said<'_>) -> Result<Option<Verdict>, TakeE
 
 impl CheckLines {
     ghost use Rattle.run_certificates.specs.Checking.{unread};
+    ghost use Rattle.run_checker.specs.NextLies.{TakesNext};
 
     /// A reader of a text of which nothing was read.
     pub fn new(alloc: Global) -> CheckLines
@@ -160,6 +161,17 @@ impl CheckLines {
         CheckLines {
             alloc,
             phase: Phase::Unread,
+        }
+    }
+
+    /// Takes a line that says what is told next, whose text is known but for its digits. Else
+    /// nothing changes.
+    fn take_next(&mut self, line: &[u8]) -> bool
+        ensures { TakesNext line.now self.old self.new result }
+    {
+        match &mut self.phase {
+            Phase::Inside(body) => body.take_next(line),
+            _ => false,
         }
     }
 
@@ -186,6 +198,9 @@ impl LineReader for CheckLines {
     ghost step = { line_step };
 
     fn take(&mut self, line: &[u8]) -> Result<Option<Verdict>, TakeError<()>> {
+        if self.take_next(line) {
+            return Ok(None);
+        }
         match read_said(line) {
             Some(said) => self.take_said(said),
             None => Err(TakeError::Refused(())),

@@ -25,13 +25,22 @@ impl Model for Digits {
     ghost invariant = { λ d. d.len ≤ 64 };
 }
 
-/// Whether each is a digit of `0-9a-f`.
+/// Whether it is a digit of `0-9a-f`.
+fn is_lower(digit: u8) -> bool
+    ensures { result ≡ is_lower_digit digit }
+{
+    (digit.wrapping_sub(b'0') < 10) | (digit.wrapping_sub(b'a') < 6)
+}
+
+/// Whether each is one. All are looked at: that is faster than to stop at the first that is none.
 fn are_lower(digits: &[u8]) -> bool
     ensures { result ≡ list_all is_lower_digit digits.now }
 {
-    digits
-        .iter()
-        .all(|digit| matches!(*digit, b'0'..=b'9' | b'a'..=b'f'))
+    let mut all = true;
+    for digit in digits {
+        all &= is_lower(*digit);
+    }
+    all
 }
 
 impl Digits {

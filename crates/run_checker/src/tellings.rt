@@ -1,5 +1,5 @@
 ghost use Rattle.sync_types.specs.FaultSets.{is_in};
-ghost use Rattle.std.specs.Prelude.{if◌then◌else◌, [], ◌∷◌, ◌≡◌, ◌<◌, ◌≤◌, ◌+◌, ◌*◌, ◌^◌, ◌++◌, ℕ, false, length, drop, map, All, IfOk, nat_eq, ◌==◌, slice_index_or, vec_capacity};
+ghost use Rattle.std.specs.Prelude.{if◌then◌else◌, [], ◌∷◌, ◌≡◌, ◌<◌, ◌≤◌, ◌+◌, ◌*◌, ◌^◌, ◌++◌, ℕ, false, length, drop, map, All, IfOk, IfSome, nat_eq, ◌==◌, slice_index_or, vec_capacity};
 ghost use Rattle.construction.specs.Plans.{plan_nodes, plan_faults};
 ghost use Rattle.run_certificates.specs.Grammar.{pairs_of};
 ghost use Rattle.round_runner.specs.Locks.{correct_nodes};
@@ -7,8 +7,10 @@ ghost use Rattle.run_certificates.specs.Checking.{is_next};
 ghost use Rattle.construction.specs.Steps.{state_of};
 ghost use Rattle.state_codec.specs.Shapes.{fields_at, bytes_in, shape_of};
 ghost use Rattle.run_checker.specs.Tellings.{room_of, most_pairs, AddsState};
+ghost use Rattle.run_checker.specs.NextLies.{IsNextLine};
 
 use crate::digits::Digits;
+use crate::pairs::Pair;
 use plan_numbers::Plan;
 use state_codec::{NotState, StateShape};
 use std::alloc::Global;
@@ -16,19 +18,19 @@ use std::marker::Model;
 use sync_types::{FaultSet, NoMemory, NodeState};
 
 /// Adds the pair of a faulty node and a node, where that is correct.
-fn add_pair(sender: u32, v: u32, faulty: &FaultSet, pairs: &mut Vec<(u32, u32)>)
+fn add_pair(sender: u32, v: u32, faulty: &FaultSet, pairs: &mut Vec<Pair>)
     requires { is_in faulty.now.ids v ≡ false → length pairs.old.items < vec_capacity pairs.old }
     ensures pairs { pairs.new.items
         ≡ pairs.old.items ++ (if is_in faulty.now.ids v then [] else (sender, v) ∷ []) }
     ensures room { vec_capacity pairs.old ≤ vec_capacity pairs.new }
 {
     if !faulty.contains(v) {
-        pairs.push((sender, v)).unwrap();
+        pairs.push(Pair::new(sender, v)).unwrap();
     }
 }
 
 /// Adds the pairs of one faulty node with each correct one.
-fn add_pairs(sender: u32, faulty: &FaultSet, pairs: &mut Vec<(u32, u32)>)
+fn add_pairs(sender: u32, faulty: &FaultSet, pairs: &mut Vec<Pair>)
     requires { length pairs.old.items + length (correct_nodes faulty.now.nodes faulty.now.ids)
         ≤ vec_capacity pairs.old }
     ensures pairs { pairs.new.items ≡ pairs.old.items
@@ -42,7 +44,7 @@ fn add_pairs(sender: u32, faulty: &FaultSet, pairs: &mut Vec<(u32, u32)>)
 
 /// Takes each faulty node with each correct one, by sender and then by receiver, in place of the
 /// pairs before.
-fn take_pairs(faulty: &FaultSet, pairs: &mut Vec<(u32, u32)>)
+fn take_pairs(faulty: &FaultSet, pairs: &mut Vec<Pair>)
     requires { length (pairs_of faulty.now.nodes faulty.now.ids) ≤ vec_capacity pairs.old }
     ensures pairs { pairs.new.items ≡ pairs_of faulty.now.nodes faulty.now.ids }
     ensures senders { All (λ pair. pair.0 < faulty.now.nodes) pairs.new.items }
@@ -67,7 +69,7 @@ fn rooms(alloc: Global, count: usize) -> Result<Vec<Digits>, NoMemory>
 }
 
 /// Sets how many digits the sender of each pair tells.
-fn set_counts(shape: &StateShape, pairs: &[(u32, u32)], digits: &mut Vec<Digits>)
+fn set_counts(shape: &StateShape, pairs: &[Pair], digits: &mut Vec<Digits>)
     requires senders { All (λ pair. pair.0 < length shape.now.lows) pairs.now }
     requires short { (v : ℕ) → bytes_in (fields_at shape.now v) ≤ 32 }
     requires many { length pairs.now ≤ length digits.old.items }
@@ -76,23 +78,24 @@ fn set_counts(shape: &StateShape, pairs: &[(u32, u32)], digits: &mut Vec<Digits>
         ≡ room_of shape.now (slice_index_or pairs.now k (0, 0)) }
 {
     for k in 0..pairs.len() {
-        let (sender, _) = pairs[k];
-        digits[k].set_count(2 * shape.bytes_of(sender));
+        digits[k].set_count(2 * shape.bytes_of(pairs[k].sender()));
     }
 }
 
 /// Whether pair `k` is that of these two.
-fn is_pair_at(pairs: &[(u32, u32)], k: usize, sender: u64, receiver: u64) -> bool
+fn is_pair_at(pairs: &[Pair], k: usize, sender: u64, receiver: u64) -> bool
     ensures { result ≡ is_next sender receiver (drop k pairs.now) }
 {
     match pairs.get(k) {
-        Some((u, v)) => u64::from(*u) == sender && u64::from(*v) == receiver,
+        Some(pair) => {
+            u64::from(pair.sender()) == sender && u64::from(pair.receiver()) == receiver
+        }
         None => false,
     }
 }
 
 /// Whether there are so many pairs.
-fn is_count(pairs: &[(u32, u32)], k: usize) -> bool
+fn is_count(pairs: &[Pair], k: usize) -> bool
     ensures { result ≡ nat_eq k (length pairs.now) }
 {
     k == pairs.len()
@@ -103,7 +106,7 @@ fn is_count(pairs: &[(u32, u32)], k: usize) -> bool
 #[derive(Drop)]
 pub struct Tellings {
     shape: StateShape,
-    pairs: Vec<(u32, u32)>,
+    pairs: Vec<Pair>,
     digits: Vec<Digits>,
     count: usize,
 }
@@ -199,6 +202,16 @@ impl Tellings {
         is_pair_at(&self.pairs, self.count, sender, receiver)
     }
 
+    /// What stands in a line in the place of the next pair's digits, where it is a line of that.
+    pub fn digits_in<'a>(&self, line: &'a [u8]) -> Option<&'a [u8]>
+        ensures { IfSome result (λ digits. IsNextLine self.now line.now digits.now) }
+    {
+        if self.count >= self.pairs.len() {
+            return None;
+        }
+        self.pairs[self.count].digits_in(line)
+    }
+
     /// How much was told.
     pub fn count(&self) -> usize
         ensures value { result ≡ length self.now.states }
@@ -241,7 +254,7 @@ impl Tellings {
         requires depth { length out.old.registers ≡ length self.now.shape.moduli }
         ensures { out.new ≡ state_of self.now.states k }
     {
-        let (sender, _) = self.pairs[k];
+        let sender = self.pairs[k].sender();
         match self.shape.read_hex(sender, self.digits[k].text(), out) {
             Ok(()) => {}
             Err(NotState) => unreachable!(),

@@ -1,4 +1,4 @@
-use Rattle.std.proofs.Common.{◌≡◌, ℕ, ◌≤◌, List, sym, ◌∙◌, arith, rules}
+use Rattle.std.proofs.Common.{◌≡◌, ◌≤◌, sym, ◌∙◌, arith, rules}
 use Rattle.edge_io.proofs.FeedBytes.{buffered_few}
 use Rattle.run_checker.specs.Checks.{IsChecked, IsRefused, IsTooLong, IsLost, IsHalted}
 use Rattle.run_checker.proofs.SourceReads.{whole_checked, text_refused, text_too_long, text_lost, text_halted, nothing_halted, long_within, held_none, lent_back}

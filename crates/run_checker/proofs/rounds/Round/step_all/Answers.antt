@@ -1,4 +1,4 @@
-use Rattle.std.proofs.Common.{◌<◌, ℕ, List, length, All, refl, sym, ap, ◌∙◌, subst, arith}
+use Rattle.std.proofs.Common.{◌<◌, ℕ, List, All, refl, ap, ◌∙◌, subst, arith}
 use Rattle.construction.specs.Plans.{plan_nodes}
 use Rattle.sync_types.specs.States.{State}
 use Rattle.shared_board.specs.Sharing.{Shares}

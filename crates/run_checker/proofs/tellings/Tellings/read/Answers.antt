@@ -1,6 +1,8 @@
-use Rattle.std.proofs.Common.{◌<◌, length, sym, ap, ◌∙◌, arith}
+use Rattle.std.proofs.Common.{◌<◌, ℕ, length, sym, ap, ◌∙◌, arith}
 use Rattle.std.proofs.lemmas.Bool.{true≢false}
 use Rattle.construction.specs.Steps.{state_of}
+use Rattle.state_codec.specs.Shapes.{fields_at}
+use Rattle.state_codec.specs.Texts.{is_state_text, read_text}
 use Rattle.run_checker.specs.Tellings.{Telling}
 use Rattle.run_checker.proofs.StatesRead.{length_told, sender_below, is_read, read_is}
 use Rattle.run_checker.proofs.tellings.Tellings.read.Goals as goal
@@ -31,8 +33,10 @@ read_hex-requires-clause-node c =
     let seen = ap (λ (t : Telling). length t.states) c.self.view_is in
     let lt : c.args.k < c.self.inside.count = omega (arith, c.requires.told, long, seen) in
     let fits = c.self.invariant.fits in
-    sender_below c.self.inside.shape c.self.inside.pairs.items c.self.inside.digits.items c.self.inside.count c.self.invariant
-    c.args.k c.index.result.now (omega (arith, lt, fits)) c.index.ensures
+    let below = sender_below c.self.inside.shape c.self.inside.pairs.items
+    c.self.inside.digits.items c.self.inside.count c.self.invariant c.args.k c.index.result.now
+    (omega (arith, lt, fits)) c.index.ensures in
+    omega (arith, below, c.sender-sender.ensures)
 
 pub unreachable-requires : goal.unreachable-requires
 unreachable-requires c =
@@ -42,7 +46,10 @@ unreachable-requires c =
     let lt : c.args.k < c.self.inside.count = omega (arith, c.requires.told, long, seen) in
     true≢false (sym (is_read c.self.inside.shape c.self.inside.pairs.items c.self.inside.digits.items c.self.inside.count c.self.invariant
     c.args.k c.index.result.now c.index-2.result.now c.text.result.now lt c.index.ensures
-    c.index-2.ensures c.text.ensures) ∙ c.in-Err.ensures.refused)
+    c.index-2.ensures c.text.ensures)
+    ∙ ap (λ (v : ℕ). is_state_text (fields_at c.self.inside.shape v) c.text.result.now)
+    (sym c.sender-sender.ensures)
+    ∙ c.in-Err.ensures.refused)
 
 pub returns : goal.returns
 returns c =
@@ -51,6 +58,8 @@ returns c =
     let seen = ap (λ (t : Telling). length t.states) c.self.view_is in
     let lt : c.args.k < c.self.inside.count = omega (arith, c.requires.told, long, seen) in
     c.in-Ok.ensures.value
+    ∙ ap (λ (v : ℕ). read_text (fields_at c.self.inside.shape v) c.text.result.now)
+    c.sender-sender.ensures
     ∙ read_is c.self.inside.shape c.self.inside.pairs.items c.self.inside.digits.items c.self.inside.count c.self.invariant
     c.args.k c.index.result.now c.index-2.result.now c.text.result.now lt c.index.ensures
     c.index-2.ensures c.text.ensures
