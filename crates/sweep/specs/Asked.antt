@@ -1,6 +1,7 @@
--- What `sweep` did to its source and its sink.
-use Rattle.std.specs.Prelude.{◌≡◌, ℕ, List, Option, Some, None, Result, Ok, Err}
+-- What `sweep` did to its source and its sinks.
+use Rattle.std.specs.Prelude.{◌≡◌, ℕ, Bool, List, Option, Some, None, Result, Ok, Err}
 use Rattle.texts.specs.Growth.{Told, Wrote, Cut}
+use Rattle.sweeps.specs.Progress.{Says}
 use Rattle.sweep.specs.Conduct.{Does}
 use Rattle.sweep.specs.declared.errors.SweepError.{SweepError}
 use Rattle.sweep.specs.declared.errors.SweepError.TheVariants as error
@@ -33,3 +34,10 @@ DoesAsked (Some request.Version) result left left' before now old new =
     Tells result version_text left left' before now old new
 DoesAsked (Some (request.Sweep numbers)) result left left' before now old new =
     Does result numbers.first numbers.count left left' before now old new
+
+-- What was said of how far a sweep is: nothing where none is asked for.
+abbrev pub SaysAsked : Option Request → (is_on : Bool) → (old new : Told) → Type 0
+SaysAsked None is_on old new = new ≡ old
+SaysAsked (Some request.Help) is_on old new = new ≡ old
+SaysAsked (Some request.Version) is_on old new = new ≡ old
+SaysAsked (Some (request.Sweep numbers)) is_on old new = Says is_on numbers.count old new

@@ -9,7 +9,8 @@ help_text = concat (
     ∷ codes "plays the script with the keys of COUNT numbers from FIRST on,\n"
     ∷ codes "and writes for each era how many runs first lock with which\n"
     ∷ codes "configuration, and the least number of these. The key of a number is\n"
-    ∷ codes "the number as 16 hex digits, with 48 zeros behind.\n" ∷ [])
+    ∷ codes "the number as 16 hex digits, with 48 zeros behind.\n"
+    ∷ codes "Where standard error is a terminal, a line there says how far it is.\n" ∷ [])
 
 abbrev pub version_text : List ℕ
 version_text = codes "sweep 1.0\n"

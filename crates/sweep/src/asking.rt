@@ -2,7 +2,7 @@
 
 ghost use Rattle.std.specs.Prelude.{map, string_bytes};
 ghost use Rattle.texts.specs.Growth.{Puts};
-ghost use Rattle.sweep.specs.Asked.{DoesAsked};
+ghost use Rattle.sweep.specs.Asked.{DoesAsked, SaysAsked};
 ghost use Rattle.sweep.specs.HelpText.{help_text};
 ghost use Rattle.sweep.specs.Requests.{request_of};
 
@@ -11,6 +11,7 @@ use crate::errors::SweepError;
 use crate::requests::{Request, request_of};
 use edge_io::{Piece, Sink, Source, WriteFault, put_all, put_pieces};
 use std::alloc::Global;
+use sweeps::Progress;
 
 /// Writes how the program is used.
 fn write_help<K: Sink>(sink: &mut K) -> Result<(), WriteFault>
@@ -27,6 +28,7 @@ fn write_help<K: Sink>(sink: &mut K) -> Result<(), WriteFault>
             Piece::Text(b"and writes for each era how many runs first lock with which\n"),
             Piece::Text(b"configuration, and the least number of these. The key of a number is\n"),
             Piece::Text(b"the number as 16 hex digits, with 48 zeros behind.\n"),
+            Piece::Text(b"Where standard error is a terminal, a line there says how far it is.\n"),
         ],
     )
 }
@@ -37,24 +39,29 @@ fn write_help<K: Sink>(sink: &mut K) -> Result<(), WriteFault>
 ///
 /// `Usage` comes exactly where the words ask for nothing. When the other errors come,
 /// [`sweep_input`] says.
-pub fn answer<S: Source, K: Sink>(
+pub fn answer<S: Source, K: Sink, E: Sink>(
     alloc: Global,
     words: &[String],
     source: &mut S,
     sink: &mut K,
+    progress: &mut Progress<E>,
 ) -> Result<(), SweepError>
     // What was read and written, by how it ended: of a sweep, the text that is defined for the
     // plan, the script and the numbers.
-    ensures { DoesAsked (request_of (map string_bytes words.now)) result
+    ensures asked { DoesAsked (request_of (map string_bytes words.now)) result
         (S.left source.old) (S.left source.new) (S.faults source.old) (S.faults source.new)
         (K.told sink.old) (K.told sink.new) }
+
+    // What was said of how far a sweep is: nothing where progress is off, or no sweep is asked for.
+    ensures progress { SaysAsked (request_of (map string_bytes words.now)) progress.old.is_on
+        (E.told progress.old.sink) (E.told progress.new.sink) }
 {
     match request_of(words) {
         None => Err(SweepError::Usage),
         Some(Request::Help) => Ok(write_help(sink)?),
         Some(Request::Version) => Ok(put_all(sink, b"sweep 1.0\n")?),
         Some(Request::Sweep(numbers)) => {
-            sweep_input(alloc, numbers.first, numbers.count, source, sink)
+            sweep_input(alloc, numbers.first, numbers.count, source, sink, progress)
         }
     }
 }

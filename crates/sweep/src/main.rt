@@ -6,9 +6,11 @@
 //!
 //! `--help` and `--version` write what they say. Other words are answered by one line of usage on
 //! standard error, and what is refused by one line there. The exit codes are those of `counterlab`.
+//! Where standard error is a terminal, a line there says how many runs were played; it is wiped
+//! before the sweep is written.
 //!
-//! All that is proved, of [`asking::answer`] and [`errors::put_error`]; that the line goes to
-//! standard error is not.
+//! All that is proved, of [`asking::answer`] and [`errors::put_error`]; that the lines go to
+//! standard error, and whether that is a terminal, is not.
 #![tactic(auto)]
 
 mod asking;
@@ -20,8 +22,9 @@ use crate::asking::answer;
 use crate::errors::{SweepError, put_error};
 use edge_io::{StdSink, StdSource};
 use program_words::{arguments, words};
-use std::io;
+use std::io::{self, IsTerminal};
 use std::process::ExitCode;
+use sweeps::Progress;
 
 /// Does what the words ask for.
 fn run(rt: &HostRuntime) -> Result<(), SweepError> {
@@ -31,7 +34,15 @@ fn run(rt: &HostRuntime) -> Result<(), SweepError> {
     };
     let mut source = StdSource::new(rt.stdin());
     let mut sink = StdSink::new(io::writer(rt));
-    answer(rt.alloc(), words(&arguments), &mut source, &mut sink)
+    let stderr = rt.stderr();
+    let mut progress = Progress::new(StdSink::new(io::writer(&stderr)), stderr.is_terminal());
+    answer(
+        rt.alloc(),
+        words(&arguments),
+        &mut source,
+        &mut sink,
+        &mut progress,
+    )
 }
 
 fn main(rt: HostRuntime) -> ExitCode {

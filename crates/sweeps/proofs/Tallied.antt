@@ -9,9 +9,8 @@ use Rattle.adversary_script.specs.Scripts.{Script, IsScript}
 use Rattle.adversary_script.specs.Eras.{first_of_era, end_of_era}
 use Rattle.round_runner.proofs.Firsts.{era_some}
 use Rattle.sweeps.specs.Keys.{keyed}
-use Rattle.sweeps.specs.Sweeps.{lock_of, lock_with, found_at}
+use Rattle.sweeps.specs.Sweeps.{lock_of, lock_with}
 use Rattle.sweeps.specs.Tallies.{EraRuns, AreRuns, AreOfEra, AreTallied, HasRoom, IsWithin, nothing, no_runs}
-use Rattle.sweeps.specs.declared.tallies.Found.{Found}
 
 -- numbers one more
 pub range_more : (a n j : ℕ) → a + n ≡ j → range_with_len a (n + 1) ≡ range_with_len a n ++ j ∷ []

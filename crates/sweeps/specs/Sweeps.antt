@@ -1,5 +1,5 @@
 -- How soon the eras of a script lock, by the number of its key.
-use Rattle.std.specs.Prelude.{ℕ, ◌+◌, List, length, Bool, nat_eq, Option, find}
+use Rattle.std.specs.Prelude.{ℕ, List, Bool, nat_eq, Option, find}
 use Rattle.std.specs.List.{count_by}
 use Rattle.std.specs.Option.{option_eq}
 use Rattle.construction.specs.Plans.{Plan}

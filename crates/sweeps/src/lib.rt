@@ -3,16 +3,18 @@
 //! [`sweep`] plays a runner's script with each of so many numbers as its key, and writes for each
 //! era how many of the runs first lock with which configuration, and the least number of each. The
 //! runs are played in one room, one after the other, each until its first locked configurations
-//! are known.
+//! are known. How far it is [`Progress`] may say on a sink of its own.
 #![tactic(auto)]
 
 mod keys;
 mod noiseless;
 mod playing;
+mod progress;
 mod sweeping;
 mod tallies;
 mod tallying;
 mod writing;
 
 pub use noiseless::one_run_without_noise;
+pub use progress::Progress;
 pub use sweeping::{SweepFault, sweep};

@@ -1,8 +1,10 @@
 ghost use Rattle.std.specs.Prelude.{◌+◌, ◌<◌, ◌^◌};
 ghost use Rattle.std.specs.List.{range_with_len};
 ghost use Rattle.sweeps.specs.Ends.{Sweeps};
+ghost use Rattle.sweeps.specs.Progress.{Says};
 ghost use Rattle.sweeps.specs.SweepTexts.{sweep_text};
 
+use crate::progress::Progress;
 use crate::tallying::count_runs;
 use crate::writing::write_tally;
 use counter_core::NoOverlay;
@@ -51,19 +53,26 @@ impl From<WriteFault> for SweepFault {
 ///
 /// All memory is taken before the first run. `NoMemory` comes where it was refused, and
 /// `WriteFault` where the sink counted one; a front of the text was then taken.
-pub fn sweep<K: Sink>(
+///
+/// How many runs were played is said while they are, where `progress` is on, and wiped before the
+/// first line is written. What becomes of that changes nothing else, and a fault of it is not
+/// answered.
+pub fn sweep<K: Sink, E: Sink>(
     alloc: Global,
     runner: &mut Runner<NoOverlay>,
     first: u64,
     count: u64,
     sink: &mut K,
+    progress: &mut Progress<E>,
 ) -> Result<(), SweepFault>
     requires { first + count < 2 ^ 64 }
-    ensures { Sweeps result
+    ensures text { Sweeps result
         (sweep_text runner.old.plan runner.old.script (range_with_len first count))
         (K.told sink.old) (K.told sink.new) }
+    ensures progress { Says progress.old.is_on count (E.told progress.old.sink)
+        (E.told progress.new.sink) }
 {
-    let tally = count_runs(alloc, runner, first, count)?;
+    let tally = count_runs(alloc, runner, first, count, progress)?;
     write_tally(&tally, sink)?;
     Ok(())
 }

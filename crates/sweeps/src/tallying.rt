@@ -10,12 +10,15 @@ ghost use Rattle.adversary_script.specs.Eras.{first_of_era, end_of_era};
 ghost use Rattle.round_runner.specs.Known.{KnowsLocks};
 ghost use Rattle.round_runner.specs.Runners.{IsPlaying};
 ghost use Rattle.sweeps.specs.Keys.{keyed};
+ghost use Rattle.sweeps.specs.Progress.{Says};
 ghost use Rattle.sweeps.specs.Tallies.{AreTallied, HasRoom};
 
 use crate::playing::{lock_of, play};
+use crate::progress::Progress;
 use crate::tallies::EraTally;
 use adversary_script::Script;
 use counter_core::NoOverlay;
+use edge_io::Sink;
 use round_runner::Runner;
 use std::alloc::Global;
 use sync_types::NoMemory;
@@ -69,21 +72,34 @@ fn note(runner: &Runner<NoOverlay>, seed: u64, tally: &mut [EraTally])
     }
 }
 
+/// How many steps nodes made in a run that was played so far, where to start counts as one.
+fn steps_of(runner: &Runner<NoOverlay>) -> u64 {
+    let rounds = runner.at().saturating_add(1);
+    rounds.saturating_mul(u64::from(runner.nodes()))
+}
+
 /// Plays a runner's script with the keys of `count` numbers from `first` on, and counts its runs.
-pub fn count_runs(
+/// How far it is, is said where `progress` is on: the runs that are counted do not hang on that.
+pub fn count_runs<E: Sink>(
     alloc: Global,
     runner: &mut Runner<NoOverlay>,
     first: u64,
     count: u64,
+    progress: &mut Progress<E>,
 ) -> Result<Vec<EraTally>, NoMemory>
     requires { first + count < 2 ^ 64 }
-    ensures { IfOk result (λ tally. AreTallied runner.old.plan runner.old.script
+    ensures tally { IfOk result (λ tally. AreTallied runner.old.plan runner.old.script
         (range_with_len first count) tally.items) }
+    ensures progress { Says progress.old.is_on count (E.told progress.old.sink)
+        (E.told progress.new.sink) }
 {
     let mut tally = no_runs(alloc, runner.script())?;
+    progress.begin();
     for seed in first..first + count {
         play(runner, seed);
         note(runner, seed, &mut tally);
+        progress.say(steps_of(runner), seed - first + 1, count);
     }
+    progress.end();
     Ok(tally)
 }

@@ -1,4 +1,4 @@
-use Rattle.std.proofs.Common.{◌≡◌, ℕ, ◌+◌, List, [], inl, ap, ◌∙◌, subst, arith}
+use Rattle.std.proofs.Common.{ℕ, ◌+◌, List, [], inl, ap, ◌∙◌, arith}
 use Rattle.adversary_script.specs.Scripts.{Script}
 use Rattle.round_runner.specs.Runners.{Running}
 use Rattle.sweeps.proofs.playing.play.Goals as goal

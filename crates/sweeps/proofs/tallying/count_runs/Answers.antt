@@ -6,11 +6,13 @@ use Rattle.construction.specs.Plans.{Plan}
 use Rattle.adversary_script.specs.Scripts.{Script}
 use Rattle.sweeps.specs.Keys.{keyed}
 use Rattle.sweeps.specs.Tallies.{EraRuns, AreTallied, HasRoom}
+use Rattle.sweeps.specs.Progress.{SaidSoFar}
+use Rattle.sweeps.proofs.Said.{said_begin, says_nothing}
 use Rattle.sweeps.proofs.Tallied.{range_more, room_unkeyed}
 use Rattle.sweeps.proofs.tallying.count_runs.Goals as goal
 
 pub loop-seed-init : goal.loop-seed-init
-loop-seed-init c =
+loop-seed-init g c =
     let runner = c.args.runner.now in
     let items = c.in_ok-tally.tally.items in
     let none : 0 ≡ c.args.first - c.args.first = omega arith in
@@ -22,10 +24,13 @@ loop-seed-init c =
           (range_with_len c.args.first n) items) none
           (subst (λ (s : Script). AreTallied runner.plan s [] items) c.script.ensures
           (c.in_ok-tally.ensures.none runner.plan));
+      said = subst (λ (n : ℕ). SaidSoFar g.E.Sink.told c.args.count n c.args.progress.now
+          c.begin.new.self) none (said_begin g.E.Sink.told c.args.count c.args.progress.now
+          c.begin.new.self c.begin.ensures);
     }
 
 pub loop-seed-preserved : goal.loop-seed-preserved
-loop-seed-preserved c =
+loop-seed-preserved g c =
     let script = c.args.runner.now.script in
     let seed = c.loop-seed.seed in
     let first = c.args.first in
@@ -59,6 +64,7 @@ loop-seed-preserved c =
     let counted : AreTallied c.args.runner.now.plan script (seeds ++ seed ∷ []) now =
     subst (λ (p : Plan). AreTallied p script (seeds ++ seed ∷ []) now) plan
     (c.note.ensures.runs script seeds same few before) in
+    let one_more : seed - first + 1 ≡ seed + 1 - first = omega (arith, c.loop-seed.auto.seed) in
     let more : seeds ++ seed ∷ [] ≡ range_with_len first (seed + 1 - first) =
     sym (range_more first (seed - first) seed (omega (arith, c.loop-seed.auto.seed)))
     ∙ ap (λ (n : ℕ). range_with_len first n) (omega (arith, c.loop-seed.auto.seed)) in
@@ -70,4 +76,19 @@ loop-seed-preserved c =
       counted = subst (λ (xs : List EraRuns). AreTallied c.args.runner.now.plan script
           (range_with_len first (seed + 1 - first)) xs) (sym back)
           (subst (λ (s : List ℕ). AreTallied c.args.runner.now.plan script s now) more counted);
+      said = subst (λ (n : ℕ). SaidSoFar g.E.Sink.told c.args.count n c.args.progress.now
+          c.say.new.self) one_more
+          (c.say.ensures c.args.progress.now (seed - first) (omega arith) held.said);
     }
+
+pub returns-clause-progress : goal.returns-clause-progress
+returns-clause-progress g c =
+    let all : c.loop-seed.seed - c.args.first ≡ c.args.count =
+    omega (arith, c.loop-seed.auto.seed, c.loop-seed-test.false) in
+    c.end.ensures c.args.progress.now c.args.count
+    (subst (λ (n : ℕ). SaidSoFar g.E.Sink.told c.args.count n c.args.progress.now
+    c.loop-seed.progress) all c.loop-seed.invariant.said)
+
+pub returns-in_err-tally-clause-progress : goal.returns-in_err-tally-clause-progress
+returns-in_err-tally-clause-progress g c =
+    says_nothing c.args.progress.now.is_on c.args.count (g.E.Sink.told c.args.progress.now.sink)
