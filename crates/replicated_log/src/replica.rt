@@ -206,7 +206,13 @@ impl Overlay for Replica {
 
     fn begin(&mut self, _at: u64) {}
 
-    fn heeded(&self, node: u32, output: u64, heard: &Heard<'_>, faulty: &FaultSet) -> (usize, usize) {
+    fn heeded(
+        &self,
+        node: u32,
+        output: u64,
+        heard: &Heard<'_>,
+        faulty: &FaultSet,
+    ) -> (usize, usize) {
         let turn = output % self.entry_length();
         if turn == 0 {
             liar_at(faulty, owner_at(self.nodes, self.faults, output))
