@@ -5,7 +5,6 @@ mod EraFound
 mod HeardLaid
 mod HeardSteps
 mod LevelLines
-mod LieFronts
 mod LineTexts
 mod MoreRoom
 mod NextIds

@@ -1,4 +1,4 @@
-ghost use Rattle.std.specs.Prelude.{◌≡◌, ◌≤◌, ◌+◌, ◌++◌, ◌∷◌, [], length, take, decimal, IfSome};
+ghost use Rattle.std.specs.Prelude.{◌≡◌, ◌≤◌, ◌+◌, ◌++◌, ◌∷◌, [], length, take, decimal, IfSome, true};
 ghost use Rattle.run_checker.specs.NextLies.{lie_front};
 
 use itoa::Buffer;
@@ -52,6 +52,19 @@ fn put_number(text: &mut [u8], len: usize, value: u32) -> usize
     put(text, end, b" ")
 }
 
+/// Whether a line begins with these bytes.
+fn begins_with(line: &[u8], front: &[u8]) -> bool
+    requires { length front.now ≤ length line.now }
+    ensures { result ≡ true → take (length front.now) line.now ≡ front.now }
+{
+    for i in 0..front.len() {
+        if line[i] != front[i] {
+            return false;
+        }
+    }
+    true
+}
+
 impl Pair {
     /// The pair of these two.
     pub fn new(sender: u32, receiver: u32) -> Pair
@@ -94,6 +107,9 @@ impl Pair {
     pub fn digits_in<'a>(&self, line: &'a [u8]) -> Option<&'a [u8]>
         ensures { IfSome result (λ digits. line.now ≡ lie_front self.now ++ digits.now) }
     {
-        line.strip_prefix(&self.text[..self.len])
+        if line.len() < self.len || !begins_with(line, &self.text[..self.len]) {
+            return None;
+        }
+        Some(&line[self.len..])
     }
 }
