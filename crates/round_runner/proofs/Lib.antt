@@ -3,7 +3,6 @@ pub mod Correct
 pub mod Costs
 pub mod Counted
 pub mod CountsOn
-pub mod Digits
 pub mod EraRuns
 pub mod FirstLocked
 pub mod Firsts

@@ -355,7 +355,8 @@ impl<O: Overlay> Runner<O> {
             ≡ written_text (fields_at self.old.script.shape v) (state_of self.old.states v) }
         ensures same { self.new ≡ self.old }
     {
-        let _fits = hex::encode_to_slice(self.states.bytes(v), out);
+        self.states.tell();
+        self.states.shape().write_hex(v, self.states.state(v), out);
     }
 
     /// Writes what node `v` hears in round `at` of node `u`, which is faulty in it, as digits of

@@ -1,30 +1,52 @@
-use Rattle.std.proofs.Common.{◌≡◌, ◌*◌, ◌∙◌, List, length, sym, ap, subst, arith}
+use Rattle.std.proofs.Common.{◌≡◌, ◌<◌, ◌*◌, ◌∙◌, length, sym, ap, subst, arith}
 use Rattle.sync_types.specs.States.{State}
+use Rattle.construction.specs.Plans.{plan_nodes}
 use Rattle.construction.specs.Steps.{state_of}
 use Rattle.state_codec.specs.Shapes.{Shape, fields_at, bytes_in}
-use Rattle.state_codec.specs.Writing.{written}
+use Rattle.state_codec.specs.Ranges.{InRange}
 use Rattle.state_codec.specs.Texts.{written_text}
-use Rattle.hex.specs.Hex.{encode_lower}
 use Rattle.round_runner.specs.Runners.{Running}
-use Rattle.round_runner.proofs.Digits.{length-written, ok_has}
 use Rattle.round_runner.proofs.runners.Runner.state_hex.Goals as goal
+
+pub state-requires : goal.state-requires
+state-requires g c =
+    let kept = c.self.invariant in
+    let node : c.args.v < plan_nodes c.self.inside.tower =
+    subst (λ (r : Running _). c.args.v < plan_nodes r.plan) (sym c.self.view_is) c.requires.node in
+    omega (arith, node, kept.size, kept.right.nodes)
+
+pub write_hex-requires-clause-node : goal.write_hex-requires-clause-node
+write_hex-requires-clause-node g c =
+    let kept = c.self.invariant in
+    let node : c.args.v < plan_nodes c.self.inside.tower =
+    subst (λ (r : Running _). c.args.v < plan_nodes r.plan) (sym c.self.view_is) c.requires.node in
+    let shape = ap (λ (s : Shape). length s.lows) c.shape.ensures in
+    omega (arith, node, kept.size, kept.right.nodes, c.tell.ensures.few, shape)
+
+pub write_hex-requires-clause-range : goal.write_hex-requires-clause-range
+write_hex-requires-clause-range g c =
+    let kept = c.self.invariant in
+    let node : c.args.v < plan_nodes c.self.inside.tower =
+    subst (λ (r : Running _). c.args.v < plan_nodes r.plan) (sym c.self.view_is) c.requires.node in
+    let lt : c.args.v < length c.self.inside.states.current =
+    omega (arith, node, kept.size, kept.right.nodes) in
+    subst (λ (s : Shape). InRange (fields_at s c.args.v) c.state.result.now) (sym c.shape.ensures)
+    (subst (InRange (fields_at c.self.inside.states.shape c.args.v)) (sym c.state.ensures)
+    (c.tell.ensures.current c.args.v lt))
+
+pub write_hex-requires-clause-length : goal.write_hex-requires-clause-length
+write_hex-requires-clause-length g c =
+    subst (λ (s : Shape). length c.args.out.now ≡ 2 * bytes_in (fields_at s c.args.v))
+    (sym (c.shape.ensures ∙ c.self.invariant.shape))
+    (subst (λ (r : Running _). length c.args.out.now ≡ 2 * bytes_in (fields_at r.script.shape
+    c.args.v)) (sym c.self.view_is) c.requires.length)
 
 pub returns-clause-digits : goal.returns-clause-digits
 returns-clause-digits g c =
-    let shape = c.self.inside.script.shape in
-    let state : State = state_of c.self.inside.states.current c.args.v in
-    let bytes : c.bytes.result.now ≡ written (fields_at shape c.args.v) state =
-    c.bytes.ensures
-    ∙ ap (λ (s : Shape). written (fields_at s c.args.v) state) c.self.invariant.shape in
-    let long : length c.bytes.result.now ≡ bytes_in (fields_at shape c.args.v) =
-    ap (λ (bytes : List _). length bytes) bytes
-    ∙ length-written (fields_at shape c.args.v) state in
-    let room : length c.args.out.now ≡ 2 * bytes_in (fields_at shape c.args.v) =
-    subst (λ (r : Running _). length c.args.out.now ≡ 2 * bytes_in (fields_at r.script.shape
-    c.args.v)) (sym c.self.view_is) c.requires.length in
-    let digits = ok_has c.encode_to_slice-fits.result
-    (c.encode_to_slice-fits.ensures.fits.1 (omega (arith, room, long)))
-    c.encode_to_slice-fits.ensures.written in
-    subst (λ (r : Running _). c.encode_to_slice-fits.new.output
+    let digits = c.write_hex.ensures
+    ∙ ap (written_text (fields_at c.shape.result.now c.args.v)) c.state.ensures
+    ∙ ap (λ (s : Shape). written_text (fields_at s c.args.v)
+    (state_of c.self.inside.states.current c.args.v)) (c.shape.ensures ∙ c.self.invariant.shape) in
+    subst (λ (r : Running _). c.write_hex.new.out
     ≡ written_text (fields_at r.script.shape c.args.v) (state_of r.states c.args.v))
-    c.self.view_is (digits ∙ ap encode_lower bytes)
+    c.self.view_is digits
