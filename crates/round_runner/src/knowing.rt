@@ -20,8 +20,10 @@ pub fn lowest_correct(nodes: u32, faulty: &FaultSet) -> u32
 
 impl<O: Overlay> Runner<O> {
     ghost use Rattle.std.specs.Prelude.{◌≡◌, ◌↔◌, ◌≤◌, ◌<◌, ◌+◌, List, None, true, length, is_some, IfSome, slice_index_or};
-    ghost use Rattle.construction.specs.Plans.{plan_bound};
-    ghost use Rattle.adversary_script.specs.Eras.{era_of, first_of_era, end_of_era};
+    ghost use Rattle.construction.specs.Plans.{plan_bound, plan_depth, plan_nodes};
+    ghost use Rattle.construction.specs.Shown.{shown};
+    ghost use Rattle.construction.specs.Steps.{state_of};
+    ghost use Rattle.adversary_script.specs.Eras.{era_of, faulty_at, first_of_era, end_of_era};
     ghost use Rattle.round_runner.specs.Known.{CountsOn, KnowsLocks};
     ghost use Rattle.round_runner.specs.Laws.{IsUpTo};
     ghost use Rattle.round_runner.specs.Locks.{first_locked, era_locked, IsFirstLocked};
@@ -84,6 +86,9 @@ impl<O: Overlay> Runner<O> {
     pub fn counted(&self) -> Option<u64>
         ensures some { is_some result
             ≡ is_some (slice_index_or self.now.locks (era_of self.now.script self.now.at) None) }
+        ensures shown { IfSome result (λ value. value ≡ shown (plan_depth self.now.plan)
+            (state_of self.now.states (lowest_correct (plan_nodes self.now.plan)
+            (faulty_at self.now.script self.now.at)))) }
         ensures counts { IfSome result (λ value. (began : List O.Kept)
             → IsPlaying O.layer O.kept began self.now
             → CountsOn self.now.plan self.now.script (configuration_of O.layer began self.now)
