@@ -8,11 +8,12 @@ use Rattle.sync_types.specs.States.{State}
 use Rattle.construction.specs.Plans.{Plan, plan_nodes, plan_modulus}
 use Rattle.construction.specs.Runs.{is_in, AllShow}
 use Rattle.counter_core.specs.NoLayers.{no_layer}
-use Rattle.adversary_script.specs.Scripts.{Script}
-use Rattle.adversary_script.specs.Eras.{era_of, end_of_era, faulty_at}
+use Rattle.adversary_script.specs.Scripts.{Script, IsScript}
+use Rattle.adversary_script.specs.Eras.{era_of, end_of_era, faulty_of_era, faulty_at}
 use Rattle.round_runner.specs.Known.{CountsOn}
+use Rattle.round_runner.proofs.Firsts.{in_era, era_from, era_within}
 use Rattle.run_lines.specs.RunTexts.{word_or_star, words_of_nodes}
-use Rattle.run_lines.specs.PlayedTexts.{line_of, scene_in, configuration_in, lines_from}
+use Rattle.run_lines.specs.PlayedTexts.{line_of, scene_in, configuration_in, lines_between}
 use Rattle.run_lines.specs.OutputTexts.{word_of_shown, output_wording, counted_line}
 use Rattle.run_lines.proofs.Ranges.{same_texts, rest_in_place}
 
@@ -33,13 +34,23 @@ counted_words word plan faulty config output shows =
     (word output v) (λ correct. ap (λ (o : ℕ). word o v)
     (shows v (omega (arith, hi)) correct)))
 
--- configuration t is of the era of configuration `at`, if it is not before it
-abbrev pub AreOfItsEra : Script → (at : ℕ) → Type 0
-AreOfItsEra script at = (t : ℕ) → at ≤ t → t ≤ script.rounds
+-- the configurations from that one on and before the end are of its era
+abbrev pub AreOfItsEra : Script → (at end : ℕ) → Type 0
+AreOfItsEra script at end = (t : ℕ) → at ≤ t → t < end
     → (t < end_of_era script (era_of script at)) × (faulty_at script t ≡ faulty_at script at)
 
+-- so it is where the end is not behind that of the era
+pub left_of_era : (script : Script) → IsScript script → (at end : ℕ)
+    → end ≤ end_of_era script (era_of script at) → AreOfItsEra script at end
+left_of_era script whole at end within = λ t lo hi.
+    let rising = whole.formed.rising in
+    let from = era_from script rising at in
+    let same = in_era script rising (era_of script at) t (era_within script at)
+    (omega (arith, from, lo)) (omega (arith, hi, within)) in
+    (omega (arith, hi, within), ap (faulty_of_era script) same)
+
 module _ (plan : Plan) (script : Script) (began : List (Unit {0})) (label : List ℕ)
-    (word : ℕ → ℕ → List ℕ) (at value : ℕ) (era : AreOfItsEra script at)
+    (word : ℕ → ℕ → List ℕ) (at end value : ℕ) (era : AreOfItsEra script at end)
     (counts : CountsOn plan script (configuration_in plan script no_layer began) at value) where
   abbrev faulty : FaultIds
   faulty = record { nodes = plan_nodes plan; ids = faulty_at script at }
@@ -47,7 +58,7 @@ module _ (plan : Plan) (script : Script) (began : List (Unit {0})) (label : List
   abbrev line : ℕ → List ℕ
   line t = line_of (output_wording label word) plan script t (scene_in plan script no_layer began t)
 
-  line_is : (t output : ℕ) → at ≤ t → t ≤ script.rounds
+  line_is : (t output : ℕ) → at ≤ t → t < end
       → output ≡ (value + (t - at)) % plan_modulus plan
       → counted_line label word faulty t output ≡ line t
   line_is t output lo hi is =
@@ -61,16 +72,16 @@ module _ (plan : Plan) (script : Script) (began : List (Unit {0})) (label : List
       ∙ sym (counted_words word plan (faulty_at script t) config output shows))
 
   -- the lines that are shown from there on
-  pub counted_rest : (from count output : ℕ) → script.last ≤ script.rounds
-      → from ≡ max script.first at → count ≡ script.last + 1 - from
+  pub counted_rest : (from count output : ℕ)
+      → from ≡ max script.first at → count ≡ min (script.last + 1) end - from
       → output ≡ (value + (from - at)) % plan_modulus plan
       → flat_map (λ t. counted_line label word faulty t
       ((output + (t - from)) % plan_modulus plan)) (range_with_len from count)
-      ≡ lines_from plan script no_layer began (output_wording label word) at
-  counted_rest from count output within from_is count_is is =
-      let n : ℕ = script.rounds + 1 - at in
+      ≡ lines_between plan script no_layer began (output_wording label word) at end
+  counted_rest from count output from_is count_is is =
+      let n : ℕ = end - at in
       let all : count ≡ min (at + n) (script.last + 1) - max script.first at =
-      omega (arith, within, from_is, count_is) in
+      omega (arith, from_is, count_is) in
       let rises : (t : ℕ) → from ≤ t → (output + (t - from)) % plan_modulus plan
       ≡ (value + (t - at)) % plan_modulus plan = λ t lo.
       let sum : value + (from - at) + (t - from) ≡ value + (t - at) =
@@ -81,6 +92,6 @@ module _ (plan : Plan) (script : Script) (began : List (Unit {0})) (label : List
       same_texts (λ t. counted_line label word faulty t
       ((output + (t - from)) % plan_modulus plan)) line count from
       (λ t lo hi. line_is t ((output + (t - from)) % plan_modulus plan)
-      (omega (arith, from_is, lo)) (omega (arith, within, count_is, lo, hi)) (rises t lo))
+      (omega (arith, from_is, lo)) (omega (arith, count_is, lo, hi)) (rises t lo))
       ∙ (ap₂ (λ (a m : ℕ). flat_map line (range_with_len a m)) from_is all
       ∙ sym (rest_in_place line script.first script.last n at))

@@ -1,5 +1,5 @@
 -- Texts of numbers that follow one another.
-use Rattle.std.proofs.Common.{◌≡◌, ℕ, zero, suc, ◌+◌, ◌-◌, ◌<◌, ◌≤◌, inl, inr, Bool, true, false, cond, ◌&&◌, List, [], ◌++◌, take, drop, refl, sym, ap, ap₂, ◌∙◌, arith}
+use Rattle.std.proofs.Common.{◌≡◌, ℕ, zero, suc, ◌+◌, ◌-◌, ◌<◌, ◌≤◌, inl, inr, Bool, true, false, cond, ◌&&◌, List, [], ◌∷◌, ◌++◌, take, drop, refl, sym, ap, ap₂, ◌∙◌, arith}
 use Rattle.std.specs.Prelude.{nat_le, max, min}
 use Rattle.std.specs.List.{flat_map, range_with_len}
 use Rattle.std.proofs.lemmas.Bool.{cases_lt, le-leb, lt-leb}
@@ -38,6 +38,20 @@ texts_split f n c =
     ∙ (flat_map-append f (take c (range_with_len 0 n)) (drop c (range_with_len 0 n))
     ∙ ap (λ (xs : List ℕ). words_before f n c ++ flat_map f xs)
     (drop_range c n 0 ∙ ap (λ (a : ℕ). range_with_len a (n - c)) from))
+
+-- the first ones of numbers
+take_range : (k n a : ℕ) → k ≤ n → take k (range_with_len a n) ≡ range_with_len a k
+take_range zero n a le = refl
+take_range (suc k) zero a le = absurd (omega arith)
+take_range (suc k) (suc n) a le = ap (λ (xs : List ℕ). a ∷ xs) (take_range k n (a + 1) (omega arith))
+
+-- the texts of the numbers before c, and those from c on to before d
+pub texts_on : (f : ℕ → List ℕ) (n c d : ℕ) → c ≤ d → d ≤ n
+    → words_before f n c ++ flat_map f (range_with_len c (d - c)) ≡ words_before f n d
+texts_on f n c d le within =
+    ap (λ (xs : List ℕ). flat_map f xs ++ flat_map f (range_with_len c (d - c)))
+    (take_range c n 0 (omega arith) ∙ sym (take_range c d 0 le))
+    ∙ (sym (texts_split f d c) ∙ ap (flat_map f) (sym (take_range d n 0 within)))
 
 module _ (row : ℕ → List ℕ) (first last : ℕ) where
   abbrev if_shown : ℕ → List ℕ

@@ -54,9 +54,9 @@ module _ {Kept : Type 0} (plan : Plan) (script : Script) (layer : Layer Kept) (b
   abbrev pub lines_text : Wording Kept → List ℕ
   lines_text wording = flat_map (line_in wording) (range_with_len 0 (script.rounds + 1))
 
-  -- those of configuration c and of all behind it
-  abbrev pub lines_from : Wording Kept → (c : ℕ) → List ℕ
-  lines_from wording c = flat_map (line_in wording) (range_with_len c (script.rounds + 1 - c))
+  -- those of configuration c and of the ones behind it before that end
+  abbrev pub lines_between : Wording Kept → (c end : ℕ) → List ℕ
+  lines_between wording c end = flat_map (line_in wording) (range_with_len c (end - c))
 
   -- all that is written
   abbrev pub played_text : Wording Kept → List ℕ

@@ -1,86 +1,93 @@
-use Rattle.std.proofs.Common.{ℕ, ◌+◌, [], sym, ap, ap₂, ◌∙◌, subst, arith}
+use Rattle.std.proofs.Common.{ℕ, [], sym, ap, ◌∙◌, subst, arith}
 use Rattle.counter_core.specs.NoLayers.{no_layer}
-use Rattle.edge_io.specs.Rising.{Labelled}
-use Rattle.adversary_script.specs.Scripts.{Script}
-use Rattle.run_lines.specs.PlayedTexts.{numbered}
-use Rattle.run_lines.proofs.Played.{LinesSoFar, lines_begin, over_still, lines_cut, lines_go_on, on_ok}
-use Rattle.run_lines.proofs.RestBehind.{round_left, rest_behind}
+use Rattle.adversary_script.specs.Scripts.{Script, IsScript}
+use Rattle.run_lines.proofs.Played.{LinesSoFar, lines_begin, over_still, on_ok}
+use Rattle.run_lines.proofs.RestBehind.{round_left, lines_on, lines_short, rest_behind, era_to_end, own_is_last}
 use Rattle.run_lines.proofs.shortened.put_lines.Goals as goal
 
-pub loop-sink-init : goal.loop-sink-init
-loop-sink-init g c = record {
+pub loop-runner-init : goal.loop-runner-init
+loop-runner-init g c = record {
   so_far = subst (λ (i : ℕ). LinesSoFar (λ o. no_layer) (λ o. [])
       (g.L.Lines.wording c.args.lines.now) c.args.runner.now i c.args.runner.now
       (g.K.Sink.told c.args.sink.now) (g.K.Sink.told c.args.sink.now)) (sym c.requires.at)
       (lines_begin _ _ _ _ _ c.requires.at c.requires.plays);
   within = omega (arith, c.requires.at);
-  number = c.new-number.ensures ∙ ap₂ numbered c.label.ensures.value (sym c.requires.at);
 }
 
-pub put_if_shown-requires-clause-over : goal.put_if_shown-requires-clause-over
-put_if_shown-requires-clause-over g c =
-    over_still _ _ _ _ _ _ _ _ c.loop-sink.invariant.so_far c.requires.over
+pub known_end-end-requires : goal.known_end-end-requires
+known_end-end-requires g c =
+    let is = c.loop-runner.invariant in
+    round_left _ _ _ _ _ is.so_far is.within _ c.knows_locks.ensures c.loop-runner-test.true
+
+pub put_known-requires-clause-over : goal.put_known-requires-clause-over
+put_known-requires-clause-over g c =
+    over_still _ _ _ _ _ _ _ _ c.loop-runner.invariant.so_far c.requires.over
 
 pub returns-in-Err-clause-lines : goal.returns-in-Err-clause-lines
 returns-in-Err-clause-lines g c =
-    let within = c.loop-sink.invariant.within in
-    lines_cut _ _ _ _ _ _ _ _ c.loop-sink.invariant.so_far _ (omega (arith, within))
-    c.in-Err.ensures
+    let is = c.loop-runner.invariant in
+    let end = c.known_end-end.ensures in
+    let rounds = ap (λ (s : Script). s.rounds) is.so_far.played.script in
+    lines_short _ _ _ _ _ is.so_far is.within _ end.later (omega (arith, end.within, rounds)) _
+    (c.in-Err.ensures [] is.so_far.played.plays)
 
-pub round-requires : goal.round-requires
-round-requires g c =
-    let is = c.loop-sink.invariant in
-    round_left _ _ _ _ _ is.so_far is.within _ c.knows_locks.ensures c.loop-sink-test.true
-
-pub rise-requires : goal.rise-requires
-rise-requires g c =
-    let is = c.loop-sink.invariant in
-    let value = ap (λ (n : Labelled). n.value) is.number in
-    let rounds = c.rounds-rounds.ensures.value ∙ ap (λ (s : Script). s.rounds) c.script.ensures in
-    omega (arith, is.within, value, rounds, c.rounds-rounds.ensures.few)
-
-pub loop-sink-preserved : goal.loop-sink-preserved
-loop-sink-preserved g c =
-    let is = c.loop-sink.invariant in
-    let step = c.round.ensures.advances in
-    let left = round_left _ _ _ _ _ is.so_far is.within _ c.knows_locks.ensures
-    c.loop-sink-test.true in
+pub loop-runner-preserved : goal.loop-runner-preserved
+loop-runner-preserved g c =
+    let is = c.loop-runner.invariant in
+    let end = c.known_end-end.ensures in
+    let skipped = c.skip_to.ensures.skipped in
     let rounds = ap (λ (s : Script). s.rounds) is.so_far.played.script in
     record {
       so_far = subst (λ (i : ℕ). LinesSoFar (λ o. no_layer) (λ o. [])
-          (g.L.Lines.wording c.args.lines.now) c.args.runner.now i c.round.new.self
-          (g.K.Sink.told c.args.sink.now) (g.K.Sink.told c.put_if_shown.new.sink)) (sym step.at)
-          (lines_go_on _ _ _ _ _ _ _ _ is.so_far _ _ (omega (arith, is.within)) c.in-Ok.ensures
-          step (c.round.ensures.played _));
-      within = omega (arith, left, rounds, step.at);
-      number = c.rise.ensures
-          ∙ (ap (λ (n : Labelled). record n { value = n.value + 1 }) is.number
-          ∙ ap (numbered (g.L.Lines.wording c.args.lines.now).label) (sym step.at));
+          (g.L.Lines.wording c.args.lines.now) c.args.runner.now i c.skip_to.new.self
+          (g.K.Sink.told c.args.sink.now) (g.K.Sink.told c.put_known.new.sink)) (sym skipped.at)
+          (lines_on _ _ _ _ _ is.so_far is.within _ end.later (omega (arith, end.within, rounds))
+          _ _ (c.in-Ok.ensures [] is.so_far.played.plays) skipped (c.skip_to.ensures.played []));
+      within = omega (arith, end.within, rounds, skipped.at);
     }
 
-pub loop-sink-smaller : goal.loop-sink-smaller
-loop-sink-smaller g c =
-    let is = c.loop-sink.invariant in
-    let step = c.round.ensures.advances in
-    let left = round_left _ _ _ _ _ is.so_far is.within _ c.knows_locks.ensures
-    c.loop-sink-test.true in
+pub loop-runner-smaller : goal.loop-runner-smaller
+loop-runner-smaller g c =
+    let is = c.loop-runner.invariant in
+    let end = c.known_end-end.ensures in
+    let skipped = c.skip_to.ensures.skipped in
     let rounds = ap (λ (s : Script). s.rounds) is.so_far.played.script in
-    omega (arith, left, rounds, step.at)
+    omega (arith, end.later, end.within, rounds, skipped.at)
 
-pub put_rest-requires-clause-over : goal.put_rest-requires-clause-over
-put_rest-requires-clause-over g c =
-    over_still _ _ _ _ _ _ _ _ c.loop-sink.invariant.so_far c.requires.over
+pub put_known-requires-2-clause-over : goal.put_known-requires-2-clause-over
+put_known-requires-2-clause-over g c =
+    over_still _ _ _ _ _ _ _ _ c.loop-runner.invariant.so_far c.requires.over
 
-pub put_rest-requires-clause-knows : goal.put_rest-requires-clause-knows
-put_rest-requires-clause-knows g c = c.knows_locks.ensures.0 c.loop-sink-test.false
+pub put_known-requires-2-clause-era : goal.put_known-requires-2-clause-era
+put_known-requires-2-clause-era g c =
+    let is = c.loop-runner.invariant in
+    let read = c.script.ensures ∙ sym is.so_far.played.script in
+    let rounds = c.rounds-rounds.ensures.value ∙ ap (λ (s : Script). s.rounds) read in
+    let whole = subst IsScript read c.rounds-rounds.ensures.script in
+    let last = era_to_end c.loop-runner.runner whole
+    (c.knows_locks.ensures.0 c.loop-runner-test.false) in
+    omega (arith, last, rounds)
+
+pub put_known-requires-2-clause-own : goal.put_known-requires-2-clause-own
+put_known-requires-2-clause-own g c = λ none.
+    let is = c.loop-runner.invariant in
+    let read = c.script.ensures ∙ sym is.so_far.played.script in
+    let rounds = c.rounds-rounds.ensures.value ∙ ap (λ (s : Script). s.rounds) read in
+    let whole = subst IsScript read c.rounds-rounds.ensures.script in
+    let last = own_is_last c.loop-runner.runner whole
+    (c.knows_locks.ensures.0 c.loop-runner-test.false) none in
+    omega (arith, last, rounds)
 
 pub returns-clause-lines : goal.returns-clause-lines
 returns-clause-lines g c =
-    let is = c.loop-sink.invariant in
-    rest_behind _ _ _ _ _ is.so_far is.within _ _ (c.put_rest.ensures [] is.so_far.played.plays)
+    let is = c.loop-runner.invariant in
+    let rounds = c.rounds-rounds.ensures.value
+    ∙ ap (λ (s : Script). s.rounds) c.script.ensures in
+    rest_behind _ _ _ _ _ is.so_far is.within _ _ _ (omega (arith, rounds))
+    (c.put_known-2.ensures [] is.so_far.played.plays)
 
 pub returns-clause-played : goal.returns-clause-played
-returns-clause-played g c = on_ok _ c.loop-sink.invariant.so_far.played
+returns-clause-played g c = on_ok _ c.loop-runner.invariant.so_far.played
 
 pub returns-clause-knows : goal.returns-clause-knows
-returns-clause-knows g c = on_ok _ (c.knows_locks.ensures.0 c.loop-sink-test.false)
+returns-clause-knows g c = on_ok _ (c.knows_locks.ensures.0 c.loop-runner-test.false)
