@@ -13,8 +13,8 @@ heeded-requires g c =
     let long = c.lay_itself.auto.heard ∙ c.deref_mut.ensures.len in
     let items = with_items_is c.args.room.now.heard c.lay_itself.new.heard long in
     record {
-      step = λ some. laid_may_hear c.args.round.now.tower.now script (g.O.Overlay.layer c.args.overlay.now)
-          (g.O.Overlay.kept c.args.overlay.now) c.args.round.now.t c.args.v config
+      step = λ some. laid_may_hear c.args.round.now.tower.now script
+          (g.O.Overlay.layer c.args.overlay.now) (g.O.Overlay.kept c.args.overlay.now) c.args.round.now.t c.args.v config
           c.requires.round.accepted c.requires.round.script
           (subst IsShape c.requires.set.shape c.tell.ensures.sound)
           (g.met.O.Overlay.keeps_range c.args.overlay.now) c.requires.set.fits c.requires.set.over
