@@ -8,7 +8,7 @@ use counter_core::{
     Counter, Heard, NoOverlay, Overlay, Trivial, Work, block_of, clear, group_of, place_in,
 };
 use std::test::Fail;
-use sync_types::{NodeState, Reg};
+use sync_types::{FaultSet, NodeState, Reg};
 
 /// A layer whose register takes the output that its node showed. The node keeps that too.
 #[derive(Drop)]
@@ -35,6 +35,16 @@ impl Overlay for Repeat {
     }
 
     fn begin(&mut self, _at: u64) {}
+
+    fn heeded(
+        &self,
+        _node: u32,
+        _output: u64,
+        _heard: &Heard<'_>,
+        _faulty: &FaultSet,
+    ) -> (usize, usize) {
+        (0, 0)
+    }
 
     fn advance(
         &mut self,
