@@ -6,6 +6,7 @@ mod HeardLaid
 mod HeardSteps
 mod LevelLines
 mod LineTexts
+mod LinesRead
 mod MoreRoom
 mod NextIds
 mod NextLies

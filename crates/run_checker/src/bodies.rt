@@ -217,6 +217,11 @@ impl Body {
         Ok(None)
     }
 
+    /// How long a line of the next pair is.
+    pub fn next_size(&self) -> usize {
+        self.tellings.next_size()
+    }
+
     /// Takes a line that is of the next pair. Else nothing changes.
     pub fn take_next(&mut self, line: &[u8]) -> bool
         ensures { TakesNext line.now (stage_of self.old) (stage_of self.new) result }

@@ -164,9 +164,17 @@ impl CheckLines {
         }
     }
 
+    /// How long a line that says what is told next is.
+    pub fn next_size(&self) -> usize {
+        match &self.phase {
+            Phase::Inside(body) => body.next_size(),
+            _ => 0,
+        }
+    }
+
     /// Takes a line that says what is told next, whose text is known but for its digits. Else
     /// nothing changes.
-    fn take_next(&mut self, line: &[u8]) -> bool
+    pub fn take_next(&mut self, line: &[u8]) -> bool
         ensures { TakesNext line.now self.old self.new result }
     {
         match &mut self.phase {
@@ -198,9 +206,6 @@ impl LineReader for CheckLines {
     ghost step = { line_step };
 
     fn take(&mut self, line: &[u8]) -> Result<Option<Verdict>, TakeError<()>> {
-        if self.take_next(line) {
-            return Ok(None);
-        }
         match read_said(line) {
             Some(said) => self.take_said(said),
             None => Err(TakeError::Refused(())),

@@ -2,7 +2,8 @@ ghost use Rattle.std.specs.Prelude.{◌≡◌, IsErrOf};
 ghost use Rattle.run_checker.specs.Checks.{Checks, HasCheckCause};
 
 use crate::check_lines::CheckLines;
-use edge_io::{FedError, Feed, LineBuf, Source, read_ended};
+use crate::line_reading::read_lines;
+use edge_io::{FedError, Feed, LineBuf, Source};
 use run_certificates::Verdict;
 use std::alloc::Global;
 use thiserror::Error;
@@ -63,7 +64,7 @@ pub fn check_run<S: Source>(
     };
     let mut feed = Feed::new(source);
     let limit = limit.min(MOST_BYTES);
-    match read_ended(&mut feed, &mut line, CheckLines::new(alloc), (), limit) {
+    match read_lines(&mut feed, &mut line, CheckLines::new(alloc), limit) {
         Ok(verdict) => Ok(verdict),
         Err(FedError::Refused(refused)) => {
             let line = refused.line;

@@ -62,6 +62,14 @@ impl Digits {
         self.len = count;
     }
 
+    /// How many there are.
+    pub fn count(&self) -> usize
+        ensures value { result ≡ length self.now }
+        ensures most { result ≤ 64 }
+    {
+        self.len
+    }
+
     /// Whether a text is of digits of `0-9a-f`, and of as many.
     pub fn fit(&self, text: &[u8]) -> bool
         ensures { result ≡ (length text.now == length self.now

@@ -16,6 +16,7 @@ mod hearing;
 mod id_lists;
 pub mod laws;
 mod lie_lines;
+mod line_reading;
 mod pairs;
 mod records;
 mod rounds;

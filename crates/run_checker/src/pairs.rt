@@ -96,6 +96,14 @@ impl Pair {
         self.receiver
     }
 
+    /// How many bytes stand before the digits.
+    pub fn front_len(&self) -> usize
+        ensures value { result ≡ length (lie_front self.now) }
+        ensures most { result ≤ 26 }
+    {
+        self.len
+    }
+
     /// What stands in a line behind the text of this pair, where it begins with that.
     pub fn digits_in<'a>(&self, line: &'a [u8]) -> Option<&'a [u8]>
         ensures { IfSome result (λ digits. line.now ≡ lie_front self.now ++ digits.now) }

@@ -202,6 +202,14 @@ impl Tellings {
         is_pair_at(&self.pairs, self.count, sender, receiver)
     }
 
+    /// How long a line of the next pair is; where none is left, 0.
+    pub fn next_size(&self) -> usize {
+        if self.count >= self.pairs.len() {
+            return 0;
+        }
+        self.pairs[self.count].front_len() + self.digits[self.count].count()
+    }
+
     /// What stands in a line in the place of the next pair's digits, where it is a line of that.
     pub fn digits_in<'a>(&self, line: &'a [u8]) -> Option<&'a [u8]>
         ensures { IfSome result (λ digits. IsNextLine self.now line.now digits.now) }
