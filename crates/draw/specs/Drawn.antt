@@ -1,25 +1,36 @@
 -- What drawing a text does.
-use Rattle.std.specs.Prelude.{◌≡◌, ◌⊎◌, ℕ, List}
-use Rattle.texts.specs.Growth.{Told, Wrote}
+use Rattle.std.specs.Prelude.{◌≡◌, ◌⊎◌, ℕ, List, Result, Ok, Err}
+use Rattle.texts.specs.Growth.{Told, Wrote, Cut}
 use Rattle.draw.specs.declared.charts.Chart.{Chart}
 use Rattle.draw.specs.declared.traces.Trace.{Trace}
+use Rattle.draw.specs.declared.drawing.DrawError.{DrawError}
+use Rattle.draw.specs.declared.drawing.DrawError.TheVariants as error
 use Rattle.draw.specs.Charts.{chart_text}
+use Rattle.draw.specs.Laid.{IsLaid}
 use Rattle.draw.specs.Pictures.{picture_text}
 use Rattle.draw.specs.Traces.{trace_text}
 use Rattle.draw.specs.TracePictures.{trace_picture}
 
--- the text is that of a chart, and the picture of that chart was written
-pub record DrawsRows (text : List ℕ) (old new : Told) : Type 0 where
+-- the text is that of a chart, and the picture of that chart has this
+pub record DrawsRows (text : List ℕ) (holds : List ℕ → Type 0) : Type 0 where
   pub chart : Chart
   pub is : chart_text chart ≡ text
-  pub wrote : Wrote (picture_text chart) old new
+  pub laid : IsLaid chart
+  pub drawn : holds (picture_text chart)
 
--- the text is that of a trace, and the picture of that trace was written
-pub record DrawsTrace (text : List ℕ) (old new : Told) : Type 0 where
+-- the text is that of a trace, and the picture of that trace has this
+pub record DrawsTrace (text : List ℕ) (holds : List ℕ → Type 0) : Type 0 where
   pub trace : Trace
   pub is : trace_text trace.frame.first trace.notes.items ≡ text
-  pub wrote : Wrote (trace_picture trace) old new
+  pub drawn : holds (trace_picture trace)
 
 -- a text is drawn as one of the two
-abbrev pub Draws : (text : List ℕ) (old new : Told) → Type 0
-Draws text old new = DrawsRows text old new ⊎ DrawsTrace text old new
+abbrev pub Draws : (text : List ℕ) → (holds : List ℕ → Type 0) → Type 0
+Draws text holds = DrawsRows text holds ⊎ DrawsTrace text holds
+
+-- What was written of a text: its picture, or a front of it, or nothing.
+abbrev pub Does : {T : Type 0} → Result T DrawError
+    → (Shows : (List ℕ → Type 0) → Type 0) → (old new : Told) → Type 0
+Does (Ok value) Shows old new = Shows (λ picture. Wrote picture old new)
+Does (Err error.Write) Shows old new = Shows (λ picture. Cut picture old new)
+Does (Err other) Shows old new = new ≡ old

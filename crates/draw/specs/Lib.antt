@@ -1,5 +1,6 @@
 pub mod Frames
 pub mod Charts
+pub mod Laid
 pub mod Cells
 pub mod Pictures
 pub mod Hits

@@ -1,12 +1,13 @@
 //! Draws what `run` or `trace` writes.
 
-ghost use Rattle.std.specs.Prelude.{◌≡◌, ◌≤◌, ◌^◌, length, true, IfOk, OnOk};
+ghost use Rattle.std.specs.Prelude.{◌≡◌, ◌≤◌, ◌^◌, length, true, IfOk};
 ghost use Rattle.draw.specs.Charts.{chart_text};
 ghost use Rattle.draw.specs.Traces.{trace_text};
-ghost use Rattle.draw.specs.Drawn.{Draws, DrawsRows, DrawsTrace};
+ghost use Rattle.draw.specs.Drawn.{Does, Draws, DrawsRows, DrawsTrace};
 
 use crate::charts::Chart;
 use crate::hits::mark_trace;
+use crate::laid::is_laid;
 use crate::layouts::lay_out;
 use crate::pictures::put_picture;
 use crate::printing::put_chart;
@@ -39,12 +40,20 @@ pub enum DrawError {
 }
 
 impl From<ChartError> for DrawError {
+    ghost use Rattle.draw.specs.declared.drawing.DrawError.TheVariants as error;
+
+    ghost from_gives = { λ chart e. e ≡ error.Chart chart };
+
     fn from(error: ChartError) -> Self {
         DrawError::Chart(error)
     }
 }
 
 impl From<NoMemory> for DrawError {
+    ghost use Rattle.draw.specs.declared.drawing.DrawError.TheVariants as error;
+
+    ghost from_gives = { λ _ e. e ≡ error.NoMemory };
+
     fn from(_: NoMemory) -> Self {
         DrawError::NoMemory
     }
@@ -76,13 +85,13 @@ fn is_text_of_trace(alloc: Global, trace: &Trace, text: &[u8]) -> Result<bool, N
 /// Draws a text that `run` wrote.
 fn draw_rows<K: Sink>(alloc: Global, text: &[u8], sink: &mut K) -> Result<(), DrawError>
     requires { length text.now ≤ 2 ^ 32 }
-    ensures { OnOk result (DrawsRows text.now (K.told sink.old) (K.told sink.new)) }
+    ensures { Does result (DrawsRows text.now) (K.told sink.old) (K.told sink.new) }
 {
     let chart = read_chart(alloc, text)?;
     if chart.bound >= MOST_BOUND || chart.ends.len() >= MOST_ENDS {
         return Err(DrawError::Open);
     }
-    if !is_text_of(alloc, &chart, text)? {
+    if !is_text_of(alloc, &chart, text)? || !is_laid(&chart) {
         return Err(DrawError::Open);
     }
     match put_picture(sink, &chart) {
@@ -92,7 +101,7 @@ fn draw_rows<K: Sink>(alloc: Global, text: &[u8], sink: &mut K) -> Result<(), Dr
 }
 
 /// Reads a trace, with all that is drawn of it.
-fn trace_of(alloc: Global, text: &[u8]) -> Result<Trace, DrawError>
+fn trace_of(alloc: Global, text: &[u8]) -> Result<Trace, ChartError>
     requires { length text.now ≤ 2 ^ 32 }
 {
     let mut trace = read_trace(alloc, text)?;
@@ -104,7 +113,7 @@ fn trace_of(alloc: Global, text: &[u8]) -> Result<Trace, DrawError>
 /// Draws a text that `trace` wrote.
 fn draw_trace<K: Sink>(alloc: Global, text: &[u8], sink: &mut K) -> Result<(), DrawError>
     requires { length text.now ≤ 2 ^ 32 }
-    ensures { OnOk result (DrawsTrace text.now (K.told sink.old) (K.told sink.new)) }
+    ensures { Does result (DrawsTrace text.now) (K.told sink.old) (K.told sink.new) }
 {
     let trace = trace_of(alloc, text)?;
     if trace.levels.len() >= MOST_ENDS {
@@ -123,11 +132,11 @@ fn draw_trace<K: Sink>(alloc: Global, text: &[u8], sink: &mut K) -> Result<(), D
 /// a trace, letter for letter, and the picture of this was written.
 ///
 /// `Chart` comes where a line is not what should stand there, `Open` where the last newline is
-/// missing, `NoMemory` where memory ran out; then nothing was written. `Write` comes where a write
-/// failed.
+/// missing, `NoMemory` where memory ran out; then nothing was written. `Write` comes where the sink
+/// counted a fault; a front of the picture was then taken.
 pub fn draw<K: Sink>(alloc: Global, text: &[u8], sink: &mut K) -> Result<(), DrawError>
     requires { length text.now ≤ 2 ^ 32 }
-    ensures { OnOk result (Draws text.now (K.told sink.old) (K.told sink.new)) }
+    ensures { Does result (Draws text.now) (K.told sink.old) (K.told sink.new) }
 {
     if is_trace(alloc, text)? {
         draw_trace(alloc, text, sink)

@@ -6,8 +6,9 @@
 //! nothing.
 //!
 //! That each picture is the defined one of a chart or a trace, whose own text is just what was read,
-//! is proved ([`drawing::draw`]), and so is what is written for words ([`asking::tell`]). That all
-//! that `run` and `trace` write is read, how a trace is laid out, and who is found hit, is not.
+//! is proved ([`drawing::draw`]), and of a chart that its words stand row by row and node by node; so
+//! is what is written for words ([`asking::tell`]). That all that `run` and `trace` write is read, how
+//! wide columns are, how a trace is laid out, and who is found hit, is not.
 #![tactic(auto)]
 
 mod asking;
@@ -15,6 +16,7 @@ mod charts;
 mod drawing;
 mod frames;
 mod hits;
+mod laid;
 mod layouts;
 mod lines;
 mod marks;
