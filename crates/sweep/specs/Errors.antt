@@ -22,11 +22,11 @@ error_line error.WriteFault = codes "the answer could not be written\n"
 error_line error.TooLong = codes "the input has more than 1048576 bytes\n"
 error_line error.NoMemory = codes "out of memory\n"
 
--- the code is that of `run` for the same cause
+-- the code is that of `run` for the same cause, and of a script without noise that of a refused one
 abbrev pub error_code : SweepError → ℕ
 error_code error.Usage = code_of status.Usage
 error_code (error.Refused refusal) = code_of (refusal_status refusal)
-error_code error.NoNoise = 1
+error_code error.NoNoise = 3
 error_code error.ReadFault = code_of status.ReadFault
 error_code error.WriteFault = code_of status.WriteFault
 error_code error.TooLong = code_of status.TooLong

@@ -1,6 +1,6 @@
 //! Does what the words ask for.
 
-ghost use Rattle.std.specs.Prelude.{map, string_bytes};
+ghost use Rattle.std.specs.Prelude.{◌≡◌, map, string_bytes, IsErrOf};
 ghost use Rattle.texts.specs.Growth.{Puts};
 ghost use Rattle.sweep.specs.Asked.{DoesAsked, SaysAsked};
 ghost use Rattle.sweep.specs.HelpText.{help_text};
@@ -55,6 +55,8 @@ pub fn answer<S: Source, K: Sink, E: Sink>(
     // What was said of how far a sweep is: nothing where progress is off, or no sweep is asked for.
     ensures progress { SaysAsked (request_of (map string_bytes words.now)) progress.old.is_on
         (E.told progress.old.sink) (E.told progress.new.sink) }
+    // At `ReadFault` the end of the source was not met.
+    ensures unmet { IsErrOf result SweepError.ReadFault → S.met source.new ≡ S.met source.old }
 {
     match request_of(words) {
         None => Err(SweepError::Usage),

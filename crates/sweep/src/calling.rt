@@ -1,6 +1,6 @@
 //! Reads an input, and writes its sweep.
 
-ghost use Rattle.std.specs.Prelude.{◌+◌, ◌<◌, ◌≤◌, ◌^◌, length};
+ghost use Rattle.std.specs.Prelude.{◌≡◌, ◌+◌, ◌<◌, ◌≤◌, ◌^◌, length, IsErrOf};
 ghost use Rattle.sweep.specs.Conduct.{Answers, Does};
 ghost use Rattle.sweeps.specs.Progress.{Says};
 
@@ -42,9 +42,9 @@ fn answer<K: Sink, E: Sink>(
 ///
 /// The whole source is read first, at most 2^20 bytes. `Refused` comes exactly where `run` refuses
 /// the input; `NoNoise` where it is a plan and a script that says no noise; `TooLong` only where
-/// the byte behind the limit was there. `ReadFault` and `WriteFault` come only where the source or
-/// the sink counted a fault, and `NoMemory` where memory was refused. Nothing was written then, but
-/// at `WriteFault` a front of the text. `Usage` never comes.
+/// the byte behind the limit was there. `ReadFault` and `WriteFault` come only where the source,
+/// before its end, or the sink counted a fault, and `NoMemory` where memory was refused. Nothing was
+/// written then, but at `WriteFault` a front of the text. `Usage` never comes.
 ///
 /// How many runs were played is said where `progress` is on, and that decides nothing.
 #[tactic(auto, using(sweeps::proofs::Said::says_nothing))]
@@ -62,6 +62,8 @@ pub fn sweep_input<S: Source, K: Sink, E: Sink>(
         (K.told sink.old) (K.told sink.new) }
     ensures progress { Says progress.old.is_on count (E.told progress.old.sink)
         (E.told progress.new.sink) }
+    // At `ReadFault` the end of the source was not met.
+    ensures unmet { IsErrOf result SweepError.ReadFault → S.met source.new ≡ S.met source.old }
 {
     let input = read_all(alloc, source, LONGEST_INPUT)?;
     answer(alloc, first, count, &input, sink, progress)

@@ -1,10 +1,12 @@
 ghost use Rattle.std.specs.Prelude.{◌≡◌};
+ghost use Rattle.std.specs.Process.{exit_status};
 ghost use Rattle.texts.specs.Growth.{Puts};
 ghost use Rattle.sweep.specs.Errors.{error_code, error_line};
 
 use answers::Unanswered;
 use edge_io::{InputFault, Sink, WriteFault, put_all};
 use outcomes::{Refusal, put_refusal};
+use std::process::ExitCode;
 use sweeps::SweepFault;
 use sync_types::Status;
 use thiserror::Error;
@@ -43,12 +45,19 @@ impl SweepError {
         match self {
             SweepError::Usage => Status::Usage.code(),
             SweepError::Refused(refusal) => refusal.status().code(),
-            SweepError::NoNoise => 1,
+            SweepError::NoNoise => 3,
             SweepError::ReadFault => Status::ReadFault.code(),
             SweepError::WriteFault => Status::WriteFault.code(),
             SweepError::TooLong => Status::TooLong.code(),
             SweepError::NoMemory => Status::NoMemory.code(),
         }
+    }
+
+    /// The same as the exit code of a process.
+    pub fn exit_code(self) -> ExitCode
+        ensures { exit_status result ≡ error_code self }
+    {
+        ExitCode::from(self.code())
     }
 }
 

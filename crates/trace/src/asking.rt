@@ -1,6 +1,6 @@
 //! Does what the words ask for.
 
-ghost use Rattle.std.specs.Prelude.{map, string_bytes};
+ghost use Rattle.std.specs.Prelude.{◌≡◌, map, string_bytes, IsErrOf};
 ghost use Rattle.texts.specs.Growth.{Puts};
 ghost use Rattle.trace.specs.Asked.{DoesAsked};
 ghost use Rattle.trace.specs.HelpText.{help_text};
@@ -43,10 +43,12 @@ pub fn answer<S: Source, K: Sink>(
 ) -> Result<(), TraceError>
     // What was read and written, by how it ended: of a trace, the text that is defined for the
     // plan, the script, the configurations and the nodes.
-    ensures { DoesAsked (request_of (map string_bytes words.now))
+    ensures does { DoesAsked (request_of (map string_bytes words.now))
         (node_words (map string_bytes words.now)) result
         (S.left source.old) (S.left source.new) (S.faults source.old) (S.faults source.new)
         (K.told sink.old) (K.told sink.new) }
+    // At `ReadFault` the end of the source was not met.
+    ensures unmet { IsErrOf result TraceError.ReadFault → S.met source.new ≡ S.met source.old }
 {
     match request_of(words) {
         None => Err(TraceError::Usage),

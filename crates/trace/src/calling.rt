@@ -1,6 +1,6 @@
 //! Reads an input, and writes its trace.
 
-ghost use Rattle.std.specs.Prelude.{◌≤◌, map, string_bytes};
+ghost use Rattle.std.specs.Prelude.{◌≡◌, ◌≤◌, map, string_bytes, IsErrOf};
 ghost use Rattle.trace.specs.Conduct.{Does};
 
 use crate::answering::write_trace;
@@ -20,7 +20,7 @@ const LONGEST_INPUT: usize = 1 << 20;
 /// the input; `NotPlayed` where it is a plan and a script of fewer rounds than the last wanted
 /// configuration; `NoNode` where that one is played, and a word names no node of the plan.
 /// `TooLong` comes only where the byte behind the limit was there, `ReadFault` and `WriteFault`
-/// only where the source or the sink counted a fault, and `NoMemory` where memory was refused.
+/// only where the source, before its end, or the sink counted a fault, and `NoMemory` where memory was refused.
 /// Nothing was written then, but at `WriteFault` a front of the text. `Usage` never comes.
 pub fn trace_input<S: Source, K: Sink>(
     alloc: Global,
@@ -30,9 +30,11 @@ pub fn trace_input<S: Source, K: Sink>(
     sink: &mut K,
 ) -> Result<(), TraceError>
     requires { want.first ≤ want.last }
-    ensures { Does result want (map string_bytes words.now)
+    ensures does { Does result want (map string_bytes words.now)
         (S.left source.old) (S.left source.new) (S.faults source.old) (S.faults source.new)
         (K.told sink.old) (K.told sink.new) }
+    // At `ReadFault` the end of the source was not met.
+    ensures unmet { IsErrOf result TraceError.ReadFault → S.met source.new ≡ S.met source.old }
 {
     let input = read_all(alloc, source, LONGEST_INPUT)?;
     write_trace(alloc, want, words, &input, sink)

@@ -1,10 +1,12 @@
 ghost use Rattle.std.specs.Prelude.{◌≡◌};
+ghost use Rattle.std.specs.Process.{exit_status};
 ghost use Rattle.texts.specs.Growth.{Puts};
 ghost use Rattle.trace.specs.Errors.{error_code, error_line};
 
 use answers::Unanswered;
 use edge_io::{InputFault, Sink, WriteFault, put_all};
 use outcomes::{Refusal, put_refusal};
+use std::process::ExitCode;
 use sync_types::{NoMemory, Status};
 use thiserror::Error;
 
@@ -51,6 +53,13 @@ impl TraceError {
             TraceError::TooLong => Status::TooLong.code(),
             TraceError::NoMemory => Status::NoMemory.code(),
         }
+    }
+
+    /// The same as the exit code of a process.
+    pub fn exit_code(self) -> ExitCode
+        ensures { exit_status result ≡ error_code self }
+    {
+        ExitCode::from(self.code())
     }
 }
 

@@ -43,7 +43,7 @@ fn main(rt: HostRuntime) -> ExitCode {
             let mut sink = StdSink::new(io::writer(&stderr));
             // Where standard error is closed, the code alone says it.
             let _ = put_error(&mut sink, error);
-            ExitCode::from(error.code())
+            error.exit_code()
         }
     }
 }
