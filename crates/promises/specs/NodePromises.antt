@@ -62,11 +62,12 @@ ConnectedCallsCount = (plan : Plan) (faulty : List ℕ) → IsBorne plan faulty
     → SomeIsCorrect plan faulty → (calls : ℕ → Call) (first last : ℕ)
     → CallsConnect plan faulty calls first last → NodesKeepPromise plan faulty calls first last
 
--- What `node` does is a call, whose text was written; connected calls count; and of an accepted
--- plan some node is correct.
+-- What `node` does is a call, whose text was written; connected calls count; the plan that a call's
+-- header names is accepted, and of an accepted plan some node is correct.
 pub record NodePromiseIsKept : Type 0 where
   pub texts : CallsWriteTexts
   pub kept : ConnectedCallsCount
+  pub accepted : (plan : Plan) (v : ℕ) (call : Call) → IsOfNode plan v call → IsAccepted plan
   pub some : BorneLeavesSome
 
 -- ---- the premise can be met

@@ -1,5 +1,5 @@
 use Rattle.promises.proofs.NodeCalls.{calls_write}
-use Rattle.promises.proofs.NodePromises.{connected_count}
+use Rattle.promises.proofs.NodePromises.{connected_count, is_accepted}
 use Rattle.promises.proofs.node_promises.node_promise_is_kept.Goals as goal
 
 pub returns : goal.returns
@@ -9,5 +9,6 @@ returns c = record {
       connected_count c.headers_are_of_plans.ensures c.node_writes_states.ensures
       c.nodes_run.ensures c.every_plan_settles.ensures c.locks_at_bound.ensures
       c.locked_runs_count.ensures;
+  accepted = is_accepted c.headers_are_of_plans.ensures;
   some = c.borne_leaves_some.ensures;
 }
