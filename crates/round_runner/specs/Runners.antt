@@ -32,7 +32,7 @@ pub record IsFor {Kept : Type 0} (plan : Plan) (layer : Layer Kept) (script : Sc
   pub over : StandsOver layer (plan_meaning plan)
   pub borne : All (IsBorne plan) (faulty_sets script)
 
--- the first locked configuration of each era, where configuration 0 is that one
+-- the first locked configuration of each era so far, at configuration 0, which this is
 abbrev pub begun_locks : Plan → Script → List State → List (Option ℕ)
 begun_locks plan script config = first_of None (is_locked plan script.faulty config) 0 ∷ replicate
     (length script.eras) None
@@ -52,7 +52,7 @@ begun plan script overlay = record {
 abbrev pub scene_of : {O Kept : Type 0} → (kept_of : O → List Kept) → Running O → Scene Kept
 scene_of kept_of r = record { states = r.states; kept = kept_of r.overlay }
 
--- the first locked configuration of each era, where the next configuration is that one
+-- the same with this configuration, which is the next one
 abbrev pub next_locks : Plan → Script → List (Option ℕ) → (at : ℕ) → List State → List (Option ℕ)
 next_locks plan script locks at config =
     let era = era_of script at in

@@ -18,7 +18,7 @@ lock_of plan script j =
 abbrev pub lock_with : Plan → Script → (j seed : ℕ) → Option ℕ
 lock_with plan script j seed = lock_of plan (keyed script seed) j
 
--- how many of these numbers pass, and the first of them
+-- How many of these numbers pass, and the first of them: the least, where the numbers rise.
 abbrev pub found_of : (passes : ℕ → Bool) → (seeds : List ℕ) → Found
 found_of passes seeds = record { runs = count_by passes seeds; seed = find passes seeds }
 
