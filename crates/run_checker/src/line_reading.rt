@@ -7,9 +7,7 @@ ghost use Rattle.run_certificates.specs.Checking.{line_step};
 ghost use Rattle.run_checker.specs.NextLies.{IsNextRead};
 
 use crate::check_lines::CheckLines;
-use edge_io::{
-    FedError, Feed, Line, LineBuf, LineFault, LineReader, Refused, Source, TakeError,
-};
+use edge_io::{FedError, Feed, Line, LineBuf, LineFault, LineReader, Refused, Source, TakeError};
 use run_certificates::Verdict;
 
 const NEWLINE: u8 = b'\n';
