@@ -1,15 +1,12 @@
 ghost use Rattle.std.specs.Prelude.{◌≡◌, ◌<◌, ◌≤◌, length};
 ghost use Rattle.run_certificates.specs.Grammar.{most_eras};
 
-use crate::firsts::first_of;
 use crate::id_lists::{all_nodes, empty_sets, most_eras, needs_state, read_ids};
 use crate::rounds::{Room, play, room_for};
-use crate::rows::compare_row;
 use crate::tellings::Tellings;
 use counter_core::Counter;
 use edge_io::{TakeError, Words};
 use plan_numbers::Plan;
-use round_runner::is_locked;
 use run_certificates::Verdict;
 use state_codec::{NotState, Packed, StateShape};
 use std::alloc::Global;
@@ -23,22 +20,55 @@ const MOST_ROUNDS: u64 = 1_000_000;
 
 /// What was read behind the head of a certificate: the configuration that its lines have come to.
 /// It has all the memory that it ever needs.
-#[derive(Drop)]
 pub struct Body {
-    version: u32,
-    tower: Tower,
-    faulty: FaultSet,
-    unknown: FaultSet,
-    config: Packed,
-    tellings: Tellings,
-    room: Room,
-    is_putting: bool,
-    from: u32,
+    pub(crate) version: u32,
+    pub(crate) tower: Tower,
+    pub(crate) faulty: FaultSet,
+    pub(crate) unknown: FaultSet,
+    pub(crate) config: Packed,
+    pub(crate) tellings: Tellings,
+    pub(crate) room: Room,
+    pub(crate) is_putting: bool,
+    pub(crate) from: u32,
     // An empty set for each era that may still begin.
-    sets: Vec<FaultSet>,
-    at: u64,
-    differs: Option<u64>,
-    locked: Option<u64>,
+    pub(crate) sets: Vec<FaultSet>,
+    pub(crate) at: u64,
+    pub(crate) differs: Option<u64>,
+    pub(crate) locked: Option<u64>,
+}
+
+// Written out, so that what lets go of one calls this, and no more.
+impl Drop for Body {
+    fn drop(self) {
+        let Body {
+            version,
+            tower,
+            faulty,
+            unknown,
+            config,
+            tellings,
+            room,
+            is_putting,
+            from,
+            sets,
+            at,
+            differs,
+            locked,
+        } = self;
+        drop(version);
+        drop(tower);
+        drop(faulty);
+        drop(unknown);
+        drop(config);
+        drop(tellings);
+        drop(room);
+        drop(is_putting);
+        drop(from);
+        drop(sets);
+        drop(at);
+        drop(differs);
+        drop(locked);
+    }
 }
 
 impl Model for Body {
@@ -73,12 +103,14 @@ impl Body {
     ghost use Rattle.construction.specs.Plans.{plan_nodes, plan_faults};
     ghost use Rattle.edge_io.specs.Taking.{Takes};
     ghost use Rattle.adversary_script.specs.WordTests.{numbers_in};
-    ghost use Rattle.run_certificates.specs.Items.{start_item, lie_item, end_item, era_by, row_by, values_said};
-    ghost use Rattle.run_certificates.specs.Checking.{has_round, all_told, verdict_now, step, step_by};
+    ghost use Rattle.run_certificates.specs.Items.{start_item, lie_item, era_by};
+    ghost use Rattle.run_certificates.specs.Checking.{has_round, all_told, step, step_by};
     ghost use Rattle.run_checker.specs.Bodies.{stage_of};
     ghost use Rattle.run_checker.specs.Sets.{no_ids};
     ghost use Rattle.run_checker.specs.NextLies.{TakesNext};
-    ghost use Rattle.run_checker.specs.Changes.{first_body, may_put, Puts, pairs_in, may_tell, next_sender, Tells, played_on, may_begin, era_more, played_into, has_states, Marks, ComesToRow, is_at_row};
+    ghost use Rattle.run_checker.specs.Changes.{first_body, may_put, Puts, pairs_in};
+    ghost use Rattle.run_checker.specs.Changes.{may_tell, next_sender, Tells, played_on, may_begin};
+    ghost use Rattle.run_checker.specs.Changes.{era_more, played_into};
 
     /// What is known behind the head: the plan and its faulty nodes. It takes all the memory that
     /// the rounds of all eras need.
@@ -112,7 +144,7 @@ impl Body {
     }
 
     /// Whether states are put.
-    fn is_putting(&self) -> bool
+    pub(crate) fn is_putting(&self) -> bool
         ensures { result ≡ self.now.is_putting }
     {
         self.is_putting
@@ -238,14 +270,14 @@ impl Body {
     }
 
     /// Whether all of a round was told.
-    fn is_told(&self) -> bool
+    pub(crate) fn is_told(&self) -> bool
         ensures { result ≡ all_told self.now.known self.now.told }
     {
         self.has_round() && self.tellings.is_whole()
     }
 
     /// Makes the steps of the round that was told, with the same faulty nodes behind it.
-    fn play(&mut self)
+    pub(crate) fn play(&mut self)
         requires { all_told self.old.known self.old.told ≡ true }
         ensures { self.new ≡ played_on self.old }
     {
@@ -327,95 +359,5 @@ impl Body {
         }
         self.play_into(faulty);
         Ok(None)
-    }
-
-    /// Whether no correct node is left that needs a state.
-    fn has_states(&self) -> bool
-        ensures { result ≡ has_states self.now }
-    {
-        !needs_state(&self.unknown, &self.faulty, self.from, self.tower.nodes())
-    }
-
-    /// Compares a row with what the configuration shows, and takes it where it is one.
-    fn mark_row(&mut self, words: Words<'_>) -> bool
-        ensures { Marks (values_said words.entry) self.old self.new result }
-    {
-        let Some(same) = compare_row(words, &self.faulty, self.tower.depth(), &self.config) else {
-            return false;
-        };
-        let locked = is_locked(&self.tower, &self.faulty, &self.config);
-        self.differs = first_of(self.differs, !same, self.at);
-        self.locked = first_of(self.locked, locked, self.at);
-        self.tellings.clear();
-        self.is_putting = false;
-        true
-    }
-
-    /// Makes the configuration that is known the one whose row is next; false where no row may be.
-    fn come_to_row(&mut self) -> bool
-        ensures { ComesToRow self.old self.new result }
-    {
-        if self.is_putting() {
-            return self.has_states();
-        }
-        if !self.is_told() {
-            return false;
-        }
-        self.play();
-        true
-    }
-
-    /// Takes a row.
-    pub fn take_row(&mut self, t: u64, words: Words<'_>) -> Result<Option<Verdict>, TakeError<()>>
-        ensures { Takes (step_by (stage_of self.old) (row_by (Some t) (values_said words.entry)))
-            (stage_of self.new) result }
-    {
-        if !self.come_to_row() {
-            return Err(TakeError::Refused(()));
-        }
-        if t != self.at() {
-            return Err(TakeError::Refused(()));
-        }
-        if !self.mark_row(words) {
-            return Err(TakeError::Refused(()));
-        }
-        Ok(None)
-    }
-
-    /// The number of the configuration.
-    fn at(&self) -> u64
-        ensures { result ≡ self.now.known.at }
-    {
-        self.at
-    }
-
-    /// Whether nothing was told behind the last row.
-    fn is_at_row(&self) -> bool
-        ensures { result ≡ is_at_row self.now }
-    {
-        !self.is_putting && self.tellings.is_empty()
-    }
-
-    /// The verdict, where the certificate ends with the last row.
-    fn verdict(&self) -> Verdict
-        ensures { result ≡ verdict_now self.now.known }
-    {
-        match self.differs {
-            Some(row) => Verdict::False { row },
-            None => Verdict::True {
-                rows: self.at + 1,
-                locked: self.locked,
-            },
-        }
-    }
-
-    /// Takes the last line.
-    pub fn take_end(&self) -> Result<Option<Verdict>, TakeError<()>>
-        ensures { Takes (step (stage_of self.now) end_item) (stage_of self.now) result }
-    {
-        if !self.is_at_row() {
-            return Err(TakeError::Refused(()));
-        }
-        Ok(Some(self.verdict()))
     }
 }

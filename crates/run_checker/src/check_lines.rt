@@ -35,10 +35,18 @@ pub enum Phase {
 }
 
 /// Reads the lines of a certificate.
-#[derive(Drop)]
 pub struct CheckLines {
     alloc: Global,
     phase: Phase,
+}
+
+// Written out, so that what lets go of one calls this, and no more.
+impl Drop for CheckLines {
+    fn drop(self) {
+        let CheckLines { alloc, phase } = self;
+        drop(alloc);
+        drop(phase);
+    }
 }
 
 impl Model for CheckLines {

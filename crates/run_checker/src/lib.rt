@@ -10,6 +10,7 @@ mod bodies;
 mod check_lines;
 mod checks;
 mod digits;
+mod ends;
 mod firsts;
 mod head_lines;
 mod hearing;

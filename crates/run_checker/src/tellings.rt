@@ -103,12 +103,27 @@ fn is_count(pairs: &[Pair], k: usize) -> bool
 
 /// What the faulty nodes of a round tell, of which so much was read. It is kept as digits: most of
 /// it is heeded by no node. There is room for so many pairs, whatever they are.
-#[derive(Drop)]
 pub struct Tellings {
     shape: StateShape,
     pairs: Vec<Pair>,
     digits: Vec<Digits>,
     count: usize,
+}
+
+// Written out, so that what lets go of one calls this, and no more.
+impl Drop for Tellings {
+    fn drop(self) {
+        let Tellings {
+            shape,
+            pairs,
+            digits,
+            count,
+        } = self;
+        drop(shape);
+        drop(pairs);
+        drop(digits);
+        drop(count);
+    }
 }
 
 impl Model for Tellings {
