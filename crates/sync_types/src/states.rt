@@ -1,4 +1,4 @@
-ghost use Rattle.std.specs.Prelude.{◌≡◌, ◌<◌, length, slice_set, IfOk};
+ghost use Rattle.std.specs.Prelude.{◌≡◌, ◌<◌, length, replicate, slice_set, IfOk};
 ghost use Rattle.sync_types.specs.States.{zero_state, register_at};
 
 use crate::answers::NoMemory;
@@ -41,6 +41,19 @@ impl NodeState {
         };
         let registers = vec![in alloc; zero; depth]?;
         Ok(NodeState { x: 0, registers })
+    }
+
+    /// `count` zero states with `depth` registers each. It takes all the memory that they ever
+    /// need.
+    pub fn zeros(alloc: Global, count: u32, depth: usize) -> Result<Vec<NodeState>, NoMemory>
+        ensures { IfOk result (λ states. states.items ≡ replicate count (zero_state depth)) }
+    {
+        let mut states = Vec::with_capacity(alloc, count as usize)?;
+        for _ in 0..count {
+            let state = NodeState::zero(alloc, depth)?;
+            states.push(state).map_err(|_| NoMemory)?;
+        }
+        Ok(states)
     }
 
     /// The number.

@@ -1,5 +1,5 @@
 use std::test::Fail;
-use sync_types::{FaultSet, NoMemory};
+use sync_types::{FaultSet, NoMemory, NodeState};
 
 /// Nodes, and whether they are faulty where 0, 4 and 8 are.
 const ROWS: [(u32, bool); 5] = [(0, true), (4, true), (5, false), (8, true), (12, false)];
@@ -22,6 +22,18 @@ fn ids_that_were_pushed_are_faulty(rt: HostRuntime) -> Result<(), Fail> {
     set.push(4);
     set.push(8);
     assert!(rt; holds_three(&set));
+    Ok(())
+}
+
+#[test]
+fn zero_states_stand_one_for_each_node(rt: HostRuntime) -> Result<(), Fail> {
+    let states = NodeState::zeros(rt.alloc(), 3, 2)?;
+    assert_eq!(rt; states.len(), 3);
+    assert!(rt;
+        states
+            .iter()
+            .all(|state| state.depth() == 2 && state.x() == 0)
+    );
     Ok(())
 }
 
