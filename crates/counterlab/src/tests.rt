@@ -19,35 +19,41 @@ const SHORT_COUNT: &str =
 const RECORDED: &str = "run 1\nbase 5\nfaulty\nstart 0 80\nrow 0 4\nrow 1 0\nrow 2 1\nend\n";
 
 /// Four nodes, of which node 3 lies.
-const EXPLAINED: &str =
-    "plan 1\nbase 2304\nlevel 4 1 10\nend\nscript 1\nfaulty 3\nstart zero\nlie 0 9 3 to all hex 000700\nrounds 12\nshow 0 0\nend\n";
+const EXPLAINED: &str = "plan 1\nbase 2304\nlevel 4 1 10\nend\nscript 1\nfaulty 3\nstart zero\n\
+     lie 0 9 3 to all hex 000700\nrounds 12\nshow 0 0\nend\n";
 
 const EXPLANATION: &str = "bound 2304\nwindow 0 leader 0\nphase 0 king 0\nlocked 2\n";
 
 const TWO_LEVELS: &str = "plan 1\nbase 2304\nlevel 4 1 960\nlevel 3 3 10\nend\n";
 
-const TABLE: &str =
-    "table 1\nbase 2304\nlevel 1 blocks 4 leaders 2 nodes 4 faults 1 beat 9 span 2304 modulus 960 bound 2304 bits 23\nlevel 2 blocks 3 leaders 2 nodes 12 faults 3 beat 15 span 960 modulus 10 bound 3264 bits 28\nplan nodes 12 faults 3 modulus 10 bound 3264 bits 28 bytes 4\nend\n";
+const TABLE: &str = "table 1\nbase 2304\n\
+     level 1 blocks 4 leaders 2 nodes 4 faults 1 beat 9 span 2304 modulus 960 bound 2304 bits 23\n\
+     level 2 blocks 3 leaders 2 nodes 12 faults 3 beat 15 span 960 modulus 10 bound 3264 bits 28\n\
+     plan nodes 12 faults 3 modulus 10 bound 3264 bits 28 bytes 4\nend\n";
 
 const UPGRADED: &str = "plan 2\nbase 2304\nlevel 4 1 960 spare 0\nlevel 3 3 10 spare 0\nend\n";
 
 const SLOTS: &str =
-    "plan 1\nbase 5\nend\nslots 1\nslot 0 1 2\nend\nscript 1\nfaulty\nstart zero\nrounds 4\nshow 0 4\nend\n";
+    "plan 1\nbase 5\nend\nslots 1\nslot 0 1 2\nend\nscript 1\nfaulty\nstart zero\nrounds 4\n\
+     show 0 4\nend\n";
 
 const HELD: &str = "bound 0\nhold 0 .\nhold 1 1\nhold 2 1\nhold 3 .\nhold 4 .\nlocked 0\n";
 
 const AGREE: &str =
-    "plan 1\nbase 2304\nlevel 4 1 12\nend\nagree 1\nvalues 2\ninputs 1 1 1 0\nend\nscript 1\nfaulty 3\nstart zero\nlie 0 2315 3 to all noise\nrounds 2316\nshow 2304 2316\nend\n";
+    "plan 1\nbase 2304\nlevel 4 1 12\nend\nagree 1\nvalues 2\ninputs 1 1 1 0\nend\nscript 1\n\
+     faulty 3\nstart zero\nlie 0 2315 3 to all noise\nrounds 2316\nshow 2304 2316\nend\n";
 
 const DECIDED: &str = "bound 2304\nslot 2310 1 1 1 *\nlocked 2\n";
 
 const FIRES: &str =
-    "plan 1\nbase 12\nend\nfire 1\nrequest 0 8 8\nend\nscript 1\nfaulty\nstart zero\nrounds 12\nshow 4 12\nend\n";
+    "plan 1\nbase 12\nend\nfire 1\nrequest 0 8 8\nend\nscript 1\nfaulty\nstart zero\nrounds 12\n\
+     show 4 12\nend\n";
 
 const FIRED: &str = "bound 0\nfire 6 .\nfire 9 1\nlocked 0\n";
 
 const LOGS: &str =
-    "plan 1\nbase 12\nend\nlog 1\nvalues 3\nkeep 4\ncommands 0 1 2\nend\nscript 1\nfaulty\nstart zero\nrounds 12\nshow 4 12\nend\n";
+    "plan 1\nbase 12\nend\nlog 1\nvalues 3\nkeep 4\ncommands 0 1 2\nend\nscript 1\nfaulty\n\
+     start zero\nrounds 12\nshow 4 12\nend\n";
 
 const LOGGED: &str = "bound 0\nentry 4 owner 0 2\nentry 8 owner 0 1\nlocked 0\n";
 
@@ -58,7 +64,9 @@ const FOUND: &str =
 
 /// What is written of a plan of twelve nodes, of which nodes 0 to 2 lie.
 const SEVENTH: &str =
-    "bound 3264\nrow 3360 * * * 7 7 7 7 7 7 7 7 7\nrow 3361 * * * 8 8 8 8 8 8 8 8 8\nrow 3362 * * * 9 9 9 9 9 9 9 9 9\nrow 3363 * * * 0 0 0 0 0 0 0 0 0\nrow 3364 * * * 1 1 1 1 1 1 1 1 1\nlocked 314\n";
+    "bound 3264\nrow 3360 * * * 7 7 7 7 7 7 7 7 7\nrow 3361 * * * 8 8 8 8 8 8 8 8 8\n\
+     row 3362 * * * 9 9 9 9 9 9 9 9 9\nrow 3363 * * * 0 0 0 0 0 0 0 0 0\n\
+     row 3364 * * * 1 1 1 1 1 1 1 1 1\nlocked 314\n";
 
 /// The words that are parted by single spaces.
 fn words_of(alloc: Global, line: &str) -> Result<Vec<String>, Fail> {

@@ -10,7 +10,8 @@ type ReadLog = (&'static str, usize, u64, u64);
 
 const READ: [ReadLog; 3] = [
     (
-        "log 1\nvalues 16\nkeep 8\ncommands 0 3\ncommands 1 5\ncommands 2 9 10\ncommands 3 1\nend\nscript 1\n",
+        "log 1\nvalues 16\nkeep 8\ncommands 0 3\ncommands 1 5\ncommands 2 9 10\ncommands 3 1\n\
+         end\nscript 1\n",
         82,
         8,
         16,
@@ -22,7 +23,8 @@ const READ: [ReadLog; 3] = [
         2,
     ),
     (
-        "log 1\nvalues 65536\nkeep 1024\ncommands 0 65535\ncommands 1 0\ncommands 2 0 1 2 3 4 5 6 7 8 9 10 11 12 13 14 15\ncommands 3 0\nend\n",
+        "log 1\nvalues 65536\nkeep 1024\ncommands 0 65535\ncommands 1 0\n\
+         commands 2 0 1 2 3 4 5 6 7 8 9 10 11 12 13 14 15\ncommands 3 0\nend\n",
         125,
         8,
         65536,
@@ -71,7 +73,8 @@ const REFUSED: [(&str, u64, Rule); 22] = [
         Rule::Limit,
     ),
     (
-        "log 1\nvalues 2\nkeep 1\ncommands 0 0\ncommands 1 0\ncommands 2 0\ncommands 3 0\ncommands 4 0\n",
+        "log 1\nvalues 2\nkeep 1\ncommands 0 0\ncommands 1 0\ncommands 2 0\ncommands 3 0\n\
+         commands 4 0\n",
         12,
         Rule::Form,
     ),

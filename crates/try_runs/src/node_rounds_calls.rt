@@ -79,15 +79,18 @@ fn column(
 const ROWS: [(&str, &str); 3] = [
     (
         "plan 1\nbase 2304\nlevel 4 1 10\nend\n",
-        "script 1\nfaulty 3\nstart noise\nlie 0 19 3 to 0 1 noise\nlie 10 39 3 to all hex 0007ff\nlie 0 59 3 to all copy 1\nrounds 60\nshow 0 0\nend\n",
+        "script 1\nfaulty 3\nstart noise\nlie 0 19 3 to 0 1 noise\nlie 10 39 3 to all hex 0007ff\n\
+         lie 0 59 3 to all copy 1\nrounds 60\nshow 0 0\nend\n",
     ),
     (
         "plan 2\nbase 576\nlevel 3 1 10 spare 1\nend\n",
-        "script 1\nfaulty 3\nstart noise\nlie 0 29 3 to 0 1 noise\nlie 0 59 3 to all hex 78\nrounds 60\nshow 0 0\nend\n",
+        "script 1\nfaulty 3\nstart noise\nlie 0 29 3 to 0 1 noise\nlie 0 59 3 to all hex 78\n\
+         rounds 60\nshow 0 0\nend\n",
     ),
     (
         "plan 2\nbase 576\nlevel 3 1 10 spare 1\nend\n",
-        "script 1\nfaulty 0\nstart noise\nlie 0 59 0 to 1 2 noise\nlie 0 59 0 to all shift 3\nrounds 60\nshow 0 0\nend\n",
+        "script 1\nfaulty 0\nstart noise\nlie 0 59 0 to 1 2 noise\nlie 0 59 0 to all shift 3\n\
+         rounds 60\nshow 0 0\nend\n",
     ),
 ];
 

@@ -30,29 +30,37 @@ const ROWS: [Row; 5] = [
     (
         ONE,
         "script 2\nfaulty\nstart zero\nera 2 faulty\nstart node 0 80\nrounds 3\nshow 0 0\nend\n",
-        "run 2\nbase 5\nfaulty\nstart 0 00\nrow 0 0\nrow 1 1\nera 2\nstart 0 80\nrow 2 4\nrow 3 0\nend\n",
+        "run 2\nbase 5\nfaulty\nstart 0 00\nrow 0 0\nrow 1 1\nera 2\nstart 0 80\nrow 2 4\n\
+         row 3 0\nend\n",
         4,
         Some(2),
     ),
     (
         FOUR,
         "script 1\nfaulty 3\nstart zero\nlie 0 1 3 to all hex 000700\nrounds 2\nshow 0 0\nend\n",
-        "run 1\nbase 2304\nlevel 4 1 10\nfaulty 3\nstart 0 000000\nstart 1 000000\nstart 2 000000\nrow 0 0 0 0 *\nlie 3 0 000700\nlie 3 1 000700\nlie 3 2 000700\nrow 1 1 1 1 *\nlie 3 0 000700\nlie 3 1 000700\nlie 3 2 000700\nrow 2 2 2 2 *\nend\n",
+        "run 1\nbase 2304\nlevel 4 1 10\nfaulty 3\nstart 0 000000\nstart 1 000000\n\
+         start 2 000000\nrow 0 0 0 0 *\nlie 3 0 000700\nlie 3 1 000700\nlie 3 2 000700\n\
+         row 1 1 1 1 *\nlie 3 0 000700\nlie 3 1 000700\nlie 3 2 000700\nrow 2 2 2 2 *\nend\n",
         3,
         Some(2),
     ),
     // Node 3 is put into a state since it was faulty, and node 0 since the era hits it.
     (
         FOUR,
-        "script 2\nfaulty 3\nstart zero\nera 2 faulty 1\nstart node 0 000700\nstart node 3 000700\nrounds 2\nshow 0 0\nend\n",
-        "run 2\nbase 2304\nlevel 4 1 10\nfaulty 3\nstart 0 000000\nstart 1 000000\nstart 2 000000\nrow 0 0 0 0 *\nlie 3 0 000000\nlie 3 1 000000\nlie 3 2 000000\nrow 1 1 1 1 *\nlie 3 0 001100\nlie 3 1 001100\nlie 3 2 001100\nera 2 1\nstart 0 000700\nstart 3 000700\nrow 2 7 * 2 7\nend\n",
+        "script 2\nfaulty 3\nstart zero\nera 2 faulty 1\nstart node 0 000700\n\
+         start node 3 000700\nrounds 2\nshow 0 0\nend\n",
+        "run 2\nbase 2304\nlevel 4 1 10\nfaulty 3\nstart 0 000000\nstart 1 000000\n\
+         start 2 000000\nrow 0 0 0 0 *\nlie 3 0 000000\nlie 3 1 000000\nlie 3 2 000000\n\
+         row 1 1 1 1 *\nlie 3 0 001100\nlie 3 1 001100\nlie 3 2 001100\nera 2 1\nstart 0 000700\n\
+         start 3 000700\nrow 2 7 * 2 7\nend\n",
         3,
         None,
     ),
     (
         SPARE,
         "script 1\nfaulty 3\nstart zero\nlie 0 0 3 to all hex 70\nrounds 1\nshow 0 0\nend\n",
-        "run 3\nbase 576\nlevel 3 1 10 spare 1\nfaulty 3\nstart 0 0000\nstart 1 0000\nstart 2 0000\nrow 0 0 0 0 *\nlie 3 0 70\nlie 3 1 70\nlie 3 2 70\nrow 1 1 1 1 *\nend\n",
+        "run 3\nbase 576\nlevel 3 1 10 spare 1\nfaulty 3\nstart 0 0000\nstart 1 0000\n\
+         start 2 0000\nrow 0 0 0 0 *\nlie 3 0 70\nlie 3 1 70\nlie 3 2 70\nrow 1 1 1 1 *\nend\n",
         2,
         None,
     ),
@@ -102,11 +110,15 @@ fn answer(alloc: Global, text: &str, limit: u64) -> Result<Verdict, CheckError>
 
 /// The rows of a spare node that is correct.
 const SPARE_ROWS: &str =
-    "run 3\nbase 576\nlevel 3 1 10 spare 1\nfaulty\nstart 0 0000\nstart 1 0000\nstart 2 0000\nstart 3 70\nrow 0 0 0 0 7\nrow 1 1 1 1 0\nrow 2 2 2 2 2\nrow 3 3 3 3 3\nend\n";
+    "run 3\nbase 576\nlevel 3 1 10 spare 1\nfaulty\nstart 0 0000\nstart 1 0000\nstart 2 0000\n\
+     start 3 70\nrow 0 0 0 0 7\nrow 1 1 1 1 0\nrow 2 2 2 2 2\nrow 3 3 3 3 3\nend\n";
 
 /// An era in which node 3 begins to lie.
 const LATER_LIES: &str =
-    "run 2\nbase 2304\nlevel 4 1 10\nfaulty\nstart 0 000000\nstart 1 000000\nstart 2 000000\nstart 3 000000\nrow 0 0 0 0 0\nera 1 3\nrow 1 1 1 1 *\nlie 3 0 000a00\nlie 3 1 586500\nlie 3 2 0f2180\nrow 2 2 2 2 *\nlie 3 0 000a00\nlie 3 1 000a00\nlie 3 2 6dea00\nrow 3 3 3 3 *\nend\n";
+    "run 2\nbase 2304\nlevel 4 1 10\nfaulty\nstart 0 000000\nstart 1 000000\nstart 2 000000\n\
+     start 3 000000\nrow 0 0 0 0 0\nera 1 3\nrow 1 1 1 1 *\nlie 3 0 000a00\nlie 3 1 586500\n\
+     lie 3 2 0f2180\nrow 2 2 2 2 *\nlie 3 0 000a00\nlie 3 1 000a00\nlie 3 2 6dea00\n\
+     row 3 3 3 3 *\nend\n";
 
 #[test]
 fn other_certificates_are_checked(rt: HostRuntime) {
@@ -153,7 +165,8 @@ const REFUSED: [(&str, u64); 11] = [
         5,
     ),
     (
-        "run 1\nbase 2304\nlevel 4 1 10\nfaulty 3\nstart 0 000000\nstart 1 000000\nstart 2 000000\nrow 0 0 0 0 *\nlie 3 0 000700\nlie 3 2 000700\nrow 1 1 1 1 *\nend\n",
+        "run 1\nbase 2304\nlevel 4 1 10\nfaulty 3\nstart 0 000000\nstart 1 000000\n\
+         start 2 000000\nrow 0 0 0 0 *\nlie 3 0 000700\nlie 3 2 000700\nrow 1 1 1 1 *\nend\n",
         10,
     ),
 ];

@@ -26,15 +26,23 @@ const TABLES: [(&str, &str); 4] = [
     ),
     (
         TWO_LEVELS,
-        "table 1\nbase 2304\nlevel 1 blocks 4 leaders 2 nodes 4 faults 1 beat 9 span 2304 modulus 960 bound 2304 bits 23\nlevel 2 blocks 3 leaders 2 nodes 12 faults 3 beat 15 span 960 modulus 10 bound 3264 bits 28\nplan nodes 12 faults 3 modulus 10 bound 3264 bits 28 bytes 4\nend\n",
+        "table 1\nbase 2304\n\
+         level 1 blocks 4 leaders 2 nodes 4 faults 1 beat 9 span 2304 modulus 960 bound 2304 \
+         bits 23\n\
+         level 2 blocks 3 leaders 2 nodes 12 faults 3 beat 15 span 960 modulus 10 bound 3264 \
+         bits 28\nplan nodes 12 faults 3 modulus 10 bound 3264 bits 28 bytes 4\nend\n",
     ),
     (
         NO_SPARES,
-        "table 2\nbase 2304\nlevel 1 blocks 4 leaders 2 nodes 4 faults 1 beat 9 span 2304 modulus 10 bound 2304 bits 17 spare 0\nplan nodes 4 faults 1 modulus 10 bound 2304 bits 17 bytes 3\nend\n",
+        "table 2\nbase 2304\n\
+         level 1 blocks 4 leaders 2 nodes 4 faults 1 beat 9 span 2304 modulus 10 bound 2304 bits \
+         17 spare 0\nplan nodes 4 faults 1 modulus 10 bound 2304 bits 17 bytes 3\nend\n",
     ),
     (
         ONE_SPARE,
-        "table 2\nbase 576\nlevel 1 blocks 3 leaders 2 nodes 4 faults 1 beat 9 span 576 modulus 10 bound 576 bits 15 spare 1\nplan nodes 4 faults 1 modulus 10 bound 576 bits 15 bytes 2\nend\n",
+        "table 2\nbase 576\n\
+         level 1 blocks 3 leaders 2 nodes 4 faults 1 beat 9 span 576 modulus 10 bound 576 bits \
+         15 spare 1\nplan nodes 4 faults 1 modulus 10 bound 576 bits 15 bytes 2\nend\n",
     ),
 ];
 
@@ -84,8 +92,9 @@ fn a_plan_is_written_in_either_version(rt: HostRuntime) -> Result<(), Fail> {
     Ok(())
 }
 
-const SPARE_TABLE: &str =
-    "table 2\nbase 576\nlevel 1 blocks 3 leaders 2 nodes 4 faults 1 beat 9 span 576 modulus 10 bound 576 bits 15 spare 1\nplan nodes 4 faults 1 modulus 10 bound 576 bits 15 bytes 2\nend\n";
+const SPARE_TABLE: &str = "table 2\nbase 576\n\
+     level 1 blocks 3 leaders 2 nodes 4 faults 1 beat 9 span 576 modulus 10 bound 576 bits 15 \
+     spare 1\nplan nodes 4 faults 1 modulus 10 bound 576 bits 15 bytes 2\nend\n";
 
 /// Whether the plan of a table has this version and so many nodes.
 fn is_read(alloc: Global, table: &str, version: u32, nodes: u32) -> Result<bool, Fail> {
@@ -129,17 +138,23 @@ const REFUSED: [(&str, u64, Cause); 12] = [
         FORM,
     ),
     (
-        "table 2\nbase 576\nlevel 2 blocks 3 leaders 2 nodes 4 faults 1 beat 9 span 576 modulus 10 bound 576 bits 15 spare 1\n",
+        "table 2\nbase 576\n\
+         level 2 blocks 3 leaders 2 nodes 4 faults 1 beat 9 span 576 modulus 10 bound 576 bits \
+         15 spare 1\n",
         3,
         Cause::Value,
     ),
     (
-        "table 2\nbase 576\nlevel 1 blocks 3 leaders 2 nodes 4 faults 1 beat 9 span 576 modulus 10 bound 576 bits 15\n",
+        "table 2\nbase 576\n\
+         level 1 blocks 3 leaders 2 nodes 4 faults 1 beat 9 span 576 modulus 10 bound 576 bits \
+         15\n",
         3,
         FORM,
     ),
     (
-        "table 1\nbase 575\nlevel 1 blocks 4 leaders 2 nodes 4 faults 1 beat 9 span 2304 modulus 10 bound 2304 bits 9\n",
+        "table 1\nbase 575\n\
+         level 1 blocks 4 leaders 2 nodes 4 faults 1 beat 9 span 2304 modulus 10 bound 2304 bits \
+         9\n",
         3,
         Cause::Premise(Premise::Multiple),
     ),

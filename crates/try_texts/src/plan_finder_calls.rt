@@ -24,7 +24,8 @@ fn written_for(alloc: Global, input: &str) -> Result<MemSink, Fail> {
 const FOUND: [(&str, &str); 3] = [
     (
         "find 1\nwant 1 10 4\nend\n",
-        "plan 1\nbase 2304\nlevel 4 1 10\nend\npot 1 0 0\npot 3 0 384\npot 4 0 1536\npot 4 1 2304\n",
+        "plan 1\nbase 2304\nlevel 4 1 10\nend\npot 1 0 0\npot 3 0 384\npot 4 0 1536\n\
+         pot 4 1 2304\n",
     ),
     (
         "# none of three nodes\nfind 1\n\nwant 1 10 3\nend\n",
