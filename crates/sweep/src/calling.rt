@@ -43,8 +43,8 @@ fn answer<K: Sink, E: Sink>(
 /// The whole source is read first, at most 2^20 bytes. `Refused` comes exactly where `run` refuses
 /// the input; `NoNoise` where it is a plan and a script that says no noise; `TooLong` only where
 /// the byte behind the limit was there. `ReadFault` and `WriteFault` come only where the source,
-/// before its end, or the sink counted a fault, and `NoMemory` where memory was refused. Nothing was
-/// written then, but at `WriteFault` a front of the text. `Usage` never comes.
+/// before its end, or the sink counted a fault, and `NoMemory` where memory was refused. Nothing
+/// was written then, but at `WriteFault` a front of the text. `Usage` never comes.
 ///
 /// How many runs were played is said where `progress` is on, and that decides nothing.
 #[tactic(auto, using(sweeps::proofs::Said::says_nothing))]

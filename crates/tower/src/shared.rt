@@ -150,7 +150,8 @@ impl Shared {
         requires node { node < plan_nodes self.now.plan }
         ensures range { (result.0 ≤ result.1) × (result.1 ≤ length self.now.faulty) }
         ensures enough { (lies told : List State) → Tells self.now node lies
-            → Tells self.now node told → ((j : ℕ) → result.0 ≤ j → j < result.1 → state_of lies j ≡ state_of told j) →
+            → Tells self.now node told
+            → ((j : ℕ) → result.0 ≤ j → j < result.1 → state_of lies j ≡ state_of told j) →
             step_of self.now.plan node (heard_with self.now.faulty lies self.now.states)
             ≡ step_of self.now.plan node (heard_with self.now.faulty told self.now.states) }
     {

@@ -125,7 +125,8 @@ impl Tower {
         requires node { node < plan_nodes self.now }
         ensures range { (result.0 ≤ result.1) × (result.1 ≤ length shared.now.faulty) }
         ensures enough { (lies told : List State) → Tells shared.now node lies
-            → Tells shared.now node told → ((j : ℕ) → result.0 ≤ j → j < result.1 → state_of lies j ≡ state_of told j) →
+            → Tells shared.now node told
+            → ((j : ℕ) → result.0 ≤ j → j < result.1 → state_of lies j ≡ state_of told j) →
             step_of self.now node (heard_with shared.now.faulty lies shared.now.states)
             ≡ step_of self.now node (heard_with shared.now.faulty told shared.now.states) }
     {

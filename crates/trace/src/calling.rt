@@ -20,8 +20,9 @@ const LONGEST_INPUT: usize = 1 << 20;
 /// the input; `NotPlayed` where it is a plan and a script of fewer rounds than the last wanted
 /// configuration; `NoNode` where that one is played, and a word names no node of the plan.
 /// `TooLong` comes only where the byte behind the limit was there, `ReadFault` and `WriteFault`
-/// only where the source, before its end, or the sink counted a fault, and `NoMemory` where memory was refused.
-/// Nothing was written then, but at `WriteFault` a front of the text. `Usage` never comes.
+/// only where the source, before its end, or the sink counted a fault, and `NoMemory` where memory
+/// was refused. Nothing was written then, but at `WriteFault` a front of the text. `Usage` never
+/// comes.
 pub fn trace_input<S: Source, K: Sink>(
     alloc: Global,
     want: Want,

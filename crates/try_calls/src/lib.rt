@@ -1,8 +1,8 @@
 //! Tries the calls that read and write bytes and numbers, that count votes, and the numbers of
 //! plans. There is nothing here but tests: one module a crate, in which each call that can answer
 //! want of memory succeeds once, where there is memory. They stand at the top so that the crates
-//! below are proved once. `try_texts`, `try_states`, `try_counters`, `try_layers` and `try_runs` try
-//! the crates above these.
+//! below are proved once. `try_texts`, `try_states`, `try_counters`, `try_layers` and `try_runs`
+//! try the crates above these.
 #![tactic(auto)]
 
 #[cfg(test)]
