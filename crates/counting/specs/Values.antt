@@ -1,4 +1,5 @@
--- How often a list holds a value, and the values that it holds often. A value is a number, or None for infinity.
+-- How often a list holds a value, and the values that it holds often. A value is a number, or None
+-- for infinity.
 use Rattle.std.specs.Prelude.{ℕ, ◌*◌, min, List, [], ◌∷◌, length, map, Bool, nat_lt, nat_eq, count_by, Option, Some, None, unwrap_or, if◌then◌else◌}
 use Rattle.std.specs.Option.{option_eq}
 
@@ -14,7 +15,8 @@ first_passing passes (Some a ∷ values) = if passes a then Some a else first_pa
 
 -- the finite value that more than half of the places hold
 abbrev pub majority_of : List (Option ℕ) → Option ℕ
-majority_of values = first_passing (λ a. nat_lt (length values) (2 * count_of values (Some a))) values
+majority_of values =
+    first_passing (λ a. nat_lt (length values) (2 * count_of values (Some a))) values
 
 -- the number that more than half of the places hold, or 0 where there is none
 abbrev pub majority_or_zero : List ℕ → ℕ
@@ -29,7 +31,8 @@ lesser a (Some b) = Some (min a b)
 abbrev pub least_passing : (ℕ → Bool) → List (Option ℕ) → Option ℕ
 least_passing passes [] = None
 least_passing passes (None ∷ values) = least_passing passes values
-least_passing passes (Some a ∷ values) = if passes a then lesser a (least_passing passes values) else least_passing passes values
+least_passing passes (Some a ∷ values) =
+    if passes a then lesser a (least_passing passes values) else least_passing passes values
 
 -- the least finite value that more than f places hold
 abbrev pub least_above : ℕ → List (Option ℕ) → Option ℕ

@@ -1,5 +1,5 @@
--- Where things stand in a picture. Lengths are in units of the picture, at a font of 11: a letter is
--- at most 7 wide. Columns stand side by side in bands of 120, one band below the other.
+-- Where things stand in a picture. Lengths are in units of the picture, at a font of 11: a letter
+-- is at most 7 wide. Columns stand side by side in bands of 120, one band below the other.
 use Rattle.std.specs.Prelude.{ℕ, ◌+◌, ◌*◌, ◌%◌, ◌/◌, min}
 use Rattle.draw.specs.declared.frames.Frame.{Frame}
 

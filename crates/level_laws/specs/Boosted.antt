@@ -12,16 +12,20 @@ use Rattle.level_laws.specs.Level.{StandsOver}
 
 -- what is heard of the inner outputs of the blocks' nodes, by place; spares have none
 abbrev pub outputs_heard : (below : Meaning) → Level → List State → List ℕ
-outputs_heard below level heard = map (λ u. below.shows (u % below.nodes) (state_of heard u)) (range_with_len 0 (level.blocks * below.nodes))
+outputs_heard below level heard =
+    map (λ u. below.shows (u % below.nodes) (state_of heard u))
+    (range_with_len 0 (level.blocks * below.nodes))
 
--- what is heard of the values of the level's registers, which stand behind those of the counter below
+-- what is heard of the values of the level's registers, which stand behind those of the counter
+-- below
 abbrev pub values_heard : (below : Meaning) → List State → List (Option ℕ)
 values_heard below heard = map (λ s. (register_at below.depth s).a) heard
 
 -- the level's new register of the node at place v
 abbrev pub level_register : (below : Meaning) → Level → (v : ℕ) → List State → Reg
 level_register below level v heard =
-    register_after below.nodes level (register_at below.depth (state_of heard v)) (outputs_heard below level heard) (values_heard below heard)
+    register_after below.nodes level (register_at below.depth (state_of heard v))
+        (outputs_heard below level heard) (values_heard below heard)
 
 -- The new state of the node at place v as one of the counter below: in a block by what is heard of
 -- the block. A spare has none, and zero stands in its place.
@@ -48,7 +52,8 @@ boosted below level = record {
 
 -- in range below, and a finite value of the register behind is below the modulus
 abbrev pub BoostedRange : (in_range : State → Type 0) (depth modulus : ℕ) → State → Type 0
-BoostedRange in_range depth modulus state = in_range state × IfSome (register_at depth state).a (λ a. a < modulus)
+BoostedRange in_range depth modulus state =
+    in_range state × IfSome (register_at depth state).a (λ a. a < modulus)
 
 -- the level may stand on this counter, and the two keep within the limits of counters
 pub record StandsOn (below : Meaning) (level : Level) : Type 0 where

@@ -14,7 +14,8 @@ use Rattle.outcomes.specs.Outcomes.{Outcome, outcome_of, too_long}
 -- the line of a true certificate: how many rows it has, and the first locked configuration of its
 -- last era
 abbrev pub true_line : (rows : ℕ) → (locked : Option ℕ) → List ℕ
-true_line rows (Some t) = concat (codes "true rows " ∷ decimal rows ∷ codes " locked " ∷ decimal t ∷ codes "\n" ∷ [])
+true_line rows (Some t) =
+    concat (codes "true rows " ∷ decimal rows ∷ codes " locked " ∷ decimal t ∷ codes "\n" ∷ [])
 true_line rows None = concat (codes "true rows " ∷ decimal rows ∷ codes " locked none\n" ∷ [])
 
 -- the line of a false one: its first row that differs

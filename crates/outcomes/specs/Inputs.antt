@@ -1,5 +1,5 @@
--- What an input is read as, or the refusal of its first line that fails: a plan and a script, a plan
--- alone, the table of a plan, or wants.
+-- What an input is read as, or the refusal of its first line that fails: a plan and a script, a
+-- plan alone, the table of a plan, or wants.
 use Rattle.std.specs.Prelude.{ℕ, ◌+◌, List, Result, Ok, Err}
 use Rattle.texts.specs.Parts.{At, Found}
 use Rattle.sync_types.specs.declared.answers.Premise.{Premise}

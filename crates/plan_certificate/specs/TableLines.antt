@@ -108,7 +108,8 @@ based version other = Err (Premise Form)
 abbrev pub level_behind : Plan → List ℕ → Result Plan Cause
 level_behind plan ns =
     unless_premise (first_premise (numbers_below plan) (level_in ns))
-    (if same_numbers ns (values_over plan (level_in ns)) then Ok (with_level plan (level_in ns)) else Err Value)
+    (if same_numbers ns (values_over plan (level_in ns)) then Ok (with_level plan (level_in ns))
+        else Err Value)
 
 -- ---- what a line does
 
@@ -141,7 +142,8 @@ built_by plan None None = form
 
 abbrev pub table_step : TableStage → List ℕ → Next TableStage Plan Cause
 table_step Unread line = begins (version_named line)
-table_step (Begun version) line = goes_with (based version (numbers_after (codes "base") 1 (words_of line)))
+table_step (Begun version) line =
+    goes_with (based version (numbers_after (codes "base") 1 (words_of line)))
 table_step (Built plan) line =
     built_by plan (level_stated plan.version (words_of line)) (plan_stated (words_of line))
 table_step (Stated plan) line = if bytes_eq line (codes "end") then ends plan else form
@@ -149,7 +151,8 @@ table_step (Stated plan) line = if bytes_eq line (codes "end") then ends plan el
 -- ---- all lines
 
 -- behind the last line nothing may stand
-abbrev pub unless_followed : List (List ℕ) → (rest : List ℕ) → Plan → (last : ℕ) → Result Plan (At Cause)
+abbrev pub unless_followed : List (List ℕ) → (rest : List ℕ) → Plan → (last : ℕ)
+    → Result Plan (At Cause)
 unless_followed [] [] plan last = Ok plan
 unless_followed lines rest plan last = Err (record { line = last + 1; rule = Premise Form })
 

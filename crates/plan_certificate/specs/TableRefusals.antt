@@ -1,4 +1,5 @@
--- What an error of reading a table text says of the plan that is defined. Want of memory says nothing.
+-- What an error of reading a table text says of the plan that is defined. Want of memory says
+-- nothing.
 use Rattle.std.specs.Prelude.{◌≡◌, ℕ, Result, Ok, Err}
 use Rattle.texts.specs.Parts.{At}
 use Rattle.sync_types.specs.declared.answers.Cause.{Cause}

@@ -14,7 +14,8 @@ use Rattle.level_laws.specs.Explained.{Explains, IsExplained}
 abbrev pub inner_in : (below : Plan) (run : List (List State)) (r v : ℕ) → ℕ
 inner_in below run r v = shown (plan_depth below) (state_of (configuration run r) v)
 
--- The window of block b begins in configuration t, and in it the phase of king k in configuration s.
+-- The window of block b begins in configuration t, and in it the phase of king k in configuration
+-- s.
 abbrev pub ExplainsRun : (below : Plan) (level : Level) (faulty : List ℕ) (run : List (List State))
     → (t b s k : ℕ) → Type 0
 ExplainsRun below level faulty run t b s k =

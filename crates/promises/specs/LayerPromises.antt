@@ -35,7 +35,8 @@ HoldsAreKept = (input : List ℕ)
 -- each line of a slot of consensus has one decision
 abbrev pub KeepsDecisions : Plan → Script → AgreeSaid → Type 0
 KeepsDecisions plan script said = (t : ℕ)
-    → begins_at plan script (slot_of plan script said) t (agree_scene plan script said t).states ≡ true
+    → begins_at plan script (slot_of plan script said) t (agree_scene plan script said t).states
+        ≡ true
     → LineDecides plan script said t
 
 abbrev pub DecisionsAreKept : Type 0

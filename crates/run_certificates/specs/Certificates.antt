@@ -20,7 +20,8 @@ pub record Era : Type 0 where
   pub faulty : List ℕ
   pub starts : List Put
 
--- a round: what was told in it, the era that begins behind it, if one does, and the row behind it, None standing for a faulty node
+-- a round: what was told in it, the era that begins behind it, if one does, and the row behind it,
+-- None standing for a faulty node
 pub record Turn : Type 0 where
   pub lies : List Lie
   pub era : Option Era
@@ -56,11 +57,17 @@ era_items t (Some era) = era_item t era.faulty ∷ map start_of era.starts
 -- the rounds from that of row t on, and the last line
 abbrev pub turns_items : ℕ → List Turn → List Item
 turns_items t [] = end_item ∷ []
-turns_items t (turn ∷ turns) = map lie_of turn.lies ++ (era_items t turn.era ++ (row_item t turn.row ∷ turns_items (t + 1) turns))
+turns_items t (turn ∷ turns) =
+    map lie_of turn.lies
+    ++ (era_items t turn.era ++ (row_item t turn.row ∷ turns_items (t + 1) turns))
 
 -- the lines of a certificate
 abbrev pub items_of : Certificate → List Item
-items_of c = run_item c.version ∷ base_item c.plan.base ∷ (map (level_of c.version) (reverse c.plan.levels) ++ (faulty_item c.faulty ∷ (map start_of c.starts ++ (row_item 0 c.row ∷ turns_items 1 c.turns))))
+items_of c =
+    run_item c.version ∷ base_item c.plan.base
+    ∷ (map (level_of c.version) (reverse c.plan.levels)
+    ++ (faulty_item c.faulty
+    ∷ (map start_of c.starts ++ (row_item 0 c.row ∷ turns_items 1 c.turns))))
 
 -- the text of a certificate
 abbrev pub certificate_text : Certificate → List ℕ

@@ -21,7 +21,8 @@ pub record AreStarts (plan : Plan) (unknown faulty : List ℕ) (starts : List Pu
   pub rising : IsStrictlyIncreasing (map (λ put. put.node) starts)
   pub nodes : All (λ put. put.node < plan_nodes plan) starts
   pub correct : All (λ put. is_in faulty put.node ≡ false) starts
-  pub needed : (v : ℕ) → v < plan_nodes plan → is_in unknown v ≡ true → is_in faulty v ≡ false → is_in (map (λ put. put.node) starts) v ≡ true
+  pub needed : (v : ℕ) → v < plan_nodes plan → is_in unknown v ≡ true → is_in faulty v ≡ false
+      → is_in (map (λ put. put.node) starts) v ≡ true
   pub states : All (λ put. is_state_text (fields_of plan put.node) put.digits ≡ true) starts
 
 -- a row has no number just for the faulty nodes
@@ -47,7 +48,8 @@ pub record IsTurn (plan : Plan) (faulty : List ℕ) (turn : Turn) : Type 0 where
 
 abbrev pub AreTurns : Plan → List ℕ → List Turn → Type 0
 AreTurns plan faulty [] = ⊤
-AreTurns plan faulty (turn ∷ turns) = IsTurn plan faulty turn × AreTurns plan (faulty_behind faulty turn.era) turns
+AreTurns plan faulty (turn ∷ turns) =
+    IsTurn plan faulty turn × AreTurns plan (faulty_behind faulty turn.era) turns
 
 -- the version of the plan of a certificate of a version
 abbrev pub plan_version : ℕ → ℕ

@@ -59,7 +59,8 @@ HasWords (lie_item u v digits) = IsShort u × IsShort v × (list_all is_lower_di
 HasWords (era_item t ids) = IsShort t × All IsShort ids
 HasWords end_item = ⊤
 
--- an item that has a line: its numbers have at most 15 digits, its digits are those of hex, and the line has at most 4096 bytes
+-- an item that has a line: its numbers have at most 15 digits, its digits are those of hex, and the
+-- line has at most 4096 bytes
 pub record HasLine (item : Item) : Type 0 where
   pub words : HasWords item
   pub short : length (item_line item) ≤ 4096
@@ -74,7 +75,8 @@ abbrev pub with_three : {X : Type 0} → (ℕ → ℕ → ℕ → X) → Option 
 with_three f (Some a) (Some b) (Some c) = Some (f a b c)
 with_three f a b c = None
 
-abbrev pub with_four : {X : Type 0} → (ℕ → ℕ → ℕ → ℕ → X) → Option ℕ → Option ℕ → Option ℕ → Option ℕ → Option X
+abbrev pub with_four : {X : Type 0} → (ℕ → ℕ → ℕ → ℕ → X) → Option ℕ → Option ℕ → Option ℕ
+    → Option ℕ → Option X
 with_four f (Some a) (Some b) (Some c) (Some d) = Some (f a b c d)
 with_four f a b c d = None
 
@@ -106,16 +108,21 @@ level_said (a ∷ b ∷ c ∷ []) =
     with_three (λ k f c. level_item k f c None) (number_of a) (number_of b) (number_of c)
 level_said (a ∷ b ∷ c ∷ key ∷ s ∷ []) =
     if bytes_eq key (codes "spare")
-    then with_four (λ k f c s. level_item k f c (Some s)) (number_of a) (number_of b) (number_of c) (number_of s)
+    then with_four (λ k f c s. level_item k f c (Some s)) (number_of a) (number_of b) (number_of c)
+        (number_of s)
     else None
 level_said other = None
 
 abbrev pub start_said : List (List ℕ) → Option Item
-start_said (v ∷ digits ∷ []) = if list_all is_lower_digit digits then option_map (λ v. start_item v digits) (number_of v) else None
+start_said (v ∷ digits ∷ []) =
+    if list_all is_lower_digit digits then option_map (λ v. start_item v digits) (number_of v)
+    else None
 start_said other = None
 
 abbrev pub lie_said : List (List ℕ) → Option Item
-lie_said (u ∷ v ∷ digits ∷ []) = if list_all is_lower_digit digits then with_two (λ u v. lie_item u v digits) (number_of u) (number_of v) else None
+lie_said (u ∷ v ∷ digits ∷ []) =
+    if list_all is_lower_digit digits
+    then with_two (λ u v. lie_item u v digits) (number_of u) (number_of v) else None
 lie_said other = None
 
 abbrev pub row_said : List (List ℕ) → Option Item

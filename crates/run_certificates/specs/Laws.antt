@@ -37,13 +37,15 @@ abbrev pub IsAnswer : List ℕ → Result Verdict ℕ → Type 0
 IsAnswer text (Ok verdict) = IsOf text verdict
 IsAnswer text (Err number) = IsRefusedAt text number
 
--- each text is answered by the verdict of the certificate whose text it is, or refused at the first line at which its lines begin no certificate
+-- each text is answered by the verdict of the certificate whose text it is, or refused at the first
+-- line at which its lines begin no certificate
 abbrev pub TextsAreChecked : Type 0
 TextsAreChecked = (text : List ℕ) → IsAnswer text (checked text)
 
 -- and the text of each certificate is answered by its verdict
 abbrev pub CertificatesAreChecked : Type 0
-CertificatesAreChecked = (c : Certificate) → IsCertificate c → checked (certificate_text c) ≡ Ok (verdict_of c)
+CertificatesAreChecked =
+    (c : Certificate) → IsCertificate c → checked (certificate_text c) ≡ Ok (verdict_of c)
 
 -- ---- the stated run
 
@@ -56,11 +58,16 @@ abbrev pub stand_after : Plan → Stand → List Turn → Stand
 stand_after plan stand [] = stand
 stand_after plan stand (turn ∷ turns) = stand_after plan (stand_behind plan stand turn) turns
 
--- Each stretch of rounds behind which no era begins is a run of the plan, with the faulty nodes that the stretch begins with; the lies of each round are the stated ones.
+-- Each stretch of rounds behind which no era begins is a run of the plan, with the faulty nodes
+-- that the stretch begins with; the lies of each round are the stated ones.
 abbrev pub StretchesAreRuns : Type 0
-StretchesAreRuns = (c : Certificate) → IsCertificate c → (before stretch after : List Turn) → c.turns ≡ before ++ (stretch ++ after) → AreQuiet stretch
+StretchesAreRuns =
+    (c : Certificate) → IsCertificate c → (before stretch after : List Turn)
+    → c.turns ≡ before ++ (stretch ++ after) → AreQuiet stretch
     → Run c.plan (stand_after c.plan (first_stand c) before).faulty
-    (map (λ stand. stand.config) (stand_after c.plan (first_stand c) before ∷ stands_behind c.plan (stand_after c.plan (first_stand c) before) stretch))
+    (map (λ stand. stand.config)
+        (stand_after c.plan (first_stand c) before
+        ∷ stands_behind c.plan (stand_after c.plan (first_stand c) before) stretch))
 
 -- In a certificate that is true, the rows of such a stretch are one number for all correct nodes
 -- from the plan's bound on, which is counted from the first of its configurations, and it grows by
@@ -69,7 +76,9 @@ pub record StretchCounts (c : Certificate) (before stretch : List Turn) : Type 0
   pub output : ℕ → ℕ
   pub shows : (i : ℕ) → plan_bound c.plan ≤ i → i ≤ length stretch
       → slice_index_or (rows_of c) (length before + i) []
-      ≡ map (λ v. if is_in (stand_after c.plan (first_stand c) before).faulty v then None else Some (output i)) (range_with_len 0 (plan_nodes c.plan))
+      ≡ map
+          (λ v. if is_in (stand_after c.plan (first_stand c) before).faulty v then None
+          else Some (output i)) (range_with_len 0 (plan_nodes c.plan))
   pub grows : (i : ℕ) → plan_bound c.plan ≤ i → i + 1 ≤ length stretch
       → output (i + 1) ≡ (output i + 1) % plan_modulus c.plan
 

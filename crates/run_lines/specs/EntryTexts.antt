@@ -60,7 +60,8 @@ abbrev pub output_before : (modulus rounds output : ℕ) → ℕ
 output_before modulus rounds output =
     if nat_lt output rounds then output + modulus - rounds else output - rounds
 
--- how it is written while the script is played: the owner of a slot is told by the output at its end
+-- how it is written while the script is played: the owner of a slot is told by the output at its
+-- end
 abbrev pub entry_wording : (nodes faults modulus : ℕ) → Wording (List Entry)
 entry_wording nodes faults modulus = record {
   label = [];

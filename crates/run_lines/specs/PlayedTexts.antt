@@ -38,7 +38,8 @@ abbrev pub line_if_shown : {Kept : Type 0} → Wording Kept → Plan → Script 
 line_if_shown wording plan script c scene =
     if wording.shows plan script c scene then line_of wording plan script c scene else []
 
-module _ {Kept : Type 0} (plan : Plan) (script : Script) (layer : Layer Kept) (began : List Kept) where
+module _ {Kept : Type 0} (plan : Plan) (script : Script) (layer : Layer Kept)
+    (began : List Kept) where
   -- scene c of what is played, where the nodes began with these things kept
   abbrev pub scene_in : (c : ℕ) → Scene Kept
   scene_in c = scene_at (plan_meaning plan) script layer began c

@@ -13,8 +13,9 @@ use Rattle.run_lines.specs.RunTexts.{lock_of_era}
 use Rattle.run_lines.specs.PlayedTexts.{configuration_in}
 use Rattle.run_promises.specs.LayeredEras.{IsReadFor}
 
--- The W of the line of era j is the era's first locked configuration, and there is none where it has
--- none. Where the era reaches the bound, counted from its first configuration, it is there or before.
+-- The W of the line of era j is the era's first locked configuration, and there is none where it
+-- has none. Where the era reaches the bound, counted from its first configuration, it is there or
+-- before.
 pub record EraLocks (plan : Plan) (script : Script) (config_at : ℕ → List State) (j : ℕ)
     : Type 0 where
   pub first : IsFirstLocked plan script config_at j script.rounds

@@ -42,7 +42,9 @@ pub record LineDecides (plan : Plan) (script : Script) (said : AgreeSaid) (t : �
 abbrev pub LinesDecide : Type 0
 LinesDecide = (plan : Plan) (script : Script) (said : AgreeSaid) → agree.IsFor plan said
     → IsReadFor plan (agree_layer plan said.values said.inputs) script
-    → (t : ℕ) → begins_at plan script (slot_of plan script said) t (agree_scene plan script said t).states ≡ true
+    → (t : ℕ)
+    → begins_at plan script (slot_of plan script said) t (agree_scene plan script said t).states
+        ≡ true
     → LineDecides plan script said t
 
 -- ---- firing
@@ -53,13 +55,16 @@ pub record LineFires (plan : Plan) (script : Script) (requests : List Request) (
   pub fired : Bool
   pub words : let c = t + slot_length (plan_faults plan) in
       AllSay plan script c (fire_word (fire_scene plan script requests c)) (fired_word fired)
-  pub valid : (common : Bool) → ((v : ℕ) → v < plan_nodes plan → is_in (faulty_at script t) v ≡ false
+  pub valid : (common : Bool)
+      → ((v : ℕ) → v < plan_nodes plan → is_in (faulty_at script t) v ≡ false
       → requests_in requests v (t - 1) ≡ common) → fired ≡ common
 
 abbrev pub LinesFireTogether : Type 0
 LinesFireTogether = (plan : Plan) (script : Script) (requests : List Request)
     → AreFor plan requests → IsReadFor plan (fire_layer plan requests) script
-    → (t : ℕ) → begins_at plan script (slot_length (plan_faults plan)) t (fire_scene plan script requests t).states ≡ true
+    → (t : ℕ)
+    → begins_at plan script (slot_length (plan_faults plan)) t
+        (fire_scene plan script requests t).states ≡ true
     → LineFires plan script requests t
 
 -- ---- the log
@@ -70,8 +75,8 @@ pub record HasNewest (log : List Entry) (entry : Entry) : Type 0 where
   pub is : log ≡ entry ∷ older
 
 -- The line of a slot that begins in configuration t: its entry stands newest in the log of each
--- correct node, and the words are the entry's value. Where the owner that the line names is correct,
--- this is what the owner commands at the slot's output.
+-- correct node, and the words are the entry's value. Where the owner that the line names is
+-- correct, this is what the owner commands at the slot's output.
 pub record LinePuts (plan : Plan) (script : Script) (said : LogSaid) (t : ℕ) : Type 0 where
   pub entry : Entry
   pub slot : entry.slot ≡ output_at plan script said t
@@ -90,5 +95,7 @@ pub record LinePuts (plan : Plan) (script : Script) (said : LogSaid) (t : ℕ) :
 abbrev pub LinesPutOne : Type 0
 LinesPutOne = (plan : Plan) (script : Script) (said : LogSaid) → log.IsFor plan said
     → IsReadFor plan (log_layer plan said) script
-    → (t : ℕ) → begins_at plan script (entry_length (plan_faults plan)) t (log_scene plan script said t).states ≡ true
+    → (t : ℕ)
+    → begins_at plan script (entry_length (plan_faults plan)) t
+        (log_scene plan script said t).states ≡ true
     → LinePuts plan script said t

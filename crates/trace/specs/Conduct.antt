@@ -38,8 +38,8 @@ pub record Answered {T : Type 0} (result : Result T TraceError) (want : Want)
   pub still : now ≡ before
   pub answered : Answers result (trace_of want words input) old new
 
--- What a trace did that ended so, of which these words name the nodes: the bytes that its source has
--- left, the source's count of faults, and what its sink tells, each before and after.
+-- What a trace did that ended so, of which these words name the nodes: the bytes that its source
+-- has left, the source's count of faults, and what its sink tells, each before and after.
 abbrev pub Does : {T : Type 0} → Result T TraceError → Want → (words : List (List ℕ))
     → (left left' : Option (List ℕ)) (before now : ℕ) (old new : Told) → Type 0
 Does (Err error.ReadFault) want words left left' before now old new =
