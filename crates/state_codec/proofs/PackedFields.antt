@@ -1,7 +1,6 @@
--- Fields of a state whose bytes stand among others.
+-- Fields of a state whose bytes stand at the front of others.
 use Rattle.std.proofs.Common.{◌≡◌, ℕ, zero, suc, ◌+◌, ◌*◌, ◌<◌, ◌≤◌, Bool, true, false, cond, length, take, drop, get_or, List, [], ◌∷◌, ◌++◌, refl, sym, ap, ap₂, ◌∙◌, arith, ◌==◌, Option}
 use Rattle.std.specs.Prelude.{unwrap_or}
-use Rattle.std.proofs.Math.Seq.{drop-append-add}
 use Rattle.std.proofs.lemmas.Bool.{eq-eqb}
 use Rattle.std.proofs.lemmas.Grind.{flat_map-append}
 use Rattle.std.proofs.lemmas.List.{take-append-drop, length-take-le, length-drop, take-append-le, drop-append-le, take-take, get_or-take, drop-drop}
@@ -16,31 +15,19 @@ use Rattle.state_codec.specs.Reading.{below, full_register, register_from, regis
 use Rattle.state_codec.proofs.Whole.{rounded}
 use Rattle.state_codec.proofs.RegisterSteps.{registers_bits-cons, registers_bits_of_none, bits_more}
 
--- bits of some bytes among others
-bits_among : (xs : List ℕ) (s n from w : ℕ) → s + n ≤ length xs → from + w ≤ 8 * n
-    → take w (drop from (bits_of_bytes (take n (drop s xs))))
-    ≡ take w (drop (8 * s + from) (bits_of_bytes xs))
-bits_among xs s n from w within fits =
-    let rest : List ℕ = drop s xs in
-    let own : List Bool = bits_of_bytes (take n rest) in
-    let behind : List Bool = bits_of_bytes (drop n rest) in
-    let front : length (bits_of_bytes (take s xs)) ≡ 8 * s =
-    omega (arith, length-bits_of_bytes (take s xs), length-take-le s xs (omega arith)) in
-    let long : length own ≡ 8 * n = omega (
-      arith,
-      length-bits_of_bytes (take n rest),
-      length-take-le n rest (omega (arith, length-drop s xs)),
-    ) in
-    let two : bits_of_bytes xs ≡ bits_of_bytes (take s xs) ++ bits_of_bytes rest =
-    ap bits_of_bytes (sym (take-append-drop s xs)) ∙ flat_map-append (bits 8) (take s xs) rest in
-    let parts : bits_of_bytes rest ≡ own ++ behind =
-    ap bits_of_bytes (sym (take-append-drop n rest))
-    ∙ flat_map-append (bits 8) (take n rest) (drop n rest) in
-    let there : drop (8 * s + from) (bits_of_bytes xs) ≡ drop from own ++ behind =
-    ap (drop (8 * s + from)) two
-    ∙ (ap (λ j. drop (j + from) (bits_of_bytes (take s xs) ++ bits_of_bytes rest)) (sym front)
-    ∙ (drop-append-add (bits_of_bytes (take s xs)) (bits_of_bytes rest) from
-    ∙ (ap (drop from) parts ∙ drop-append-le from own behind (omega (arith, long))))) in
+-- bits of the front of bytes
+bits_among : (xs : List ℕ) (n from w : ℕ) → n ≤ length xs → from + w ≤ 8 * n
+    → take w (drop from (bits_of_bytes (take n xs))) ≡ take w (drop from (bits_of_bytes xs))
+bits_among xs n from w within fits =
+    let own : List Bool = bits_of_bytes (take n xs) in
+    let behind : List Bool = bits_of_bytes (drop n xs) in
+    let long : length own ≡ 8 * n =
+    omega (arith, length-bits_of_bytes (take n xs), length-take-le n xs within) in
+    let parts : bits_of_bytes xs ≡ own ++ behind =
+    ap bits_of_bytes (sym (take-append-drop n xs))
+    ∙ flat_map-append (bits 8) (take n xs) (drop n xs) in
+    let there : drop from (bits_of_bytes xs) ≡ drop from own ++ behind =
+    ap (drop from) parts ∙ drop-append-le from own behind (omega (arith, long)) in
     sym (ap (take w) there ∙ take-append-le w (drop from own) behind
     (omega (arith, length-drop from own, long)))
 
@@ -83,33 +70,30 @@ bits_through cs i lt =
     (get_or cs i 0) lt refl refl refl in
     omega (arith, more, sum_by-take-le register_bits cs (i + 1))
 
-module _ (fields : Fields) (bytes : List ℕ) (start : ℕ)
-    (within : start + bytes_in fields ≤ length bytes) where
+module _ (fields : Fields) (bytes : List ℕ) (within : bytes_in fields ≤ length bytes) where
   abbrev own : List ℕ
-  own = take (bytes_in fields) (drop start bytes)
+  own = take (bytes_in fields) bytes
 
   is_read : read fields own ≡ state_from fields (bits_of_bytes own)
   is_read =
       let long : length own ≡ bytes_in fields =
-      length-take-le (bytes_in fields) (drop start bytes)
-      (omega (arith, length-drop start bytes)) in
+      length-take-le (bytes_in fields) bytes within in
       ap (λ b. cond b (state_from fields (bits_of_bytes own)) (zero_state (length fields.moduli)))
       (eq-eqb _ _ long)
 
   pub number_among : (read fields own).x
       ≡ unwrap_or (below fields.base (number_of
-      (take (width fields.base) (drop (8 * start) (bits_of_bytes bytes))))) 0
+      (take (width fields.base) (bits_of_bytes bytes)))) 0
   number_among =
       ap (λ (s : State). s.x) is_read
       ∙ ap (λ bs. unwrap_or (below fields.base (number_of bs)) 0)
-      (bits_among bytes start (bytes_in fields) 0 (width fields.base) within
-      (omega (arith, rounded (bits_in fields)))
-      ∙ ap (λ k. take (width fields.base) (drop k (bits_of_bytes bytes))) (omega arith))
+      (bits_among bytes (bytes_in fields) 0 (width fields.base) within
+      (omega (arith, rounded (bits_in fields))))
 
   pub register_among : (i : ℕ) → i < length fields.moduli
       → register_at i (read fields own)
       ≡ register_from (get_or fields.moduli i 0)
-      (drop (8 * start + (width fields.base + registers_bits (take i fields.moduli)))
+      (drop (width fields.base + registers_bits (take i fields.moduli))
       (bits_of_bytes bytes))
   register_among i lt =
       let c : ℕ = get_or fields.moduli i 0 in
@@ -121,52 +105,52 @@ module _ (fields : Fields) (bytes : List ℕ) (start : ℕ)
       ap (register_at i) is_read
       ∙ (register_in fields.moduli i (drop (width fields.base) own_bits) lt
       ∙ register_by_front (c == 0) c (drop front (drop (width fields.base) own_bits))
-      (drop (8 * start + (width fields.base + front)) (bits_of_bytes bytes))
+      (drop (width fields.base + front) (bits_of_bytes bytes))
       (ap (take (register_bits c)) joined
-      ∙ bits_among bytes start (bytes_in fields) (width fields.base + front) (register_bits c)
+      ∙ bits_among bytes (bytes_in fields) (width fields.base + front) (register_bits c)
       within (omega (arith, bits_through fields.moduli i lt, rounded (bits_in fields)))))
 
   -- so it is what is read of its bits
   pub number_found : (base w n : ℕ) (found : Option ℕ) (x : ℕ) → base ≡ fields.base
-      → w ≡ width fields.base → n ≡ number_of (take w (drop (8 * start) (bits_of_bytes bytes)))
+      → w ≡ width fields.base → n ≡ number_of (take w (bits_of_bytes bytes))
       → found ≡ below base n
       → x ≡ unwrap_or found 0 → x ≡ (read fields own).x
   number_found base w n found x same_base same_width is_number is_found is =
       is ∙ (ap (λ a. unwrap_or a 0) (is_found
       ∙ ap₂ below same_base (is_number ∙ ap
-      (λ k. number_of (take k (drop (8 * start) (bits_of_bytes bytes)))) same_width))
+      (λ k. number_of (take k (bits_of_bytes bytes))) same_width))
       ∙ sym number_among)
 
   -- a register that is there is what is read of its bits
   pub register_found : (i : ℕ) → i < length fields.moduli → (c w front : ℕ) (r : Reg)
       → c ≡ get_or fields.moduli i 0 → (c == 0) ≡ false → w ≡ width fields.base
       → front ≡ registers_bits (take i fields.moduli)
-      → r ≡ full_register c (drop (8 * start + (w + front)) (bits_of_bytes bytes))
+      → r ≡ full_register c (drop (w + front) (bits_of_bytes bytes))
       → r ≡ register_at i (read fields own)
   register_found i lt c w front r same there same_width same_front is =
-      let at : 8 * start + (w + front) ≡ 8 * start + (width fields.base + registers_bits
-      (take i fields.moduli)) = omega (arith, same_width, same_front) in
+      let at : w + front ≡ width fields.base + registers_bits (take i fields.moduli) =
+      omega (arith, same_width, same_front) in
       is ∙ (ap (λ k. full_register c (drop k (bits_of_bytes bytes))) at
       ∙ (ap (λ b. cond b zero_register (full_register c
-      (drop (8 * start + (width fields.base + registers_bits (take i fields.moduli)))
+      (drop (width fields.base + registers_bits (take i fields.moduli))
       (bits_of_bytes bytes)))) (sym there)
       ∙ (ap (λ m. register_from m (drop
-      (8 * start + (width fields.base + registers_bits (take i fields.moduli)))
+      (width fields.base + registers_bits (take i fields.moduli))
       (bits_of_bytes bytes))) same ∙ sym (register_among i lt))))
 
   -- and one that is lacking is zero
   pub register_lacking : (i : ℕ) → i < length fields.moduli → get_or fields.moduli i 0 ≡ 0
       → zero_register ≡ register_at i (read fields own)
   register_lacking i lt none =
-      let bs : List Bool = drop (8 * start + (width fields.base + registers_bits
-      (take i fields.moduli))) (bits_of_bytes bytes) in
+      let bs : List Bool = drop (width fields.base + registers_bits
+      (take i fields.moduli)) (bits_of_bytes bytes) in
       ap (λ m. register_from m bs) (sym none) ∙ sym (register_among i lt)
 
   -- its bits stand within the state's
   pub register_fits : (i : ℕ) → i < length fields.moduli → (c w front : ℕ)
       → c ≡ get_or fields.moduli i 0 → (c == 0) ≡ false → w ≡ width fields.base
       → front ≡ registers_bits (take i fields.moduli)
-      → 8 * start + (w + front) + (width (c + 1) + 1) ≤ 8 * (start + bytes_in fields)
+      → w + front + (width (c + 1) + 1) ≤ 8 * bytes_in fields
   register_fits i lt c w front same there same_width same_front =
       let wide : register_bits (get_or fields.moduli i 0) ≡ width (c + 1) + 1 =
       ap register_bits (sym same) ∙ ap (λ b. cond b 0 (width (c + 1) + 1)) there in

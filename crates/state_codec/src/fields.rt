@@ -1,4 +1,4 @@
-ghost use Rattle.std.specs.Prelude.{◌≡◌, ◌<◌, ◌≤◌, ◌+◌, ◌*◌, ◌^◌, ℕ, length, take, drop};
+ghost use Rattle.std.specs.Prelude.{◌≡◌, ◌<◌, ◌≤◌, ◌+◌, ◌*◌, ◌^◌, ℕ, length, take};
 ghost use Rattle.std.specs.Prelude.{slice_index, slice_index_or, All};
 ghost use Rattle.std.specs.Int.{div_ceil};
 ghost use Rattle.sync_types.specs.States.{register_at};
@@ -8,9 +8,8 @@ ghost use Rattle.state_codec.specs.Ranges.{InRange};
 ghost use Rattle.state_codec.specs.Writing.{written};
 ghost use Rattle.state_codec.specs.Reading.{read};
 
-use crate::field_bits::front_at;
-use crate::reader::BitReader;
-use crate::registers::{ZERO, below, full_register_at, put_registers, set_zero, take_registers};
+use crate::field_bits::front_of;
+use crate::registers::{ZERO, below, full_register_at, put_registers, set_zero};
 use crate::widths::bit_length;
 use crate::writer::{Pending, put};
 use std::marker::Model;
@@ -18,6 +17,12 @@ use sync_types::{NodeState, Reg};
 
 /// A state has no more registers.
 const MOST_REGISTERS: usize = 16;
+
+/// No state has more bytes.
+pub const MOST_BYTES: usize = 128;
+
+/// Eight bytes more are read with a state.
+pub const ROOM: usize = MOST_BYTES + 8;
 
 /// The fields of a node's state, and so which bits it takes: the modulus of the number, and that of
 /// each register, the lowest first. A number that the node lacks has the modulus 1, and a register
@@ -182,66 +187,51 @@ impl Fields {
         ensures range { InRange self.now out.new }
     {
         self.tell();
-        self.read_bits(bytes, out);
+        if bytes.len() == self.bytes() {
+            let mut room = [0; ROOM];
+            room[..bytes.len()].copy_from_slice(bytes);
+            self.read_front(&room, out);
+        } else {
+            set_zero(out);
+        }
     }
 
-    /// The number of a state whose bytes begin at `start`; eight bytes more stand behind them.
-    pub fn number_at(&self, bytes: &[u8], start: usize) -> u64
-        requires small { start < 2 ^ 32 }
-        requires within { start + bytes_in self.now + 8 ≤ length bytes.now }
-        ensures { result ≡ (read self.now (take (bytes_in self.now) (drop start bytes.now))).x }
+    /// The number of the state at the front of bytes; eight bytes more stand behind it.
+    fn number_of(&self, bytes: &[u8]) -> u64
+        requires { bytes_in self.now + 8 ≤ length bytes.now }
+        ensures { result ≡ (read self.now (take (bytes_in self.now) bytes.now)).x }
     {
         if self.front == 0 {
             return 0;
         }
-        below(self.base, front_at(bytes, start, self.front)).unwrap_or(0)
+        below(self.base, front_of(bytes, self.front)).unwrap_or(0)
     }
 
-    /// Register `i` of a state whose bytes begin at `start`; eight bytes more stand behind them.
-    pub fn register_at(&self, bytes: &[u8], start: usize, i: usize) -> Reg
-        requires small { start < 2 ^ 32 }
-        requires within { start + bytes_in self.now + 8 ≤ length bytes.now }
+    /// Register `i` of the state at the front of bytes; eight bytes more stand behind it.
+    fn register_of(&self, bytes: &[u8], i: usize) -> Reg
+        requires within { bytes_in self.now + 8 ≤ length bytes.now }
         requires register { i < length self.now.moduli }
-        ensures { result
-            ≡ register_at i (read self.now (take (bytes_in self.now) (drop start bytes.now))) }
+        ensures { result ≡ register_at i (read self.now (take (bytes_in self.now) bytes.now)) }
     {
         let modulus = self.moduli[i];
         if modulus == 0 {
             return ZERO;
         }
-        let from = 8 * start + self.offsets[i] as usize;
-        full_register_at(bytes, from, modulus, self.sizes[i])
+        full_register_at(bytes, self.offsets[i] as usize, modulus, self.sizes[i])
     }
 
-    /// Reads a state whose bytes begin at `start` into `out`, which has the fields' depth; eight
-    /// bytes more stand behind them.
-    pub fn read_at(&self, bytes: &[u8], start: usize, out: &mut NodeState)
-        requires small { start < 2 ^ 32 }
-        requires within { start + bytes_in self.now + 8 ≤ length bytes.now }
+    /// Reads the state at the front of bytes into `out`, which has the fields' depth; eight bytes
+    /// more stand behind it.
+    pub fn read_front(&self, bytes: &[u8], out: &mut NodeState)
+        requires within { bytes_in self.now + 8 ≤ length bytes.now }
         requires depth { length out.old.registers ≡ length self.now.moduli }
-        ensures value { out.new
-            ≡ read self.now (take (bytes_in self.now) (drop start bytes.now)) }
+        ensures value { out.new ≡ read self.now (take (bytes_in self.now) bytes.now) }
         ensures range { InRange self.now out.new }
     {
         self.tell();
-        out.set_x(self.number_at(bytes, start));
+        out.set_x(self.number_of(bytes));
         for i in 0..self.moduli.len() {
-            out.set_reg(i, self.register_at(bytes, start, i));
-        }
-    }
-
-    /// Reads a state from any bytes.
-    fn read_bits(&self, bytes: &[u8], out: &mut NodeState)
-        requires { length out.old.registers ≡ length self.now.moduli }
-        ensures { out.new ≡ read self.now bytes.now }
-    {
-        if bytes.len() == self.bytes() {
-            let mut reader = BitReader::new(bytes);
-            let x = reader.take(self.front);
-            out.set_x(below(self.base, x).unwrap_or(0));
-            take_registers(&mut reader, &self.moduli, out);
-        } else {
-            set_zero(out);
+            out.set_reg(i, self.register_of(bytes, i));
         }
     }
 }

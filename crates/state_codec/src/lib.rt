@@ -12,7 +12,6 @@ mod fields;
 pub mod laws;
 mod making;
 mod packed;
-mod reader;
 mod registers;
 mod shapes;
 mod texts;

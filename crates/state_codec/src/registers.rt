@@ -6,12 +6,10 @@ ghost use Rattle.state_codec.specs.Bits.{bits, bits_of_bytes};
 ghost use Rattle.state_codec.specs.Shapes.{register_bits, registers_bits};
 ghost use Rattle.state_codec.specs.Ranges.{IsField, AreBelow};
 ghost use Rattle.state_codec.specs.Writing.{full_bits, bits_of_register, bits_of_registers};
-ghost use Rattle.state_codec.specs.Reading.{below, full_register, register_from, registers_from};
+ghost use Rattle.state_codec.specs.Reading.{below, full_register};
 ghost use Rattle.state_codec.specs.Cursors.{so_far};
 
 use crate::field_bits::field_at;
-use crate::reader::BitReader;
-use crate::widths::bit_length;
 use crate::writer::{Pending, put};
 use sync_types::{NodeState, Reg};
 
@@ -103,27 +101,11 @@ pub fn below(modulus: u64, n: u64) -> Option<u64>
     if n < modulus { Some(n) } else { None }
 }
 
-/// Takes a register that is there from the front.
-fn take_full(reader: &mut BitReader<'_>, modulus: u64) -> Reg
-    requires modulus { modulus ≤ 2 ^ 40 }
-    requires enough { width (modulus + 1) + 1 ≤ length reader.old }
-    ensures value { result ≡ full_register modulus reader.old }
-    ensures rest { reader.new ≡ drop (width (modulus + 1) + 1) reader.old }
-{
-    let value = reader.take(bit_length(modulus));
-    let mark = reader.take(1);
-    Reg {
-        a: below(modulus, value),
-        d: mark == 1,
-    }
-}
-
 /// A register that is there, whose `size` bits begin at bit `from`; eight bytes more stand behind
 /// them.
 pub fn full_register_at(bytes: &[u8], from: usize, modulus: u64, size: u32) -> Reg
     requires least { 1 ≤ modulus }
     requires most { modulus ≤ 2 ^ 40 }
-    requires small { from < 2 ^ 40 }
     requires size { size ≡ width (modulus + 1) + 1 }
     requires within { from + size + 64 ≤ 8 * length bytes.now }
     ensures { result ≡ full_register modulus (drop from (bits_of_bytes bytes.now)) }
@@ -132,33 +114,6 @@ pub fn full_register_at(bytes: &[u8], from: usize, modulus: u64, size: u32) -> R
     Reg {
         a: below(modulus, both / 2),
         d: both % 2 == 1,
-    }
-}
-
-/// Takes a register from the front; one that is lacking is zero.
-fn take_register(reader: &mut BitReader<'_>, modulus: u64) -> Reg
-    requires modulus { modulus ≤ 2 ^ 40 }
-    requires enough { register_bits modulus ≤ length reader.old }
-    ensures value { result ≡ register_from modulus reader.old }
-    ensures rest { reader.new ≡ drop (register_bits modulus) reader.old }
-{
-    if modulus == 0 {
-        ZERO
-    } else {
-        take_full(reader, modulus)
-    }
-}
-
-/// Takes all registers from the front.
-pub fn take_registers(reader: &mut BitReader<'_>, moduli: &[u64], state: &mut NodeState)
-    requires moduli { All (λ modulus. modulus ≤ 2 ^ 40) moduli.now }
-    requires depth { length state.old.registers ≡ length moduli.now }
-    requires enough { registers_bits moduli.now ≤ length reader.old }
-    ensures { state.new ≡ record state.old { registers = registers_from moduli.now reader.old } }
-{
-    for i in 0..moduli.len() {
-        let register = take_register(reader, moduli[i]);
-        state.set_reg(i, register);
     }
 }
 

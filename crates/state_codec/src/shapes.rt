@@ -248,7 +248,7 @@ impl StateShape {
             (take (bytes_in (fields_at self.now v)) bytes.now) }
         ensures range { InRange (fields_at self.now v) out.new }
     {
-        self.fields(v).read_at(bytes, 0, out);
+        self.fields(v).read_front(bytes, out);
     }
 
     /// Writes the bytes of a state of node `v` as digits of `0-9a-f` into `out`, which has just

@@ -5,7 +5,7 @@ ghost use Rattle.state_codec.specs.Ranges.{InRange};
 ghost use Rattle.state_codec.specs.Texts.{is_lower_digit, is_state_text, decoded, written_text};
 ghost use Rattle.state_codec.specs.Texts.{read_text};
 
-use crate::fields::Fields;
+use crate::fields::{Fields, MOST_BYTES, ROOM};
 use sync_types::NodeState;
 use thiserror::Error;
 
@@ -13,12 +13,6 @@ use thiserror::Error;
 #[derive(Clone, Copy, Debug, PartialEq, Eq, Error)]
 #[error("not the hex digits of a state")]
 pub struct NotState;
-
-/// No state has more bytes.
-const MOST_BYTES: usize = 128;
-
-/// Eight bytes more are read with a state.
-const ROOM: usize = MOST_BYTES + 8;
 
 /// Whether each is a digit of `0-9a-f`. The crate `hex` would take upper case too.
 fn all_lower(text: &[u8]) -> bool
@@ -68,7 +62,7 @@ impl Fields {
         }
         let mut buffer = [0; ROOM];
         decode_lower(text, &mut buffer[..size]);
-        self.read_at(&buffer, 0, out);
+        self.read_front(&buffer, out);
         Ok(())
     }
 }

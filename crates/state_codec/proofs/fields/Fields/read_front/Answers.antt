@@ -1,4 +1,4 @@
-use Rattle.std.proofs.Common.{arith, ℕ, ◌≡◌, ◌+◌, ◌<◌, inl, inr, ap, sym, subst, ◌∙◌, List, length, set, take, drop}
+use Rattle.std.proofs.Common.{arith, ℕ, ◌≡◌, ◌+◌, ◌<◌, inl, inr, ap, sym, subst, ◌∙◌, List, length, set, take}
 use Rattle.std.proofs.lemmas.Bool.{cases_lt}
 use Rattle.std.proofs.lemmas.List.{length-set, get_or-set_same, get_or-set_other, ext_get_or}
 use Rattle.sync_types.specs.declared.states.Reg.{Reg}
@@ -8,7 +8,7 @@ use Rattle.state_codec.specs.Ranges.{InRange}
 use Rattle.state_codec.specs.Reading.{read}
 use Rattle.state_codec.proofs.Ranged.{read_is_in_range}
 use Rattle.state_codec.proofs.RegisterSteps.{state_is}
-use Rattle.state_codec.proofs.fields.Fields.read_at.Goals as goal
+use Rattle.state_codec.proofs.fields.Fields.read_front.Goals as goal
 
 -- a register more is that of a state
 register_more : (rs after : List Reg) (state : State) (i : ℕ) (r : Reg) → i < length rs
@@ -34,26 +34,26 @@ loop-i-preserved c =
     let i = c.loop-i.invariant in
     let v : ℕ = c.loop-i.i in
     let fields : Fields = c.args.self.now in
-    let state : State = read fields (take (bytes_in fields) (drop c.args.start c.args.bytes.now)) in
+    let state : State = read fields (take (bytes_in fields) c.args.bytes.now) in
     let moduli = ap (λ (f : Fields). length f.moduli) c.self.view_is in
     let within : v < length c.loop-i.out.registers = omega (arith, moduli) in
     record {
       number = ap (λ (s : State). s.x) c.set_reg.ensures ∙ i.number;
       depth = ap (λ (s : State). length s.registers) c.set_reg.ensures
-          ∙ (length-set c.loop-i.out.registers v c.register_at.result ∙ i.depth);
+          ∙ (length-set c.loop-i.out.registers v c.register_of.result ∙ i.depth);
       registers = register_more c.loop-i.out.registers c.set_reg.new.self.registers state v
-          c.register_at.result within (ap (λ (s : State). s.registers) c.set_reg.ensures)
-          c.register_at.ensures i.registers;
+          c.register_of.result within (ap (λ (s : State). s.registers) c.set_reg.ensures)
+          c.register_of.ensures i.registers;
     }
 
 pub returns-clause-value : goal.returns-clause-value
 returns-clause-value c =
     let i = c.loop-i.invariant in
     let fields : Fields = c.args.self.now in
-    let state : State = read fields (take (bytes_in fields) (drop c.args.start c.args.bytes.now)) in
+    let state : State = read fields (take (bytes_in fields) c.args.bytes.now) in
     let moduli = ap (λ (f : Fields). length f.moduli) c.self.view_is in
     let range = read_is_in_range fields
-    (take (bytes_in fields) (drop c.args.start c.args.bytes.now)) c.tell.ensures in
+    (take (bytes_in fields) c.args.bytes.now) c.tell.ensures in
     state_is c.loop-i.out state.x state.registers i.number
     (ext_get_or zero_register c.loop-i.out.registers state.registers (i.depth ∙ sym range.depth)
     (λ j lt. i.registers j (omega (arith, moduli, lt, i.depth, c.loop-i-test.false))))
@@ -62,10 +62,10 @@ pub returns-clause-range : goal.returns-clause-range
 returns-clause-range c =
     let i = c.loop-i.invariant in
     let fields : Fields = c.args.self.now in
-    let state : State = read fields (take (bytes_in fields) (drop c.args.start c.args.bytes.now)) in
+    let state : State = read fields (take (bytes_in fields) c.args.bytes.now) in
     let moduli = ap (λ (f : Fields). length f.moduli) c.self.view_is in
     let range = read_is_in_range fields
-    (take (bytes_in fields) (drop c.args.start c.args.bytes.now)) c.tell.ensures in
+    (take (bytes_in fields) c.args.bytes.now) c.tell.ensures in
     subst (InRange fields) (sym (state_is c.loop-i.out state.x state.registers i.number
     (ext_get_or zero_register c.loop-i.out.registers state.registers (i.depth ∙ sym range.depth)
     (λ j lt. i.registers j (omega (arith, moduli, lt, i.depth, c.loop-i-test.false)))))) range

@@ -6,7 +6,7 @@ use Rattle.state_codec.specs.Shapes.{Fields, register_bits, registers_bits}
 use Rattle.state_codec.specs.Reading.{full_register}
 use Rattle.state_codec.proofs.Lows.{any_default}
 use Rattle.state_codec.proofs.PackedFields.{register_lacking, register_found, register_fits}
-use Rattle.state_codec.proofs.fields.Fields.register_at.Goals as goal
+use Rattle.state_codec.proofs.fields.Fields.register_of.Goals as goal
 
 pub returns-then-modulus-eq0 : goal.returns-then-modulus-eq0
 returns-then-modulus-eq0 c =
@@ -17,7 +17,7 @@ returns-then-modulus-eq0 c =
     let at : c.index-modulus.result.now ≡ get_or c.args.self.now.moduli c.args.i 0 =
     c.index-modulus.ensures ∙ (any_default c.self.inside.moduli.items c.args.i
     c.index-modulus.result.now 0 inside ∙ ap (λ (ms : List ℕ). get_or ms c.args.i 0) moduli) in
-    register_lacking c.args.self.now c.args.bytes.now c.args.start
+    register_lacking c.args.self.now c.args.bytes.now
     (omega (arith, c.requires.within)) c.args.i c.requires.register
     (omega (arith, at, c.if-modulus-eq0.true))
 
@@ -57,7 +57,7 @@ full_register_at-requires-clause-within c =
       c.requires.within,
       offset,
       full_register_at-requires-clause-size c,
-      register_fits c.args.self.now c.args.bytes.now c.args.start (omega (arith, c.requires.within))
+      register_fits c.args.self.now c.args.bytes.now (omega (arith, c.requires.within))
           c.args.i c.requires.register c.index-modulus.result.now (width c.args.self.now.base) front
           at (ne_eqb c.index-modulus.result.now 0 c.if-modulus-eq0.false) refl refl,
     )
@@ -79,9 +79,9 @@ returns c =
     ∙ (ap (λ b. width b + registers_bits (take c.args.i c.self.inside.moduli.items)) base
     ∙ ap (λ (ms : List ℕ). width c.args.self.now.base + registers_bits (take c.args.i ms))
     moduli) in
-    register_found c.args.self.now c.args.bytes.now c.args.start (omega (arith, c.requires.within))
+    register_found c.args.self.now c.args.bytes.now (omega (arith, c.requires.within))
     c.args.i c.requires.register c.index-modulus.result.now (width c.args.self.now.base) front
     c.full_register_at.result
     at (ne_eqb c.index-modulus.result.now 0 c.if-modulus-eq0.false) refl refl
     (c.full_register_at.ensures ∙ ap (λ k. full_register c.index-modulus.result.now
-    (drop (8 * c.args.start + k) (bits_of_bytes c.args.bytes.now))) offset)
+    (drop k (bits_of_bytes c.args.bytes.now))) offset)

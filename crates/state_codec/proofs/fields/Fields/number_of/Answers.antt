@@ -1,16 +1,16 @@
-use Rattle.std.proofs.Common.{arith, ℕ, ◌≡◌, ◌^◌, ap, subst, ◌∙◌, take, drop}
+use Rattle.std.proofs.Common.{arith, ℕ, ◌≡◌, ◌^◌, ap, subst, ◌∙◌, take}
 use Rattle.construction.specs.Widths.{width}
 use Rattle.state_codec.specs.Shapes.{Fields, IsFields, bytes_in}
 use Rattle.state_codec.proofs.PackedFields.{number_found}
 use Rattle.state_codec.proofs.Ranged.{read_is_in_range}
-use Rattle.state_codec.proofs.fields.Fields.number_at.Goals as goal
+use Rattle.state_codec.proofs.fields.Fields.number_of.Goals as goal
 
 -- a number of no bits is 0
 pub returns-then-self-eq0 : goal.returns-then-self-eq0
 returns-then-self-eq0 c =
     let fields : Fields = c.args.self.now in
     let range = read_is_in_range fields
-    (take (bytes_in fields) (drop c.args.start c.args.bytes.now))
+    (take (bytes_in fields) c.args.bytes.now)
     (subst IsFields c.self.view_is c.self.invariant.fields) in
     omega (
       arith,
@@ -20,14 +20,14 @@ returns-then-self-eq0 c =
       ap (λ (k : ℕ). 2 ^ k) c.if-self-eq0.true,
     )
 
-pub front_at-requires-clause-most : goal.front_at-requires-clause-most
-front_at-requires-clause-most c = omega (arith, c.self.invariant.short)
+pub front_of-requires-clause-most : goal.front_of-requires-clause-most
+front_of-requires-clause-most c = omega (arith, c.self.invariant.short)
 
 pub returns : goal.returns
 returns c =
     let base : c.self.inside.base ≡ c.args.self.now.base =
     ap (λ (f : Fields). f.base) c.self.view_is in
-    number_found c.args.self.now c.args.bytes.now c.args.start (omega (arith, c.requires.within))
-    c.self.inside.base c.self.inside.front c.front_at.result c.below.result c.unwrap_or.result
-    base (c.self.invariant.first ∙ ap width base) c.front_at.ensures c.below.ensures
+    number_found c.args.self.now c.args.bytes.now (omega (arith, c.requires))
+    c.self.inside.base c.self.inside.front c.front_of.result c.below.result c.unwrap_or.result
+    base (c.self.invariant.first ∙ ap width base) c.front_of.ensures c.below.ensures
     c.unwrap_or.ensures
