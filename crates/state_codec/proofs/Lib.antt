@@ -4,6 +4,7 @@ pub mod Fronts
 pub mod BitLengths
 pub mod Steps
 pub mod RegisterSteps
+pub mod FullNumbers
 pub mod Whole
 pub mod Back
 pub mod Ranged

@@ -74,6 +74,18 @@ fields_limited shape low sound =
       moduli = moduli_from_limited low shape.moduli sound.moduli;
     }
 
+-- so are those of the same moduli
+pub own_limited : (shape : Shape) (low own : ℕ) (ms : List ℕ) → IsShape shape
+    → own ≡ cond (low == 0) shape.base 1 → ms ≡ moduli_from low shape.moduli
+    → IsFields (record { base = own; moduli = ms })
+own_limited shape low own ms sound is same =
+    let limits = fields_limited shape low sound in
+    record {
+      least = subst (λ b. 1 ≤ b) (sym is) limits.least;
+      most = subst (λ b. b ≤ 2 ^ 40) (sym is) limits.most;
+      moduli = subst (λ xs. All (λ c. c ≤ 2 ^ 40) xs) (sym same) limits.moduli;
+    }
+
 -- ---- what a shape keeps
 
 -- no node takes part from above the top on
@@ -94,11 +106,12 @@ kind_at shape kinds v low found kept lt same is =
     ∙ ap (fields_from shape) same)
 
 -- a plan's shape is kept
-pub plan_kept : (plan : Plan) (shape : Shape) (depth : ℕ) (kinds : List Fields) → IsShape shape
+pub plan_kept : (plan : Plan) (shape : Shape) (kinds : List Fields) → IsShape shape
     → length shape.moduli ≤ 16 → shape.lows ≡ lows_of plan → plan_nodes plan ≤ 256
-    → depth ≡ plan_depth plan → kinds ≡ map (fields_from shape) (range_with_len 0 (depth + 1))
+    → kinds ≡ map (fields_from shape) (range_with_len 0 (plan_depth plan + 1))
     → IsKept shape kinds
-plan_kept plan shape depth kinds sound few same_lows nodes deep is =
+plan_kept plan shape kinds sound few same_lows nodes is =
+    let depth : ℕ = plan_depth plan in
     let long : length kinds ≡ depth + 1 = ap length is
     ∙ length-map-range_with_len (fields_from shape) 0 (depth + 1) in
     record {
@@ -113,5 +126,5 @@ plan_kept plan shape depth kinds sound few same_lows nodes deep is =
       each = is ∙ ap (λ n. map (fields_from shape) (range_with_len 0 n)) (sym long);
       lows = subst (λ n. All (λ low. low < n) shape.lows) (sym long)
           (subst (λ ls. All (λ low. low < depth + 1) ls) (sym same_lows)
-          (lows_below plan depth deep));
+          (lows_below plan depth refl));
     }

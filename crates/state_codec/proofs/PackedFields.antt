@@ -9,7 +9,6 @@ use Rattle.state_codec.specs.Bits.{bits, number_of, bits_of_bytes}
 use Rattle.state_codec.proofs.Bytes.{length-bits_of_bytes}
 use Rattle.construction.specs.Widths.{width}
 use Rattle.sync_types.specs.States.{State, zero_state, zero_register, register_at}
-use Rattle.sync_types.specs.declared.states.Reg.{Reg}
 use Rattle.state_codec.specs.Shapes.{Fields, register_bits, registers_bits, bits_in, bytes_in}
 use Rattle.state_codec.specs.Reading.{below, full_register, register_from, registers_from, state_from, read}
 use Rattle.state_codec.proofs.Whole.{rounded}
@@ -121,44 +120,8 @@ module _ (fields : Fields) (bytes : List ℕ) (within : bytes_in fields ≤ leng
       (λ k. number_of (take k (bits_of_bytes bytes))) same_width))
       ∙ sym number_among)
 
-  -- a register that is there is what is read of its bits
-  pub register_found : (i : ℕ) → i < length fields.moduli → (c w front : ℕ) (r : Reg)
-      → c ≡ get_or fields.moduli i 0 → (c == 0) ≡ false → w ≡ width fields.base
-      → front ≡ registers_bits (take i fields.moduli)
-      → r ≡ full_register c (drop (w + front) (bits_of_bytes bytes))
-      → r ≡ register_at i (read fields own)
-  register_found i lt c w front r same there same_width same_front is =
-      let at : w + front ≡ width fields.base + registers_bits (take i fields.moduli) =
-      omega (arith, same_width, same_front) in
-      is ∙ (ap (λ k. full_register c (drop k (bits_of_bytes bytes))) at
-      ∙ (ap (λ b. cond b zero_register (full_register c
-      (drop (width fields.base + registers_bits (take i fields.moduli))
-      (bits_of_bytes bytes)))) (sym there)
-      ∙ (ap (λ m. register_from m (drop
-      (width fields.base + registers_bits (take i fields.moduli))
-      (bits_of_bytes bytes))) same ∙ sym (register_among i lt))))
-
-  -- and one that is lacking is zero
-  pub register_lacking : (i : ℕ) → i < length fields.moduli → get_or fields.moduli i 0 ≡ 0
-      → zero_register ≡ register_at i (read fields own)
-  register_lacking i lt none =
-      let bs : List Bool = drop (width fields.base + registers_bits
-      (take i fields.moduli)) (bits_of_bytes bytes) in
-      ap (λ m. register_from m bs) (sym none) ∙ sym (register_among i lt)
-
   -- its bits stand within the state's
-  pub register_fits : (i : ℕ) → i < length fields.moduli → (c w front : ℕ)
-      → c ≡ get_or fields.moduli i 0 → (c == 0) ≡ false → w ≡ width fields.base
-      → front ≡ registers_bits (take i fields.moduli)
-      → w + front + (width (c + 1) + 1) ≤ 8 * bytes_in fields
-  register_fits i lt c w front same there same_width same_front =
-      let wide : register_bits (get_or fields.moduli i 0) ≡ width (c + 1) + 1 =
-      ap register_bits (sym same) ∙ ap (λ b. cond b 0 (width (c + 1) + 1)) there in
-      omega (
-        arith,
-        bits_through fields.moduli i lt,
-        rounded (bits_in fields),
-        wide,
-        same_width,
-        same_front,
-      )
+  pub register_fits : (i : ℕ) → i < length fields.moduli
+      → width fields.base + registers_bits (take i fields.moduli)
+      + register_bits (get_or fields.moduli i 0) ≤ 8 * bytes_in fields
+  register_fits i lt = omega (arith, bits_through fields.moduli i lt, rounded (bits_in fields))

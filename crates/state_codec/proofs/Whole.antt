@@ -8,7 +8,7 @@ use Rattle.state_codec.proofs.Bytes.{bytes_of_bits-bits_of_bytes}
 use Rattle.construction.specs.Widths.{width}
 use Rattle.sync_types.specs.States.{State}
 use Rattle.sync_types.specs.declared.states.Reg.{Reg}
-use Rattle.state_codec.specs.Shapes.{Fields, registers_bits}
+use Rattle.state_codec.specs.Shapes.{registers_bits}
 use Rattle.state_codec.specs.Writing.{bits_of_registers, written}
 use Rattle.state_codec.specs.Cursors.{so_far}
 
@@ -68,10 +68,6 @@ all_written base x moduli registers start out at count held size pad w bytes sum
     ∙ ap (λ (y : ℕ). bytes_of_bits (div_ceil y 8)
     ((bits (width base) x ++ bits_of_registers moduli registers) ++ replicate (8 * div_ceil y 8 - y)
     false)) sum
-
--- fields by their parts
-abbrev pub fields_with : ℕ → List ℕ → Fields
-fields_with base moduli = record { base = base; moduli = moduli }
 
 -- a state by its parts
 abbrev pub state_with : ℕ → List Reg → State

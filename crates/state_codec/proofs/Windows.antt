@@ -3,8 +3,8 @@ use Rattle.std.proofs.Common.{◌≡◌, ℕ, zero, suc, ◌+◌, ◌-◌, ◌*�
 use Rattle.std.proofs.Math.Seq.{drop-cons, drop-append-add}
 use Rattle.std.proofs.lemmas.Grind.{flat_map-append}
 use Rattle.std.proofs.lemmas.List.{get_or-take, get_or-drop, take-append-drop, take_all, length-take, length-drop}
-use Rattle.std.proofs.lemmas.Nat.{pow-add}
-use Rattle.std.proofs.Math.Nat.{mod-lt, mul-le-mul_right}
+use Rattle.std.proofs.lemmas.Nat.{pow-add, div_below, pow_pos}
+use Rattle.std.proofs.Math.Nat.{mod-lt, mod-eq_of_lt, mul-le-mul_right}
 use Rattle.byteorder.specs.Endian.{big_from}
 use Rattle.state_codec.specs.Bits.{bits, number_of, bits_of_bytes}
 use Rattle.state_codec.proofs.Numbers.{bits_push, number_of-bits}
@@ -86,3 +86,15 @@ field bytes from width small most within =
     ∙ drop_front k (width + r) n behind in
     ap (λ ys. number_of (take width ys)) (there ∙ cut)
     ∙ (ap number_of (take_front width r n behind) ∙ number_of-bits width (n / 2 ^ r))
+
+-- a field at the front of bytes
+pub front : (bytes : List ℕ) (width n : ℕ) → ((j : ℕ) → get_or bytes j 0 < 256) → width ≤ 56
+    → 8 ≤ length bytes → n < 2 ^ 64 → n ≡ big_from 0 8 (take 8 bytes)
+    → n / 2 ^ (64 - width) ≡ number_of (take width (bits_of_bytes bytes))
+front bytes width n small most within fits is =
+    let r : ℕ = 64 - width in
+    let all : width + r ≡ 64 = omega (arith, most) in
+    let below : n < 2 ^ width * 2 ^ r =
+    omega (arith, fits, pow-add 2 width r, ap (λ k. 2 ^ k) all) in
+    sym (mod-eq_of_lt (div_below n (2 ^ r) (2 ^ width) (pow_pos r) below))
+    ∙ (ap (λ k. k / 2 ^ r % 2 ^ width) is ∙ sym (field bytes 0 width small most within))

@@ -1,19 +1,19 @@
-ghost use Rattle.std.specs.Prelude.{◌≡◌, ◌<◌, ◌≤◌, ◌+◌, ◌*◌, ◌^◌, ℕ, length, take};
-ghost use Rattle.std.specs.Prelude.{slice_index, slice_index_or, All};
+ghost use Rattle.std.specs.Prelude.{◌≡◌, ◌<◌, ◌≤◌, ◌+◌, ◌*◌, ◌^◌, ◌++◌, ℕ, length, take};
+ghost use Rattle.std.specs.Prelude.{slice_index_or};
 ghost use Rattle.std.specs.Int.{div_ceil};
-ghost use Rattle.sync_types.specs.States.{register_at};
 ghost use Rattle.state_codec.specs.Shapes.{Fields, register_bits, registers_bits, bits_in};
 ghost use Rattle.state_codec.specs.Shapes.{bytes_in, IsFields};
 ghost use Rattle.state_codec.specs.Ranges.{InRange};
-ghost use Rattle.state_codec.specs.Writing.{written};
+ghost use Rattle.state_codec.specs.Writing.{written, bits_of_registers};
+ghost use Rattle.state_codec.specs.Cursors.{so_far};
 ghost use Rattle.state_codec.specs.Reading.{read};
 
-use crate::field_bits::front_of;
-use crate::registers::{ZERO, below, full_register_at, put_registers, set_zero};
+use crate::registers::{RegisterField, below, set_zero};
 use crate::widths::bit_length;
-use crate::writer::{Pending, put};
+use crate::writer::{Pending, SizedNumber, put};
+use byteorder::{BigEndian, ByteOrder};
 use std::marker::Model;
-use sync_types::{NodeState, Reg};
+use sync_types::NodeState;
 
 /// A state has no more registers.
 const MOST_REGISTERS: usize = 16;
@@ -63,54 +63,23 @@ fn size_of_register(modulus: u64) -> u32
     }
 }
 
-/// Puts how many bits stand before each register into its place, where so many stand before the
-/// first one. The answer is how many stand behind the last one.
-fn set_offsets(front: u32, moduli: &[u64], offsets: &mut [u32]) -> u32
-    requires front { front ≤ 41 }
-    requires moduli { All (λ modulus. modulus ≤ 2 ^ 40) moduli.now }
-    requires few { length moduli.now ≤ 16 }
-    requires room { length moduli.now ≤ length offsets.old }
-    ensures offsets { (i : ℕ) → i < length moduli.now
-        → slice_index_or offsets.new i 0 ≡ front + registers_bits (take i moduli.now) }
-    ensures length { length offsets.new ≡ length offsets.old }
-    ensures value { result ≡ front + registers_bits moduli.now }
-    ensures most { result ≤ 41 + 16 * 42 }
-{
-    let mut at = front;
-    for i in 0..moduli.len() {
-        offsets[i] = at;
-        at += size_of_register(moduli[i]);
-    }
-    at
-}
-
-/// Puts how many bits each register has into its place.
-fn set_sizes(moduli: &[u64], sizes: &mut [u32])
-    requires moduli { All (λ modulus. modulus ≤ 2 ^ 40) moduli.now }
-    requires room { length moduli.now ≤ length sizes.old }
-    ensures sizes { (i : ℕ) → i < length moduli.now
-        → slice_index_or sizes.new i 0 ≡ register_bits (slice_index_or moduli.now i 0) }
-    ensures length { length sizes.new ≡ length sizes.old }
-{
-    for i in 0..moduli.len() {
-        sizes[i] = size_of_register(moduli[i]);
-    }
-}
-
 impl Fields {
     /// Fields of these moduli.
     pub fn new(base: u64, moduli: Vec<u64>) -> Fields
-        requires least { 1 ≤ base }
-        requires most { base ≤ 2 ^ 40 }
-        requires moduli { All (λ modulus. modulus ≤ 2 ^ 40) moduli.items }
+        requires limits { IsFields (record { base = base; moduli = moduli.items }) }
         requires few { length moduli.items ≤ 16 }
         ensures { result ≡ record { base = base; moduli = moduli.items } }
     {
         let front = bit_length(base - 1);
         let mut offsets = [0; MOST_REGISTERS];
-        let size = set_offsets(front, &moduli, &mut offsets);
         let mut sizes = [0; MOST_REGISTERS];
-        set_sizes(&moduli, &mut sizes);
+        let mut size = front;
+        for i in 0..moduli.len() {
+            let own = size_of_register(moduli[i]);
+            offsets[i] = size;
+            sizes[i] = own;
+            size += own;
+        }
         Fields {
             base,
             moduli,
@@ -145,20 +114,42 @@ impl Fields {
         self.base
     }
 
-    /// The modulus of register `i`, the lowest being 0.
-    pub fn modulus(&self, i: usize) -> u64
-        requires { i < length self.now.moduli }
-        ensures value { result ≡ slice_index self.now.moduli i }
-        ensures most { result ≤ 2 ^ 40 }
-    {
-        self.moduli[i]
-    }
-
     /// Tells a caller's proof that the moduli are within the limits. It does nothing when it runs.
     pub fn tell(&self)
         ensures { IsFields self.now }
     {
         let _size = self.size;
+    }
+
+    /// The bits of register `i`, the lowest being 0.
+    pub fn register(&self, i: usize) -> RegisterField
+        requires { i < length self.now.moduli }
+        ensures { result.modulus ≡ slice_index_or self.now.moduli i 0 }
+    {
+        RegisterField {
+            modulus: self.moduli[i],
+            size: self.sizes[i],
+        }
+    }
+
+    /// Writes the registers of a state behind what was written.
+    fn put_registers(&self, out: &mut [u8], start: Pending, state: &NodeState) -> Pending
+        requires range { InRange self.now state.now }
+        requires space { 8 * start.at + start.count + registers_bits self.now.moduli
+            ≤ 8 * length out.old }
+        ensures length { length out.new ≡ length out.old }
+        ensures text { so_far out.new result.at result.count result.held
+            ≡ so_far out.old start.at start.count start.held
+            ++ bits_of_registers self.now.moduli state.now.registers }
+        ensures place { 8 * result.at + result.count
+            ≡ 8 * start.at + start.count + registers_bits self.now.moduli }
+    {
+        let mut pending = start;
+        for i in 0..self.moduli.len() {
+            let number = self.register(i).bits(state.reg(i));
+            pending = put(out, pending, number);
+        }
+        pending
     }
 
     /// Writes the bytes of a state into `out`, which has just their length.
@@ -172,10 +163,18 @@ impl Fields {
             held: 0,
             count: 0,
         };
-        let front = put(out, start, self.front, state.x());
-        let end = put_registers(out, front, &self.moduli, &self.sizes, state);
+        let number = SizedNumber {
+            size: self.front,
+            value: state.x(),
+        };
+        let front = put(out, start, number);
+        let end = self.put_registers(out, front, state);
         let padding = self.size.div_ceil(8) * 8 - self.size;
-        let _whole = put(out, end, padding, 0);
+        let zeros = SizedNumber {
+            size: padding,
+            value: 0,
+        };
+        let _whole = put(out, end, zeros);
     }
 
     /// Reads a state from any bytes into `out`, which has the fields' depth. Bytes that are not
@@ -196,7 +195,8 @@ impl Fields {
         }
     }
 
-    /// The number of the state at the front of bytes; eight bytes more stand behind it.
+    /// The number of the state at the front of bytes, by one load of eight bytes; so many more
+    /// stand behind it.
     fn number_of(&self, bytes: &[u8]) -> u64
         requires { bytes_in self.now + 8 ≤ length bytes.now }
         ensures { result ≡ (read self.now (take (bytes_in self.now) bytes.now)).x }
@@ -204,20 +204,8 @@ impl Fields {
         if self.front == 0 {
             return 0;
         }
-        below(self.base, front_of(bytes, self.front)).unwrap_or(0)
-    }
-
-    /// Register `i` of the state at the front of bytes; eight bytes more stand behind it.
-    fn register_of(&self, bytes: &[u8], i: usize) -> Reg
-        requires within { bytes_in self.now + 8 ≤ length bytes.now }
-        requires register { i < length self.now.moduli }
-        ensures { result ≡ register_at i (read self.now (take (bytes_in self.now) bytes.now)) }
-    {
-        let modulus = self.moduli[i];
-        if modulus == 0 {
-            return ZERO;
-        }
-        full_register_at(bytes, self.offsets[i] as usize, modulus, self.sizes[i])
+        let number = BigEndian::read_u64(&bytes[..8]) >> (64 - self.front);
+        below(self.base, number).unwrap_or(0)
     }
 
     /// Reads the state at the front of bytes into `out`, which has the fields' depth; eight bytes
@@ -231,7 +219,8 @@ impl Fields {
         self.tell();
         out.set_x(self.number_of(bytes));
         for i in 0..self.moduli.len() {
-            out.set_reg(i, self.register_of(bytes, i));
+            let register = self.register(i).read(bytes, self.offsets[i] as usize);
+            out.set_reg(i, register);
         }
     }
 }

@@ -7,7 +7,6 @@
 //! and bytes.
 #![tactic(auto)]
 
-mod field_bits;
 mod fields;
 pub mod laws;
 mod making;

@@ -1,7 +1,9 @@
-ghost use Rattle.std.specs.Prelude.{◌≡◌, ◌<◌, ◌≤◌, ◌+◌, ◌^◌, nat_lt, if◌then◌else◌, length, map};
-ghost use Rattle.std.specs.Prelude.{All, [], IfOk};
+ghost use Rattle.std.specs.Prelude.{◌≡◌, ◌<◌, ◌≤◌, ◌+◌, ◌^◌, nat_lt, ◌==◌, if◌then◌else◌, length, map};
+ghost use Rattle.std.specs.Prelude.{All, IfOk};
 ghost use Rattle.std.specs.List.{range_with_len};
+ghost use Rattle.construction.specs.Plans.{plan_depth};
 ghost use Rattle.state_codec.specs.Shapes.{moduli_of, lows_of, moduli_from, fields_from};
+ghost use Rattle.state_codec.specs.Shapes.{shape_over};
 
 use crate::fields::Fields;
 use plan_numbers::Plan;
@@ -36,44 +38,49 @@ pub fn node_lows(alloc: Global, plan: &Plan) -> Result<Vec<usize>, NoMemory>
     Ok(lows)
 }
 
-/// The modulus of register `i` at a node of that low: 0 where the node lacks it.
-fn modulus_from(low: usize, i: usize, modulus: u64) -> u64
-    requires { i < 2 ^ 32 }
-    ensures { result ≡ if nat_lt (i + 1) low then 0 else modulus }
+/// The modulus of the register of a level at a node of that low: 0 where the node lacks it.
+fn modulus_from(low: usize, level: usize, modulus: u64) -> u64
+    ensures { result ≡ if nat_lt level low then 0 else modulus }
 {
-    if i + 1 < low { 0 } else { modulus }
+    if level < low { 0 } else { modulus }
+}
+
+/// The modulus of the number at a node of that low: 1 where the node lacks it.
+fn base_from(low: usize, base: u64) -> u64
+    ensures { result ≡ if low == 0 then base else 1 }
+{
+    if low == 0 { base } else { 1 }
 }
 
 /// The moduli of the registers that a node of that low has.
 #[tactic(auto, using(crate::proofs::Lows::made_more))]
 fn moduli_from(alloc: Global, low: usize, moduli: &[u64]) -> Result<Vec<u64>, NoMemory>
-    requires { length moduli.now ≤ 16 }
     ensures { IfOk result (λ found. found.items ≡ moduli_from low moduli.now) }
 {
     let mut found = Vec::with_capacity(alloc, moduli.len())?;
     for i in 0..moduli.len() {
         found
-            .push(modulus_from(low, i, moduli[i]))
+            .push(modulus_from(low, i + 1, moduli[i]))
             .map_err(|_| NoMemory)?;
     }
     Ok(found)
 }
 
-/// The fields for each low below `lows`.
+/// The fields for each low up to a plan's depth.
 #[tactic(auto, using(crate::proofs::Lows::made_more))]
-pub fn kinds(alloc: Global, base: u64, moduli: &[u64], lows: usize) -> Result<Vec<Fields>, NoMemory>
-    requires least { 2 ≤ base }
-    requires most { base ≤ 2 ^ 40 }
+pub fn kinds(alloc: Global, plan: &Plan, moduli: &[u64]) -> Result<Vec<Fields>, NoMemory>
     requires moduli { All (λ modulus. (2 ≤ modulus) × (modulus ≤ 2 ^ 40)) moduli.now }
     requires few { length moduli.now ≤ 16 }
-    requires lows { lows ≤ 17 }
     ensures { IfOk result (λ kinds. kinds.items
-        ≡ map (fields_from (record { base = base; moduli = moduli.now; lows = [] }))
-        (range_with_len 0 lows)) }
+        ≡ map (fields_from (shape_over plan.now moduli.now))
+        (range_with_len 0 (plan_depth plan.now + 1))) }
 {
+    plan.tell();
+    let base = plan.base_modulus();
+    let lows = plan.depth() + 1;
     let mut kinds = Vec::with_capacity(alloc, lows)?;
     for low in 0..lows {
-        let own = if low == 0 { base } else { 1 };
+        let own = base_from(low, base);
         let fields = Fields::new(own, moduli_from(alloc, low, moduli)?);
         kinds.push(fields).map_err(|_| NoMemory)?;
     }

@@ -1,16 +1,14 @@
 ghost use Rattle.std.specs.Prelude.{◌≡◌, ◌<◌, ◌≤◌, ◌+◌, ◌*◌, ◌^◌, length, take, slice_index, All};
-ghost use Rattle.std.specs.Prelude.{true, false, IfOk, OnOk, OnErr};
+ghost use Rattle.std.specs.Prelude.{IfOk};
 ghost use Rattle.construction.specs.Plans.{plan_bits, plan_depth, plan_nodes};
 ghost use Rattle.state_codec.specs.Shapes.{shape_over, shape_of, shape_with, fields_from};
 ghost use Rattle.state_codec.specs.Shapes.{fields_at, bits_in, bytes_in, IsShape};
 ghost use Rattle.state_codec.specs.Ranges.{InRange};
 ghost use Rattle.state_codec.specs.Writing.{written};
 ghost use Rattle.state_codec.specs.Reading.{read};
-ghost use Rattle.state_codec.specs.Texts.{is_state_text, written_text, read_text};
 
 use crate::fields::Fields;
 use crate::making::{kinds, level_moduli, node_lows};
-use crate::texts::NotState;
 use plan_numbers::Plan;
 use std::alloc::Global;
 use std::marker::Model;
@@ -111,7 +109,7 @@ impl StateShape {
         plan.tell();
         let base = plan.base_modulus();
         let lows = node_lows(alloc, plan)?;
-        let kinds = kinds(alloc, base, &moduli, plan.depth() + 1)?;
+        let kinds = kinds(alloc, plan, &moduli)?;
         Ok(StateShape {
             base,
             moduli,
@@ -193,7 +191,7 @@ impl StateShape {
         ensures value { result ≡ slice_index (fields_at self.now v).moduli i }
         ensures most { result ≤ 2 ^ 40 }
     {
-        self.fields(v).modulus(i)
+        self.fields(v).register(i).modulus
     }
 
     /// How many bits a state of node `v` has, without padding.
@@ -249,31 +247,5 @@ impl StateShape {
         ensures range { InRange (fields_at self.now v) out.new }
     {
         self.fields(v).read_front(bytes, out);
-    }
-
-    /// Writes the bytes of a state of node `v` as digits of `0-9a-f` into `out`, which has just
-    /// their length, `2 * bytes_of(v)`.
-    pub fn write_hex(&self, v: u32, state: &NodeState, out: &mut [u8])
-        requires node { v < length self.now.lows }
-        requires range { InRange (fields_at self.now v) state.now }
-        requires length { length out.old ≡ 2 * bytes_in (fields_at self.now v) }
-        ensures { out.new ≡ written_text (fields_at self.now v) state.now }
-    {
-        self.fields(v).write_hex(state, out);
-    }
-
-    /// Reads a state of node `v` from hex digits into `out`, which has the depth of the shape. The
-    /// error comes where the text is not `2 * bytes_of(v)` digits of `0-9a-f`, and leaves the state
-    /// as it was.
-    pub fn read_hex(&self, v: u32, text: &[u8], out: &mut NodeState) -> Result<(), NotState>
-        requires node { v < length self.now.lows }
-        requires depth { length out.old.registers ≡ length self.now.moduli }
-        ensures accepted { OnOk result (is_state_text (fields_at self.now v) text.now ≡ true) }
-        ensures value { OnOk result (out.new ≡ read_text (fields_at self.now v) text.now) }
-        ensures range { OnOk result (InRange (fields_at self.now v) out.new) }
-        ensures refused { OnErr result (is_state_text (fields_at self.now v) text.now ≡ false) }
-        ensures unchanged { OnErr result (out.new ≡ out.old) }
-    {
-        self.fields(v).read_hex(text, out)
     }
 }

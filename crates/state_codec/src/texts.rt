@@ -1,11 +1,12 @@
-ghost use Rattle.std.specs.Prelude.{◌≡◌, ◌*◌, length, true, false, OnOk, OnErr};
+ghost use Rattle.std.specs.Prelude.{◌≡◌, ◌<◌, ◌*◌, length, true, false, OnOk, OnErr};
 ghost use Rattle.std.specs.List.{list_all};
-ghost use Rattle.state_codec.specs.Shapes.{bytes_in};
+ghost use Rattle.state_codec.specs.Shapes.{bytes_in, fields_at};
 ghost use Rattle.state_codec.specs.Ranges.{InRange};
 ghost use Rattle.state_codec.specs.Texts.{is_lower_digit, is_state_text, decoded, written_text};
 ghost use Rattle.state_codec.specs.Texts.{read_text};
 
-use crate::fields::{Fields, MOST_BYTES, ROOM};
+use crate::fields::{MOST_BYTES, ROOM};
+use crate::shapes::StateShape;
 use sync_types::NodeState;
 use thiserror::Error;
 
@@ -32,37 +33,42 @@ fn decode_lower(text: &[u8], bytes: &mut [u8])
     let _fits = hex::decode_to_slice(text, bytes);
 }
 
-impl Fields {
-    /// Writes the bytes of a state as digits of `0-9a-f` into `out`, which has just their length,
-    /// `2 * bytes()`.
-    pub fn write_hex(&self, state: &NodeState, out: &mut [u8])
-        requires range { InRange self.now state.now }
-        requires length { length out.old ≡ 2 * bytes_in self.now }
-        ensures { out.new ≡ written_text self.now state.now }
+impl StateShape {
+    /// Writes the bytes of a state of node `v` as digits of `0-9a-f` into `out`, which has just
+    /// their length, `2 * bytes_of(v)`.
+    pub fn write_hex(&self, v: u32, state: &NodeState, out: &mut [u8])
+        requires node { v < length self.now.lows }
+        requires range { InRange (fields_at self.now v) state.now }
+        requires length { length out.old ≡ 2 * bytes_in (fields_at self.now v) }
+        ensures { out.new ≡ written_text (fields_at self.now v) state.now }
     {
+        let fields = self.fields(v);
         let mut buffer = [0; MOST_BYTES];
-        let bytes = &mut buffer[..self.bytes()];
-        self.write_state(state, bytes);
+        let bytes = &mut buffer[..fields.bytes()];
+        fields.write_state(state, bytes);
         let _fits = hex::encode_to_slice(&*bytes, out);
     }
 
-    /// Reads a state from hex digits into `out`, which has the fields' depth. The error comes where
-    /// the text is not `2 * bytes()` digits of `0-9a-f`, and leaves the state as it was.
-    pub fn read_hex(&self, text: &[u8], out: &mut NodeState) -> Result<(), NotState>
-        requires { length out.old.registers ≡ length self.now.moduli }
-        ensures accepted { OnOk result (is_state_text self.now text.now ≡ true) }
-        ensures value { OnOk result (out.new ≡ read_text self.now text.now) }
-        ensures range { OnOk result (InRange self.now out.new) }
-        ensures refused { OnErr result (is_state_text self.now text.now ≡ false) }
+    /// Reads a state of node `v` from hex digits into `out`, which has the depth of the shape. The
+    /// error comes where the text is not `2 * bytes_of(v)` digits of `0-9a-f`, and leaves the state
+    /// as it was.
+    pub fn read_hex(&self, v: u32, text: &[u8], out: &mut NodeState) -> Result<(), NotState>
+        requires node { v < length self.now.lows }
+        requires depth { length out.old.registers ≡ length self.now.moduli }
+        ensures accepted { OnOk result (is_state_text (fields_at self.now v) text.now ≡ true) }
+        ensures value { OnOk result (out.new ≡ read_text (fields_at self.now v) text.now) }
+        ensures range { OnOk result (InRange (fields_at self.now v) out.new) }
+        ensures refused { OnErr result (is_state_text (fields_at self.now v) text.now ≡ false) }
         ensures unchanged { OnErr result (out.new ≡ out.old) }
     {
-        let size = self.bytes();
+        let fields = self.fields(v);
+        let size = fields.bytes();
         if text.len() != 2 * size || !all_lower(text) {
             return Err(NotState);
         }
         let mut buffer = [0; ROOM];
         decode_lower(text, &mut buffer[..size]);
-        self.read_front(&buffer, out);
+        fields.read_front(&buffer, out);
         Ok(())
     }
 }

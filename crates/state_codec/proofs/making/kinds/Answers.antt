@@ -1,12 +1,17 @@
-use Rattle.std.proofs.Common.{◌≤◌, ◌^◌, length, ap, sym, subst, arith}
-use Rattle.std.specs.Prelude.{All}
-use Rattle.state_codec.proofs.Lows.{length-moduli_from, moduli_from_limited}
+use Rattle.std.proofs.Common.{◌==◌, ℕ, cond, length, ap, ◌∙◌, arith}
+use Rattle.state_codec.specs.Shapes.{shape_over}
+use Rattle.state_codec.proofs.Lows.{length-moduli_from, own_limited}
+use Rattle.state_codec.proofs.Plans.{shape_of_accepted}
 use Rattle.state_codec.proofs.making.kinds.Goals as goal
 
-pub new-fields-requires-clause-moduli : goal.new-fields-requires-clause-moduli
-new-fields-requires-clause-moduli c =
-    subst (λ ms. All (λ m. m ≤ 2 ^ 40) ms) (sym c.in_ok-moduli_from.ensures)
-    (moduli_from_limited c.loop-low.low c.args.moduli.now c.requires.moduli)
+pub new-fields-requires-clause-limits : goal.new-fields-requires-clause-limits
+new-fields-requires-clause-limits c =
+    let plans = shape_of_accepted c.args.plan.now c.tell.ensures.accepted in
+    own_limited (shape_over c.args.plan.now c.args.moduli.now) c.loop-low.low _ _
+    (record { least = plans.least; most = plans.most; moduli = c.requires.moduli })
+    (c.base_from-own.ensures
+    ∙ ap (λ (b : ℕ). cond (c.loop-low.low == 0) b 1) c.base_modulus-base.ensures)
+    c.in_ok-moduli_from.ensures
 
 pub new-fields-requires-clause-few : goal.new-fields-requires-clause-few
 new-fields-requires-clause-few c = omega (

@@ -3,6 +3,7 @@ use Rattle.construction.specs.Widths.{width}
 use Rattle.state_codec.specs.Shapes.{Fields, IsFields, bytes_in}
 use Rattle.state_codec.proofs.PackedFields.{number_found}
 use Rattle.state_codec.proofs.Ranged.{read_is_in_range}
+use Rattle.state_codec.proofs.Windows.{front}
 use Rattle.state_codec.proofs.fields.Fields.number_of.Goals as goal
 
 -- a number of no bits is 0
@@ -20,14 +21,15 @@ returns-then-self-eq0 c =
       ap (λ (k : ℕ). 2 ^ k) c.if-self-eq0.true,
     )
 
-pub front_of-requires-clause-most : goal.front_of-requires-clause-most
-front_of-requires-clause-most c = omega (arith, c.self.invariant.short)
-
 pub returns : goal.returns
 returns c =
     let base : c.self.inside.base ≡ c.args.self.now.base =
     ap (λ (f : Fields). f.base) c.self.view_is in
-    number_found c.args.self.now c.args.bytes.now (omega (arith, c.requires))
-    c.self.inside.base c.self.inside.front c.front_of.result c.below.result c.unwrap_or.result
-    base (c.self.invariant.first ∙ ap width base) c.front_of.ensures c.below.ensures
-    c.unwrap_or.ensures
+    number_found c.args.self.now c.args.bytes.now (omega (arith, c.requires)) c.self.inside.base
+    c.self.inside.front _ c.below.result c.unwrap_or.result base
+    (c.self.invariant.first ∙ ap width base)
+    (front c.args.bytes.now c.self.inside.front c.read_u64.result
+    (λ j. let fits = c.type_inv.bytes j in omega (arith, fits))
+    (omega (arith, c.self.invariant.short)) (omega (arith, c.requires))
+    (omega (arith, c.read_u64.type_inv)) c.read_u64.ensures)
+    c.below.ensures c.unwrap_or.ensures

@@ -1,11 +1,14 @@
-use Rattle.std.proofs.Common.{arith, ℕ, ◌≡◌, ◌+◌, ◌<◌, inl, inr, ap, sym, subst, ◌∙◌, List, length, set, take}
+use Rattle.std.proofs.Common.{arith, ℕ, ◌≡◌, ◌+◌, ◌<◌, inl, inr, ap, ap₂, sym, subst, ◌∙◌, List, length, set, take, drop, get_or}
 use Rattle.std.proofs.lemmas.Bool.{cases_lt}
 use Rattle.std.proofs.lemmas.List.{length-set, get_or-set_same, get_or-set_other, ext_get_or}
 use Rattle.sync_types.specs.declared.states.Reg.{Reg}
 use Rattle.sync_types.specs.States.{State, zero_register, register_at}
-use Rattle.state_codec.specs.Shapes.{Fields, bytes_in}
+use Rattle.construction.specs.Widths.{width}
+use Rattle.state_codec.specs.Bits.{bits_of_bytes}
+use Rattle.state_codec.specs.Shapes.{Fields, register_bits, registers_bits, bytes_in}
 use Rattle.state_codec.specs.Ranges.{InRange}
-use Rattle.state_codec.specs.Reading.{read}
+use Rattle.state_codec.specs.Reading.{read, register_from}
+use Rattle.state_codec.proofs.PackedFields.{register_among, register_fits}
 use Rattle.state_codec.proofs.Ranged.{read_is_in_range}
 use Rattle.state_codec.proofs.RegisterSteps.{state_is}
 use Rattle.state_codec.proofs.fields.Fields.read_front.Goals as goal
@@ -29,6 +32,25 @@ register_more rs after state i r lt same is held j less =
           ∙ (is ∙ ap (λ k. register_at k state) (sym e))))
     ]
 
+pub read-register-requires : goal.read-register-requires
+read-register-requires c =
+    let v : ℕ = c.loop-i.i in
+    let fields : Fields = c.args.self.now in
+    let long = ap (λ (f : Fields). length f.moduli) c.self.view_is in
+    let lt : v < length fields.moduli = omega (arith, c.loop-i-test.true, long) in
+    let inside : v < length c.self.inside.moduli.items = omega (arith, lt, long) in
+    let offset : get_or c.self.inside.offsets v 0
+    ≡ width fields.base + registers_bits (take v fields.moduli) =
+    c.self.invariant.begins v inside
+    ∙ ap (λ (f : Fields). width f.base + registers_bits (take v f.moduli)) c.self.view_is in
+    omega (
+      arith,
+      c.requires.within,
+      offset,
+      c.register.result.sized ∙ ap register_bits c.register.ensures,
+      register_fits fields c.args.bytes.now (omega (arith, c.requires.within)) v lt,
+    )
+
 pub loop-i-preserved : goal.loop-i-preserved
 loop-i-preserved c =
     let i = c.loop-i.invariant in
@@ -37,13 +59,24 @@ loop-i-preserved c =
     let state : State = read fields (take (bytes_in fields) c.args.bytes.now) in
     let moduli = ap (λ (f : Fields). length f.moduli) c.self.view_is in
     let within : v < length c.loop-i.out.registers = omega (arith, moduli) in
+    let lt : v < length fields.moduli = omega (arith, c.loop-i-test.true, moduli) in
+    let inside : v < length c.self.inside.moduli.items = omega (arith, lt, moduli) in
+    let offset : get_or c.self.inside.offsets v 0
+    ≡ width fields.base + registers_bits (take v fields.moduli) =
+    c.self.invariant.begins v inside
+    ∙ ap (λ (f : Fields). width f.base + registers_bits (take v f.moduli)) c.self.view_is in
+    let found : c.read-register.result ≡ register_at v state =
+    c.read-register.ensures
+    ∙ (ap₂ (λ m k. register_from m (drop k (bits_of_bytes c.args.bytes.now))) c.register.ensures
+    offset
+    ∙ sym (register_among fields c.args.bytes.now (omega (arith, c.requires.within)) v lt)) in
     record {
       number = ap (λ (s : State). s.x) c.set_reg.ensures ∙ i.number;
       depth = ap (λ (s : State). length s.registers) c.set_reg.ensures
-          ∙ (length-set c.loop-i.out.registers v c.register_of.result ∙ i.depth);
+          ∙ (length-set c.loop-i.out.registers v c.read-register.result ∙ i.depth);
       registers = register_more c.loop-i.out.registers c.set_reg.new.self.registers state v
-          c.register_of.result within (ap (λ (s : State). s.registers) c.set_reg.ensures)
-          c.register_of.ensures i.registers;
+          c.read-register.result within (ap (λ (s : State). s.registers) c.set_reg.ensures)
+          found i.registers;
     }
 
 pub returns-clause-value : goal.returns-clause-value

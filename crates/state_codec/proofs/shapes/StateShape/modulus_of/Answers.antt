@@ -4,8 +4,8 @@ use Rattle.state_codec.specs.Shapes.{Fields}
 use Rattle.state_codec.proofs.Lows.{length-moduli_from}
 use Rattle.state_codec.proofs.shapes.StateShape.modulus_of.Goals as goal
 
-pub modulus-requires : goal.modulus-requires
-modulus-requires c = omega (
+pub register-requires : goal.register-requires
+register-requires c = omega (
   arith,
   c.requires.register,
   ap (λ (f : Fields). length f.moduli) c.fields.ensures,

@@ -3,7 +3,7 @@ use Rattle.state_codec.specs.Shapes.{Fields}
 use Rattle.state_codec.proofs.Lows.{length-moduli_from}
 use Rattle.state_codec.proofs.shapes.StateShape.read_hex.Goals as goal
 
-pub read_hex-requires : goal.read_hex-requires
-read_hex-requires c = c.requires.depth
-    ∙ sym (ap (λ (f : Fields). length f.moduli) c.fields.ensures
+pub read_front-requires-clause-depth : goal.read_front-requires-clause-depth
+read_front-requires-clause-depth c = c.requires.depth
+    ∙ sym (ap (λ (f : Fields). length f.moduli) c.fields-fields.ensures
     ∙ length-moduli_from _ c.args.self.now.moduli)
