@@ -1,4 +1,4 @@
-ghost use Rattle.std.specs.Prelude.{◌≡◌, ◌≤◌, ◌/◌, ◌%◌};
+ghost use Rattle.std.specs.Prelude.{◌≡◌, ◌≤◌, ◌<◌, ◌*◌, ◌/◌, ◌%◌, ◌^◌};
 
 use std::marker::Model;
 
@@ -30,6 +30,19 @@ impl Divisor {
         Divisor {
             divisor,
             factor: 0xffff_ffff / divisor + 1,
+        }
+    }
+
+    /// This number times another. Where the other is known when this is compiled, and a power of
+    /// two, it takes no division.
+    pub fn times(&self, other: u64) -> Divisor
+        requires some { 1 ≤ other }
+        requires small { self.now * other < 2 ^ 64 }
+        ensures { result ≡ self.now * other }
+    {
+        Divisor {
+            divisor: self.divisor * other,
+            factor: (self.factor - 1) / other + 1,
         }
     }
 
