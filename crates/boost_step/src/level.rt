@@ -1,4 +1,4 @@
-ghost use Rattle.std.specs.Prelude.{◌≡◌, ◌+◌, ◌*◌, ◌≤◌, ◌<◌, List, take, map, length, All, IfSome};
+ghost use Rattle.std.specs.Prelude.{◌≡◌, ◌+◌, ◌*◌, ◌^◌, ◌≤◌, ◌<◌, List, take, map, length, All, IfSome};
 ghost use Rattle.sync_types.specs.States.{register_at};
 ghost use Rattle.construction.specs.Votes.{lead, beat_heard};
 ghost use Rattle.construction.specs.Steps.{state_of, register_after};
@@ -13,7 +13,22 @@ use crate::readings::Itself;
 use crate::votes::{block_beat, block_vote};
 use counter_core::{Heard, HeardRegister, Work};
 use plan_numbers::LevelNums;
+use quick_division::Divisor;
 use sync_types::Reg;
+
+/// The interval of the block behind one with this interval.
+fn next_interval(interval: &Divisor, leaders: u64) -> Divisor
+    requires leaders { 1 ≤ leaders }
+    requires few { leaders ≤ 256 }
+    requires small { interval.now * (2 * leaders) < 2 ^ 64 }
+    ensures { result ≡ interval.now * (2 * leaders) }
+{
+    if leaders == 2 {
+        interval.times(4)
+    } else {
+        interval.times(2 * leaders)
+    }
+}
 
 /// The block that leads: the one for which most blocks vote, by the inner outputs in `work`.
 pub fn lead(nums: &LevelNums, work: &mut Work) -> u32
@@ -26,12 +41,13 @@ pub fn lead(nums: &LevelNums, work: &mut Work) -> u32
 {
     let n = ((nums.nodes - nums.spares) / nums.blocks) as usize;
     let leaders = u64::from(nums.leaders);
-    let mut interval = nums.beat;
+    let mut interval = Divisor::new(nums.beat);
     let mut start = 0;
     for i in 0..nums.blocks {
+        let next = next_interval(&interval, leaders);
         let vote = block_vote(&work.outputs[start..start + n], interval, leaders);
         work.votes[i as usize] = vote;
-        interval *= 2 * leaders;
+        interval = next;
         start += n;
     }
     most_below(&Itself, &work.votes[..nums.blocks as usize], leaders) as u32

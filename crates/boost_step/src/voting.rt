@@ -8,6 +8,7 @@ ghost use Rattle.boost_step.specs.Kept.{KeepsOutputs};
 use crate::votes::block_vote;
 use counter_core::Work;
 use plan_numbers::LevelNums;
+use quick_division::Divisor;
 
 /// The vote of block `i`: the leader to which most of its nodes point, by the inner outputs in
 /// `work`.
@@ -23,5 +24,9 @@ pub fn vote(nums: &LevelNums, i: u32, work: &mut Work) -> u64
     let leaders = u64::from(nums.leaders);
     let interval = nums.beat * (2 * leaders).pow(i);
     let start = i as usize * n;
-    block_vote(&work.outputs[start..start + n], interval, leaders)
+    block_vote(
+        &work.outputs[start..start + n],
+        Divisor::new(interval),
+        leaders,
+    )
 }

@@ -1,10 +1,9 @@
-use Rattle.std.proofs.Common.{◌≡◌, ℕ, ◌+◌, ◌/◌, ◌<◌, ◌≤◌, length, ◌-◌, ◌%◌, List, All, map, take, drop, ap, sym, ◌∙◌, subst, arith, refl}
+use Rattle.std.proofs.Common.{◌≡◌, ℕ, ◌+◌, ◌/◌, ◌<◌, length, ◌-◌, ◌%◌, List, All, map, take, drop, ap, sym, ◌∙◌, subst, arith, refl}
 use Rattle.std.specs.List.{range_with_len}
 use Rattle.std.proofs.lemmas.List.{length-set, map-id}
 use Rattle.counting.specs.Values.{majority_or_zero}
 use Rattle.construction.specs.Plans.{leaders_of, beat_of, interval_of}
 use Rattle.construction.specs.Votes.{vote, lead}
-use Rattle.leader_pointers.proofs.Intervals.{interval_pos}
 use Rattle.plan_numbers.specs.declared.numbers.LevelNums.{LevelNums}
 use Rattle.plan_numbers.specs.Numbers.{level_of}
 use Rattle.boost_step.specs.Numbers.{block_nodes, in_blocks}
@@ -13,15 +12,22 @@ use Rattle.boost_step.proofs.LevelVotes.{lead_below, votes_below, votes_counted,
 use Rattle.boost_step.proofs.Stepping.{output_more}
 use Rattle.boost_step.proofs.level.lead.Goals as goal
 
-pub block_vote-vote-requires-clause-interval : goal.block_vote-vote-requires-clause-interval
-block_vote-vote-requires-clause-interval c =
-    let nums = c.args.nums.now in
-    let r = related nums c.requires.numbers in
-    let leaders = r.sized.leaders in
-    let beat = r.sized.beat in
-    let is = c.loop-i.invariant.interval in
-    subst (λ x. 1 ≤ x) (sym is)
-    (interval_pos nums.beat nums.leaders c.loop-i.i (omega arith) (omega arith))
+pub new-interval-requires : goal.new-interval-requires
+new-interval-requires c =
+    let beat = (related c.args.nums.now c.requires.numbers).sized.beat in
+    omega arith
+
+pub next_interval-next-requires-clause-leaders : goal.next_interval-next-requires-clause-leaders
+next_interval-next-requires-clause-leaders c =
+    let leaders = (related c.args.nums.now c.requires.numbers).sized.leaders in
+    let is = c.from-leaders.ensures in
+    omega arith
+
+pub next_interval-next-requires-clause-few : goal.next_interval-next-requires-clause-few
+next_interval-next-requires-clause-few c =
+    let leaders = (related c.args.nums.now c.requires.numbers).sized.most_leaders in
+    let is = c.from-leaders.ensures in
+    omega arith
 
 pub index_mut-requires : goal.index_mut-requires
 index_mut-requires c =
@@ -31,8 +37,8 @@ index_mut-requires c =
     let kept = c.loop-i.invariant.room in
     omega arith
 
-pub overflow_mul-interval-in-loop-i : goal.overflow_mul-interval-in-loop-i
-overflow_mul-interval-in-loop-i c =
+pub next_interval-next-requires-clause-small : goal.next_interval-next-requires-clause-small
+next_interval-next-requires-clause-small c =
     let nums = c.args.nums.now in
     let test = c.loop-i-test.true in
     let next = interval_more nums.beat nums.leaders c.loop-i.i c.loop-i.interval
@@ -58,7 +64,8 @@ loop-i-preserved c =
     let kept = i.room in
     let inside : c.loop-i.i < length c.loop-i.work.votes.items = omega arith in
     record {
-      interval = interval_more nums.beat nums.leaders c.loop-i.i c.loop-i.interval
+      interval = c.next_interval-next.ensures
+          ∙ interval_more nums.beat nums.leaders c.loop-i.i c.loop-i.interval
           c.from-leaders.result i.interval c.from-leaders.ensures;
       start = let begins = i.start in omega arith;
       votes = output_more (vote level n (take (in_blocks nums) items)) c.loop-i.i

@@ -6,13 +6,11 @@ use Rattle.boost_step.proofs.votes.block_vote.Goals as goal
 
 pub most_of_two-requires : goal.most_of_two-requires
 most_of_two-requires c =
-    All-from_get_or (λ o. o / c.new-interval.result % 2 < 2) c.args.outputs.now 0
+    All-from_get_or (λ o. o / c.args.interval % 2 < 2) c.args.outputs.now 0
     (λ i lt. mod-lt _ (omega arith))
 
 pub returns-then-leaders-eq2 : goal.returns-then-leaders-eq2
 returns-then-leaders-eq2 c =
     c.most_of_two.ensures
-    ∙ ap (λ (d : ℕ). majority_or_zero (map (λ o. o / d % 2) c.args.outputs.now))
-    c.new-interval.ensures
     ∙ ap (λ (m : ℕ). majority_or_zero (map (λ o. o / c.args.interval % m) c.args.outputs.now))
     (sym c.if-leaders-eq2.true)

@@ -51,8 +51,8 @@ overflow_mul-interval c =
           (omega (arith, c.requires.block)),
     )
 
-pub block_vote-requires-clause-interval : goal.block_vote-requires-clause-interval
-block_vote-requires-clause-interval c =
+pub new-requires : goal.new-requires
+new-requires c =
     let nums = c.args.nums.now in
     let r = related nums c.requires.numbers in
     let is = interval_is nums c.from-leaders.result c.args.i c.pow.result c.from-leaders.ensures
@@ -80,10 +80,10 @@ returns-clause-vote c =
     let long : interval ≡ interval_of (beat_of level) (leaders_of level) i =
     is ∙ (ap (λ b. interval_of b nums.leaders i) r.beat
     ∙ ap (λ m. interval_of (beat_of level) m i) r.leaders) in
-    vote_of_slice level n (in_blocks nums) i start interval c.from-leaders.result
-    c.block_vote.result items (ap (λ n. nums.blocks * n) (sym e)) c.requires.block refl long
+    vote_of_slice level n (in_blocks nums) i start c.new.result c.from-leaders.result
+    c.block_vote.result items (ap (λ n. nums.blocks * n) (sym e)) c.requires.block refl (c.new.ensures ∙ long)
     (c.from-leaders.ensures ∙ r.leaders)
     (c.block_vote.ensures
-    ∙ ap (λ (xs : List ℕ). majority_or_zero (map (λ o. o / interval % c.from-leaders.result)
+    ∙ ap (λ (xs : List ℕ). majority_or_zero (map (λ o. o / c.new.result % c.from-leaders.result)
     (take (start + n - start) (drop start xs)))) c.deref.ensures.value)
     ∙ ap (λ n. vote level n (take (in_blocks nums) items) i) e
