@@ -59,6 +59,6 @@ pub(crate) fn new_register(
         ≡ new_register levels (block_nodes nums.now) (level_of nums.now) place group.now }
     ensures work { IsAsRoomy work.old work.new }
 {
-    set_outputs(levels, nums.blocks * nums.block_nodes(), group, work);
+    set_outputs(levels, nums.nodes - nums.spares, group, work);
     level_step(nums, place, group, levels, work)
 }

@@ -2,7 +2,7 @@ ghost use Rattle.std.specs.Prelude.{◌≡◌, ◌≤◌, ◌<◌, ◌^◌, leng
 ghost use Rattle.construction.specs.Plans.{nodes_of};
 ghost use Rattle.construction.specs.Steps.{step_in};
 ghost use Rattle.plan_numbers.specs.Numbers.{levels_in};
-ghost use Rattle.plan_numbers.specs.Stacked.{AreLevels};
+ghost use Rattle.plan_numbers.specs.Stacked.{AreLevels, AreSomeLevels};
 ghost use Rattle.counter_core.specs.Meanings.{written};
 ghost use Rattle.counter_core.specs.Working.{IsFor, IsAsRoomy};
 ghost use Rattle.plan_laws.specs.PlanMeaning.{IsWithin};
@@ -11,6 +11,17 @@ use crate::registers::new_register;
 use counter_core::{Heard, Work, clear};
 use plan_numbers::LevelNums;
 use sync_types::NodeState;
+
+/// How many nodes a group of these levels has, the lowest of which stands first.
+fn nodes_over(levels: &[LevelNums]) -> u32
+    requires { AreSomeLevels levels.now }
+    ensures { result ≡ nodes_of (levels_in levels.now) }
+{
+    match levels.split_last() {
+        Some((top, _)) => top.nodes,
+        None => 1,
+    }
+}
 
 /// The step of the node at a place of a group of these levels, the lowest of which stands first, by
 /// what the node hears of the group: its register at the group's level, and below that its step in
@@ -42,7 +53,7 @@ pub(crate) fn step_in(
         return;
     };
     let register = new_register(nums, below.len(), place, group, work);
-    let n = nums.block_nodes();
+    let n = nodes_over(below);
     if place < nums.blocks * n {
         let block = group.block(place / n, n);
         step_in(base, below, place % n, &block, work, out);

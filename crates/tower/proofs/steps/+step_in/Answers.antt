@@ -1,10 +1,12 @@
-use Rattle.std.proofs.Common.{◌≡◌, subst, ℕ, All, ◌/◌, ◌%◌, ◌<◌, ◌≤◌, length, ap, ◌∙◌, arith}
+use Rattle.std.proofs.Common.{◌≡◌, subst, ℕ, All, ◌+◌, ◌*◌, ◌/◌, ◌%◌, ◌<◌, ◌≤◌, length, ap, sym, ◌∙◌, arith}
+use Rattle.std.proofs.Math.Nat.{mul-le-mul_right}
+use Rattle.std.proofs.lemmas.Nat.{div_below}
 use Rattle.std.proofs.lemmas.List.{length-replicate}
 use Rattle.std.proofs.lemmas.List.Elements.{All-same, All-weaker}
 use Rattle.sync_types.specs.States.{State, zero_state, zero_register}
 use Rattle.construction.specs.Votes.{block}
 use Rattle.construction.specs.Steps.{step_in}
-use Rattle.construction.proofs.Blocks.{All-block, length-block-most}
+use Rattle.construction.proofs.Blocks.{All-block, block_some, length-block-most}
 use Rattle.construction.proofs.Ranges.{length-step_in}
 use Rattle.plan_numbers.specs.Numbers.{levels_in}
 use Rattle.plan_numbers.proofs.Stacking.{length-levels_in}
@@ -12,7 +14,7 @@ use Rattle.counter_core.specs.Meanings.{written}
 use Rattle.counter_core.specs.Working.{IsFor}
 use Rattle.boost_step.proofs.Stepping.{length_written}
 use Rattle.plan_laws.specs.PlanMeaning.{IsWithin}
-use Rattle.tower.proofs.Descent.{below_levels, top_numbers, top_sized, group_nodes, top_range, below_range, place_below, block_size, block_written, spare_written}
+use Rattle.tower.proofs.Descent.{below_levels, top_numbers, top_sized, group_nodes, top_range, below_range, size_is, place_below, block_size, block_written, spare_written}
 use Rattle.tower.proofs.steps.+step_in.Goals as goal
 use Rattle.tower.proofs.steps.+step_in.Goals.{then-place-nums, else-place-nums}
 
@@ -24,8 +26,35 @@ pub new_register-register-requires-clause-range : goal.new_register-register-req
 new_register-register-requires-clause-range t c =
     top_range _ _ _ _ c.in-Some.ensures.cases.0 c.requires.levels c.args.group.now c.requires.range
 
-pub block_nodes-n-requires : goal.block_nodes-n-requires
-block_nodes-n-requires t c = top_sized _ _ _ _ c.in-Some.ensures.cases.0 c.requires.levels
+pub nodes_over-n-requires : goal.nodes_over-n-requires
+nodes_over-n-requires t c =
+    (c.args.base, below_levels _ _ _ _ c.in-Some.ensures.cases.0 c.requires.levels)
+
+pub overflow_mul-nums : goal.overflow_mul-nums
+overflow_mul-nums t c =
+    let nums = c.in-Some.nums.now in
+    let e = c.in-Some.ensures.cases.0 in
+    let are = c.requires.levels in
+    let sized = top_sized _ _ _ _ e are in
+    let same = c.nodes_over-n.ensures ∙ sym (size_is _ _ _ _ e are) in
+    let product = ap (λ (m : ℕ). nums.blocks * m) same in
+    omega (arith, product, sized.whole, sized.below.most)
+
+pub block-block-requires : goal.block-block-requires
+block-block-requires t c =
+    let nums = c.in-Some.nums.now in
+    let e = c.in-Some.ensures.cases.0 in
+    let are = c.requires.levels in
+    let sized = top_sized _ _ _ _ e are in
+    let place = c.args.place in
+    let n = c.nodes_over-n.result in
+    let same = c.nodes_over-n.ensures ∙ sym (size_is _ _ _ _ e are) in
+    let lt = c.if-place-nums.true in
+    let among = div_below place n nums.blocks (block_some nums.blocks n place lt) lt in
+    let fits : (place / n + 1) * n ≤ nums.blocks * n = mul-le-mul_right n (omega (arith, among)) in
+    let product = ap (λ (m : ℕ). nums.blocks * m) same in
+    let whole = c.requires.group ∙ group_nodes _ _ _ _ e are in
+    omega (arith, fits, product, sized.whole, whole)
 
 -- that the list falls, and the clauses in their order
 pub step_in-requires : goal.step_in-requires
@@ -35,8 +64,8 @@ step_in-requires t c =
     let below = c.in-Some.below.now in
     let group = c.args.group.now in
     let place = c.args.place in
-    let n = c.block_nodes-n.result in
-    let same = c.block_nodes-n.ensures in
+    let n = c.nodes_over-n.result in
+    let same = c.nodes_over-n.ensures ∙ sym (size_is _ _ _ _ e are) in
     let lt = c.if-place-nums.true in
     let own = c.block-block.result in
     let mine = c.block-block.ensures in
@@ -100,7 +129,7 @@ set_reg-requires t c =
     let registers : State → ℕ = λ s. length s.registers in
     elim c.if-place-nums.branch [
       | then-place-nums w ↦
-          let place : ℕ = c.args.place % c.block_nodes-n.result in
+          let place : ℕ = c.args.place % c.nodes_over-n.result in
           let own = w.block-block.result in
           let low : State = step_in c.args.base (levels_in below) place own in
           let is = ap registers (w.out-is ∙ w.step_in.ensures.out) in
@@ -122,7 +151,7 @@ returns-clause-out t c =
     let room = c.requires.out in
     let group = c.args.group.now in
     let place = c.args.place in
-    let same = c.block_nodes-n.ensures in
+    let same = c.nodes_over-n.ensures ∙ sym (size_is _ _ _ _ e are) in
     let out = c.args.out.now in
     let whole : State = step_in c.args.base (levels_in c.args.levels.now) place group in
     subst (λ d. c.set_reg.new.self ≡ written d whole out) long
