@@ -1,6 +1,3 @@
-ghost use Rattle.std.specs.Prelude.{◌≡◌, replicate, IfOk};
-ghost use Rattle.sync_types.specs.States.{zero_state};
-
 use counter_core::{Counter, Heard, Work};
 use state_codec::StateShape;
 use std::alloc::Global;
@@ -40,21 +37,6 @@ impl Model for NodeEngine {
         IsKept e.tower e.shape e.id e.states.items e.since.items e.next e.work };
 }
 
-/// Zero states of that depth, one for each node.
-fn zero_states(alloc: Global, nodes: u32, depth: usize) -> Result<Vec<NodeState>, NoMemory>
-    ensures { IfOk result (λ states. states.items ≡ replicate nodes (zero_state depth)) }
-{
-    let mut states = Vec::with_capacity(alloc, nodes as usize)?;
-    for _ in 0..nodes {
-        let state = NodeState::zero(alloc, depth)?;
-        match states.push(state) {
-            Ok(()) => {}
-            Err(_) => return Err(NoMemory),
-        }
-    }
-    Ok(states)
-}
-
 impl NodeEngine {
     ghost use Rattle.std.specs.Prelude.{◌≡◌, ◌+◌, ◌<◌, ◌≤◌, length, take, IfOk};
     ghost use Rattle.construction.specs.Plans.{plan_nodes};
@@ -81,7 +63,7 @@ impl NodeEngine {
         tower.tell();
         shape.tell();
         let depth = tower.depth();
-        let mut states = zero_states(alloc, tower.nodes(), depth)?;
+        let mut states = NodeState::zeros(alloc, tower.nodes(), depth)?;
         states[id as usize].copy_from(&state);
         let since = vec![in alloc; false; tower.nodes() as usize]?;
         let next = NodeState::zero(alloc, depth)?;

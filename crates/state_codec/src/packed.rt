@@ -1,5 +1,5 @@
-ghost use Rattle.std.specs.Prelude.{◌≡◌, ◌<◌, ◌≤◌, ℕ, length, replicate, slice_set, IfOk};
-ghost use Rattle.sync_types.specs.States.{zero_state, register_at};
+ghost use Rattle.std.specs.Prelude.{◌≡◌, ◌<◌, ◌≤◌, ℕ, length, slice_set, IfOk};
+ghost use Rattle.sync_types.specs.States.{register_at};
 ghost use Rattle.construction.specs.Steps.{state_of};
 ghost use Rattle.state_codec.specs.Shapes.{fields_at, IsShape};
 ghost use Rattle.state_codec.specs.Ranges.{InRange};
@@ -49,18 +49,6 @@ impl Model for Packed {
     ghost invariant = { λ p. IsPack p.shape p.current.items p.next.items };
 }
 
-/// Zero states of that depth, one for each node.
-fn zero_states(alloc: Global, nodes: u32, depth: usize) -> Result<Vec<NodeState>, NoMemory>
-    ensures { IfOk result (λ states. states.items ≡ replicate nodes (zero_state depth)) }
-{
-    let mut states = Vec::with_capacity(alloc, nodes as usize)?;
-    for _ in 0..nodes {
-        let state = NodeState::zero(alloc, depth)?;
-        states.push(state).map_err(|_| NoMemory)?;
-    }
-    Ok(states)
-}
-
 impl Packed {
     /// Two configurations of `nodes` nodes, at most those of the shape, whose states are all zero.
     /// It takes all the memory that they ever need.
@@ -72,8 +60,8 @@ impl Packed {
         shape.tell();
         let most = shape.nodes();
         let depth = shape.depth();
-        let current = zero_states(alloc, nodes, depth)?;
-        let next = zero_states(alloc, nodes, depth)?;
+        let current = NodeState::zeros(alloc, nodes, depth)?;
+        let next = NodeState::zeros(alloc, nodes, depth)?;
         Ok(Packed {
             shape,
             current,
