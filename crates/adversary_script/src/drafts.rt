@@ -37,13 +37,30 @@ fn shape_like(alloc: Global, plan: &Plan, shape: &StateShape) -> Result<StateSha
 }
 
 /// What a script said so far.
-#[derive(Drop)]
 pub struct Draft<'a> {
     alloc: Global,
     plan: &'a Plan,
     shape: &'a StateShape,
     faulty: Option<FaultSet>,
     parts: Parts,
+}
+
+// Written out, so that what lets go of one calls this, and no more.
+impl<'a> Drop for Draft<'a> {
+    fn drop(self) {
+        let Draft {
+            alloc,
+            plan,
+            shape,
+            faulty,
+            parts,
+        } = self;
+        drop(alloc);
+        drop(plan);
+        drop(shape);
+        drop(faulty);
+        drop(parts);
+    }
 }
 
 impl<'a> Model for Draft<'a> {

@@ -35,7 +35,7 @@ pub enum What {
 
 /// A rule of lies: from the round `first` to the round `last`, both included, the node `sender`
 /// tells those nodes that.
-#[derive(Debug, Drop)]
+#[derive(Debug)]
 pub struct Lie {
     pub first: u64,
     pub last: u64,
@@ -44,9 +44,36 @@ pub struct Lie {
     pub what: What,
 }
 
+// Written out, so that what lets go of one calls this, and no more.
+impl Drop for Lie {
+    fn drop(self) {
+        let Lie {
+            first,
+            last,
+            sender,
+            who,
+            what,
+        } = self;
+        drop(first);
+        drop(last);
+        drop(sender);
+        drop(who);
+        drop(what);
+    }
+}
+
 /// The state in which a node starts.
-#[derive(Debug, Drop)]
+#[derive(Debug)]
 pub struct Start {
     pub node: u64,
     pub state: NodeState,
+}
+
+// Written out, so that what lets go of one calls this, and no more.
+impl Drop for Start {
+    fn drop(self) {
+        let Start { node, state } = self;
+        drop(node);
+        drop(state);
+    }
 }

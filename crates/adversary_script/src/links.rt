@@ -7,12 +7,21 @@ use sync_types::NoMemory;
 
 /// Where the lies of each sender stand among all lies, so that those of one are found without the
 /// others. Where there is none, a place is the number of lies.
-#[derive(Debug, Drop)]
+#[derive(Debug)]
 pub struct Links {
     /// For each node the place of its first lie.
     pub firsts: Vec<usize>,
     /// For each lie the place of the next one of its sender.
     pub nexts: Vec<usize>,
+}
+
+// Written out, so that what lets go of one calls this, and no more.
+impl Drop for Links {
+    fn drop(self) {
+        let Links { firsts, nexts } = self;
+        drop(firsts);
+        drop(nexts);
+    }
 }
 
 /// Links the lies of each sender, where there are so many nodes.

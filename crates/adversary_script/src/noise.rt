@@ -23,7 +23,6 @@ const NONE: u32 = u32::MAX;
 /// It keeps generators that stand where streams were last read, since the next words of a stream
 /// cost little there: one for each pair of a faulty node and a receiver that was asked for, where
 /// it has room for them, and one that all other streams share.
-#[derive(Drop)]
 pub struct Noise {
     shared: ChaCha8Rng,
     // Those of pairs, in the order in which they were first asked for.
@@ -34,6 +33,26 @@ pub struct Noise {
     rows: Vec<u32>,
     key: [u8; 32],
     nodes: u32,
+}
+
+// Written out, so that what lets go of one calls this, and no more.
+impl Drop for Noise {
+    fn drop(self) {
+        let Noise {
+            shared,
+            generators,
+            places,
+            rows,
+            key,
+            nodes,
+        } = self;
+        drop(shared);
+        drop(generators);
+        drop(places);
+        drop(rows);
+        drop(key);
+        drop(nodes);
+    }
 }
 
 impl Model for Noise {

@@ -9,15 +9,27 @@ use sync_types::FaultSet;
 
 /// An era behind the first: from a configuration on these nodes are faulty, and there some nodes
 /// are put into states.
-#[derive(Drop)]
 pub struct Era {
     pub first: u64,
     pub faulty: FaultSet,
     pub starts: Vec<Start>,
 }
 
+// Written out, so that what lets go of one calls this, and no more.
+impl Drop for Era {
+    fn drop(self) {
+        let Era {
+            first,
+            faulty,
+            starts,
+        } = self;
+        drop(first);
+        drop(faulty);
+        drop(starts);
+    }
+}
+
 /// What the lines of a script say, but for the nodes that are faulty at first.
-#[derive(Drop)]
 pub struct Parts {
     pub version: u32,
     pub key: [u8; 32],
@@ -29,6 +41,34 @@ pub struct Parts {
     pub rounds: u64,
     pub first: u64,
     pub last: u64,
+}
+
+// Written out, so that what lets go of one calls this, and no more.
+impl Drop for Parts {
+    fn drop(self) {
+        let Parts {
+            version,
+            key,
+            common,
+            starts,
+            eras,
+            groups,
+            lies,
+            rounds,
+            first,
+            last,
+        } = self;
+        drop(version);
+        drop(key);
+        drop(common);
+        drop(starts);
+        drop(eras);
+        drop(groups);
+        drop(lies);
+        drop(rounds);
+        drop(first);
+        drop(last);
+    }
 }
 
 impl Parts {

@@ -18,11 +18,24 @@ use std::marker::Model;
 use sync_types::{NoMemory, Rule};
 
 /// Reads a script part line by line.
-#[derive(Drop)]
 pub struct ScriptLines<'a> {
     faults: u32,
     last: Option<Kind>,
     draft: Draft<'a>,
+}
+
+// Written out, so that what lets go of one calls this, and no more.
+impl<'a> Drop for ScriptLines<'a> {
+    fn drop(self) {
+        let ScriptLines {
+            faults,
+            last,
+            draft,
+        } = self;
+        drop(faults);
+        drop(last);
+        drop(draft);
+    }
 }
 
 impl<'a> Model for ScriptLines<'a> {
