@@ -124,7 +124,7 @@ reign_at x y width reign =
 abbrev pub reign_picture : Frame → Reign → List ℕ
 reign_picture frame reign =
     reign_at (column_left frame.digits reign.column)
-        (band_top frame.height reign.column + reign.top)
+    (band_top frame.height reign.column + reign.top)
     (column_width frame.digits) reign
 
 -- ---- the word before a strip

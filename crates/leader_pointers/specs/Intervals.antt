@@ -15,7 +15,7 @@ IntervalKeepsPointer =
 abbrev pub NextIntervalHasNextLeader : Type 0
 NextIntervalHasNextLeader = (beat leaders i o : ℕ) → 1 ≤ beat → 1 ≤ leaders
     → pointer_of beat leaders i (o + interval_of beat leaders i)
-        ≡ (pointer_of beat leaders i o + 1) % leaders
+    ≡ (pointer_of beat leaders i o + 1) % leaders
 
 -- after an interval for each leader the pointer is what it was
 abbrev pub PointerHasPeriod : Type 0

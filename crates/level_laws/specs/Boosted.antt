@@ -25,7 +25,7 @@ values_heard below heard = map (λ s. (register_at below.depth s).a) heard
 abbrev pub level_register : (below : Meaning) → Level → (v : ℕ) → List State → Reg
 level_register below level v heard =
     register_after below.nodes level (register_at below.depth (state_of heard v))
-        (outputs_heard below level heard) (values_heard below heard)
+    (outputs_heard below level heard) (values_heard below heard)
 
 -- The new state of the node at place v as one of the counter below: in a block by what is heard of
 -- the block. A spare has none, and zero stands in its place.

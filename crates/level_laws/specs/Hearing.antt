@@ -30,4 +30,4 @@ abbrev pub RegistersStep : (level : Level) (n : ℕ) (next : ℕ → ℕ) (fault
 RegistersStep level n next faulty t last outputs registers = (r v : ℕ) → t ≤ r → r < last
     → v < group_size level n → faulty v ≡ false
     → StepsRegister level n next faulty (outputs r) (registers r) (registers r v)
-        (registers (r + 1) v)
+    (registers (r + 1) v)

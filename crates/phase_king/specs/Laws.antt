@@ -12,7 +12,7 @@ Persistence =
     (n f : ℕ) (next : ℕ → ℕ) (faulty : ℕ → Bool) → 3 * f < n → places faulty n ≤ f →
     (old new : ℕ → Reg) (value : ℕ) (kinds kings : ℕ → ℕ) →
     AllLocked n faulty old value → EachObeys n f next faulty kinds kings old new
-        → AllLocked n faulty new (next value)
+    → AllLocked n faulty new (next value)
 
 -- One common value is kept: after the kinds 0 and 1, whatever king each correct node takes, all are
 -- locked at the value two steps on.
@@ -22,7 +22,7 @@ Unanimity =
     (start middle end : ℕ → Reg) (value : ℕ) (kings later_kings : ℕ → ℕ)
     → AllHave n faulty start value →
     EachObeys n f next faulty (λ v. 0) kings start middle
-        → EachObeys n f next faulty (λ v. 1) later_kings middle end →
+    → EachObeys n f next faulty (λ v. 1) later_kings middle end →
     AllLocked n faulty end (next (next value))
 
 -- One phase, the kinds 0, 1 and 2 in three rounds in a row, under one common king that is correct
@@ -32,7 +32,7 @@ Convergence =
     (n f : ℕ) (next : ℕ → ℕ) (faulty : ℕ → Bool) → 3 * f < n → places faulty n ≤ f →
     (king : ℕ) (start after_zero after_one end : ℕ → Reg) → king < n → faulty king ≡ false →
     AllObey n f next faulty 0 king start after_zero
-        → AllObey n f next faulty 1 king after_zero after_one →
+    → AllObey n f next faulty 1 king after_zero after_one →
     AllObey n f next faulty 2 king after_one end →
     (value : ℕ) × AllLocked n faulty end value
 

@@ -109,7 +109,7 @@ abbrev pub level_behind : Plan → List ℕ → Result Plan Cause
 level_behind plan ns =
     unless_premise (first_premise (numbers_below plan) (level_in ns))
     (if same_numbers ns (values_over plan (level_in ns)) then Ok (with_level plan (level_in ns))
-        else Err Value)
+    else Err Value)
 
 -- ---- what a line does
 

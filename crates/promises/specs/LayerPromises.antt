@@ -36,7 +36,7 @@ HoldsAreKept = (input : List ℕ)
 abbrev pub KeepsDecisions : Plan → Script → AgreeSaid → Type 0
 KeepsDecisions plan script said = (t : ℕ)
     → begins_at plan script (slot_of plan script said) t (agree_scene plan script said t).states
-        ≡ true
+    ≡ true
     → LineDecides plan script said t
 
 abbrev pub DecisionsAreKept : Type 0

@@ -29,5 +29,5 @@ pub record IsTableOf (text : List ℕ) (plan : Plan) : Type 0 where
 pub record TextsAreKept : Type 0 where
   pub plans : (input : List ℕ)
       → IfOk (plan_alone input)
-          (AreTextsOf (answer_of batch.Plan input) (answer_of batch.Upgrade input))
+      (AreTextsOf (answer_of batch.Plan input) (answer_of batch.Upgrade input))
   pub tables : (input : List ℕ) → IfOk (tabled_of input) (IsTableOf input)

@@ -61,7 +61,7 @@ needs_state unknown faulty from to =
 abbrev pub base_step : (version base : ℕ) → Onward
 base_step version base = if is_some (base_premise base) then refused
     else goes
-        (planned version (record { version = plan_version version; base = base; levels = [] }))
+    (planned version (record { version = plan_version version; base = base; levels = [] }))
 
 -- whether the spares of a level are said just where the version says them
 abbrev pub spares_fit : (version : ℕ) → Option ℕ → Bool
@@ -105,17 +105,19 @@ faulty_step version plan ids =
 
 abbrev pub put_state : Known → ℕ → List ℕ → Known
 put_state k v digits =
-    record k { stand = record {
-      faulty = k.stand.faulty;
-      config = slice_set k.stand.config v (read_text (fields_of k.plan v) digits);
-    } }
+    record k {
+      stand = record {
+        faulty = k.stand.faulty;
+        config = slice_set k.stand.config v (read_text (fields_of k.plan v) digits);
+      };
+    }
 
 -- whether the next state that is put may be that of v with these digits
 abbrev pub start_fits : Known → (unknown : List ℕ) → (from v : ℕ) → (digits : List ℕ) → Bool
 start_fits k unknown from v digits =
     nat_le from v && nat_lt v (plan_nodes k.plan) && not (is_in k.stand.faulty v)
-        && not (needs_state unknown k.stand.faulty from v)
-        && is_state_text (fields_of k.plan v) digits
+    && not (needs_state unknown k.stand.faulty from v)
+    && is_state_text (fields_of k.plan v) digits
 
 abbrev pub same_marks : List Bool → List Bool → Bool
 same_marks [] [] = true
@@ -177,7 +179,7 @@ all_told k told =
 abbrev pub lie_fits : Known → List State → (u v : ℕ) → List ℕ → Bool
 lie_fits k told u v digits =
     has_round k && is_next u v (drop (length told) (pairs_of (plan_nodes k.plan) k.stand.faulty))
-        && is_state_text (fields_of k.plan u) digits
+    && is_state_text (fields_of k.plan u) digits
 
 abbrev pub era_fits : Known → List State → (t : ℕ) → List ℕ → Bool
 era_fits k told t ids =

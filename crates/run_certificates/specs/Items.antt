@@ -109,7 +109,7 @@ level_said (a ∷ b ∷ c ∷ []) =
 level_said (a ∷ b ∷ c ∷ key ∷ s ∷ []) =
     if bytes_eq key (codes "spare")
     then with_four (λ k f c s. level_item k f c (Some s)) (number_of a) (number_of b) (number_of c)
-        (number_of s)
+    (number_of s)
     else None
 level_said other = None
 

@@ -66,8 +66,8 @@ StretchesAreRuns =
     → c.turns ≡ before ++ (stretch ++ after) → AreQuiet stretch
     → Run c.plan (stand_after c.plan (first_stand c) before).faulty
     (map (λ stand. stand.config)
-        (stand_after c.plan (first_stand c) before
-        ∷ stands_behind c.plan (stand_after c.plan (first_stand c) before) stretch))
+    (stand_after c.plan (first_stand c) before
+    ∷ stands_behind c.plan (stand_after c.plan (first_stand c) before) stretch))
 
 -- In a certificate that is true, the rows of such a stretch are one number for all correct nodes
 -- from the plan's bound on, which is counted from the first of its configurations, and it grows by
@@ -77,8 +77,8 @@ pub record StretchCounts (c : Certificate) (before stretch : List Turn) : Type 0
   pub shows : (i : ℕ) → plan_bound c.plan ≤ i → i ≤ length stretch
       → slice_index_or (rows_of c) (length before + i) []
       ≡ map
-          (λ v. if is_in (stand_after c.plan (first_stand c) before).faulty v then None
-          else Some (output i)) (range_with_len 0 (plan_nodes c.plan))
+      (λ v. if is_in (stand_after c.plan (first_stand c) before).faulty v then None
+      else Some (output i)) (range_with_len 0 (plan_nodes c.plan))
   pub grows : (i : ℕ) → plan_bound c.plan ≤ i → i + 1 ≤ length stretch
       → output (i + 1) ≡ (output i + 1) % plan_modulus c.plan
 

@@ -95,7 +95,7 @@ pub record IsTrueRecord (plan : Plan) (s : Script) : Type 0 where
   pub is : IsCertificate (certificate_of plan s)
   pub verdict : verdict_of (certificate_of plan s)
       ≡ verdict.True (s.rounds + 1)
-          (first_locked (era_locked plan s (played_at plan s) (length s.eras)) s.rounds)
+      (first_locked (era_locked plan s (played_at plan s) (length s.eras)) s.rounds)
 
 abbrev pub RecordsAreTrue : Type 0
 RecordsAreTrue = (plan : Plan) (s : Script) → IsReadFor plan s → HasItsEras s → IsTrueRecord plan s

@@ -80,9 +80,11 @@ stand_behind plan stand turn = record {
 
 abbrev pub first_stand : Certificate → Stand
 first_stand c =
-    record
-    { faulty = c.faulty; config = with_starts c.plan
-    (unless_faulty c.plan c.faulty (λ v. zero_state (plan_depth c.plan))) c.starts }
+    record {
+      faulty = c.faulty;
+      config = with_starts c.plan
+          (unless_faulty c.plan c.faulty (λ v. zero_state (plan_depth c.plan))) c.starts;
+    }
 
 -- the configurations behind one
 abbrev pub stands_behind : Plan → Stand → List Turn → List Stand

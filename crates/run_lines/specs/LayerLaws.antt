@@ -48,7 +48,7 @@ DecisionsAsDefined = (plan : Plan) → IsAccepted plan → (said : AgreeSaid) �
     → IsShape script.shape → IsScript script
     → played_text plan script (agree_layer plan said.values said.inputs)
     (replicate (plan_nodes plan) 0) (decision_wording (slot_length (plan_faults plan)))
-        ≡ decision_text plan script said
+    ≡ decision_text plan script said
 
 -- In each line of a slot table that is of a configuration from the bound on, counted from the first
 -- one of its era, at most one word of a correct node is 1.

@@ -14,7 +14,7 @@ use Rattle.round_runner.specs.Known.{lowest_correct}
 abbrev pub lead_output : Plan → Script → (c : ℕ) → List State → ℕ
 lead_output plan script c config =
     shown (plan_depth plan)
-        (state_of config (lowest_correct (plan_nodes plan) (faulty_at script c)))
+    (state_of config (lowest_correct (plan_nodes plan) (faulty_at script c)))
 
 -- Whether a slot of q rounds that begins in configuration t counts: it begins later than the bound
 -- after the begin of its era, and ends in that era and within the rounds.

@@ -44,7 +44,7 @@ LinesDecide = (plan : Plan) (script : Script) (said : AgreeSaid) → agree.IsFor
     → IsReadFor plan (agree_layer plan said.values said.inputs) script
     → (t : ℕ)
     → begins_at plan script (slot_of plan script said) t (agree_scene plan script said t).states
-        ≡ true
+    ≡ true
     → LineDecides plan script said t
 
 -- ---- firing
@@ -64,7 +64,7 @@ LinesFireTogether = (plan : Plan) (script : Script) (requests : List Request)
     → AreFor plan requests → IsReadFor plan (fire_layer plan requests) script
     → (t : ℕ)
     → begins_at plan script (slot_length (plan_faults plan)) t
-        (fire_scene plan script requests t).states ≡ true
+    (fire_scene plan script requests t).states ≡ true
     → LineFires plan script requests t
 
 -- ---- the log
@@ -97,5 +97,5 @@ LinesPutOne = (plan : Plan) (script : Script) (said : LogSaid) → log.IsFor pla
     → IsReadFor plan (log_layer plan said) script
     → (t : ℕ)
     → begins_at plan script (entry_length (plan_faults plan)) t
-        (log_scene plan script said t).states ≡ true
+    (log_scene plan script said t).states ≡ true
     → LinePuts plan script said t
