@@ -25,30 +25,6 @@ pub liars_sum : (s : Sent) (first count : ℕ)
     → liars_below s first + liars_in s first count ≡ liars_below s (first + count)
 liars_sum s first count = omega (arith, shorter (is_liar s) first (first + count) (omega arith))
 
--- those of the blocks so far and of the next one
-pub liars_more : (s : Sent) (first i n : ℕ)
-    → liars_in s first (i * n) + liars_in s (first + i * n) n ≡ liars_in s first ((i + 1) * n)
-liars_more s first i n =
-    let e : first + (i + 1) * n ≡ first + i * n + n = omega arith in
-    omega (
-      arith,
-      ap (liars_below s) e,
-      shorter (is_liar s) first (first + i * n)
-          (omega arith),
-      shorter (is_liar s) (first + i * n) (first + i * n + n) (omega arith),
-    )
-
--- a stretch inside another has no more
-pub liars_inside : (s : Sent) (first count from n : ℕ) → first ≤ from → from + n ≤ first + count
-    → liars_in s from n ≤ liars_in s first count
-liars_inside s first count from n le fits =
-    omega (
-      arith,
-      shorter (is_liar s) first from le,
-      shorter (is_liar s) from (from + n) (omega arith),
-      shorter (is_liar s) (from + n) (first + count) fits,
-    )
-
 module _ (s : Sent) (lies : List State) (told : IsTold s lies) (first count : ℕ)
     (within : first + count ≤ length s.registers) where
   enough : liars_below s (first + count) ≤ length lies

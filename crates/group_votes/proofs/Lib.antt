@@ -1,5 +1,7 @@
 pub mod Passing
 pub mod Single
+pub mod Told
+pub mod Most
 pub mod LockedGroups
 pub mod Heard
 pub mod Leads

@@ -1,8 +1,10 @@
-ghost use Rattle.std.specs.Prelude.{◌≡◌, ◌+◌, ◌*◌, ◌<◌, ◌≤◌, ℕ, List, length, slice_index_or, IfSome, true, false};
+ghost use Rattle.std.specs.Prelude.{◌≡◌, ◌+◌, ◌*◌, ◌<◌, ◌≤◌, ℕ, List, length, map, slice_index_or, IfSome, Some, true, false};
+ghost use Rattle.std.specs.List.{range_with_len};
+ghost use Rattle.counting.specs.Values.{count_of, majority_or_zero};
 ghost use Rattle.sync_types.specs.States.{State};
 ghost use Rattle.majority_votes.specs.Votes.{Votes};
 ghost use Rattle.group_votes.specs.Senders.{Sent, IsTold, TellsItself, liars_in, parts_of};
-ghost use Rattle.group_votes.specs.Votes.{AreAsked, HasRoomIn, block_part, blocks_lead};
+ghost use Rattle.group_votes.specs.Votes.{AreAsked, AreVotes, HasRoomIn, HasVotesIn, block_part, block_vote, blocks_lead};
 ghost use Rattle.group_votes.specs.Groups.{contents, IsGroup, StandsFor, register_heard, AreBelow, AreLies, beat_of_lead};
 
 use crate::group::Group;
@@ -14,77 +16,106 @@ use crate::readings::{Parts, Pointers};
 use crate::senders::Senders;
 use crate::sites::Site;
 use crate::stretches::Stretch;
-use majority_votes::{Steps, Tally};
+use majority_votes::Steps;
 use std::sync::ledger::Ledger;
 use sync_types::{NodeState, Reg};
 
-/// The lead heard of the blocks, the known one or that of their votes.
-fn lead_heard<G: Ledger>(
+/// A level has no more blocks.
+const MOST_BLOCKS: usize = 16;
+
+/// How many of the votes are this one.
+fn places_of(votes: &[u64], vote: u64) -> usize
+    ensures { result ≡ count_of (map Some votes.now) (Some vote) }
+{
+    let mut places = 0;
+    for other in votes {
+        if *other == vote {
+            places += 1;
+        }
+    }
+    places
+}
+
+/// The vote that more than half of the votes are, 0 where there is none.
+fn most_of(votes: &[u64]) -> u64
+    ensures { result ≡ majority_or_zero votes.now }
+{
+    let half = votes.len() / 2;
+    for i in 0..votes.len() {
+        if half < places_of(votes, votes[i]) {
+            return votes[i];
+        }
+    }
+    0
+}
+
+/// Puts the vote heard of each block into its place: the known one, or that of its pointers.
+fn hear_votes(
     hearing: &Hearing<'_>,
     site: &Site<'_>,
-    known: Option<u64>,
     votes: &[Option<u64>],
-    pointers: &mut [Poll],
-    scratch: &mut Tally,
-    steps: &mut Steps<G>,
-) -> u64
+    pointers: &[Poll],
+    heard: &mut [u64],
+)
     requires same { site.now.senders.now ≡ hearing.now.senders.now }
-    requires blocks { AreAsked site.now.senders.now site.now.intervals.now site.now.leaders
-        site.now.first site.now.size known votes.now pointers.old }
-    requires room { length site.now.intervals.now ≤ scratch.old.capacity }
-    ensures lead { result ≡ blocks_lead site.now.senders.now hearing.now.lies.now
-        site.now.intervals.now site.now.leaders site.now.first site.now.size }
-    ensures same { pointers.new ≡ pointers.old }
-    ensures capacity { scratch.new.capacity ≡ scratch.old.capacity }
-    ensures steps { steps.new ≤ steps.old + liars_in site.now.senders.now
-        site.now.first (length site.now.intervals.now * site.now.size) }
+    requires votes { AreVotes site.now.senders.now site.now.intervals.now site.now.leaders
+        site.now.first site.now.size votes.now pointers.now }
+    requires room { HasVotesIn (length site.now.intervals.now) site.now.size
+        votes.now pointers.now }
+    requires heard { length heard.old ≡ length site.now.intervals.now }
+    ensures { heard.new ≡ map (λ i. block_vote site.now.senders.now hearing.now.lies.now
+        (slice_index_or site.now.intervals.now i 0) site.now.leaders
+        (site.now.first + i * site.now.size) site.now.size)
+        (range_with_len 0 (length site.now.intervals.now)) }
 {
-    if let Some(lead) = known {
-        return lead;
-    }
-    scratch.clear();
-    for i in 0..site.intervals.len() {
+    for i in 0..heard.len() {
         let reading = Pointers {
             interval: site.intervals[i],
             leaders: site.leaders,
         };
         let start = site.start(i);
-        let vote = hearing.most(
-            &reading,
-            votes[i],
-            start,
-            site.size,
-            &mut pointers[i],
-            steps,
-        );
-        scratch.add(Some(vote));
+        heard[i] = hearing.most(&reading, votes[i], start, site.size, &pointers[i]);
     }
-    scratch.majority().unwrap_or(0)
+}
+
+/// The lead heard of the blocks, the known one or that of their votes.
+fn lead_heard(
+    hearing: &Hearing<'_>,
+    site: &Site<'_>,
+    known: Option<u64>,
+    votes: &[Option<u64>],
+    pointers: &[Poll],
+) -> u64
+    requires same { site.now.senders.now ≡ hearing.now.senders.now }
+    requires blocks { AreAsked site.now.senders.now site.now.intervals.now site.now.leaders
+        site.now.first site.now.size known votes.now pointers.now }
+    requires few { length site.now.intervals.now ≤ 16 }
+    ensures { result ≡ blocks_lead site.now.senders.now hearing.now.lies.now
+        site.now.intervals.now site.now.leaders site.now.first site.now.size }
+{
+    if let Some(lead) = known {
+        return lead;
+    }
+    let mut room = [0; MOST_BLOCKS];
+    let heard = &mut room[..site.intervals.len()];
+    hear_votes(hearing, site, votes, pointers, heard);
+    most_of(heard)
 }
 
 /// The part of the beat heard of the lead, whose parts are counted.
-fn part_of_lead<G: Ledger>(
-    hearing: &Hearing<'_>,
-    site: &Site<'_>,
-    lead: usize,
-    parts: &mut [Poll],
-    steps: &mut Steps<G>,
-) -> u64
+fn part_of_lead(hearing: &Hearing<'_>, site: &Site<'_>, lead: usize, parts: &[Poll]) -> u64
     requires same { site.now.senders.now ≡ hearing.now.senders.now }
     requires lead { lead < site.now.leaders }
-    requires stands { (none : Votes) → (slice_index_or parts.old lead none).values
+    requires stands { (none : Votes) → (slice_index_or parts.now lead none).values
         ≡ parts_of site.now.senders.now site.now.beat
         (site.now.first + lead * site.now.size) site.now.size }
-    requires room { HasRoomIn site.now.leaders site.now.size parts.old }
-    ensures part { result ≡ block_part site.now.senders.now hearing.now.lies.now site.now.beat
+    requires room { HasRoomIn site.now.leaders site.now.size parts.now }
+    ensures { result ≡ block_part site.now.senders.now hearing.now.lies.now site.now.beat
         (site.now.first + lead * site.now.size) site.now.size }
-    ensures same { parts.new ≡ parts.old }
-    ensures steps { steps.new ≤ steps.old + liars_in site.now.senders.now
-        site.now.first (site.now.leaders * site.now.size) }
 {
     let reading = Parts { beat: site.beat };
     let start = site.start(lead);
-    hearing.most(&reading, None, start, site.size, &mut parts[lead], steps)
+    hearing.most(&reading, None, start, site.size, &parts[lead])
 }
 
 impl Group {
@@ -95,7 +126,6 @@ impl Group {
         senders: &Senders<'_>,
         node: usize,
         lies: &[NodeState],
-        scratch: &mut Tally,
         steps: &mut Steps<G>,
     ) -> Reg
         requires stands { StandsFor senders.now self.old }
@@ -103,11 +133,9 @@ impl Group {
         requires below { AreBelow self.old.nums.modulus senders.now.registers }
         requires told { IsTold senders.now lies.now }
         requires lies { AreLies senders.now.height self.old.nums.modulus lies.now }
-        requires room { self.old.nums.blocks ≤ scratch.old.capacity }
         ensures register { result
             ≡ register_heard senders.now self.old.nums self.old.first node lies.now }
         ensures same { contents self.new ≡ contents self.old }
-        ensures capacity { scratch.new.capacity ≡ scratch.old.capacity }
         ensures steps { steps.new ≤ steps.old
             + 3 * liars_in senders.now self.old.first self.old.nums.nodes }
     {
@@ -125,7 +153,7 @@ impl Group {
             first: self.first,
             lies,
         };
-        let beat = self.beat_heard(&hearing, scratch, steps);
+        let beat = self.beat_heard(&hearing);
         obey(&hearing, beat, own, least, &mut self.values, steps)
     }
 
@@ -148,21 +176,11 @@ impl Group {
     }
 
     /// The beat that is heard, of a group that is not settled.
-    fn beat_heard<G: Ledger>(
-        &mut self,
-        hearing: &Hearing<'_>,
-        scratch: &mut Tally,
-        steps: &mut Steps<G>,
-    ) -> u64
-        requires stands { StandsFor hearing.now.senders.now self.old }
-        requires open { self.old.is_settled ≡ false }
-        requires room { self.old.nums.blocks ≤ scratch.old.capacity }
-        ensures beat { result
-            ≡ beat_of_lead hearing.now.senders.now (contents self.old) hearing.now.lies.now }
-        ensures same { contents self.new ≡ contents self.old }
-        ensures capacity { scratch.new.capacity ≡ scratch.old.capacity }
-        ensures steps { steps.new ≤ steps.old
-            + 2 * liars_in hearing.now.senders.now self.old.first self.old.nums.nodes }
+    fn beat_heard(&self, hearing: &Hearing<'_>) -> u64
+        requires stands { StandsFor hearing.now.senders.now self.now }
+        requires open { self.now.is_settled ≡ false }
+        ensures { result
+            ≡ beat_of_lead hearing.now.senders.now (contents self.now) hearing.now.lies.now }
     {
         if let Some(beat) = self.beat {
             return beat;
@@ -176,16 +194,8 @@ impl Group {
             leaders: u64::from(self.nums.leaders),
             beat: self.nums.beat,
         };
-        let lead = lead_heard(
-            hearing,
-            &site,
-            self.lead,
-            &self.votes,
-            &mut self.pointers,
-            scratch,
-            steps,
-        );
-        part_of_lead(hearing, &site, lead as usize, &mut self.parts, steps)
+        let lead = lead_heard(hearing, &site, self.lead, &self.votes, &self.pointers);
+        part_of_lead(hearing, &site, lead as usize, &self.parts)
     }
 
     /// Whether the new register of a node of the group may hang on what it is told. Where it does

@@ -10,9 +10,7 @@ use crate::laying::Lies;
 use crate::polls::Poll;
 use crate::readings::Reading;
 use crate::senders::Senders;
-use majority_votes::Steps;
 use plan_numbers::LevelNums;
-use std::sync::ledger::Ledger;
 use sync_types::NodeState;
 
 /// What a node of a group hears: the senders, and what the liars among them tell it.
@@ -89,27 +87,24 @@ impl Hearing<'_> {
 
     /// The number heard that most of `count` nodes from `first` on have: the known one, or that of
     /// their correct ones, which the poll has, with their liars.
-    pub fn most<R: Reading, G: Ledger>(
+    pub fn most<R: Reading>(
         &self,
         reading: &R,
         known: Option<u64>,
         first: usize,
         count: usize,
-        poll: &mut Poll,
-        steps: &mut Steps<G>,
+        poll: &Poll,
     ) -> u64
         requires within { first + count ≤ length self.now.senders.now.registers }
         requires stands { IsMost self.now.senders.now (R.reads reading.now)
-            first count known poll.old }
-        requires room { count ≤ poll.old.capacity }
-        ensures most { result ≡ most_heard self.now.senders.now self.now.lies.now
+            first count known poll.now }
+        requires room { count ≤ poll.now.capacity }
+        ensures { result ≡ most_heard self.now.senders.now self.now.lies.now
             (R.reads reading.now) first count }
-        ensures same { poll.new ≡ poll.old }
-        ensures steps { steps.new ≤ steps.old + liars_in self.now.senders.now first count }
     {
         match known {
             Some(most) => most,
-            None => self.lies_in(first, count).most(reading, poll, steps),
+            None => self.lies_in(first, count).most(reading, poll),
         }
     }
 }

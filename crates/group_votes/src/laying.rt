@@ -1,4 +1,4 @@
-ghost use Rattle.std.specs.Prelude.{◌≡◌, ◌+◌, ◌≤◌, ◌<◌, ◌++◌, map, length, All, Some, unwrap_or};
+ghost use Rattle.std.specs.Prelude.{◌≡◌, ◌+◌, ◌≤◌, ◌<◌, ◌++◌, ◌↔◌, map, length, All, Some, unwrap_or, IsTrue};
 ghost use Rattle.counting.specs.Values.{count_of, majority_of, least_above};
 ghost use Rattle.sync_types.specs.States.{register_at};
 ghost use Rattle.construction.specs.Shown.{shown};
@@ -30,43 +30,58 @@ fn shown_to(height: usize, state: &NodeState) -> u64
 }
 
 impl Lies<'_> {
-    /// Lays what is read of the lies over what a poll has.
-    fn lay_numbers<R: Reading, G: Ledger>(&self, reading: &R, poll: &mut Poll, steps: &mut Steps<G>)
-        requires { length poll.old.values + length self.now.lies.now ≤ poll.old.capacity }
-        ensures poll { poll.new ≡ record poll.old {
-          values = poll.old.values
-              ++ map (λ s. Some (R.reads reading.now (shown self.now.height s))) self.now.lies.now;
-        } }
-        ensures steps { steps.new ≡ steps.old + length self.now.lies.now }
+    /// Of how many lies a number is read.
+    fn count_number<R: Reading>(&self, reading: &R, number: u64) -> usize
+        ensures value { result ≡ count_of
+            (map (λ s. Some (R.reads reading.now (shown self.now.height s))) self.now.lies.now)
+            (Some number) }
+        ensures most { result ≤ length self.now.lies.now }
     {
+        let mut count = 0;
         for lie in self.lies {
-            poll.place(Some(reading.of(shown_to(self.height, lie))), steps);
+            if reading.of(shown_to(self.height, lie)) == number {
+                count += 1;
+            }
         }
+        count
+    }
+
+    /// Whether more than `half` places hold a number, of those that the poll has and those read of
+    /// the lies.
+    fn is_above<R: Reading>(&self, reading: &R, number: u64, half: usize, poll: &Poll) -> bool
+        requires { length poll.now.values + length self.now.lies.now ≤ poll.now.capacity }
+        ensures { let told = map (λ s. Some (R.reads reading.now (shown self.now.height s)))
+            self.now.lies.now in
+            IsTrue result ↔ (half < count_of (poll.now.values ++ told) (Some number)) }
+    {
+        let _room = poll.capacity();
+        let same = poll.count_of(Some(number));
+        if same + self.lies.len() <= half {
+            return false;
+        }
+        half < same + self.count_number(reading, number)
     }
 
     /// The number that most have, of those that the poll has and those read of the lies; 0 where
-    /// there is none. The poll is as before afterwards. One lie alone takes no step.
-    pub fn most<R: Reading, G: Ledger>(
-        &self,
-        reading: &R,
-        poll: &mut Poll,
-        steps: &mut Steps<G>,
-    ) -> u64
-        requires { length poll.old.values + length self.now.lies.now ≤ poll.old.capacity }
-        ensures most { let told = map (λ s. Some (R.reads reading.now (shown self.now.height s)))
+    /// there is none. Nothing is placed.
+    pub fn most<R: Reading>(&self, reading: &R, poll: &Poll) -> u64
+        requires { length poll.now.values + length self.now.lies.now ≤ poll.now.capacity }
+        ensures { let told = map (λ s. Some (R.reads reading.now (shown self.now.height s)))
             self.now.lies.now in
-            result ≡ unwrap_or (majority_of (poll.old.values ++ told)) 0 }
-        ensures same { poll.new ≡ poll.old }
-        ensures steps { steps.new ≤ steps.old + length self.now.lies.now }
+            result ≡ unwrap_or (majority_of (poll.now.values ++ told)) 0 }
     {
-        if self.lies.len() == 1 && poll.is_empty() {
-            return reading.of(shown_to(self.height, &self.lies[0]));
+        let _room = poll.capacity();
+        let half = (poll.len() + self.lies.len()) / 2;
+        if let Some(most) = poll.least_above(half) {
+            return most;
         }
-        let len = poll.len();
-        self.lay_numbers(reading, poll, steps);
-        let most = poll.majority().unwrap_or(0);
-        poll.cut(len);
-        most
+        for lie in self.lies {
+            let number = reading.of(shown_to(self.height, lie));
+            if self.is_above(reading, number, half, poll) {
+                return number;
+            }
+        }
+        0
     }
 
     /// Lays the values of the lies over those that a poll has.

@@ -1,5 +1,5 @@
-ghost use Rattle.std.specs.Prelude.{◌≡◌, true, take, ◌+◌, ◌<◌, ◌≤◌, [], ◌∷◌, ◌++◌, IfOk, IsTrue, ◌↔◌, length};
-ghost use Rattle.counting.specs.Values.{count_of, majority_of, least_above};
+ghost use Rattle.std.specs.Prelude.{◌≡◌, true, take, ◌+◌, ◌<◌, ◌≤◌, [], ◌∷◌, ◌++◌, IfOk, length};
+ghost use Rattle.counting.specs.Values.{count_of, least_above};
 ghost use Rattle.counting.specs.Unfinished.{LeastStays};
 ghost use Rattle.majority_votes.specs.Outlooks.{IsOutlook};
 
@@ -47,13 +47,6 @@ impl Poll {
         self.tally.len()
     }
 
-    /// Whether it has no value.
-    pub fn is_empty(&self) -> bool
-        ensures { IsTrue result ↔ (self.now.values ≡ []) }
-    {
-        self.tally.is_empty()
-    }
-
     /// Forgets all values.
     pub fn clear(&mut self)
         ensures { self.new ≡ record self.old { values = [] } }
@@ -78,14 +71,8 @@ impl Poll {
         self.tally.cut(len);
     }
 
-    /// The number that more than half of the places hold.
-    pub fn majority(&self) -> Option<u64>
-        ensures { result ≡ majority_of self.now.values }
-    {
-        self.tally.majority()
-    }
-
-    /// The same once `more` values have come, where it is known.
+    /// The number that more than half of the places hold once `more` values have come, where it is
+    /// known.
     pub fn majority_with(&self, more: usize) -> Outlook
         requires { length self.now.values + more ≤ self.now.capacity }
         ensures { IsOutlook more self.now.values result }

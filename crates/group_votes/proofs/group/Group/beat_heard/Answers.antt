@@ -2,13 +2,12 @@ use Rattle.std.proofs.Common.{◌≡◌, ℕ, ◌*◌, ◌≤◌, ◌∙◌, All
 use Rattle.majority_votes.specs.Votes.{Votes}
 use Rattle.group_votes.specs.Votes.{IsKnown, AreVotes, blocks_lead}
 use Rattle.group_votes.specs.Groups.{contents, lead_heard}
-use Rattle.group_votes.proofs.Heard.{liars_inside}
 use Rattle.group_votes.proofs.Known.{lead_below, agrees}
 use Rattle.group_votes.proofs.Groups.{facts}
 use Rattle.group_votes.proofs.group.Group.beat_heard.Goals as goal
 
 pub invariant_of-site : goal.invariant_of-site
-invariant_of-site g c =
+invariant_of-site c =
     let f = facts c.args.self.now c.requires.stands.room in
     let n : ℕ = c.args.self.now.block in
     let long : length c.deref.result.now ≡ c.args.self.now.nums.blocks =
@@ -27,7 +26,7 @@ invariant_of-site g c =
 
 -- what is known and counted, by the names of the call
 pub lead_heard-lead-requires-clause-blocks : goal.lead_heard-lead-requires-clause-blocks
-lead_heard-lead-requires-clause-blocks g c =
+lead_heard-lead-requires-clause-blocks c =
     let group = c.args.self.now in
     let s = c.args.hearing.now.senders.now in
     let n : ℕ = group.block in
@@ -35,7 +34,7 @@ lead_heard-lead-requires-clause-blocks g c =
     let counted = c.requires.stands.counted c.requires.open in
     let leaders : ℕ = c.from.result in
     let votes = c.deref-2.result.now in
-    let pointers = c.deref_mut.result.now in
+    let pointers = c.deref-3.result.now in
     let intervals = c.deref.result.now in
     let items = group.intervals.items in
     let long = ap length c.deref.ensures.value ∙ (facts group room).long in
@@ -51,72 +50,54 @@ lead_heard-lead-requires-clause-blocks g c =
           (subst (λ vs. AreVotes s items group.nums.leaders group.first n vs pointers)
           (sym c.deref-2.ensures.value)
           (subst (λ ts. AreVotes s items group.nums.leaders group.first n group.votes.items ts)
-          (sym c.deref_mut.ensures.value) counted.votes)));
+          (sym c.deref-3.ensures.value) counted.votes)));
       room = (
         ap length c.deref-2.ensures.value ∙ (room.votes ∙ sym long),
         (
-          ap length c.deref_mut.ensures.value ∙ (room.pointers ∙ sym long),
+          ap length c.deref-3.ensures.value ∙ (room.pointers ∙ sym long),
           subst (All (λ (t : Votes). n ≤ t.capacity))
-              (sym c.deref_mut.ensures.value) room.pointers_room,
+              (sym c.deref-3.ensures.value) room.pointers_room,
         ),
       );
     }
 
-pub lead_heard-lead-requires-clause-room : goal.lead_heard-lead-requires-clause-room
-lead_heard-lead-requires-clause-room g c =
+-- a level has at most 16 blocks
+pub lead_heard-lead-requires-clause-few : goal.lead_heard-lead-requires-clause-few
+lead_heard-lead-requires-clause-few c =
+    let room = c.requires.stands.room in
     omega (
       arith,
       ap length c.deref.ensures.value,
-      (facts c.args.self.now c.requires.stands.room).long,
-      c.requires.room,
+      (facts c.args.self.now room).long,
+      room.numbers.sized.most_blocks,
     )
 
 -- the lead is one of the leaders, whose parts are counted
 pub part_of_lead-requires-clause-lead : goal.part_of_lead-requires-clause-lead
-part_of_lead-requires-clause-lead g c =
+part_of_lead-requires-clause-lead c =
     let group = c.args.self.now in
     let f = facts group c.requires.stands.room in
     omega (
       arith,
-      c.lead_heard-lead.ensures.lead,
+      c.lead_heard-lead.ensures,
       lead_below c.args.hearing.now.senders.now c.deref.result.now c.from.result group.first
           group.block c.args.hearing.now.lies.now (omega (arith, c.from.ensures, f.some_leaders)),
     )
 
 pub part_of_lead-requires-clause-stands : goal.part_of_lead-requires-clause-stands
-part_of_lead-requires-clause-stands g c = λ none.
+part_of_lead-requires-clause-stands c = λ none.
     let group = c.args.self.now in
     let s = c.args.hearing.now.senders.now in
     let lies = c.args.hearing.now.lies.now in
     let counted = c.requires.stands.counted c.requires.open in
     let lead = c.lead_heard-lead.result in
     let is : lead ≡ lead_heard s (contents group) lies =
-    c.lead_heard-lead.ensures.lead
+    c.lead_heard-lead.ensures
     ∙ (ap (λ is. blocks_lead s lies is c.from.result group.first group.block) c.deref.ensures.value
     ∙ ap (λ m. blocks_lead s lies group.intervals.items m group.first group.block)
     c.from.ensures) in
-    ap (λ ts. (get_or ts lead none).values) c.deref_mut-2.ensures.value
+    ap (λ ts. (get_or ts lead none).values) c.deref-4.ensures.value
     ∙ counted.parts c.in_default.is lead none
-    (omega (arith, part_of_lead-requires-clause-lead g c, c.from.ensures))
+    (omega (arith, part_of_lead-requires-clause-lead c, c.from.ensures))
     (agrees s (lead_heard s (contents group)) group.lead counted.lead lies c.args.hearing.now.told
     lead is)
-
--- at most two for each liar
-pub returns-clause-steps : goal.returns-clause-steps
-returns-clause-steps g c =
-    let group = c.args.self.now in
-    let s = c.args.hearing.now.senders.now in
-    let f = facts group c.requires.stands.room in
-    let n : ℕ = group.block in
-    let long = ap length c.deref.ensures.value ∙ f.long in
-    let blocks : length c.deref.result.now * n ≡ group.nums.blocks * n = ap (λ k. k * n) long in
-    let leaders : c.from.result * n ≡ group.nums.leaders * n = ap (λ k. k * n) c.from.ensures in
-    omega (
-      arith,
-      c.lead_heard-lead.ensures.steps,
-      c.part_of_lead.ensures.steps,
-      liars_inside s group.first group.nums.nodes group.first (length c.deref.result.now * n)
-          (omega arith) (omega (arith, blocks, f.size)),
-      liars_inside s group.first group.nums.nodes group.first (c.from.result * n) (omega arith)
-          (omega (arith, leaders, f.size, f.leaders_fit)),
-    )
