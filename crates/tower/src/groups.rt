@@ -89,14 +89,11 @@ impl Placed {
         board: &Board,
         node: usize,
         lies: &[NodeState],
-        scratch: &mut Tally,
         steps: &mut Steps<G>,
     ) -> Reg
-        requires step { CanStep board.now node lies.now self.old }
-        requires room { 16 ≤ scratch.old.capacity }
+        requires { CanStep board.now node lies.now self.old }
         ensures register { result ≡ register_by board.now node lies.now self.old }
         ensures same { self.new ≡ self.old }
-        ensures capacity { scratch.new.capacity ≡ scratch.old.capacity }
         ensures steps { steps.new ≤ steps.old + 3 * length board.now.faulty }
     {
         board.tell();
@@ -104,7 +101,7 @@ impl Placed {
             return register;
         }
         let senders = board.senders(self.height);
-        self.group.register(&senders, node, lies, scratch, steps)
+        self.group.register(&senders, node, lies, steps)
     }
 
     /// Whether the new register of a node of the group may hang on what it is told.
@@ -217,20 +214,17 @@ fn register_at<G: Ledger>(
     node: usize,
     lies: &[NodeState],
     groups: &mut [Placed],
-    scratch: &mut Tally,
     steps: &mut Steps<G>,
 ) -> Reg
     requires height { height < length row.now.places.items }
     requires step { row.now.low ≤ height + 1
         → Leads board.now row.now node lies.now groups.old height }
-    requires room { 16 ≤ scratch.old.capacity }
     ensures register { result ≡ row_register board.now row.now node lies.now groups.old height }
     ensures same { groups.new ≡ groups.old }
-    ensures capacity { scratch.new.capacity ≡ scratch.old.capacity }
     ensures steps { steps.new ≤ steps.old + 3 * length board.now.faulty }
 {
     if row.low <= height + 1 {
-        groups[row.places[height]].register(board, node, lies, scratch, steps)
+        groups[row.places[height]].register(board, node, lies, steps)
     } else {
         NONE
     }
@@ -273,13 +267,11 @@ pub(crate) fn write_registers<G: Ledger>(
     node: usize,
     lies: &[NodeState],
     groups: &mut [Placed],
-    scratch: &mut Tally,
     out: &mut NodeState,
     steps: &mut Steps<G>,
 )
     requires leads { (l : ℕ) → l < length row.now.places.items → row.now.low ≤ l + 1
         → Leads board.now row.now node lies.now groups.old l }
-    requires room { 16 ≤ scratch.old.capacity }
     requires out { length row.now.places.items ≤ length out.old.registers }
     ensures out { out.new ≡ record {
       x = out.old.x;
@@ -288,12 +280,11 @@ pub(crate) fn write_registers<G: Ledger>(
           ++ drop (length row.now.places.items) out.old.registers;
     } }
     ensures same { groups.new ≡ groups.old }
-    ensures capacity { scratch.new.capacity ≡ scratch.old.capacity }
     ensures steps { steps.new
         ≤ steps.old + 3 * length row.now.places.items * length board.now.faulty }
 {
     for height in 0..row.places.len() {
-        let register = register_at(board, row, height, node, lies, groups, scratch, steps);
+        let register = register_at(board, row, height, node, lies, groups, steps);
         out.set_reg(height, register);
     }
 }

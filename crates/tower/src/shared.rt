@@ -138,7 +138,6 @@ impl Shared {
             node as usize,
             lies,
             &mut self.groups,
-            &mut self.scratch,
             out,
             steps,
         );

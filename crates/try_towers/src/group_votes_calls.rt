@@ -112,7 +112,7 @@ fn heard<G: Ledger>(
     let senders = with_a_liar(&outputs, registers);
     group.gather(&senders, &mut scratch, &mut steps);
     let open = group.is_open(&senders, node);
-    let register = group.register(&senders, node, lies, &mut scratch, &mut steps);
+    let register = group.register(&senders, node, lies, &mut steps);
     Ok((group.common_register(), open, register))
 }
 

@@ -51,6 +51,5 @@ loop-height-preserved g c =
           c.register_at-register.result less i.registers
           (e.register ∙ ap (λ gs. f gs h) i.same);
       same = e.same ∙ i.same;
-      capacity = e.capacity ∙ i.capacity;
       steps = omega (arith, e.steps, i.steps);
     }

@@ -10,6 +10,5 @@ invariant-loop-height g l = record {
       ≡ map (row_register l.board l.row l.node l.lies l.initial.groups) (range_with_len 0 l.height)
       ++ drop l.height l.initial.out.registers;
   same : l.groups ≡ l.initial.groups;
-  capacity : l.scratch.capacity ≡ l.initial.scratch.capacity;
   steps : l.steps ≤ l.initial.steps + 3 * l.height * length l.board.faulty;
 }

@@ -10,7 +10,7 @@ pub register-requires-clause-told : goal.register-requires-clause-told
 register-requires-clause-told g c =
     subst (λ (s : Sent). IsTold s c.args.lies.now) (sym c.senders-senders.ensures)
     (told_is c.args.board.now c.self.inside.height c.tell.ensures.liars c.args.lies.now
-    c.requires.step.told)
+    c.requires.told)
 
 pub returns-clause-register : goal.returns-clause-register
 returns-clause-register g c =
@@ -28,7 +28,7 @@ returns-clause-steps g c =
     let nodes : ℕ = p.group.nums.nodes in
     let Within : Placing → Type 0 = λ q. q.group.first + q.group.nums.nodes ≤ length board.states in
     let within : first + nodes ≤ length board.states =
-    subst Within (sym c.self.view_is) c.requires.step.within in
+    subst Within (sym c.self.view_is) c.requires.within in
     let e = ap (λ s. liars_in s first nodes) c.senders-senders.ensures in
     omega (
       arith,
