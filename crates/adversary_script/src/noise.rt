@@ -1,4 +1,5 @@
-ghost use Rattle.std.specs.Prelude.{◌≡◌, ◌<◌, ◌≤◌, ◌^◌, ◌*◌, ◌+◌, All, length, IfOk};
+ghost use Rattle.std.specs.Prelude.{◌≡◌, ◌<◌, ◌≤◌, ◌^◌, ◌*◌, ◌+◌, ℕ, All, length, slice_index, slice_index_or, IfOk};
+ghost use Rattle.std.specs.Int.{w32, to_le_bytes};
 ghost use Rattle.adversary_script.specs.Noise.{key_in, noise_words, bytes_of, noise_bytes};
 
 use crate::scripts::Script;
@@ -122,12 +123,31 @@ fn fill_words(generator: &mut ChaCha8Rng, stream: u64, first: u64, words: &mut [
     }
 }
 
+/// Writes a word as four bytes from a place on, the low byte first.
+fn put_word(word: u32, at: usize, bytes: &mut [u8])
+    requires { at + 4 ≤ length bytes.old }
+    ensures before { (j : ℕ) → j < at
+        → slice_index_or bytes.new j 0 ≡ slice_index_or bytes.old j 0 }
+    ensures here { (j : ℕ) → j < 4
+        → slice_index_or bytes.new (at + j) 0 ≡ slice_index (to_le_bytes w32 word) j }
+    ensures length { length bytes.new ≡ length bytes.old }
+{
+    let parts = word.to_le_bytes();
+    for k in 0..4 {
+        bytes[at + k] = parts[k];
+    }
+}
+
 /// Writes words as bytes, the low byte of each first, as many as there is room for.
 fn spread(words: &[u32], bytes: &mut [u8])
     requires { length bytes.old ≤ 4 * length words.now }
     ensures { bytes.new ≡ bytes_of words.now (length bytes.old) }
 {
-    for i in 0..bytes.len() {
+    let whole = bytes.len() / 4;
+    for n in 0..whole {
+        put_word(words[n], 4 * n, bytes);
+    }
+    for i in 4 * whole..bytes.len() {
         bytes[i] = words[i / 4].to_le_bytes()[i % 4];
     }
 }
