@@ -52,7 +52,13 @@ impl OutputLines for Rows {
         output: &Output,
         _v: u32,
     ) -> Result<(), WriteFault> {
-        sink.rising(output.text())
+        let value = output.value();
+        if value < 10 {
+            // Two bytes, which are placed without a call that copies them.
+            sink.text(&[b' ', b'0' + value as u8])
+        } else {
+            sink.rising(output.text())
+        }
     }
 
     ghost by_output = { λ _. refl };
