@@ -1,18 +1,17 @@
 -- An explanation that is given passes exactly where it explains.
-use Rattle.std.proofs.Common.{◌≡◌, ℕ, suc, ◌+◌, ◌-◌, ◌*◌, ◌/◌, ◌%◌, ◌<◌, ◌≤◌, Bool, true, false, Option, Some, None, List, length, refl, sym, ap, ap₂, ◌∙◌, subst, arith}
+use Rattle.std.proofs.Common.{◌≡◌, ℕ, suc, ◌+◌, ◌-◌, ◌*◌, ◌/◌, ◌%◌, ◌<◌, ◌≤◌, Bool, true, false, Option, Some, None, refl, sym, ap, ◌∙◌, subst, arith}
 use Rattle.std.specs.Prelude.{nat_eq, nat_le, ◌&&◌}
 use Rattle.std.proofs.Math.Nat.{mod-add-mod, mod-eq_of_lt, mod-lt, add-mod_right}
 use Rattle.std.proofs.lemmas.Bool.{false≢true, and_parts, and_from, eqb-true, eq-eqb, leb-true, le-leb}
 use Rattle.construction.specs.Plans.{Plan}
-use Rattle.construction.specs.Runs.{is_in}
 use Rattle.adversary_script.specs.Scripts.{Script}
-use Rattle.adversary_script.specs.Eras.{faulty_of_era}
 use Rattle.run_explanations.specs.declared.explanations.Explanation.{Explanation}
 use Rattle.run_explanations.specs.declared.searching.Stretch.{Stretch}
 use Rattle.run_explanations.specs.declared.seeing.Seen.{Seen}
 use Rattle.run_explanations.specs.declared.tops.Top.{Top}
 use Rattle.run_explanations.specs.Checking.{Fits, is_of, is_of_seen}
 use Rattle.run_explanations.specs.Explanations.{IsExplanation, era_begin, is_faulty, seen_at}
+use Rattle.run_explanations.specs.Playing.{FitsEra}
 use Rattle.run_explanations.specs.Searching.{begins_phase, stretch_before}
 use Rattle.run_explanations.specs.Tops.{IsTop, top_of}
 use Rattle.run_explanations.proofs.Bridge.{era_is_seen, seen_is_era}
@@ -147,16 +146,40 @@ module _ (plan : Plan) (script : Script) (is : IsTop (top_of plan)) (e : Explana
       (seen_at plan script) e (era_is_seen plan script is e.window e.leader e.phase e.king why)
 
 -- what is computed is that test
-pub result_is : (plan : Plan) (script : Script) (top : Top) (ids : List ℕ) (rounds c : ℕ) (played : Plan)
-    (s : Stretch) (e : Explanation) (result : Bool) → top ≡ top_of plan → played ≡ plan
-    → ids ≡ faulty_of_era script (length script.eras) → rounds ≡ script.rounds
-    → c ≡ e.window + top.beat
-    → s ≡ stretch_before top.beat e.window (seen_at played script) c
-    → result ≡ is_of top.beat (is_in ids) rounds s e
+pub result_is : (plan : Plan) (read script : Script) (top : Top) (played : Plan) (s : Stretch)
+    (e : Explanation) (result : Bool) → top ≡ top_of plan → played ≡ plan → read ≡ script
+    → s ≡ stretch_before top.beat e.window (seen_at played script) (e.window + top.beat)
+    → result ≡ is_of top.beat (is_faulty read) read.rounds s e
     → result ≡ is_of (top_of plan).beat (is_faulty script) script.rounds
     (stretch_before (top_of plan).beat e.window (seen_at plan script) (e.window + (top_of plan).beat)) e
-result_is plan script top ids rounds c played s e result top_is plan_is faulty last at stretch is =
-    is ∙ (ap₂ (λ (ids : List ℕ) (rounds : ℕ). is_of top.beat (is_in ids) rounds s e) faulty last
+result_is plan read script top played s e result top_is plan_is same stretch is =
+    is ∙ (ap (λ (r : Script). is_of top.beat (is_faulty r) r.rounds s e) same
     ∙ (ap (λ (s : Stretch). is_of top.beat (is_faulty script) script.rounds s e)
-    (stretch ∙ ap₂ (λ (p : Plan) (c : ℕ). stretch_before top.beat e.window (seen_at p script) c) plan_is at)
+    (stretch ∙ ap (λ (p : Plan). stretch_before top.beat e.window (seen_at p script) (e.window + top.beat)) plan_is)
     ∙ ap (λ (t : Top). is_of t.beat (is_faulty script) script.rounds (stretch_before t.beat e.window (seen_at plan script) (e.window + t.beat)) e) top_is))
+
+-- what fits by these numbers fits into the last era
+module _ (plan : Plan) (script : Script) (top : Top) (from rounds : ℕ) (e : Explanation)
+    (top_is : top ≡ top_of plan) (begin : from ≡ era_begin script) (last : rounds ≡ script.rounds) where
+  pub fits_era : Fits top.beat from rounds e → FitsEra plan script e
+  fits_era fits =
+      subst (λ (t : Top). Fits t.beat (era_begin script) script.rounds e) top_is
+      (subst (λ (from : ℕ). Fits top.beat from script.rounds e) begin
+      (subst (λ (r : ℕ). Fits top.beat from r e) last fits))
+
+  pub era_fits : FitsEra plan script e → Fits top.beat from rounds e
+  era_fits fits =
+      subst (λ (r : ℕ). Fits top.beat from r e) (sym last)
+      (subst (λ (from : ℕ). Fits top.beat from script.rounds e) (sym begin)
+      (subst (λ (t : Top). Fits t.beat (era_begin script) script.rounds e) (sym top_is) fits))
+
+pub fits_any : (beat since last other : ℕ) (e : Explanation) → last ≡ other → Fits beat since last e
+    → Fits beat 0 other e
+fits_any beat since last other e same fits =
+    let window = fits.window in
+    record {
+      from = omega arith;
+      window = omega (arith, window, same);
+      begins = fits.begins;
+      ends = fits.ends;
+    }

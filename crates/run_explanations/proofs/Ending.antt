@@ -1,5 +1,5 @@
 -- A search that ends when nothing more can change.
-use Rattle.std.proofs.Common.{◌≡◌, ◌↔◌, ℕ, ◌+◌, ◌<◌, ◌≤◌, inl, inr, Bool, true, false, Option, None, refl, sym, ap, ◌∙◌, subst, arith}
+use Rattle.std.proofs.Common.{◌≡◌, ◌↔◌, ℕ, zero, suc, ◌+◌, ◌<◌, ◌≤◌, inl, inr, Bool, true, false, Option, None, refl, sym, ap, ap₂, ◌∙◌, subst, arith}
 use Rattle.std.specs.Prelude.{is_some}
 use Rattle.std.proofs.lemmas.Bool.{true≢false, cases_eq}
 use Rattle.construction.specs.Plans.{Plan}
@@ -9,29 +9,39 @@ use Rattle.round_runner.specs.Known.{KnowsLocks}
 use Rattle.round_runner.specs.Runners.{Running}
 use Rattle.run_explanations.specs.declared.explaining.Search.{Search}
 use Rattle.run_explanations.specs.declared.explanations.Explanation.{Explanation}
+use Rattle.run_explanations.specs.declared.searching.Stretch.{Stretch}
 use Rattle.run_explanations.specs.declared.tops.Top.{Top}
 use Rattle.run_explanations.specs.Explanations.{is_faulty, seen_at}
 use Rattle.run_explanations.specs.Playing.{IsFound, IsEnough, HasPlayed}
-use Rattle.run_explanations.specs.Searching.{no_stretch, found_before}
+use Rattle.run_explanations.specs.Searching.{first_or, no_stretch, stretch_before, explained_from, found_before}
 use Rattle.run_explanations.proofs.Stays.{found_in_all}
+use Rattle.run_explanations.proofs.Windows.{none_before}
 
--- before the first configuration nothing was found
-pub found_begin : (top : Top) (from : ℕ) (start : Running NoOverlay) (search : Search)
-    → start.at ≡ 0 → search ≡ record { stretch = no_stretch; found = None }
-    → IsFound top from start.plan start.script start.at search
-found_begin top from start search at is =
-    let none : Search = record { stretch = no_stretch; found = None } in
-    subst (λ (s : Search). IsFound top from start.plan start.script start.at s) (sym is)
-    (subst (λ (i : ℕ). IsFound top from start.plan start.script i none) (sym at)
-    (record { stretch = refl; found = refl }))
+-- before the first configuration that is looked at there is no stretch
+pub stretch_begin : (top : Top) (from : ℕ) (plan : Plan) (script : Script) (c : ℕ) → c ≤ from
+    → (s : Stretch) → s ≡ no_stretch → s ≡ stretch_before top.beat from (seen_at plan script) c
+stretch_begin top from plan script c le s is =
+    is ∙ sym (none_before top.beat (seen_at plan script) from c le)
 
--- what was found of the run of a runner is that of the run with which it began
-pub found_of : (top : Top) (from : ℕ) (start r : Running NoOverlay) (c : ℕ) (search : Search)
-    → r.plan ≡ start.plan → r.script ≡ start.script → IsFound top from r.plan r.script c search
-    → IsFound top from start.plan start.script c search
-found_of top from start r c search plan script found =
-    subst (λ (p : Plan). IsFound top from p start.script c search) plan
-    (subst (λ (s : Script). IsFound top from r.plan s c search) script found)
+-- and nothing was found
+module _ (top : Top) (from : ℕ) (plan : Plan) (script : Script) where
+  none_found : (c : ℕ) → c ≤ from → found_before top.beat (is_faulty script) script.rounds from
+      (seen_at plan script) c ≡ None
+  none_found zero le = refl
+  none_found (suc c) le =
+      ap₂ (λ (o : Option Explanation) (s : Stretch). first_or o
+      (explained_from top.beat (is_faulty script) script.rounds c s.count s.seen))
+      (none_found c (omega (arith, le)))
+      (none_before top.beat (seen_at plan script) from (suc c) le)
+
+  pub found_begin : (c : ℕ) (search : Search) → c ≡ from
+      → search ≡ record { stretch = no_stretch; found = None }
+      → IsFound top from plan script c search
+  found_begin c search at is = record {
+    stretch = ap (λ (s : Search). s.stretch) is
+        ∙ sym (none_before top.beat (seen_at plan script) from c (omega (arith, at)));
+    found = ap (λ (s : Search). s.found) is ∙ sym (none_found c (omega (arith, at)));
+  }
 
 module _ (top : Top) (from : ℕ) (start r : Running NoOverlay) (search : Search)
     (found : IsFound top from start.plan start.script r.at search)
@@ -51,12 +61,12 @@ module _ (top : Top) (from : ℕ) (start r : Running NoOverlay) (search : Search
       (seen_at start.plan start.script) c
 
   -- where it is, all is found with the runner's configuration
-  pub found_all : (last : Search) → IsFound top from r.plan r.script (r.at + 1) last
+  pub found_all : (last : Search) → IsFound top from start.plan start.script (r.at + 1) last
       → IsEnough search r
       → last.found ≡ found_before top.beat (is_faulty start.script) start.script.rounds from
       (seen_at start.plan start.script) (start.script.rounds + 1)
   found_all last taken enough =
-      let here = (found_of top from start r (r.at + 1) last played.plan played.script taken).found in
+      let here = taken.found in
       elim enough [
         | inl end ↦ here ∙ ap (λ (i : ℕ). all_found (i + 1))
             (end ∙ ap (λ (s : Script). s.rounds) played.script)

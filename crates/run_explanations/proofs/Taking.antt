@@ -1,43 +1,50 @@
 -- A runner's configuration is taken by a search.
-use Rattle.std.proofs.Common.{◌≡◌, ℕ, ◌+◌, ◌-◌, ◌<◌, ◌≤◌, Bool, Option, Some, None, List, length, add-one, sym, ap, ap₂, ◌∙◌, if◌then◌else◌, arith}
-use Rattle.std.proofs.lemmas.Bool.{lt-leb}
+use Rattle.std.proofs.Common.{◌≡◌, ℕ, ◌+◌, ◌-◌, ◌<◌, ◌≤◌, Bool, true, false, suc, ◌*◌, Option, Some, None, List, length, add-one, sym, ap, ap₂, ◌∙◌, if◌then◌else◌, subst, arith}
 use Rattle.sync_types.specs.FaultSets.{FaultIds}
 use Rattle.sync_types.specs.States.{State}
-use Rattle.construction.specs.Plans.{Plan, plan_depth}
+use Rattle.construction.specs.Plans.{Plan, plan_depth, plan_nodes}
 use Rattle.construction.specs.Runs.{is_in}
 use Rattle.counter_core.specs.declared.overlays.NoOverlay.{NoOverlay}
-use Rattle.adversary_script.specs.Scripts.{Script}
+use Rattle.adversary_script.specs.Scripts.{Script, IsScript}
 use Rattle.adversary_script.specs.Eras.{faulty_of_era, first_of_era}
 use Rattle.round_runner.specs.Played.{played_at}
 use Rattle.round_runner.specs.Runners.{Running}
+use Rattle.round_runner.specs.Skipping.{IsSkipped}
+use Rattle.round_runner.proofs.Firsts.{era_some, end_within}
 use Rattle.run_explanations.specs.declared.explaining.Search.{Search}
 use Rattle.run_explanations.specs.declared.explanations.Explanation.{Explanation}
 use Rattle.run_explanations.specs.declared.searching.Stretch.{Stretch}
 use Rattle.run_explanations.specs.declared.seeing.Seen.{Seen}
 use Rattle.run_explanations.specs.declared.tops.Top.{Top}
 use Rattle.run_explanations.specs.Explanations.{era_begin, is_faulty, outputs_in, seen_at, explanation_of}
-use Rattle.run_explanations.specs.Playing.{IsFound, IsRead}
-use Rattle.run_explanations.specs.Searching.{stretched, stretch_before, first_or, explained_from, explained_at, found_before}
+use Rattle.run_explanations.specs.Playing.{Plays, IsToPlay, IsToRead, IsFound, IsRead, HasPlayed, taken}
+use Rattle.run_explanations.specs.Searching.{goes_on, stretched, stretch_before, first_or, explained_from, found_before}
 use Rattle.run_explanations.specs.Seeing.{seen_in}
 use Rattle.run_explanations.specs.Tops.{IsTop, top_of}
 use Rattle.run_explanations.proofs.SeenShown.{seen_shows}
+use Rattle.run_explanations.proofs.TopNumbers.{top_nodes}
 use Rattle.run_explanations.proofs.Windows.{begun, count_most}
 
 -- the faulty nodes of the last era, as a script lends them
-pub ids_are : (lent : FaultIds) (read script : Script) (n : ℕ)
-    → lent ≡ record { nodes = read.nodes; ids = faulty_of_era read (n - 1) } → n ≡ length read.eras + 1
-    → read ≡ script → lent.ids ≡ faulty_of_era script (length script.eras)
-ids_are lent read script n is count same =
-    let last : n - 1 ≡ length read.eras = omega (arith, count) in
-    ap (λ (s : FaultIds). s.ids) is ∙ (ap (faulty_of_era read) last
-    ∙ ap (λ (s : Script). faulty_of_era s (length s.eras)) same)
+pub ids_are : (lent : FaultIds) (script : Script) (n : ℕ)
+    → lent ≡ record { nodes = script.nodes; ids = faulty_of_era script (n - 1) }
+    → n ≡ length script.eras + 1 → lent.ids ≡ faulty_of_era script (length script.eras)
+ids_are lent script n is count =
+    let last : n - 1 ≡ length script.eras = omega (arith, count) in
+    ap (λ (s : FaultIds). s.ids) is ∙ ap (faulty_of_era script) last
 
 -- and its first configuration
-pub begin_is : (from : ℕ) (read script : Script) (n : ℕ) → from ≡ first_of_era read (n - 1)
-    → n ≡ length read.eras + 1 → read ≡ script → from ≡ era_begin script
-begin_is from read script n is count same =
-    let last : n - 1 ≡ length read.eras = omega (arith, count) in
-    is ∙ (ap (first_of_era read) last ∙ ap (λ (s : Script). first_of_era s (length s.eras)) same)
+pub begin_is : (from : ℕ) (script : Script) (n : ℕ) → from ≡ first_of_era script (n - 1)
+    → n ≡ length script.eras + 1 → from ≡ era_begin script
+begin_is from script n is count =
+    let last : n - 1 ≡ length script.eras = omega (arith, count) in
+    is ∙ ap (first_of_era script) last
+
+-- which is played
+pub begin_within : (script : Script) → IsScript script → era_begin script ≤ script.rounds
+begin_within script whole =
+    end_within script whole (length script.eras) (era_begin script) (omega arith)
+    (era_some script whole (length script.eras) (omega arith))
 
 -- the part that is seen is one of the beat
 pub part_small : (plan : Plan) (script : Script) (top : Top) → IsTop top → top ≡ top_of plan
@@ -46,80 +53,163 @@ part_small plan script top is same c seen e =
     (seen_shows top (is_faulty script) (outputs_in (plan_depth plan - 1) (played_at plan script c)) is seen
     (ap (λ (t : Top). seen_in t (is_faulty script) (outputs_in (plan_depth plan - 1) (played_at plan script c))) same ∙ e)).below
 
-module _ (top : Top) (from : ℕ) (r : Running NoOverlay) (read : IsRead top r) where
-  -- what was taken is no longer than the configurations before
-  pub count_now : (s : Stretch) → s ≡ stretch_before top.beat from (seen_at r.plan r.script) r.at
-      → s.count ≤ r.at
-  count_now s is =
-      let most = count_most top.beat (seen_at r.plan r.script) from
-      (part_small r.plan r.script top read.reads.top_is read.top_is) r.at in
-      let same = ap (λ (s : Stretch). s.count) is in
-      omega (arith, most, same)
+-- ---- a runner that goes on
 
-  pub count_next : (s : Stretch)
-      → s ≡ stretch_before top.beat from (seen_at r.plan r.script) (r.at + 1) → s.count ≤ r.at + 1
-  count_next s is =
-      let most = count_most top.beat (seen_at r.plan r.script) from
-      (part_small r.plan r.script top read.reads.top_is read.top_is) (r.at + 1) in
-      let same = ap (λ (s : Stretch). s.count) is in
-      omega (arith, most, same)
+-- what was skipped was played
+pub skipped_plays : (start r : Running NoOverlay) (c d : ℕ) → c ≡ d → IsSkipped start c r
+    → Plays r → HasPlayed start d r
+skipped_plays start r c d same skipped plays = record {
+  plan = skipped.plan;
+  script = skipped.script;
+  at = skipped.at ∙ same;
+  plays = plays;
+}
 
-  -- what is seen in the runner's configuration
-  pub seen_is : (ids : List ℕ) (seen : Option Seen)
-      → seen ≡ seen_in top (is_in ids) (outputs_in (plan_depth r.plan - 1) r.states)
-      → ids ≡ faulty_of_era r.script (length r.script.eras)
-      → r.states ≡ played_at r.plan r.script r.at → seen ≡ seen_at r.plan r.script r.at
-  seen_is ids seen is faulty states =
-      is ∙ (ap (λ (ids : List ℕ). seen_in top (is_in ids) (outputs_in (plan_depth r.plan - 1) r.states)) faulty
-      ∙ (ap (λ (config : List State). seen_in top (is_faulty r.script) (outputs_in (plan_depth r.plan - 1) config)) states
-      ∙ ap (λ (t : Top). seen_in t (is_faulty r.script) (outputs_in (plan_depth r.plan - 1) (played_at r.plan r.script r.at))) read.top_is))
-
-  -- the stretch with it
-  pub stretch_taken : (s now : Stretch) (seen : Option Seen) → from ≤ r.at
-      → s ≡ stretch_before top.beat from (seen_at r.plan r.script) r.at
-      → seen ≡ seen_at r.plan r.script r.at → now ≡ stretched top.beat s seen
-      → now ≡ stretch_before top.beat from (seen_at r.plan r.script) (r.at + 1)
-  stretch_taken s now seen le is here more =
-      more ∙ (ap₂ (λ (s : Stretch) (o : Option Seen). stretched top.beat s o) is here
-      ∙ (sym (begun top.beat (seen_at r.plan r.script) from r.at le)
-      ∙ ap (λ (c : ℕ). stretch_before top.beat from (seen_at r.plan r.script) c) (sym (add-one r.at))))
-
-  -- or without it, where the search has not begun
-  pub stretch_left : (s : Stretch) → r.at < from
-      → s ≡ stretch_before top.beat from (seen_at r.plan r.script) r.at
-      → s ≡ stretch_before top.beat from (seen_at r.plan r.script) (r.at + 1)
-  stretch_left s lt is =
-      is ∙ (sym (ap (λ (b : Bool). if b then stretched top.beat (stretch_before top.beat from (seen_at r.plan r.script) r.at) (seen_at r.plan r.script r.at) else stretch_before top.beat from (seen_at r.plan r.script) r.at) (lt-leb from r.at lt))
-      ∙ ap (λ (c : ℕ). stretch_before top.beat from (seen_at r.plan r.script) c) (sym (add-one r.at)))
-
-  module _ (search : Search) (found : IsFound top from r.plan r.script r.at search) where
-    pub taken_known : (s : Stretch) (e : Explanation)
-        → s ≡ stretch_before top.beat from (seen_at r.plan r.script) (r.at + 1)
-        → search.found ≡ Some e
-        → IsFound top from r.plan r.script (r.at + 1) (record { stretch = s; found = Some e })
-    taken_known s e is known = record {
-      stretch = is;
-      found =
-          sym (ap (λ (o : Option Explanation). first_or o (explained_at top.beat (is_faulty r.script) r.script.rounds from (seen_at r.plan r.script) r.at)) (sym found.found ∙ known))
-          ∙ ap (λ (c : ℕ). found_before top.beat (is_faulty r.script) r.script.rounds from (seen_at r.plan r.script) c) (sym (add-one r.at));
+-- a runner of a plan is read by the numbers of its top level
+pub read_begin : (plan : Plan) (top : Top) (r : Running NoOverlay) → IsToPlay plan r
+    → 1 ≤ plan_depth plan → IsTop top → top ≡ top_of plan → IsToRead top r
+read_begin plan top r start level small same =
+    let at = start.at in
+    record {
+      read = record {
+        reads = record {
+          top_is = small;
+          depth = subst (λ (p : Plan). 1 ≤ plan_depth p) (sym start.plan_is) level;
+          nodes = subst (λ (p : Plan). top.blocks * top.nodes ≤ plan_nodes p) (sym start.plan_is)
+              (subst (λ (t : Top). t.blocks * t.nodes ≤ plan_nodes plan) (sym same)
+              (top_nodes plan));
+        };
+        top_is = same ∙ ap top_of (sym start.plan_is);
+        plays = start.plays;
+        within = omega (arith, at);
+      };
+      at = start.at;
     }
 
-    pub taken_new : (s : Stretch) (o : Option Explanation) (ids : List ℕ) (rounds at : ℕ)
-        → s ≡ stretch_before top.beat from (seen_at r.plan r.script) (r.at + 1)
-        → search.found ≡ None → ids ≡ faulty_of_era r.script (length r.script.eras)
-        → rounds ≡ r.script.rounds → at ≡ r.at
-        → o ≡ explained_from top.beat (is_in ids) rounds at s.count s.seen
-        → IsFound top from r.plan r.script (r.at + 1) (record { stretch = s; found = o })
-    taken_new s o ids rounds at is none faulty last here new = record {
-      stretch = is;
-      found =
-          new ∙ (ap (λ (at : ℕ). explained_from top.beat (is_in ids) rounds at s.count s.seen) here
-          ∙ (ap₂ (λ (ids : List ℕ) (rounds : ℕ). explained_from top.beat (is_in ids) rounds r.at s.count s.seen) faulty last
-          ∙ (ap (λ (s : Stretch). explained_from top.beat (is_faulty r.script) r.script.rounds r.at s.count s.seen)
-          (is ∙ ap (λ (c : ℕ). stretch_before top.beat from (seen_at r.plan r.script) c) (add-one r.at))
-          ∙ (sym (ap (λ (o : Option Explanation). first_or o (explained_at top.beat (is_faulty r.script) r.script.rounds from (seen_at r.plan r.script) r.at)) (sym found.found ∙ none))
-          ∙ ap (λ (c : ℕ). found_before top.beat (is_faulty r.script) r.script.rounds from (seen_at r.plan r.script) c) (sym (add-one r.at))))));
+-- a runner that goes on is read as before
+pub read_on : (top : Top) (start r : Running NoOverlay) (c : ℕ) → IsRead top start
+    → HasPlayed start c r → c ≤ start.script.rounds → IsRead top r
+read_on top start r c read played le =
+    let rounds = ap (λ (s : Script). s.rounds) played.script in
+    let at = played.at in
+    record {
+      reads = record {
+        top_is = read.reads.top_is;
+        depth = subst (λ (p : Plan). 1 ≤ plan_depth p) (sym played.plan) read.reads.depth;
+        nodes = subst (λ (p : Plan). top.blocks * top.nodes ≤ plan_nodes p) (sym played.plan)
+            read.reads.nodes;
+      };
+      top_is = read.top_is ∙ ap top_of (sym played.plan);
+      plays = played.plays;
+      within = omega (arith, at, le, rounds);
     }
+
+-- what is seen in the runner's configuration
+pub seen_is : (top : Top) (r : Running NoOverlay) → IsRead top r → (ids : List ℕ) (seen : Option Seen)
+    → seen ≡ seen_in top (is_in ids) (outputs_in (plan_depth r.plan - 1) r.states)
+    → ids ≡ faulty_of_era r.script (length r.script.eras)
+    → r.states ≡ played_at r.plan r.script r.at → seen ≡ seen_at r.plan r.script r.at
+seen_is top r read ids seen is faulty states =
+    is ∙ (ap (λ (ids : List ℕ). seen_in top (is_in ids) (outputs_in (plan_depth r.plan - 1) r.states)) faulty
+    ∙ (ap (λ (config : List State). seen_in top (is_faulty r.script) (outputs_in (plan_depth r.plan - 1) config)) states
+    ∙ ap (λ (t : Top). seen_in t (is_faulty r.script) (outputs_in (plan_depth r.plan - 1) (played_at r.plan r.script r.at))) read.top_is))
+
+-- a stretch with a configuration more is no longer than by one
+longer_by : (s : Stretch) (b : Bool) → (if b then s.count + 1 else 1) ≤ s.count + 1
+longer_by s true = omega arith
+longer_by s false = omega arith
+
+pub stretched_most : (beat : ℕ) (s : Stretch) (o : Option Seen) → (stretched beat s o).count ≤ s.count + 1
+stretched_most beat s None = omega arith
+stretched_most beat s (Some now) = longer_by s (goes_on beat s.seen now)
+
+-- ---- what is taken
+
+module _ (top : Top) (plan : Plan) (script : Script) (c : ℕ) (search : Search) (s : Stretch)
+    (is : s ≡ stretched top.beat search.stretch (seen_at plan script c)) where
+  abbrev new_in : Stretch → Option Explanation
+  new_in s = explained_from top.beat (is_faulty script) script.rounds c s.count s.seen
+
+  abbrev made : Stretch → Option Explanation → Search
+  made s o = record { stretch = s; found = o }
+
+  pub taken_known : (e : Explanation) → search.found ≡ Some e
+      → made s (Some e) ≡ taken top plan script c search
+  taken_known e known =
+      ap₂ made is (sym (ap (λ (o : Option Explanation).
+      first_or o (new_in (stretched top.beat search.stretch (seen_at plan script c)))) known))
+
+  pub taken_new : (o : Option Explanation) (ids : List ℕ) (rounds at : ℕ)
+      → search.found ≡ None → ids ≡ faulty_of_era script (length script.eras)
+      → rounds ≡ script.rounds → at ≡ c
+      → o ≡ explained_from top.beat (is_in ids) rounds at s.count s.seen
+      → made s o ≡ taken top plan script c search
+  taken_new o ids rounds at none faulty last here new =
+      ap₂ made is
+      (new ∙ (ap (λ (at : ℕ). explained_from top.beat (is_in ids) rounds at s.count s.seen) here
+      ∙ (ap₂ (λ (ids : List ℕ) (rounds : ℕ). explained_from top.beat (is_in ids) rounds c s.count s.seen) faulty last
+      ∙ (ap new_in is
+      ∙ sym (ap (λ (o : Option Explanation).
+      first_or o (new_in (stretched top.beat search.stretch (seen_at plan script c)))) none)))))
+
+-- ---- what was taken before
+
+module _ (top : Top) (from : ℕ) (plan : Plan) (script : Script) where
+  abbrev before : ℕ → Stretch
+  before c = stretch_before top.beat from (seen_at plan script) c
+
+  abbrev found_to : ℕ → Option Explanation
+  found_to c = found_before top.beat (is_faulty script) script.rounds from (seen_at plan script) c
+
+  -- a stretch is no longer than the configurations before
+  pub count_now : IsTop top → top ≡ top_of plan → (c : ℕ) (s : Stretch) → s ≡ before c → s.count ≤ c
+  count_now small same c s is =
+      let most = count_most top.beat (seen_at plan script) from
+      (part_small plan script top small same) c in
+      let count = ap (λ (s : Stretch). s.count) is in
+      omega (arith, most, count)
+
+  pub stretch_next : (c : ℕ) (s now : Stretch) → from ≤ c → s ≡ before c
+      → now ≡ stretched top.beat s (seen_at plan script c) → now ≡ before (c + 1)
+  stretch_next c s now le is more =
+      more ∙ (ap (λ (s : Stretch). stretched top.beat s (seen_at plan script c)) is
+      ∙ (sym (begun top.beat (seen_at plan script) from c le) ∙ ap before (sym (add-one c))))
+
+  pub found_next : (c : ℕ) (search now : Search) → from ≤ c
+      → IsFound top from plan script c search → now ≡ taken top plan script c search
+      → IsFound top from plan script (c + 1) now
+  found_next c search now le found is =
+      let stretch : (taken top plan script c search).stretch ≡ before (suc c) =
+      ap (λ (s : Stretch). stretched top.beat s (seen_at plan script c)) found.stretch
+      ∙ sym (begun top.beat (seen_at plan script) from c le) in
+      record {
+        stretch = ap (λ (s : Search). s.stretch) is ∙ (stretch ∙ ap before (sym (add-one c)));
+        found = ap (λ (s : Search). s.found) is
+            ∙ (ap₂ (λ (o : Option Explanation) (s : Stretch). first_or o
+            (explained_from top.beat (is_faulty script) script.rounds c s.count s.seen))
+            found.found stretch
+            ∙ ap found_to (sym (add-one c)));
+      }
+
+-- of a runner that goes on
+module _ (top : Top) (from : ℕ) (start r : Running NoOverlay) where
+  pub stretch_taken : (c : ℕ) → HasPlayed start c r → from ≤ c → (s now : Stretch)
+      → s ≡ stretch_before top.beat from (seen_at start.plan start.script) c
+      → now ≡ stretched top.beat s (seen_at r.plan r.script r.at)
+      → now ≡ stretch_before top.beat from (seen_at start.plan start.script) (c + 1)
+  stretch_taken c played le s now is more =
+      stretch_next top from start.plan start.script c s now le is
+      (more ∙ ap (λ (o : Option Seen). stretched top.beat s o)
+      (ap₂ (λ (p : Plan) (t : Script). seen_at p t r.at) played.plan played.script
+      ∙ ap (λ (c : ℕ). seen_at start.plan start.script c) played.at))
+
+  pub search_taken : (search now : Search) → HasPlayed start r.at r → from ≤ r.at
+      → IsFound top from start.plan start.script r.at search
+      → now ≡ taken top r.plan r.script r.at search
+      → IsFound top from start.plan start.script (r.at + 1) now
+  search_taken search now played le found is =
+      found_next top from start.plan start.script r.at search now le found
+      (is ∙ ap₂ (λ (p : Plan) (t : Script). taken top p t r.at search) played.plan played.script)
 
 -- what is found to the end is the explanation
 pub value_is : (plan : Plan) (top : Top) (from : ℕ) (r : Running NoOverlay)

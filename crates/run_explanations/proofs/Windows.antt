@@ -27,7 +27,7 @@ module _ (beat : ℕ) (seen_at : ℕ → Option Seen) where
     Stands c count None = count ≡ 0
     Stands c count (Some seen) = Ends c count seen
 
-    none_before : (c : ℕ) → c ≤ from → stretch_before beat from seen_at c ≡ no_stretch
+    pub none_before : (c : ℕ) → c ≤ from → stretch_before beat from seen_at c ≡ no_stretch
     none_before zero h = refl
     none_before (suc c) h =
         ap (λ (b : Bool). if b then stretched beat (stretch_before beat from seen_at c) (seen_at c) else stretch_before beat from seen_at c) (lt-leb from c (omega (arith, h)))

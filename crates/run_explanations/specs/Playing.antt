@@ -1,5 +1,5 @@
 -- A runner that plays a script without a layer, and what was found before its configuration.
-use Rattle.std.specs.Prelude.{◌≡◌, ◌⊎◌, ℕ, ◌+◌, ◌-◌, [], true, is_some}
+use Rattle.std.specs.Prelude.{◌≡◌, ◌⊎◌, ℕ, ◌+◌, ◌-◌, ◌≤◌, [], true, is_some}
 use Rattle.counter_core.specs.declared.overlays.NoOverlay.{NoOverlay}
 use Rattle.counter_core.specs.NoLayers.{no_layer}
 use Rattle.construction.specs.Plans.{Plan}
@@ -8,11 +8,12 @@ use Rattle.round_runner.specs.Known.{KnowsLocks}
 use Rattle.round_runner.specs.Runners.{Running, IsPlaying}
 use Rattle.run_explanations.specs.declared.explaining.Search.{Search}
 use Rattle.run_explanations.specs.declared.explanations.Explanation.{Explanation}
+use Rattle.run_explanations.specs.declared.searching.Stretch.{Stretch}
 use Rattle.run_explanations.specs.declared.tops.Top.{Top}
 use Rattle.run_explanations.specs.Checking.{Fits}
 use Rattle.run_explanations.specs.Explanations.{era_begin, is_faulty, seen_at}
 use Rattle.run_explanations.specs.Reading.{Reads}
-use Rattle.run_explanations.specs.Searching.{stretch_before, found_before}
+use Rattle.run_explanations.specs.Searching.{first_or, stretched, stretch_before, explained_from, found_before}
 use Rattle.run_explanations.specs.Tops.{top_of}
 
 -- it plays its script
@@ -39,6 +40,16 @@ pub record IsFound (top : Top) (from : ℕ) (plan : Plan) (script : Script) (c :
   pub found : search.found ≡ found_before top.beat (is_faulty script) script.rounds from
       (seen_at plan script) c
 
+-- a search with configuration c too
+abbrev pub taken : Top → Plan → Script → (c : ℕ) → Search → Search
+taken top plan script c search =
+    let stretch : Stretch = stretched top.beat search.stretch (seen_at plan script c) in
+    record {
+      stretch = stretch;
+      found = first_or search.found (explained_from top.beat (is_faulty script) script.rounds c
+          stretch.count stretch.seen);
+    }
+
 -- What is left to play would change nothing: an explanation was found, and the first locked
 -- configurations are known; or no round is left.
 abbrev pub IsEnough : Search → Running NoOverlay → Type 0
@@ -50,6 +61,12 @@ pub record IsRead (top : Top) (r : Running NoOverlay) : Type 0 where
   pub reads : Reads top r
   pub top_is : top ≡ top_of r.plan
   pub plays : Plays r
+  pub within : r.at ≤ r.script.rounds
+
+-- it is read so, and at configuration 0
+pub record IsToRead (top : Top) (r : Running NoOverlay) : Type 0 where
+  pub read : IsRead top r
+  pub at : r.at ≡ 0
 
 -- whether the window and the phase of an explanation fit into the last era of a script
 abbrev pub FitsEra : Plan → Script → Explanation → Type 0

@@ -1,18 +1,18 @@
-ghost use Rattle.std.specs.Prelude.{◌≡◌, ◌↔◌, ◌≤◌, ◌+◌, true, None};
+ghost use Rattle.std.specs.Prelude.{◌≡◌, ◌↔◌, ◌≤◌, ◌+◌, ◌-◌, true, None, length};
 ghost use Rattle.construction.specs.Plans.{plan_depth};
-ghost use Rattle.run_explanations.specs.Explanations.{IsExplanation, IsFirstOrNone, explanation_of, is_faulty, seen_at};
-ghost use Rattle.construction.specs.Runs.{is_in};
+ghost use Rattle.adversary_script.specs.Eras.{faulty_of_era};
+ghost use Rattle.run_explanations.specs.Explanations.{IsExplanation, IsFirstOrNone, era_begin, explanation_of, is_faulty, seen_at};
 ghost use Rattle.round_runner.specs.Known.{KnowsLocks};
 ghost use Rattle.run_explanations.specs.Checking.{Fits, is_of};
-ghost use Rattle.run_explanations.specs.Searching.{no_stretch, stretch_before, found_before};
-ghost use Rattle.run_explanations.specs.Tops.{IsTop};
-ghost use Rattle.run_explanations.specs.Playing.{IsToPlay, IsRead, IsFound, IsEnough, HasPlayed, HasTested};
+ghost use Rattle.run_explanations.specs.Searching.{no_stretch, stretched, stretch_before, found_before};
+ghost use Rattle.run_explanations.specs.Playing.{IsToPlay, IsToRead, IsRead, IsEnough, HasPlayed, HasTested, taken};
 
 use crate::explanations::Explanation;
 use crate::laws::found_is_first;
-use crate::searching::{Stretch, begins_phase, explained_from, next_part, stretched};
-use crate::seeing::see;
-use crate::tops::{Top, top_of};
+use crate::searching::{Stretch, Window, begins_phase, explained_from, next_part, stretched};
+use crate::seeing::Sight;
+use crate::tops::{TopLevel, top_of};
+use adversary_script::Script;
 use counter_core::NoOverlay;
 use plan_numbers::Plan;
 use round_runner::Runner;
@@ -29,33 +29,48 @@ pub(crate) struct Search {
     pub found: Option<Explanation>,
 }
 
-/// The stretch that ends with the runner's configuration, of those from configuration `from` on,
-/// after this one, which ends before it.
-fn next_stretch(stretch: Stretch, top: Top, from: u64, runner: &Runner<NoOverlay>) -> Stretch
-    requires read { IsRead top runner.now }
-    requires stretch { stretch ≡ stretch_before top.beat from
-        (seen_at runner.now.plan runner.now.script) runner.now.at }
-    requires within { runner.now.at ≤ 1000000 }
-    ensures { result ≡ stretch_before top.beat from
-        (seen_at runner.now.plan runner.now.script) (runner.now.at + 1) }
+/// The nodes that are faulty in the last era.
+fn last_faulty(script: &Script) -> &FaultSet
+    ensures { result.now.ids ≡ faulty_of_era script.now (length script.now.eras) }
 {
-    if runner.at() < from {
-        return stretch;
-    }
-    bare_runners_are_played();
-    let script = runner.script();
-    let faulty = script.era_faulty(script.eras() - 1);
-    stretched(top.beat, stretch, see(top, faulty, runner))
+    script.era_faulty(script.eras() - 1)
 }
 
-/// Takes the runner's configuration, of those from configuration `from` on.
-fn take(search: Search, top: Top, from: u64, runner: &Runner<NoOverlay>) -> Search
-    requires read { IsRead top runner.now }
-    requires found { IsFound top from runner.now.plan runner.now.script runner.now.at search }
-    requires within { runner.now.at ≤ 1000000 }
-    ensures { IsFound top from runner.now.plan runner.now.script (runner.now.at + 1) result }
+/// The first configuration of the last era.
+fn last_begin(script: &Script) -> u64
+    ensures value { result ≡ era_begin script.now }
+    ensures within { result ≤ script.now.rounds }
 {
-    let stretch = next_stretch(search.stretch, top, from, runner);
+    let _rounds = script.rounds();
+    script.era_start(script.eras() - 1)
+}
+
+/// The stretch that ends with the runner's configuration, after this one, which ends before it.
+fn next_stretch(stretch: Stretch, top: TopLevel, runner: &Runner<NoOverlay>) -> Stretch
+    requires read { IsRead top.numbers runner.now }
+    requires few { stretch.count ≤ runner.now.at }
+    ensures { result ≡ stretched top.numbers.beat stretch
+        (seen_at runner.now.plan runner.now.script runner.now.at) }
+{
+    bare_runners_are_played();
+    let script = runner.script();
+    let _rounds = script.rounds();
+    let faulty = last_faulty(script);
+    let sight = Sight {
+        top,
+        faulty,
+        runner,
+    };
+    stretched(top, stretch, sight.see())
+}
+
+/// Takes the runner's configuration.
+fn take(search: Search, top: TopLevel, runner: &Runner<NoOverlay>) -> Search
+    requires read { IsRead top.numbers runner.now }
+    requires few { search.stretch.count ≤ runner.now.at }
+    ensures { result ≡ taken top.numbers runner.now.plan runner.now.script runner.now.at search }
+{
+    let stretch = next_stretch(search.stretch, top, runner);
     match search.found {
         Some(found) => {
             return Search {
@@ -66,9 +81,19 @@ fn take(search: Search, top: Top, from: u64, runner: &Runner<NoOverlay>) -> Sear
         None => {}
     }
     let script = runner.script();
-    let faulty = script.era_faulty(script.eras() - 1);
-    let found = explained_from(top.beat, faulty, script.rounds(), runner.at(), stretch);
+    let faulty = last_faulty(script);
+    let found = explained_from(top, faulty, script.rounds(), runner.at(), stretch);
     Search { stretch, found }
+}
+
+/// A stretch of no configuration.
+fn no_stretch() -> Stretch
+    ensures { result ≡ no_stretch }
+{
+    Stretch {
+        seen: None,
+        count: 0,
+    }
 }
 
 /// A search that has not begun.
@@ -76,29 +101,27 @@ fn begun() -> Search
     ensures { result ≡ record { stretch = no_stretch; found = None } }
 {
     Search {
-        stretch: Stretch {
-            seen: None,
-            count: 0,
-        },
+        stretch: no_stretch(),
         found: None,
     }
 }
 
-/// Plays to configuration `end`, and takes each one from configuration `from` on.
-fn look_for(top: Top, from: u64, end: u64, runner: &mut Runner<NoOverlay>) -> Search
-    requires at { runner.old.at ≡ 0 }
-    requires read { IsRead top runner.old }
-    requires end { end ≤ runner.old.script.rounds }
-    ensures found { IsFound top from runner.old.plan runner.old.script (end + 1) result }
-    ensures played { HasPlayed runner.old end runner.new }
+/// Goes on to the end of the window that begins with configuration `window`, and answers the
+/// stretch that ends there, of the configurations from that one on.
+fn look_over(top: TopLevel, window: u64, runner: &mut Runner<NoOverlay>) -> Stretch
+    requires start { IsToRead top.numbers runner.old }
+    requires end { window + top.numbers.beat ≤ runner.old.script.rounds + 1 }
+    ensures stretch { result ≡ stretch_before top.numbers.beat window
+        (seen_at runner.old.plan runner.old.script) (window + top.numbers.beat) }
+    ensures played { HasPlayed runner.old (window + top.numbers.beat - 1) runner.new }
 {
-    let _rounds = runner.script().rounds();
-    let mut search = begun();
-    for _ in 0..end {
-        search = take(search, top, from, runner);
+    runner.skip_to(window);
+    let mut stretch = no_stretch();
+    for _ in 0..top.numbers.beat - 1 {
+        stretch = next_stretch(stretch, top, runner);
         runner.round();
     }
-    take(search, top, from, runner)
+    next_stretch(stretch, top, runner)
 }
 
 /// Whether what is left to play would change nothing: an explanation was found, and the first
@@ -109,30 +132,30 @@ fn is_enough(search: Search, runner: &Runner<NoOverlay>) -> bool
     runner.at() == runner.script().rounds() || search.found.is_some() && runner.knows_locks()
 }
 
-/// Plays as many rounds as change something, and answers the first explanation of the whole run, of
-/// the configurations from `from` on.
-fn first_found(top: Top, from: u64, runner: &mut Runner<NoOverlay>) -> Option<Explanation>
-    requires at { runner.old.at ≡ 0 }
-    requires read { IsRead top runner.old }
-    ensures found { result ≡ found_before top.beat (is_faulty runner.old.script)
-        runner.old.script.rounds from (seen_at runner.old.plan runner.old.script)
-        (runner.old.script.rounds + 1) }
+/// Goes on to the last era, plays as many of its rounds as change something, and answers its first
+/// explanation.
+fn first_found(top: TopLevel, runner: &mut Runner<NoOverlay>) -> Option<Explanation>
+    requires { IsToRead top.numbers runner.old }
+    ensures found { result ≡ found_before top.numbers.beat (is_faulty runner.old.script)
+        runner.old.script.rounds (era_begin runner.old.script)
+        (seen_at runner.old.plan runner.old.script) (runner.old.script.rounds + 1) }
     ensures played { HasPlayed runner.old runner.new.at runner.new }
     ensures knows { KnowsLocks runner.new }
 {
-    let _rounds = runner.script().rounds();
+    let begin = last_begin(runner.script());
+    runner.skip_to(begin);
     let mut search = begun();
     while !is_enough(search, runner) {
-        search = take(search, top, from, runner);
+        search = take(search, top, runner);
         runner.round();
     }
-    take(search, top, from, runner).found
+    take(search, top, runner).found
 }
 
 /// Plays a script, and answers the first explanation why its last era locks: that of the first
 /// window that has one, and of the first phase in it. None comes exactly where there is none. It
-/// plays until there is an explanation and the first locked configuration of each era is known. It
-/// takes no memory.
+/// [skips](Runner::skip_to) to the last era, and plays that until there is an explanation and the
+/// first locked configuration of each era is known. It takes no memory.
 ///
 /// The plan has a level, and the runner is one of this plan, at configuration 0.
 pub fn explain(plan: &Plan, runner: &mut Runner<NoOverlay>) -> Option<Explanation>
@@ -145,51 +168,46 @@ pub fn explain(plan: &Plan, runner: &mut Runner<NoOverlay>) -> Option<Explanatio
 {
     found_is_first();
     plan.tell();
-    let script = runner.script();
-    let from = script.era_start(script.eras() - 1);
-    first_found(top_of(plan), from, runner)
+    first_found(top_of(plan), runner)
 }
 
 /// Whether a window and a phase are within the last era, and the phase within the window.
-fn fits(beat: u64, from: u64, rounds: u64, explanation: Explanation) -> bool
-    requires beat { 6 ≤ beat }
-    requires rounds { rounds ≤ 1000000 }
-    ensures { (result ≡ true) ↔ Fits beat from rounds explanation }
+fn fits(top: TopLevel, from: u64, rounds: u64, explanation: Explanation) -> bool
+    ensures { (result ≡ true) ↔ Fits top.numbers.beat from rounds explanation }
 {
     from <= explanation.window
         && explanation.window <= rounds
-        && beat <= rounds + 1 - explanation.window
+        && top.numbers.beat - 1 <= rounds - explanation.window
         && explanation.window <= explanation.phase
-        && explanation.phase - explanation.window <= beat - 3
+        && explanation.phase - explanation.window <= top.numbers.beat - 3
 }
 
 /// Whether an explanation is that of the window which ends with a stretch.
-fn is_of(
-    top: Top,
-    faulty: &FaultSet,
-    rounds: u64,
-    stretch: Stretch,
-    explanation: Explanation,
-) -> bool
-    requires top { IsTop top }
-    requires fits { Fits top.beat 0 rounds explanation }
-    requires rounds { rounds ≤ 1000000 }
-    ensures { result ≡ is_of top.beat (is_in faulty.now.ids) rounds stretch explanation }
+fn is_of(top: TopLevel, script: &Script, stretch: Stretch, explanation: Explanation) -> bool
+    requires { Fits top.numbers.beat 0 script.now.rounds explanation }
+    ensures { result ≡ is_of top.numbers.beat (is_faulty script.now) script.now.rounds stretch
+        explanation }
 {
     let Some(seen) = stretch.seen else {
         return false;
     };
-    let start = next_part(top.beat, seen.part);
+    let last = script.rounds();
+    let window = Window {
+        at: explanation.window,
+        leader: seen.leader,
+        part: next_part(top, seen.part),
+    };
     let x = explanation.phase - explanation.window;
-    top.beat <= stretch.count
+    top.numbers.beat <= stretch.count
         && seen.leader == explanation.leader
-        && begins_phase(top.beat, faulty, rounds, explanation.window, start, x)
-        && (start + x) % top.beat / 3 == u64::from(explanation.king)
+        && begins_phase(top, last_faulty(script), last, window, x)
+        && (window.part + x) % top.numbers.beat / 3 == u64::from(explanation.king)
 }
 
-/// Plays a script up to the end of a window, and answers whether an explanation holds: exactly
-/// where it explains that the last era locks. Its numbers may be any; where its window and phase do
-/// not fit into the last era, nothing is played. It takes no memory.
+/// Goes on to the end of a window, and answers whether an explanation holds: exactly where it
+/// explains that the last era locks. Its numbers may be any; where its window and phase do not fit
+/// into the last era, nothing is played. Up to the window it [skips](Runner::skip_to) what it can.
+/// It takes no memory.
 ///
 /// The plan has a level, and the runner is one of this plan, at configuration 0.
 pub fn check_explanation(
@@ -204,20 +222,12 @@ pub fn check_explanation(
 {
     plan.tell();
     let script = runner.script();
-    let from = script.era_start(script.eras() - 1);
+    let from = last_begin(script);
     let rounds = script.rounds();
     let top = top_of(plan);
-    if !fits(top.beat, from, rounds, *explanation) {
+    if !fits(top, from, rounds, *explanation) {
         return false;
     }
-    let window = explanation.window;
-    let stretch = look_for(top, window, window + top.beat - 1, runner).stretch;
-    let script = runner.script();
-    is_of(
-        top,
-        script.era_faulty(script.eras() - 1),
-        rounds,
-        stretch,
-        *explanation,
-    )
+    let stretch = look_over(top, explanation.window, runner);
+    is_of(top, runner.script(), stretch, *explanation)
 }

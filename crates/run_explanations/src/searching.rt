@@ -4,6 +4,7 @@ ghost use Rattle.run_explanations.specs.Searching.{goes_on, stretched, begins_ph
 
 use crate::explanations::Explanation;
 use crate::seeing::Seen;
+use crate::tops::TopLevel;
 use sync_types::FaultSet;
 
 /// For how many configurations one leader has been seen, with a part that grows by one.
@@ -15,33 +16,42 @@ pub(crate) struct Stretch {
     pub count: u64,
 }
 
+/// A beat of configurations that show one leader.
+#[derive(Clone, Copy, Debug)]
+pub(crate) struct Window {
+    /// The first one.
+    pub at: u64,
+    /// The leader.
+    pub leader: u32,
+    /// The part that the first one shows.
+    pub part: u64,
+    ghost early: { at ≤ 1000000 },
+    ghost small: { part ≤ 261 },
+}
+
 /// The part after this one.
-pub(crate) fn next_part(beat: u64, part: u64) -> u64
-    requires some { 1 ≤ beat }
-    requires most { beat ≤ 261 }
-    ensures { result ≡ (part + 1) % beat }
+pub(crate) fn next_part(top: TopLevel, part: u64) -> u64
+    ensures value { result ≡ (part + 1) % top.numbers.beat }
+    ensures small { result ≤ 261 }
 {
+    let beat = top.numbers.beat;
     (part % beat + 1) % beat
 }
 
 /// Whether what is seen goes on: the same leader, and a part that is one more.
-fn goes_on(beat: u64, before: Option<Seen>, now: Seen) -> bool
-    requires some { 1 ≤ beat }
-    requires most { beat ≤ 261 }
-    ensures { result ≡ goes_on beat before now }
+fn goes_on(top: TopLevel, before: Option<Seen>, now: Seen) -> bool
+    ensures { result ≡ goes_on top.numbers.beat before now }
 {
     match before {
         None => false,
-        Some(before) => before.leader == now.leader && now.part == next_part(beat, before.part),
+        Some(before) => before.leader == now.leader && now.part == next_part(top, before.part),
     }
 }
 
 /// A stretch and a configuration more, which shows this.
-pub(crate) fn stretched(beat: u64, stretch: Stretch, seen: Option<Seen>) -> Stretch
-    requires beat { 1 ≤ beat }
-    requires most { beat ≤ 261 }
-    requires few { stretch.count ≤ 1000001 }
-    ensures { result ≡ stretched beat stretch seen }
+pub(crate) fn stretched(top: TopLevel, stretch: Stretch, seen: Option<Seen>) -> Stretch
+    requires { stretch.count ≤ 1000001 }
+    ensures { result ≡ stretched top.numbers.beat stretch seen }
 {
     let Some(now) = seen else {
         return Stretch {
@@ -49,7 +59,7 @@ pub(crate) fn stretched(beat: u64, stretch: Stretch, seen: Option<Seen>) -> Stre
             count: 0,
         };
     };
-    let count = if goes_on(beat, stretch.seen, now) {
+    let count = if goes_on(top, stretch.seen, now) {
         stretch.count + 1
     } else {
         1
@@ -57,55 +67,42 @@ pub(crate) fn stretched(beat: u64, stretch: Stretch, seen: Option<Seen>) -> Stre
     Stretch { seen, count }
 }
 
-/// Whether the phase of a correct king begins `x` configurations after configuration `t`, in which
-/// the part is `start`, and ends by the last one.
+/// Whether the phase of a correct king begins `x` configurations after the first one of a window,
+/// and ends by the last one.
 pub(crate) fn begins_phase(
-    beat: u64,
+    top: TopLevel,
     faulty: &FaultSet,
     last: u64,
-    t: u64,
-    start: u64,
+    window: Window,
     x: u64,
 ) -> bool
-    requires beat { 1 ≤ beat }
-    requires most { beat ≤ 261 }
-    requires early { t ≤ 1000000 }
-    requires start { start ≤ 261 }
-    requires x { x ≤ 1000000 }
-    ensures { result ≡ begins_phase beat (is_in faulty.now.ids) last t start x }
+    requires { x ≤ 1000000 }
+    ensures { result ≡ begins_phase top.numbers.beat (is_in faulty.now.ids) last window.at
+        window.part x }
 {
-    let part = (start + x) % beat;
-    part % 3 == 0 && !faulty.contains((part / 3) as u32) && t + x + 3 <= last
+    let part = (window.part + x) % top.numbers.beat;
+    part % 3 == 0 && !faulty.contains((part / 3) as u32) && window.at + x + 3 <= last
 }
 
-/// The explanation of the first phase of a correct king that ends in the window of leader `b` from
-/// configuration `t` on, in which the part is `start`, and by the last configuration.
-fn explained_in(
-    beat: u64,
-    faulty: &FaultSet,
-    last: u64,
-    t: u64,
-    b: u32,
-    start: u64,
-) -> Option<Explanation>
-    requires beat { 6 ≤ beat }
-    requires most { beat ≤ 261 }
-    requires early { t ≤ 1000000 }
-    requires start { start ≤ 261 }
-    ensures { result ≡ explained_in beat (is_in faulty.now.ids) last t b start }
+/// The explanation of the first phase of a correct king that ends in the window, and by the last
+/// configuration.
+fn explained_in(top: TopLevel, faulty: &FaultSet, last: u64, window: Window) -> Option<Explanation>
+    ensures { result ≡ explained_in top.numbers.beat (is_in faulty.now.ids) last window.at
+        window.leader window.part }
 {
+    let beat = top.numbers.beat;
     let mut phase = None;
     for x in 0..beat - 2 {
-        if phase.is_none() && begins_phase(beat, faulty, last, t, start, x) {
+        if phase.is_none() && begins_phase(top, faulty, last, window, x) {
             phase = Some(x);
         }
     }
     match phase {
         Some(x) => Some(Explanation {
-            window: t,
-            leader: b,
-            phase: t + x,
-            king: ((start + x) % beat / 3) as u32,
+            window: window.at,
+            leader: window.leader,
+            phase: window.at + x,
+            king: ((window.part + x) % beat / 3) as u32,
         }),
         None => None,
     }
@@ -113,23 +110,25 @@ fn explained_in(
 
 /// The explanation of the window that ends with configuration `c`, where this stretch ends there.
 pub(crate) fn explained_from(
-    beat: u64,
+    top: TopLevel,
     faulty: &FaultSet,
     last: u64,
     c: u64,
     stretch: Stretch,
 ) -> Option<Explanation>
-    requires beat { 6 ≤ beat }
-    requires most { beat ≤ 261 }
     requires early { c ≤ 1000000 }
     requires within { stretch.count ≤ c + 1 }
-    ensures { result
-        ≡ explained_from beat (is_in faulty.now.ids) last c stretch.count stretch.seen }
+    ensures { result ≡ explained_from top.numbers.beat (is_in faulty.now.ids) last c stretch.count
+        stretch.seen }
 {
     let seen = stretch.seen?;
-    if stretch.count < beat {
+    if stretch.count < top.numbers.beat {
         return None;
     }
-    let start = next_part(beat, seen.part);
-    explained_in(beat, faulty, last, c + 1 - beat, seen.leader, start)
+    let window = Window {
+        at: c + 1 - top.numbers.beat,
+        leader: seen.leader,
+        part: next_part(top, seen.part),
+    };
+    explained_in(top, faulty, last, window)
 }

@@ -1,13 +1,8 @@
-ghost use Rattle.std.specs.Prelude.{◌≡◌, ◌-◌, ◌<◌, ◌≤◌, nat_le};
-ghost use Rattle.construction.specs.Plans.{plan_depth};
-ghost use Rattle.construction.specs.Runs.{is_in};
-ghost use Rattle.level_laws.specs.Level.{faults_in};
-ghost use Rattle.run_explanations.specs.Explanations.{outputs_in};
+ghost use Rattle.std.specs.Prelude.{◌≡◌};
 ghost use Rattle.run_explanations.specs.Reading.{Reads};
-ghost use Rattle.run_explanations.specs.Seeing.{joined, shared_by, is_sound, is_correct, pointer_at, part_at, pointed, parted, seen_in};
-ghost use Rattle.run_explanations.specs.Tops.{IsTop};
+ghost use Rattle.run_explanations.specs.Seeing.{joined};
 
-use crate::tops::Top;
+use crate::tops::TopLevel;
 use counter_core::NoOverlay;
 use leader_pointers::{part, pointer};
 use round_runner::Runner;
@@ -34,6 +29,19 @@ pub(crate) struct Seen {
     pub part: u64,
 }
 
+/// The runner's configuration, as it is read by the numbers of the plan's top level, with these
+/// faulty nodes.
+#[derive(Clone, Copy)]
+pub(crate) struct Sight<'a> {
+    /// The top level.
+    pub top: TopLevel,
+    /// The faulty nodes.
+    pub faulty: &'a FaultSet,
+    /// The runner.
+    pub runner: &'a Runner<NoOverlay>,
+    ghost reads: { Reads top.numbers runner.now },
+}
+
 /// What numbers have in common, with a number more.
 fn joined(shared: Shared, number: u64) -> Shared
     ensures { result ≡ joined shared number }
@@ -45,93 +53,96 @@ fn joined(shared: Shared, number: u64) -> Shared
     }
 }
 
-/// Whether no more nodes of block `i` are faulty than it bears.
-fn is_sound(top: Top, faulty: &FaultSet, i: u32) -> bool
-    requires top { IsTop top }
-    requires block { i < top.blocks }
-    ensures { result ≡ is_sound top (is_in faulty.now.ids) i }
-{
-    let mut count = 0;
-    for j in 0..top.nodes {
-        if faulty.contains(i * top.nodes + j) {
-            count += 1;
-        }
-    }
-    count <= top.faults
-}
+impl<'a> Sight<'a> {
+    ghost use Rattle.std.specs.Prelude.{◌≡◌, ◌-◌, ◌<◌, ◌≤◌, nat_le};
+    ghost use Rattle.construction.specs.Plans.{plan_depth};
+    ghost use Rattle.construction.specs.Runs.{is_in};
+    ghost use Rattle.level_laws.specs.Level.{faults_in};
+    ghost use Rattle.run_explanations.specs.Explanations.{outputs_in};
+    ghost use Rattle.run_explanations.specs.Seeing.{shared_by, is_sound, is_correct, pointer_at, part_at, pointed, parted, seen_in};
 
-/// What so many numbers have in common with the pointers of the correct nodes of block `i`.
-fn join_pointers(
-    begun: Shared,
-    top: Top,
-    faulty: &FaultSet,
-    runner: &Runner<NoOverlay>,
-    i: u32,
-) -> Shared
-    requires reads { Reads top runner.now }
-    requires block { i < top.blocks }
-    ensures { result ≡ shared_by begun (is_correct top (is_in faulty.now.ids) i)
-        (pointer_at top (outputs_in (plan_depth runner.now.plan - 1) runner.now.states) i)
-        top.nodes }
-{
-    let mut shared = begun;
-    for j in 0..top.nodes {
-        let v = i * top.nodes + j;
-        if !faulty.contains(v) {
-            let output = runner.inner_output(v);
-            shared = joined(shared, pointer(top.beat, top.leaders, i, output));
+    /// Whether no more nodes of block `i` are faulty than it bears.
+    fn is_sound(&self, i: u32) -> bool
+        requires { i < self.now.top.numbers.blocks }
+        ensures { result ≡ is_sound self.now.top.numbers (is_in self.now.faulty.now.ids) i }
+    {
+        let top = self.top.numbers;
+        let mut count = 0;
+        for j in 0..top.nodes {
+            if self.faulty.contains(i * top.nodes + j) {
+                count += 1;
+            }
         }
+        count <= top.faults
     }
-    shared
-}
 
-/// What the pointers of the correct nodes of all sound blocks have in common.
-fn pointed(top: Top, faulty: &FaultSet, runner: &Runner<NoOverlay>) -> Shared
-    requires { Reads top runner.now }
-    ensures { result ≡ pointed top (is_in faulty.now.ids)
-        (outputs_in (plan_depth runner.now.plan - 1) runner.now.states) top.blocks }
-{
-    let mut shared = Shared::Nothing;
-    for i in 0..top.blocks {
-        if is_sound(top, faulty, i) {
-            shared = join_pointers(shared, top, faulty, runner, i);
+    /// What so many numbers have in common with the pointers of the correct nodes of block `i`.
+    fn join_pointers(&self, begun: Shared, i: u32) -> Shared
+        requires { i < self.now.top.numbers.blocks }
+        ensures { result ≡ shared_by begun
+            (is_correct self.now.top.numbers (is_in self.now.faulty.now.ids) i)
+            (pointer_at self.now.top.numbers (outputs_in (plan_depth self.now.runner.now.plan - 1)
+            self.now.runner.now.states) i) self.now.top.numbers.nodes }
+    {
+        let top = self.top.numbers;
+        let mut shared = begun;
+        for j in 0..top.nodes {
+            let v = i * top.nodes + j;
+            if !self.faulty.contains(v) {
+                let output = self.runner.inner_output(v);
+                shared = joined(shared, pointer(top.beat, top.leaders, i, output));
+            }
         }
+        shared
     }
-    shared
-}
 
-/// What the parts of the correct nodes of block `b` have in common.
-fn parted(top: Top, faulty: &FaultSet, runner: &Runner<NoOverlay>, b: u32) -> Shared
-    requires reads { Reads top runner.now }
-    requires block { b < top.blocks }
-    ensures { result ≡ parted top (is_in faulty.now.ids)
-        (outputs_in (plan_depth runner.now.plan - 1) runner.now.states) b }
-{
-    let mut shared = Shared::Nothing;
-    for j in 0..top.nodes {
-        let v = b * top.nodes + j;
-        if !faulty.contains(v) {
-            shared = joined(shared, part(top.beat, runner.inner_output(v)));
+    /// What the pointers of the correct nodes of all sound blocks have in common.
+    fn pointed(&self) -> Shared
+        ensures { result ≡ pointed self.now.top.numbers (is_in self.now.faulty.now.ids)
+            (outputs_in (plan_depth self.now.runner.now.plan - 1) self.now.runner.now.states)
+            self.now.top.numbers.blocks }
+    {
+        let mut shared = Shared::Nothing;
+        for i in 0..self.top.numbers.blocks {
+            if self.is_sound(i) {
+                shared = self.join_pointers(shared, i);
+            }
         }
+        shared
     }
-    shared
-}
 
-/// What the runner's configuration shows, with these faulty nodes.
-pub(crate) fn see(top: Top, faulty: &FaultSet, runner: &Runner<NoOverlay>) -> Option<Seen>
-    requires { Reads top runner.now }
-    ensures { result ≡ seen_in top (is_in faulty.now.ids)
-        (outputs_in (plan_depth runner.now.plan - 1) runner.now.states) }
-{
-    let Shared::One(leader) = pointed(top, faulty, runner) else {
-        return None;
-    };
-    let leader = leader as u32;
-    if !is_sound(top, faulty, leader) {
-        return None;
+    /// What the parts of the correct nodes of block `b` have in common.
+    fn parted(&self, b: u32) -> Shared
+        requires { b < self.now.top.numbers.blocks }
+        ensures { result ≡ parted self.now.top.numbers (is_in self.now.faulty.now.ids)
+            (outputs_in (plan_depth self.now.runner.now.plan - 1) self.now.runner.now.states) b }
+    {
+        let top = self.top.numbers;
+        let mut shared = Shared::Nothing;
+        for j in 0..top.nodes {
+            let v = b * top.nodes + j;
+            if !self.faulty.contains(v) {
+                shared = joined(shared, part(top.beat, self.runner.inner_output(v)));
+            }
+        }
+        shared
     }
-    match parted(top, faulty, runner, leader) {
-        Shared::One(part) => Some(Seen { leader, part }),
-        _ => None,
+
+    /// What it shows.
+    pub(crate) fn see(&self) -> Option<Seen>
+        ensures { result ≡ seen_in self.now.top.numbers (is_in self.now.faulty.now.ids)
+            (outputs_in (plan_depth self.now.runner.now.plan - 1) self.now.runner.now.states) }
+    {
+        let Shared::One(leader) = self.pointed() else {
+            return None;
+        };
+        let leader = leader as u32;
+        if !self.is_sound(leader) {
+            return None;
+        }
+        match self.parted(leader) {
+            Shared::One(part) => Some(Seen { leader, part }),
+            _ => None,
+        }
     }
 }

@@ -4,7 +4,7 @@ ghost use Rattle.run_explanations.specs.Tops.{IsTop, top_of};
 
 use plan_numbers::Plan;
 
-/// The top level of a plan, and what stands in its blocks.
+/// The numbers of the top level of a plan, and of what stands in its blocks.
 #[derive(Clone, Copy, Debug)]
 pub(crate) struct Top {
     /// How many blocks there are, 3 to 16.
@@ -19,9 +19,16 @@ pub(crate) struct Top {
     pub faults: u32,
 }
 
-/// How many faulty nodes a block of the top level bears.
+/// The top level of a plan that has one: its numbers are as small as those of a plan are.
+#[derive(Clone, Copy, Debug)]
+pub(crate) struct TopLevel {
+    /// The numbers.
+    pub numbers: Top,
+    ghost small: { IsTop numbers },
+}
+
+/// How many faulty nodes a block of the top level bears, 0 where there is no level.
 fn block_faults(plan: &Plan) -> u32
-    requires { 1 ≤ plan_depth plan.now }
     ensures { result ≡ (top_of plan.now).faults }
 {
     let depth = plan.depth();
@@ -32,18 +39,19 @@ fn block_faults(plan: &Plan) -> u32
 }
 
 /// The top level of a plan that has one.
-pub(crate) fn top_of(plan: &Plan) -> Top
+pub(crate) fn top_of(plan: &Plan) -> TopLevel
     requires { 1 ≤ plan_depth plan.now }
-    ensures value { result ≡ top_of plan.now }
-    ensures top { IsTop result }
+    ensures { result.numbers ≡ top_of plan.now }
 {
     plan.tell();
     let nums = plan.level(plan.depth() - 1);
-    Top {
-        blocks: nums.blocks,
-        leaders: nums.leaders,
-        beat: nums.beat,
-        nodes: nums.block_nodes(),
-        faults: block_faults(plan),
+    TopLevel {
+        numbers: Top {
+            blocks: nums.blocks,
+            leaders: nums.leaders,
+            beat: nums.beat,
+            nodes: nums.block_nodes(),
+            faults: block_faults(plan),
+        },
     }
 }

@@ -1,22 +1,29 @@
-use Rattle.std.proofs.Common.{arith}
-use Rattle.run_explanations.proofs.Taking.{ids_are, count_now, seen_is, stretch_taken, stretch_left}
+use Rattle.std.proofs.Common.{Option, length, sym, ap, ◌∙◌, arith}
+use Rattle.adversary_script.specs.Eras.{faulty_of_era}
+use Rattle.adversary_script.specs.Scripts.{Script}
+use Rattle.run_explanations.specs.declared.seeing.Seen.{Seen}
+use Rattle.run_explanations.specs.Searching.{stretched}
+use Rattle.run_explanations.proofs.Taking.{seen_is}
 use Rattle.run_explanations.proofs.explaining.next_stretch.Goals as goal
 
-pub returns-then-at-from : goal.returns-then-at-from
-returns-then-at-from c =
-    stretch_left c.args.top c.args.from c.args.runner.now c.requires.read c.args.stretch
-    (omega (arith, c.at.ensures, c.if-at-from.true)) c.requires.stretch
-
-pub stretched-requires-clause-few : goal.stretched-requires-clause-few
-stretched-requires-clause-few c =
-    let count = count_now c.args.top c.args.from c.args.runner.now c.requires.read c.args.stretch c.requires.stretch in
-    omega (arith, count, c.requires.within)
+pub stretched-requires : goal.stretched-requires
+stretched-requires c =
+    let rounds = ap (λ (s : Script). s.rounds) c.script-script.ensures in
+    let within = c.requires.read.within in
+    omega (
+      arith,
+      c.requires.few,
+      within,
+      rounds,
+      c.rounds-rounds.ensures.value,
+      c.rounds-rounds.ensures.few,
+    )
 
 pub returns : goal.returns
 returns c =
-    stretch_taken c.args.top c.args.from c.args.runner.now c.requires.read c.args.stretch _ _
-    (omega (arith, c.at.ensures, c.if-at-from.false)) c.requires.stretch
-    (seen_is c.args.top c.args.from c.args.runner.now c.requires.read _ _ c.see.ensures
-    (ids_are _ _ c.args.runner.now.script _ c.era_faulty-faulty.ensures c.eras.ensures.value c.script-script.ensures)
-    (c.bare_runners_are_played.ensures c.args.runner.now c.requires.read.plays))
+    let r = c.args.runner.now in
     c.stretched.ensures
+    ∙ ap (λ (o : Option Seen). stretched c.args.top.numbers.beat c.args.stretch o)
+    (seen_is c.args.top.numbers r c.requires.read _ _ c.see.ensures
+    (c.last_faulty-faulty.ensures ∙ ap (λ (s : Script). faulty_of_era s (length s.eras)) c.script-script.ensures)
+    (c.bare_runners_are_played.ensures r c.requires.read.plays))

@@ -5,5 +5,6 @@ use Rattle.run_explanations.proofs.searching.explained_in.Given as goal
 
 -- the first so far
 abbrev pub invariant-loop-x : goal.invariant-loop-x
-invariant-loop-x l =
-    l.phase ≡ first_below (begins_phase l.beat (is_in l.faulty.ids) l.last l.t l.start) l.x
+invariant-loop-x l = l.phase
+    ≡ first_below (begins_phase l.top.numbers.beat (is_in l.faulty.ids) l.last l.window.at
+    l.window.part) l.x
