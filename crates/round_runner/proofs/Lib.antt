@@ -1,4 +1,5 @@
 pub mod Begun
+pub mod Behind
 pub mod Correct
 pub mod Costs
 pub mod Counted
@@ -6,6 +7,7 @@ pub mod CountsOn
 pub mod EraRuns
 pub mod FirstLocked
 pub mod Firsts
+pub mod FewLie
 pub mod Fitting
 pub mod Grown
 pub mod Heard

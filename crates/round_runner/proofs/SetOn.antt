@@ -1,12 +1,15 @@
 -- What is set for a round stays so while its nodes step.
-use Rattle.std.proofs.Common.{◌≡◌, List, length, sym, ap, ◌∙◌, subst}
+use Rattle.std.proofs.Common.{◌≡◌, ◌<◌, List, length, sym, ap, ◌∙◌, subst}
 use Rattle.sync_types.specs.States.{State}
 use Rattle.plan_laws.specs.PlanMeaning.{plan_meaning, IsInRange}
 use Rattle.state_codec.specs.Packs.{Pack}
+use Rattle.shared_board.specs.Sharing.{stands_for}
 use Rattle.counter_core.specs.Overlays.{Layer, StandsOver}
+use Rattle.adversary_script.specs.Eras.{faulty_at}
 use Rattle.round_runner.specs.declared.stepping.Room.{Room}
 use Rattle.round_runner.specs.declared.turns.Round.{Round}
 use Rattle.round_runner.specs.Fits.{Fits}
+use Rattle.round_runner.specs.Laying.{IsLaid}
 use Rattle.round_runner.specs.Rooms.{IsReady}
 use Rattle.round_runner.specs.Turns.{IsSet, IsGathered}
 
@@ -24,8 +27,14 @@ module _ {Kept : Type 0} (round : Round) (layer now : Layer Kept) (same : now �
     ready = ready;
   }
 
-  pub gathered_on : (config next : List State) (room : Room) → next ≡ config
-      → IsGathered round layer config room → IsGathered round now next room
-  gathered_on config next room current gathered =
-      subst (λ (xs : List State). IsGathered round now xs room) (sym current)
-      (subst (λ (l : Layer Kept). IsGathered round l config room) (sym same) gathered)
+  pub gathered_on : (states next : Pack) (room : Room) → next.shape ≡ states.shape
+      → next.current ≡ states.current → IsGathered round layer states room
+      → IsGathered round now next room
+  gathered_on states next room shape current gathered = record {
+    set = set_on states next room room shape current gathered.set.ready gathered.set;
+    stands = subst (λ (xs : List State). room.shared
+        ≡ stands_for round.tower.now xs (faulty_at round.script.now round.t)) (sym current)
+        gathered.stands;
+    laid = λ some. subst (λ (xs : List State). IsLaid round.script.now round.t xs room.heard.items)
+        (sym current) (gathered.laid (subst (λ (l : Layer Kept). 0 < l.extra) same some));
+  }

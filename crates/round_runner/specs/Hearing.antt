@@ -33,6 +33,11 @@ pub record IsOfSome (script : Script) (state : State) : Type 0 where
 abbrev pub AreOfNodes : Script → (lies : List State) → Type 0
 AreOfNodes script lies = All (IsOfSome script) lies
 
+-- they are as many as there are nodes
+pub record AreLies (script : Script) (lies : List State) : Type 0 where
+  pub size : length lies ≡ script.nodes
+  pub states : AreOfNodes script lies
+
 -- in the order of the faulty nodes' ids: node v, where it is faulty, tells itself its own state
 abbrev pub TellsItself : (ids : List ℕ) → (v : ℕ) → (config lies : List State) → Type 0
 TellsItself ids v config lies = (j : ℕ) → j < length ids → slice_index ids j ≡ v

@@ -5,6 +5,7 @@ pub mod Laying
 pub mod Kept
 pub mod Known
 pub mod Laws
+pub mod Ledgers
 pub mod Locks
 pub mod Played
 pub mod Rooms

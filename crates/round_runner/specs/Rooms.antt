@@ -6,6 +6,11 @@ use Rattle.counter_core.specs.Working.{IsFor}
 use Rattle.round_runner.specs.declared.stepping.Room.{Room}
 use Rattle.round_runner.specs.Hearing.{HasRoom, AreOfNodes}
 
+-- it writes states of the script, with the script's noise
+pub record CanWrite (script : Script) (room : Room) : Type 0 where
+  pub noise : room.noise ≡ script.key
+  pub out : length room.out.registers ≡ length script.shape.moduli
+
 -- it was made for the plan and the script; as many may lie as there are nodes
 pub record IsReady (plan : Plan) (script : Script) (room : Room) : Type 0 where
   pub noise : room.noise ≡ script.key

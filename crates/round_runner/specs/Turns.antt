@@ -14,9 +14,11 @@ use Rattle.adversary_script.specs.Scripts.{Script, IsScript}
 use Rattle.adversary_script.specs.Eras.{faulty_at}
 use Rattle.round_runner.specs.declared.stepping.Room.{Room}
 use Rattle.round_runner.specs.declared.turns.Round.{Round}
+use Rattle.round_runner.specs.declared.turns.Turn.{Turn}
 use Rattle.round_runner.specs.Beginnings.{BeginsAt}
 use Rattle.round_runner.specs.Fits.{Fits}
 use Rattle.round_runner.specs.Laying.{IsLaid}
+use Rattle.round_runner.specs.Played.{heard_at}
 use Rattle.round_runner.specs.Rooms.{IsReady}
 
 -- It is one of the script, which bears no more faulty nodes than the plan.
@@ -29,6 +31,10 @@ pub record IsRound (r : Round) : Type 0 where
       ≡ record { nodes = r.script.now.nodes; ids = faulty_at r.script.now r.t }
   pub round : r.t < r.script.now.rounds
   pub begins : BeginsAt r.script.now (r.t + 1) r.begins
+
+-- what the node of a turn hears
+abbrev pub heard_in : Turn → List State
+heard_in turn = heard_at turn.round.now.script.now turn.round.now.t turn.states.now.current turn.v
 
 -- a configuration of the script's nodes, of its shape
 pub record IsConfiguration (script : Script) (states : Pack) : Type 0 where
@@ -51,10 +57,11 @@ pub record IsSet {Kept : Type 0} (round : Round) (layer : Layer Kept) (states : 
   pub size : length states.current ≡ round.script.now.nodes
   pub ready : IsReady round.tower.now round.script.now room
 
--- What all receivers share is counted, and where a layer hears, the states of the correct nodes
--- stand in their places.
-pub record IsGathered {Kept : Type 0} (round : Round) (layer : Layer Kept) (config : List State)
+-- They are set, what all receivers share is counted, and where a layer hears, the states of the
+-- correct nodes stand in their places.
+pub record IsGathered {Kept : Type 0} (round : Round) (layer : Layer Kept) (states : Pack)
     (room : Room) : Type 0 where
+  pub set : IsSet round layer states room
   pub stands : room.shared
-      ≡ stands_for round.tower.now config (faulty_at round.script.now round.t)
-  pub laid : 0 < layer.extra → IsLaid round.script.now round.t config room.heard.items
+      ≡ stands_for round.tower.now states.current (faulty_at round.script.now round.t)
+  pub laid : 0 < layer.extra → IsLaid round.script.now round.t states.current room.heard.items

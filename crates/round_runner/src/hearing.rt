@@ -6,7 +6,6 @@ ghost use Rattle.state_codec.specs.Shapes.{fields_at};
 ghost use Rattle.state_codec.specs.Ranges.{InRange};
 ghost use Rattle.round_runner.specs.Hearing.{HasRoom};
 ghost use Rattle.round_runner.specs.Played.{heard_at};
-ghost use Rattle.round_runner.specs.Turns.{IsConfiguration};
 
 use crate::rounds::lay;
 use crate::runners::Runner;
@@ -15,57 +14,56 @@ use counter_core::Overlay;
 use state_codec::Packed;
 use sync_types::NodeState;
 
-/// Puts what node `v` hears of node `u` in round `t` into `out`: the lie of another node that is
-/// faulty in it, and else the true state.
-fn hear_of(
-    script: &Script,
+/// A node that hears in a round what is told from a configuration of the script's nodes.
+#[derive(Clone, Copy, Drop)]
+struct Receiver<'a> {
+    script: &'a Script,
+    states: &'a Packed,
+    /// The round's number.
     t: u64,
-    u: u32,
+    /// The node.
     v: u32,
-    states: &Packed,
-    noise: &mut Noise,
-    out: &mut NodeState,
-)
-    requires round { t < script.now.rounds }
-    requires sender { u < script.now.nodes }
-    requires receiver { v < script.now.nodes }
-    requires config { IsConfiguration script.now states.now }
-    requires noise { noise.old ≡ script.now.key }
-    requires depth { length out.old.registers ≡ length script.now.shape.moduli }
-    ensures heard { out.new ≡ state_of (heard_at script.now t states.now.current v) u }
-    ensures range { InRange (fields_at script.now.shape u) out.new }
-    ensures noise { noise.new ≡ noise.old }
-{
-    states.tell();
-    if u == v {
-        states.old(u, out);
-    } else if script.faulty_at(t).contains(u) {
-        script.lie_into(noise, t, u, v, states, out);
-    } else {
-        states.old(u, out);
-    }
+    ghost left: { t < script.now.rounds },
+    ghost node: { v < script.now.nodes },
+    ghost shape: { states.now.shape ≡ script.now.shape },
+    ghost size: { length states.now.current ≡ script.now.nodes },
 }
 
-/// Lays what node `v` hears of each node in round `t` into its place.
-fn hear_all(
-    script: &Script,
-    t: u64,
-    v: u32,
-    states: &Packed,
-    noise: &mut Noise,
-    heard: &mut [NodeState],
-)
-    requires round { t < script.now.rounds }
-    requires receiver { v < script.now.nodes }
-    requires config { IsConfiguration script.now states.now }
-    requires noise { noise.old ≡ script.now.key }
-    requires room { HasRoom script.now heard.old }
-    ensures heard { heard.new ≡ heard_at script.now t states.now.current v }
-    ensures room { HasRoom script.now heard.new }
-    ensures noise { noise.new ≡ noise.old }
-{
-    for u in 0..states.nodes() {
-        hear_of(script, t, u, v, states, noise, &mut heard[u as usize]);
+impl Receiver<'_> {
+    /// Puts what it hears of node `u` into `out`: the lie of another node that is faulty in the
+    /// round, and else the true state.
+    fn hear_of(&self, u: u32, noise: &mut Noise, out: &mut NodeState)
+        requires sender { u < self.now.script.now.nodes }
+        requires noise { noise.old ≡ self.now.script.now.key }
+        requires depth { length out.old.registers ≡ length self.now.script.now.shape.moduli }
+        ensures heard { out.new ≡ state_of (heard_at self.now.script.now self.now.t
+            self.now.states.now.current self.now.v) u }
+        ensures range { InRange (fields_at self.now.script.now.shape u) out.new }
+        ensures noise { noise.new ≡ noise.old }
+    {
+        self.states.tell();
+        if u == self.v {
+            self.states.old(u, out);
+        } else if self.script.faulty_at(self.t).contains(u) {
+            self.script
+                .lie_into(noise, self.t, u, self.v, self.states, out);
+        } else {
+            self.states.old(u, out);
+        }
+    }
+
+    /// Lays what it hears of each node into its place.
+    fn hear_all(&self, noise: &mut Noise, heard: &mut [NodeState])
+        requires noise { noise.old ≡ self.now.script.now.key }
+        requires room { HasRoom self.now.script.now heard.old }
+        ensures heard { heard.new ≡ heard_at self.now.script.now self.now.t
+            self.now.states.now.current self.now.v }
+        ensures room { HasRoom self.now.script.now heard.new }
+        ensures noise { noise.new ≡ noise.old }
+    {
+        for u in 0..self.states.nodes() {
+            self.hear_of(u, noise, &mut heard[u as usize]);
+        }
     }
 }
 
@@ -101,13 +99,12 @@ impl<O: Overlay> Runner<O> {
             heard.new }
         ensures same { self.new ≡ self.old }
     {
-        hear_all(
-            &self.script,
-            self.at,
+        let receiver = Receiver {
+            script: &self.script,
+            states: &self.states,
+            t: self.at,
             v,
-            &self.states,
-            &mut self.room.noise,
-            heard,
-        );
+        };
+        receiver.hear_all(&mut self.room.noise, heard);
     }
 }

@@ -10,6 +10,7 @@ mod hearing;
 mod knowing;
 pub mod laws;
 mod locks;
+mod plays;
 mod restarting;
 mod rounds;
 mod runners;

@@ -8,22 +8,6 @@ use state_codec::Packed;
 use sync_types::{FaultSet, Reg};
 use tower::Tower;
 
-/// The value of the first correct node's register at a level, or 0 where that is infinite or no
-/// node is correct.
-fn first_value(level: usize, faulty: &FaultSet, config: &Packed) -> u64
-    requires nodes { length config.now.current ≡ faulty.now.nodes }
-    requires level { level < length config.now.shape.moduli }
-    ensures { result ≡ first_value (correct_registers level faulty.now.nodes faulty.now.ids
-        config.now.current) }
-{
-    for v in 0..faulty.nodes() {
-        if !faulty.contains(v) {
-            return config.reg(v, level).a.unwrap_or(0);
-        }
-    }
-    0
-}
-
 /// Whether a register is marked and has this value.
 fn is_locked_at(value: u64, register: Reg) -> bool
     ensures { result ≡ is_locked_at value register }
@@ -31,30 +15,103 @@ fn is_locked_at(value: u64, register: Reg) -> bool
     register.a == Some(value) && register.d
 }
 
-/// Whether the registers of all correct nodes at a level are marked and have this value.
-fn all_locked_at(level: usize, value: u64, faulty: &FaultSet, config: &Packed) -> bool
-    requires nodes { length config.now.current ≡ faulty.now.nodes }
-    requires level { level < length config.now.shape.moduli }
-    ensures { result ≡ list_all (is_locked_at value)
-        (correct_registers level faulty.now.nodes faulty.now.ids config.now.current) }
-{
-    for v in 0..faulty.nodes() {
-        if !faulty.contains(v) && !is_locked_at(value, config.reg(v, level)) {
-            return false;
-        }
-    }
-    true
+/// The registers of the correct nodes at a level of a configuration.
+#[derive(Clone, Copy, Drop)]
+struct Registers<'a> {
+    level: usize,
+    faulty: &'a FaultSet,
+    config: &'a Packed,
+    ghost size: { length config.now.current ≡ faulty.now.nodes },
+    ghost inside: { level < length config.now.shape.moduli },
 }
 
-/// Whether the registers of all correct nodes at a level are one, finite and marked.
-fn are_locked(level: usize, faulty: &FaultSet, config: &Packed) -> bool
-    requires nodes { length config.now.current ≡ faulty.now.nodes }
-    requires level { level < length config.now.shape.moduli }
-    ensures { result ≡ are_locked (correct_registers level faulty.now.nodes faulty.now.ids
-        config.now.current) }
-{
-    let value = first_value(level, faulty, config);
-    all_locked_at(level, value, faulty, config)
+impl Registers<'_> {
+    /// The value of the first one, or 0 where that is infinite or no node is correct.
+    fn first_value(&self) -> u64
+        ensures { result ≡ first_value (correct_registers self.now.level
+            self.now.faulty.now.nodes self.now.faulty.now.ids self.now.config.now.current) }
+    {
+        for v in 0..self.faulty.nodes() {
+            if !self.faulty.contains(v) {
+                return self.config.reg(v, self.level).a.unwrap_or(0);
+            }
+        }
+        0
+    }
+
+    /// Whether all of them are marked and have this value.
+    fn all_locked_at(&self, value: u64) -> bool
+        ensures { result ≡ list_all (is_locked_at value) (correct_registers self.now.level
+            self.now.faulty.now.nodes self.now.faulty.now.ids self.now.config.now.current) }
+    {
+        for v in 0..self.faulty.nodes() {
+            if !self.faulty.contains(v) && !is_locked_at(value, self.config.reg(v, self.level)) {
+                return false;
+            }
+        }
+        true
+    }
+
+    /// Whether they are one, finite and marked.
+    fn are_locked(&self) -> bool
+        ensures { result ≡ are_locked (correct_registers self.now.level
+            self.now.faulty.now.nodes self.now.faulty.now.ids self.now.config.now.current) }
+    {
+        let value = self.first_value();
+        self.all_locked_at(value)
+    }
+}
+
+/// A configuration of a plan's nodes, and who is faulty in it.
+#[derive(Clone, Copy, Drop)]
+pub struct Snapshot<'a> {
+    /// The counter of the plan.
+    pub tower: &'a Tower,
+    /// The faulty nodes.
+    pub faulty: &'a FaultSet,
+    /// The configuration.
+    pub config: &'a Packed,
+    ghost nodes: { faulty.now.nodes ≡ plan_nodes tower.now },
+    ghost size: { length config.now.current ≡ faulty.now.nodes },
+    ghost deep: { plan_depth tower.now ≤ length config.now.shape.moduli },
+}
+
+impl Snapshot<'_> {
+    /// Whether it is locked.
+    fn is_locked(&self) -> bool
+        ensures { result
+            ≡ is_locked self.now.tower.now self.now.faulty.now.ids self.now.config.now.current }
+    {
+        match self.tower.depth() {
+            0 => true,
+            depth => Registers {
+                level: depth - 1,
+                faulty: self.faulty,
+                config: self.config,
+            }
+            .are_locked(),
+        }
+    }
+
+    /// Its number, if it is locked.
+    pub fn lock(&self, at: u64) -> Option<u64>
+        ensures { result ≡ first_of None (is_locked self.now.tower.now self.now.faulty.now.ids
+            self.now.config.now.current) at }
+    {
+        if self.is_locked() { Some(at) } else { None }
+    }
+
+    /// The first locked configuration so far: that which was known before, or this one, of that
+    /// number, if it is locked.
+    pub fn locked_so_far(&self, known: Option<u64>, at: u64) -> Option<u64>
+        ensures { result ≡ first_of known (is_locked self.now.tower.now self.now.faulty.now.ids
+            self.now.config.now.current) at }
+    {
+        match known {
+            Some(_) => known,
+            None => self.lock(at),
+        }
+    }
 }
 
 /// Whether a configuration of a plan's nodes is locked: the top registers of all correct ones are
@@ -65,42 +122,10 @@ pub fn is_locked(tower: &Tower, faulty: &FaultSet, config: &Packed) -> bool
     requires deep { plan_depth tower.now ≤ length config.now.shape.moduli }
     ensures { result ≡ is_locked tower.now faulty.now.ids config.now.current }
 {
-    match tower.depth() {
-        0 => true,
-        depth => are_locked(depth - 1, faulty, config),
-    }
-}
-
-/// The number of this configuration, if it is locked.
-pub fn lock_of(tower: &Tower, faulty: &FaultSet, config: &Packed, at: u64) -> Option<u64>
-    requires nodes { faulty.now.nodes ≡ plan_nodes tower.now }
-    requires size { length config.now.current ≡ faulty.now.nodes }
-    requires deep { plan_depth tower.now ≤ length config.now.shape.moduli }
-    ensures { result ≡ first_of None (is_locked tower.now faulty.now.ids config.now.current) at }
-{
-    if is_locked(tower, faulty, config) {
-        Some(at)
-    } else {
-        None
-    }
-}
-
-/// The first locked configuration so far: that which was known before, or this one, of that number,
-/// if it is locked.
-pub fn locked_so_far(
-    known: Option<u64>,
-    tower: &Tower,
-    faulty: &FaultSet,
-    config: &Packed,
-    at: u64,
-) -> Option<u64>
-    requires nodes { faulty.now.nodes ≡ plan_nodes tower.now }
-    requires size { length config.now.current ≡ faulty.now.nodes }
-    requires deep { plan_depth tower.now ≤ length config.now.shape.moduli }
-    ensures { result ≡ first_of known (is_locked tower.now faulty.now.ids config.now.current) at }
-{
-    match known {
-        Some(_) => known,
-        None => lock_of(tower, faulty, config, at),
-    }
+    let snapshot = Snapshot {
+        tower: &*tower,
+        faulty: &*faulty,
+        config: &*config,
+    };
+    snapshot.is_locked()
 }

@@ -1,44 +1,42 @@
-ghost use Rattle.std.specs.Prelude.{◌≡◌, ◌≤◌, ◌+◌, length};
-ghost use Rattle.construction.specs.Plans.{plan_depth, plan_nodes};
+ghost use Rattle.std.specs.Prelude.{◌≡◌, ◌+◌, length};
 ghost use Rattle.round_runner.specs.Played.{starts};
+ghost use Rattle.round_runner.specs.Rooms.{CanWrite};
 ghost use Rattle.round_runner.specs.Runners.{begun_locks};
+ghost use Rattle.round_runner.specs.Turns.{IsConfiguration};
 
-use crate::locks::lock_of;
+use crate::plays::Play;
 use crate::runners::Runner;
-use adversary_script::{Noise, Script};
+use crate::stepping::Room;
+use adversary_script::Script;
 use counter_core::Overlay;
 use state_codec::Packed;
-use sync_types::NodeState;
-use tower::Tower;
 
-/// Puts every node into the state in which it starts. `out` has room for a state.
-pub fn start_all(script: &Script, noise: &mut Noise, out: &mut NodeState, states: &mut Packed)
-    requires shape { states.old.shape ≡ script.now.shape }
-    requires size { length states.old.next ≡ script.now.nodes }
-    requires noise { noise.old ≡ script.now.key }
-    requires depth { length out.old.registers ≡ length script.now.shape.moduli }
+/// Puts every node into the state in which it starts.
+pub fn start_all(script: &Script, room: &mut Room, states: &mut Packed)
+    requires config { IsConfiguration script.now states.old }
+    requires room { CanWrite script.now room.old }
     ensures shape { states.new.shape ≡ states.old.shape }
     ensures states { states.new.current ≡ starts script.now }
-    ensures noise { noise.new ≡ noise.old }
-    ensures depth { length out.new.registers ≡ length out.old.registers }
+    ensures room { CanWrite script.now room.new }
+    ensures same { room.new ≡ record room.old { noise = room.new.noise; out = room.new.out } }
 {
+    states.tell();
     for v in 0..script.faulty().nodes() {
-        script.start_into(noise, v, out);
-        states.put(v, out);
+        script.start_into(&mut room.noise, v, &mut room.out);
+        states.put(v, &room.out);
     }
     states.flip();
 }
 
 /// Notes of each era the first locked configuration so far, where configuration 0 is that one.
-fn begin_locks(tower: &Tower, script: &Script, config: &Packed, locks: &mut Vec<Option<u64>>)
-    requires nodes { script.now.nodes ≡ plan_nodes tower.now }
-    requires size { length config.now.current ≡ script.now.nodes }
-    requires deep { plan_depth tower.now ≤ length config.now.shape.moduli }
-    requires eras { length locks.old.items ≡ length script.now.eras + 1 }
-    ensures { locks.new.items ≡ begun_locks tower.now script.now config.now.current }
+fn begin_locks(play: &Play<'_>, config: &Packed, locks: &mut Vec<Option<u64>>)
+    requires config { IsConfiguration play.now.script.now config.now }
+    requires eras { length locks.old.items ≡ length play.now.script.now.eras + 1 }
+    ensures { locks.new.items
+        ≡ begun_locks play.now.tower.now play.now.script.now config.now.current }
 {
     locks.fill(None);
-    locks[0] = lock_of(tower, script.faulty(), config, 0);
+    locks[0] = play.begun_lock(config);
 }
 
 impl<O: Overlay> Runner<O> {
@@ -54,14 +52,13 @@ impl<O: Overlay> Runner<O> {
         self.states.tell();
         self.script.set_key(key);
         self.room.noise.restart(key);
-        start_all(
-            &self.script,
-            &mut self.room.noise,
-            &mut self.room.out,
-            &mut self.states,
-        );
+        start_all(&self.script, &mut self.room, &mut self.states);
         self.at = 0;
         self.era = 0;
-        begin_locks(&self.tower, &self.script, &self.states, &mut self.locks);
+        let play = Play {
+            tower: &self.tower,
+            script: &self.script,
+        };
+        begin_locks(&play, &self.states, &mut self.locks);
     }
 }

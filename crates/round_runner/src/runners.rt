@@ -1,13 +1,12 @@
 ghost use Rattle.std.specs.Prelude.{◌≡◌, ◌<◌, ◌≤◌, length, replicate, IfOk};
 ghost use Rattle.sync_types.specs.States.{zero_state};
-ghost use Rattle.construction.specs.Plans.{plan_depth, plan_nodes};
-ghost use Rattle.state_codec.specs.Shapes.{IsShape};
 ghost use Rattle.round_runner.specs.Hearing.{AreOfNodes};
-ghost use Rattle.round_runner.specs.Played.{starts};
 ghost use Rattle.round_runner.specs.Rooms.{IsReady};
 ghost use Rattle.round_runner.specs.Runners.{begun_locks};
+ghost use Rattle.round_runner.specs.Turns.{IsConfiguration};
 
-use crate::locks::{lock_of, locked_so_far};
+use crate::locks::Snapshot;
+use crate::plays::Play;
 use crate::restarting::start_all;
 use crate::rounds::{beginning_in, step_all};
 use crate::stepping::{Room, shown_at};
@@ -82,18 +81,15 @@ impl<O: Overlay> Model for Runner<O> {
 /// Of each era the first locked configuration so far, where configuration 0 is that one.
 fn first_locks(
     alloc: Global,
-    tower: &Tower,
-    script: &Script,
+    play: &Play<'_>,
     config: &Packed,
 ) -> Result<Vec<Option<u64>>, NoMemory>
-    requires nodes { script.now.nodes ≡ plan_nodes tower.now }
-    requires size { length config.now.current ≡ script.now.nodes }
-    requires deep { plan_depth tower.now ≤ length config.now.shape.moduli }
+    requires { IsConfiguration play.now.script.now config.now }
     ensures { IfOk result (λ locks. locks.items
-        ≡ begun_locks tower.now script.now config.now.current) }
+        ≡ begun_locks play.now.tower.now play.now.script.now config.now.current) }
 {
-    let mut locks = vec![in alloc; None; script.eras()]?;
-    locks[0] = lock_of(tower, script.faulty(), config, 0);
+    let mut locks = vec![in alloc; None; play.script.eras()]?;
+    locks[0] = play.begun_lock(config);
     Ok(locks)
 }
 
@@ -112,52 +108,30 @@ pub fn zero_states(alloc: Global, nodes: u32, depth: usize) -> Result<Vec<NodeSt
     Ok(states)
 }
 
-/// Zero states of that depth, one for each node. What the faulty nodes tell will stand in them.
-fn zero_lies(alloc: Global, script: &Script, depth: usize) -> Result<Vec<NodeState>, NoMemory>
-    requires sound { IsShape script.now.shape }
-    requires depth { depth ≡ length script.now.shape.moduli }
+/// Zero states of that shape, one for each node. What the faulty nodes tell will stand in them.
+fn zero_lies(alloc: Global, script: &Script, shape: &StateShape) -> Result<Vec<NodeState>, NoMemory>
+    requires { shape.now ≡ script.now.shape }
     ensures told { IfOk result (λ lies. length lies.items ≡ script.now.nodes) }
     ensures lies { IfOk result (λ lies. AreOfNodes script.now lies.items) }
 {
-    let lies = zero_states(alloc, script.faulty().nodes(), depth)?;
+    shape.tell();
+    let lies = zero_states(alloc, script.faulty().nodes(), shape.depth())?;
     Ok(lies)
 }
 
-/// The configuration in which the nodes of a script start. `out` has room for a state.
-fn started(
-    alloc: Global,
-    shape: StateShape,
-    script: &Script,
-    noise: &mut Noise,
-    out: &mut NodeState,
-) -> Result<Packed, NoMemory>
-    requires shape { shape ≡ script.now.shape }
-    requires nodes { script.now.nodes ≤ length shape.lows }
-    requires noise { noise.old ≡ script.now.key }
-    requires depth { length out.old.registers ≡ length shape.moduli }
-    ensures shape { IfOk result (λ states. states.shape ≡ script.now.shape) }
-    ensures states { IfOk result (λ states. states.current ≡ starts script.now) }
-    ensures noise { noise.new ≡ noise.old }
-    ensures depth { length out.new.registers ≡ length out.old.registers }
+/// What rounds need beside two configurations, whose states have that shape.
+fn room_for(alloc: Global, play: &Play<'_>, shape: &StateShape) -> Result<Room, NoMemory>
+    requires { shape.now ≡ play.now.script.now.shape }
+    ensures { IfOk result (IsReady play.now.tower.now play.now.script.now) }
 {
-    let mut states = Packed::new(alloc, shape, script.faulty().nodes())?;
-    start_all(script, noise, out, &mut states);
-    Ok(states)
-}
-
-/// What rounds of a script need beside two configurations.
-fn room_for(alloc: Global, tower: &Tower, script: &Script, depth: usize) -> Result<Room, NoMemory>
-    requires nodes { script.now.nodes ≡ plan_nodes tower.now }
-    requires sound { IsShape script.now.shape }
-    requires depth { depth ≡ length script.now.shape.moduli }
-    ensures { IfOk result (IsReady tower.now script.now) }
-{
+    let script = play.script;
+    let depth = shape.depth();
     Ok(Room {
         noise: Noise::with_room(alloc, script)?,
         heard: zero_states(alloc, script.faulty().nodes(), depth)?,
-        lies: zero_lies(alloc, script, depth)?,
-        shared: tower.shared(alloc)?,
-        work: tower.work(alloc)?,
+        lies: zero_lies(alloc, script, shape)?,
+        shared: play.tower.shared(alloc)?,
+        work: play.tower.work(alloc)?,
         out: NodeState::zero(alloc, depth)?,
     })
 }
@@ -172,6 +146,7 @@ impl<O: Overlay> Runner<O> {
     ghost use Rattle.state_codec.specs.Texts.{written_text};
     ghost use Rattle.adversary_script.specs.Lies.{lie_of};
     ghost use Rattle.adversary_script.specs.Eras.{faulty_at};
+    ghost use Rattle.round_runner.specs.Ledgers.{IsBlankOf};
     ghost use Rattle.round_runner.specs.Runners.{IsFor, IsPlaying, Advances, begun};
 
     /// A runner of a script at configuration 0. It takes all the memory that it ever needs.
@@ -193,9 +168,14 @@ impl<O: Overlay> Runner<O> {
         shape.tell();
         tower.tell();
         let _rounds = script.rounds();
-        let mut room = room_for(alloc, &tower, &script, shape.depth())?;
-        let states = started(alloc, shape, &script, &mut room.noise, &mut room.out)?;
-        let locks = first_locks(alloc, &tower, &script, &states)?;
+        let play = Play {
+            tower: &tower,
+            script: &script,
+        };
+        let mut room = room_for(alloc, &play, &shape)?;
+        let mut states = Packed::new(alloc, shape, script.faulty().nodes())?;
+        start_all(&script, &mut room, &mut states);
+        let locks = first_locks(alloc, &play, &states)?;
         Ok(Runner {
             tower,
             script,
@@ -222,9 +202,7 @@ impl<O: Overlay> Runner<O> {
 
     /// Makes the next configuration, and counts the steps in a ledger of its own.
     fn round_in<G: Ledger>(&mut self, blank: Blank)
-        requires name { blank.name ≡ G.name }
-        requires parts { blank.parts ≡ G.parts }
-        requires some { 0 < blank.parts }
+        requires blank { IsBlankOf G.name G.parts blank.name blank.parts }
         requires round { self.old.at < self.old.script.rounds }
         ensures advances { Advances O.layer O.kept self.old self.new }
         ensures played { (began : List O.Kept) → IsPlaying O.layer O.kept began self.old
@@ -265,13 +243,12 @@ impl<O: Overlay> Runner<O> {
         self.states.flip();
         self.at += 1;
         self.era = era;
-        self.locks[era] = locked_so_far(
-            self.locks[era],
-            &self.tower,
-            self.script.era_faulty(era),
-            &self.states,
-            self.at,
-        );
+        let snapshot = Snapshot {
+            tower: &self.tower,
+            faulty: self.script.era_faulty(era),
+            config: &self.states,
+        };
+        self.locks[era] = snapshot.locked_so_far(self.locks[era], self.at);
     }
 
     /// How many rounds were played.

@@ -1,6 +1,6 @@
 ghost use Rattle.std.specs.Prelude.{◌≡◌, ◌+◌, ◌*◌, ◌<◌, ◌≤◌, ℕ, List, length, slice_set, slice_index};
 ghost use Rattle.sync_types.specs.States.{State};
-ghost use Rattle.construction.specs.Plans.{plan_nodes, plan_depth};
+ghost use Rattle.construction.specs.Plans.{plan_depth};
 ghost use Rattle.construction.specs.Shown.{shown};
 ghost use Rattle.construction.specs.Steps.{state_of, step_of};
 ghost use Rattle.plan_laws.specs.PlanMeaning.{plan_meaning};
@@ -12,22 +12,21 @@ ghost use Rattle.counter_core.specs.Heeding.{HeedsOnly};
 ghost use Rattle.counter_core.specs.Overlays.{after, layered};
 ghost use Rattle.counter_core.specs.Working.{IsFor};
 ghost use Rattle.adversary_script.specs.Eras.{faulty_at};
-ghost use Rattle.round_runner.specs.Hearing.{heard_from, HasRoom, AreOfNodes};
+ghost use Rattle.round_runner.specs.Hearing.{heard_from, HasRoom, AreLies};
 ghost use Rattle.round_runner.specs.Laying.{IsEnough, IsLaid, IsLaidFor, IsSameOrTold};
-ghost use Rattle.round_runner.specs.Played.{heard_at};
 ghost use Rattle.round_runner.specs.Rooms.{IsReady};
 ghost use Rattle.round_runner.specs.Scenes.{layer_step, new_state};
-ghost use Rattle.round_runner.specs.Turns.{IsConfiguration, IsGathered, IsRound, IsSet, TakesStates};
+ghost use Rattle.round_runner.specs.Turns.{heard_in, IsGathered, IsSet, TakesStates};
 
-use crate::telling::tell;
-use crate::turns::Round;
-use adversary_script::{Noise, Script};
+use crate::telling::{liars_in, tell};
+use crate::turns::{Round, Turn};
+use adversary_script::Noise;
 use counter_core::{Counter, Heard, Overlay, Work};
 use majority_votes::Steps;
 use state_codec::Packed;
 use std::sync::ledger::Ledger;
-use sync_types::{FaultSet, NodeState};
-use tower::{Shared, Tower};
+use sync_types::NodeState;
+use tower::Shared;
 
 /// What rounds need beside two configurations, made once.
 #[derive(Drop)]
@@ -74,241 +73,210 @@ fn hull(one: (usize, usize), other: (usize, usize)) -> (usize, usize)
     (one.0.min(other.0), one.1.max(other.1))
 }
 
-/// The faulty nodes on whose lies the counter's step of a node hangs, with those that its layer's
+/// The faulty nodes on whose lies the counter's step of a turn hangs, with those that its layer's
 /// step hangs on, as a stretch of their places.
-fn stretch_for(tower: &Tower, v: u32, layers: (usize, usize), shared: &Shared) -> (usize, usize)
-    requires plan { shared.now.plan ≡ tower.now }
-    requires size { length shared.now.states ≡ plan_nodes tower.now }
-    requires node { v < plan_nodes tower.now }
-    requires layers { layers.1 ≤ length shared.now.faulty }
+fn stretch_for(turn: &Turn<'_>, layers: (usize, usize), shared: &Shared) -> (usize, usize)
+    requires layers { layers.1
+        ≤ length (faulty_at turn.now.round.now.script.now turn.now.round.now.t) }
+    requires stands { shared.now ≡ stands_for turn.now.round.now.tower.now
+        turn.now.states.now.current (faulty_at turn.now.round.now.script.now turn.now.round.now.t) }
     ensures within { result.1 ≤ length shared.now.faulty }
     ensures layers { (j : ℕ) → layers.0 ≤ j → j < layers.1 → (result.0 ≤ j) × (j < result.1) }
-    ensures enough { (lies told : List State) → Tells shared.now v lies → Tells shared.now v told
+    ensures enough { (lies told : List State) → Tells shared.now turn.now.v lies
+        → Tells shared.now turn.now.v told
         → ((j : ℕ) → result.0 ≤ j → j < result.1 → state_of lies j ≡ state_of told j)
-        → step_of tower.now v (heard_with shared.now.faulty lies shared.now.states)
-        ≡ step_of tower.now v (heard_with shared.now.faulty told shared.now.states) }
+        → step_of turn.now.round.now.tower.now turn.now.v
+        (heard_with shared.now.faulty lies shared.now.states)
+        ≡ step_of turn.now.round.now.tower.now turn.now.v
+        (heard_with shared.now.faulty told shared.now.states) }
 {
-    hull(tower.heeded(v, shared), layers)
+    hull(turn.round.tower.heeded(turn.v, shared), layers)
 }
 
-/// The counter's step of node `v` in a round, by what is shared and what the faulty nodes tell it:
-/// those that it heeds, and those of a stretch that its layer heeds.
+/// The counter's step of a turn, by what is shared and what the faulty nodes tell it: those that it
+/// heeds, and those of a stretch that its layer heeds.
 fn step_shared<G: Ledger>(
-    round: &Round<'_>,
-    v: u32,
+    turn: &Turn<'_>,
     layers: (usize, usize),
-    states: &Packed,
     room: &mut Room,
     steps: &mut Steps<G>,
 )
-    requires round { IsRound round.now }
-    requires node { v < round.now.script.now.nodes }
-    requires layers { layers.1 ≤ length (faulty_at round.now.script.now round.now.t) }
-    requires config { IsConfiguration round.now.script.now states.now }
-    requires takes { TakesStates round.now }
-    requires ready { IsReady round.now.tower.now round.now.script.now room.old }
-    requires stands { room.old.shared ≡ stands_for round.now.tower.now states.now.current
-        (faulty_at round.now.script.now round.now.t) }
-    ensures out { room.new.out ≡ written (plan_depth round.now.tower.now)
-        (step_of round.now.tower.now v
-        (heard_at round.now.script.now round.now.t states.now.current v)) room.old.out }
+    requires layers { layers.1
+        ≤ length (faulty_at turn.now.round.now.script.now turn.now.round.now.t) }
+    requires takes { TakesStates turn.now.round.now }
+    requires ready { IsReady turn.now.round.now.tower.now turn.now.round.now.script.now room.old }
+    requires stands { room.old.shared ≡ stands_for turn.now.round.now.tower.now
+        turn.now.states.now.current (faulty_at turn.now.round.now.script.now turn.now.round.now.t) }
+    ensures out { room.new.out ≡ written (plan_depth turn.now.round.now.tower.now)
+        (step_of turn.now.round.now.tower.now turn.now.v (heard_in turn.now)) room.old.out }
     ensures told { (j : ℕ) → layers.0 ≤ j → j < layers.1
-        → state_of room.new.lies.items j ≡ heard_from round.now.script.now round.now.t v
-        states.now.current (slice_index (faulty_at round.now.script.now round.now.t) j) }
-    ensures lies { (length room.new.lies.items ≡ round.now.script.now.nodes)
-        × AreOfNodes round.now.script.now room.new.lies.items }
+        → state_of room.new.lies.items j ≡ heard_from turn.now.round.now.script.now
+        turn.now.round.now.t turn.now.v turn.now.states.now.current
+        (slice_index (faulty_at turn.now.round.now.script.now turn.now.round.now.t) j) }
+    ensures lies { AreLies turn.now.round.now.script.now room.new.lies.items }
     ensures same { room.new ≡ record room.old { lies = room.new.lies; out = room.new.out } }
-    ensures cost { steps.new ≤ steps.old + 3 * plan_depth round.now.tower.now
-        * length (faulty_at round.now.script.now round.now.t) }
+    ensures cost { steps.new ≤ steps.old + 3 * plan_depth turn.now.round.now.tower.now
+        * length (faulty_at turn.now.round.now.script.now turn.now.round.now.t) }
 {
-    let tower = round.tower;
-    let liars = round.faulty.len();
-    let stretch = stretch_for(tower, v, layers, &room.shared);
-    tell(round, v, stretch, &mut room.noise, states, &mut room.lies);
+    let tower = turn.round.tower;
+    let liars = turn.round.faulty.len();
+    let stretch = stretch_for(turn, layers, &room.shared);
+    tell(turn, stretch, &mut room.noise, &mut room.lies);
     let lies = &room.lies[..liars];
-    tower.advance_shared(v, states, lies, &mut room.shared, &mut room.out, steps);
+    tower.advance_shared(
+        turn.v,
+        turn.states,
+        lies,
+        &mut room.shared,
+        &mut room.out,
+        steps,
+    );
 }
 
-/// The counter's step of a node whose state is a number alone.
-fn step_number(tower: &Tower, v: u32, states: &Packed, out: &mut NodeState)
-    requires node { v < length states.now.current }
-    requires below { (state_of states.now.current v).x < tower.now.base }
-    requires alone { plan_depth tower.now ≡ 0 }
-    ensures { (heard : List State) → state_of heard v ≡ state_of states.now.current v
-        → out.new ≡ written (plan_depth tower.now) (step_of tower.now v heard) out.old }
+/// The counter's step of a turn where states are numbers alone.
+fn step_number(turn: &Turn<'_>, out: &mut NodeState)
+    requires below { (state_of turn.now.states.now.current turn.now.v).x
+        < turn.now.round.now.tower.now.base }
+    requires alone { plan_depth turn.now.round.now.tower.now ≡ 0 }
+    ensures { (heard : List State)
+        → state_of heard turn.now.v ≡ state_of turn.now.states.now.current turn.now.v
+        → out.new ≡ written (plan_depth turn.now.round.now.tower.now)
+        (step_of turn.now.round.now.tower.now turn.now.v heard) out.old }
 {
-    out.set_x(tower.next_number(states.x(v)));
+    out.set_x(turn.round.tower.next_number(turn.states.x(turn.v)));
 }
 
-/// Lays the own state of node `v`, where it is faulty, into its place among what is heard.
-fn lay_itself(round: &Round<'_>, v: u32, states: &Packed, heard: &mut [NodeState])
-    requires round { IsRound round.now }
-    requires node { v < round.now.script.now.nodes }
-    requires config { IsConfiguration round.now.script.now states.now }
-    requires room { HasRoom round.now.script.now heard.old }
-    requires laid { IsLaid round.now.script.now round.now.t states.now.current heard.old }
-    ensures room { HasRoom round.now.script.now heard.new }
-    ensures laid { IsLaid round.now.script.now round.now.t states.now.current heard.new }
-    ensures own { state_of heard.new v ≡ state_of states.now.current v }
+/// Lays the own state of the node of a turn, where it is faulty, into its place among what is heard.
+fn lay_itself(turn: &Turn<'_>, heard: &mut [NodeState])
+    requires room { HasRoom turn.now.round.now.script.now heard.old }
+    requires laid { IsLaid turn.now.round.now.script.now turn.now.round.now.t
+        turn.now.states.now.current heard.old }
+    ensures room { HasRoom turn.now.round.now.script.now heard.new }
+    ensures laid { IsLaid turn.now.round.now.script.now turn.now.round.now.t
+        turn.now.states.now.current heard.new }
+    ensures own { state_of heard.new turn.now.v ≡ state_of turn.now.states.now.current turn.now.v }
 {
-    states.tell();
-    if round.faulty.contains(v) {
-        states.old(v, &mut heard[v as usize]);
+    turn.states.tell();
+    if turn.round.faulty.contains(turn.v) {
+        turn.states.old(turn.v, &mut heard[turn.v as usize]);
     }
 }
 
 /// Lays what the faulty nodes of a stretch tell into their places among what is heard.
-fn lay_lies(
-    script: &Script,
-    faulty: &FaultSet,
-    stretch: (usize, usize),
-    lies: &[NodeState],
-    heard: &mut [NodeState],
-)
-    requires nodes { faulty.now.nodes ≡ script.now.nodes }
-    requires stretch { stretch.1 ≤ length faulty.now.ids }
-    requires told { stretch.1 ≤ length lies.now }
-    requires lies { AreOfNodes script.now lies.now }
-    requires room { HasRoom script.now heard.old }
-    ensures room { HasRoom script.now heard.new }
+fn lay_lies(round: &Round<'_>, stretch: (usize, usize), lies: &[NodeState], heard: &mut [NodeState])
+    requires stretch { stretch.1 ≤ length round.now.faulty.now.ids }
+    requires lies { AreLies round.now.script.now lies.now }
+    requires room { HasRoom round.now.script.now heard.old }
+    ensures room { HasRoom round.now.script.now heard.new }
     ensures told { (j : ℕ) → stretch.0 ≤ j → j < stretch.1
-        → state_of heard.new (slice_index faulty.now.ids j) ≡ state_of lies.now j }
-    ensures each { (u : ℕ) → IsSameOrTold faulty.now.ids stretch.0 stretch.1 lies.now
+        → state_of heard.new (slice_index round.now.faulty.now.ids j) ≡ state_of lies.now j }
+    ensures each { (u : ℕ) → IsSameOrTold round.now.faulty.now.ids stretch.0 stretch.1 lies.now
         (state_of heard.old u) u (state_of heard.new u) }
 {
+    let faulty = round.faulty;
+    let _liars = liars_in(round);
     faulty.tell();
     for j in stretch.0..stretch.1 {
         heard[faulty.at(j) as usize].copy_from(&lies[j]);
     }
 }
 
-/// The faulty nodes on whose lies the layer's step of node `v` hangs, as a stretch of their places.
+/// The faulty nodes on whose lies the layer's step of a turn hangs, as a stretch of their places.
 /// Where the layer has registers, the node's own state is laid for it.
-fn heed<O: Overlay>(
-    round: &Round<'_>,
-    overlay: &O,
-    v: u32,
-    states: &Packed,
-    room: &mut Room,
-) -> (usize, usize)
-    requires round { IsRound round.now }
-    requires set { IsSet round.now (O.layer overlay.now) states.now room.old }
-    requires node { v < round.now.script.now.nodes }
-    requires laid { 0 < (O.layer overlay.now).extra → IsLaid round.now.script.now round.now.t
-        states.now.current room.old.heard.items }
-    ensures within { result.1 ≤ length (faulty_at round.now.script.now round.now.t) }
-    ensures room { HasRoom round.now.script.now room.new.heard.items }
+fn heed<O: Overlay>(turn: &Turn<'_>, overlay: &O, room: &mut Room) -> (usize, usize)
+    requires { IsGathered turn.now.round.now (O.layer overlay.now) turn.now.states.now room.old }
+    ensures within { result.1
+        ≤ length (faulty_at turn.now.round.now.script.now turn.now.round.now.t) }
+    ensures room { HasRoom turn.now.round.now.script.now room.new.heard.items }
     ensures same { room.new ≡ record room.old { heard = room.new.heard } }
-    ensures laid { 0 < (O.layer overlay.now).extra → IsLaidFor round.now v
-        states.now.current room.new.heard.items }
+    ensures laid { 0 < (O.layer overlay.now).extra → IsLaidFor turn.now.round.now turn.now.v
+        turn.now.states.now.current room.new.heard.items }
     ensures enough { 0 < (O.layer overlay.now).extra → HeedsOnly (after (O.layer overlay.now)
-        (O.kept overlay.now) v ((plan_meaning round.now.tower.now).shows v
-        (state_of states.now.current v))) (faulty_at round.now.script.now round.now.t) v
+        (O.kept overlay.now) turn.now.v ((plan_meaning turn.now.round.now.tower.now).shows
+        turn.now.v (state_of turn.now.states.now.current turn.now.v)))
+        (faulty_at turn.now.round.now.script.now turn.now.round.now.t) turn.now.v
         room.new.heard.items result.0 result.1 }
 {
     if overlay.extra() == 0 {
         return (0, 0);
     }
-    states.tell();
-    lay_itself(round, v, states, &mut room.heard);
-    let output = shown_at(states, v, round.tower.depth());
-    overlay.heeded(v, output, &Heard::of(&room.heard), round.faulty)
+    turn.states.tell();
+    turn.round.tell();
+    lay_itself(turn, &mut room.heard);
+    let output = shown_at(turn.states, turn.v, turn.round.tower.depth());
+    overlay.heeded(turn.v, output, &Heard::of(&room.heard), turn.round.faulty)
 }
 
-/// The layer's step of node `v` in a round, behind that of the counter, which stands in `out`.
-/// Where the layer has registers, what is laid for it is enough.
-fn step_layer<O: Overlay>(
-    round: &Round<'_>,
-    overlay: &mut O,
-    v: u32,
-    states: &Packed,
-    room: &mut Room,
-)
-    requires round { IsRound round.now }
-    requires set { IsSet round.now (O.layer overlay.old) states.now room.old }
-    requires node { v < round.now.script.now.nodes }
-    requires enough { 0 < (O.layer overlay.old).extra → IsEnough round.now (O.layer overlay.old)
-        (O.kept overlay.old) v states.now.current room.old.heard.items }
+/// The layer's step of a turn, behind that of the counter, which stands in `out`. Where the layer
+/// has registers, what is laid for it is enough.
+fn step_layer<O: Overlay>(turn: &Turn<'_>, overlay: &mut O, room: &mut Room)
+    requires set { IsSet turn.now.round.now (O.layer overlay.old) turn.now.states.now room.old }
+    requires enough { 0 < (O.layer overlay.old).extra → IsEnough turn.now.round.now
+        (O.layer overlay.old) (O.kept overlay.old) turn.now.v turn.now.states.now.current
+        room.old.heard.items }
     ensures layer { O.layer overlay.new ≡ O.layer overlay.old }
-    ensures kept { O.kept overlay.new ≡ slice_set (O.kept overlay.old) v
-        (layer_step (plan_meaning round.now.tower.now) (O.layer overlay.old) (O.kept overlay.old) v
-        (heard_at round.now.script.now round.now.t states.now.current v)).kept }
+    ensures kept { O.kept overlay.new ≡ slice_set (O.kept overlay.old) turn.now.v
+        (layer_step (plan_meaning turn.now.round.now.tower.now) (O.layer overlay.old)
+        (O.kept overlay.old) turn.now.v (heard_in turn.now)).kept }
     ensures out { room.new.out ≡ layered (O.layer overlay.old)
-        (layer_step (plan_meaning round.now.tower.now) (O.layer overlay.old) (O.kept overlay.old) v
-        (heard_at round.now.script.now round.now.t states.now.current v)).registers room.old.out }
-    ensures work { IsFor round.now.script.now.nodes room.new.work }
+        (layer_step (plan_meaning turn.now.round.now.tower.now) (O.layer overlay.old)
+        (O.kept overlay.old) turn.now.v (heard_in turn.now)).registers room.old.out }
+    ensures work { IsFor turn.now.round.now.script.now.nodes room.new.work }
     ensures same { room.new ≡ record room.old { work = room.new.work; out = room.new.out } }
 {
-    states.tell();
-    let output = shown_at(states, v, round.tower.depth());
+    turn.states.tell();
+    turn.round.tell();
+    let output = shown_at(turn.states, turn.v, turn.round.tower.depth());
     let heard = Heard::of(&room.heard);
-    overlay.advance(v, output, &heard, &mut room.work, &mut room.out);
+    overlay.advance(turn.v, output, &heard, &mut room.work, &mut room.out);
 }
 
-/// The step of node `v` in a round where states have registers, and behind it that of the layer
-/// above.
+/// The step of a turn where states have registers, and behind it that of the layer above.
 pub fn step_with<O: Overlay, G: Ledger>(
-    round: &Round<'_>,
+    turn: &Turn<'_>,
     overlay: &mut O,
-    v: u32,
     room: &mut Room,
-    states: &Packed,
     steps: &mut Steps<G>,
 )
-    requires round { IsRound round.now }
-    requires set { IsSet round.now (O.layer overlay.old) states.now room.old }
-    requires node { v < round.now.script.now.nodes }
-    requires gathered { IsGathered round.now (O.layer overlay.old) states.now.current room.old }
-    ensures out { room.new.out ≡ new_state (plan_meaning round.now.tower.now)
-        (O.layer overlay.old) (O.kept overlay.old) v
-        (heard_at round.now.script.now round.now.t states.now.current v) }
-    ensures range { InRange (fields_at round.now.script.now.shape v) room.new.out }
+    requires { IsGathered turn.now.round.now (O.layer overlay.old) turn.now.states.now room.old }
+    ensures out { room.new.out ≡ new_state (plan_meaning turn.now.round.now.tower.now)
+        (O.layer overlay.old) (O.kept overlay.old) turn.now.v (heard_in turn.now) }
+    ensures range { InRange (fields_at turn.now.round.now.script.now.shape turn.now.v)
+        room.new.out }
     ensures layer { O.layer overlay.new ≡ O.layer overlay.old }
-    ensures kept { O.kept overlay.new ≡ slice_set (O.kept overlay.old) v
-        (layer_step (plan_meaning round.now.tower.now) (O.layer overlay.old) (O.kept overlay.old) v
-        (heard_at round.now.script.now round.now.t states.now.current v)).kept }
-    ensures room { IsReady round.now.tower.now round.now.script.now room.new }
-    ensures gathered { IsGathered round.now (O.layer overlay.old) states.now.current room.new }
-    ensures cost { steps.new ≤ steps.old + 3 * plan_depth round.now.tower.now
-        * length (faulty_at round.now.script.now round.now.t) }
+    ensures kept { O.kept overlay.new ≡ slice_set (O.kept overlay.old) turn.now.v
+        (layer_step (plan_meaning turn.now.round.now.tower.now) (O.layer overlay.old)
+        (O.kept overlay.old) turn.now.v (heard_in turn.now)).kept }
+    ensures gathered { IsGathered turn.now.round.now (O.layer overlay.old) turn.now.states.now
+        room.new }
+    ensures cost { steps.new ≤ steps.old + 3 * plan_depth turn.now.round.now.tower.now
+        * length (faulty_at turn.now.round.now.script.now turn.now.round.now.t) }
 {
-    states.tell();
-    let layers = heed(round, overlay, v, states, room);
-    step_shared(round, v, layers, states, room, steps);
-    lay_lies(
-        round.script,
-        round.faulty,
-        layers,
-        &room.lies,
-        &mut room.heard,
-    );
-    step_layer(round, overlay, v, states, room);
+    turn.states.tell();
+    turn.round.tell();
+    let layers = heed(turn, overlay, room);
+    step_shared(turn, layers, room, steps);
+    lay_lies(turn.round, layers, &room.lies, &mut room.heard);
+    step_layer(turn, overlay, room);
 }
 
-/// The step of node `v` in a round where states are numbers alone, and behind it that of the layer
-/// above, which has no registers.
-pub fn step_alone<O: Overlay>(
-    round: &Round<'_>,
-    overlay: &mut O,
-    v: u32,
-    room: &mut Room,
-    states: &Packed,
-)
-    requires round { IsRound round.now }
-    requires set { IsSet round.now (O.layer overlay.old) states.now room.old }
-    requires node { v < round.now.script.now.nodes }
-    requires alone { length round.now.script.now.shape.moduli ≡ 0 }
-    ensures out { room.new.out ≡ new_state (plan_meaning round.now.tower.now)
-        (O.layer overlay.old) (O.kept overlay.old) v
-        (heard_at round.now.script.now round.now.t states.now.current v) }
-    ensures range { InRange (fields_at round.now.script.now.shape v) room.new.out }
+/// The step of a turn where states are numbers alone, and behind it that of the layer above, which
+/// has no registers.
+pub fn step_alone<O: Overlay>(turn: &Turn<'_>, overlay: &mut O, room: &mut Room)
+    requires set { IsSet turn.now.round.now (O.layer overlay.old) turn.now.states.now room.old }
+    requires alone { length turn.now.round.now.script.now.shape.moduli ≡ 0 }
+    ensures out { room.new.out ≡ new_state (plan_meaning turn.now.round.now.tower.now)
+        (O.layer overlay.old) (O.kept overlay.old) turn.now.v (heard_in turn.now) }
+    ensures range { InRange (fields_at turn.now.round.now.script.now.shape turn.now.v)
+        room.new.out }
     ensures layer { O.layer overlay.new ≡ O.layer overlay.old }
-    ensures kept { O.kept overlay.new ≡ slice_set (O.kept overlay.old) v
-        (layer_step (plan_meaning round.now.tower.now) (O.layer overlay.old) (O.kept overlay.old) v
-        (heard_at round.now.script.now round.now.t states.now.current v)).kept }
-    ensures room { IsReady round.now.tower.now round.now.script.now room.new }
+    ensures kept { O.kept overlay.new ≡ slice_set (O.kept overlay.old) turn.now.v
+        (layer_step (plan_meaning turn.now.round.now.tower.now) (O.layer overlay.old)
+        (O.kept overlay.old) turn.now.v (heard_in turn.now)).kept }
+    ensures room { IsReady turn.now.round.now.tower.now turn.now.round.now.script.now room.new }
 {
-    states.tell();
-    step_number(round.tower, v, states, &mut room.out);
-    step_layer(round, overlay, v, states, room);
+    turn.states.tell();
+    turn.round.tell();
+    step_number(turn, &mut room.out);
+    step_layer(turn, overlay, room);
 }

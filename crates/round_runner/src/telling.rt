@@ -2,12 +2,10 @@ ghost use Rattle.std.specs.Prelude.{◌≡◌, ◌<◌, ◌≤◌, ℕ, true, le
 ghost use Rattle.sync_types.specs.FaultSets.{is_in};
 ghost use Rattle.construction.specs.Steps.{state_of};
 ghost use Rattle.shared_board.specs.Sharing.{place_among};
-ghost use Rattle.round_runner.specs.Hearing.{heard_from, AreOfNodes, TellsItself};
-ghost use Rattle.round_runner.specs.Turns.{IsRound, IsConfiguration};
+ghost use Rattle.round_runner.specs.Hearing.{heard_from, AreLies, AreOfNodes, TellsItself};
 
-use crate::turns::Round;
-use adversary_script::{Noise, Script};
-use state_codec::Packed;
+use crate::turns::{Round, Turn};
+use adversary_script::Noise;
 use sync_types::{FaultSet, NodeState};
 
 /// Where the faulty node `v` stands in the order of the faulty ones.
@@ -24,59 +22,58 @@ pub fn place_of(faulty: &FaultSet, v: u32) -> usize
     unreachable!()
 }
 
-/// Where node `v` is faulty, puts its own state into its place.
-fn tell_itself(script: &Script, faulty: &FaultSet, v: u32, states: &Packed, lies: &mut [NodeState])
-    requires node { v < script.now.nodes }
-    requires shape { states.now.shape ≡ script.now.shape }
-    requires size { length states.now.current ≡ script.now.nodes }
-    requires room { length faulty.now.ids ≤ length lies.old }
-    requires lies { AreOfNodes script.now lies.old }
-    ensures own { TellsItself faulty.now.ids v states.now.current lies.new }
-    ensures lies { AreOfNodes script.now lies.new }
+/// How many nodes are faulty in a round, at most all.
+pub fn liars_in(round: &Round<'_>) -> usize
+    ensures exact { result ≡ length round.now.faulty.now.ids }
+    ensures within { result ≤ round.now.script.now.nodes }
 {
+    round.faulty.len()
+}
+
+/// Where the node of a turn is faulty, puts its own state into its place.
+fn tell_itself(turn: &Turn<'_>, lies: &mut [NodeState])
+    requires { AreLies turn.now.round.now.script.now lies.old }
+    ensures own { TellsItself turn.now.round.now.faulty.now.ids turn.now.v
+        turn.now.states.now.current lies.new }
+    ensures lies { AreOfNodes turn.now.round.now.script.now lies.new }
+{
+    let faulty = turn.round.faulty;
+    let _liars = liars_in(turn.round);
     faulty.tell();
-    states.tell();
-    if faulty.contains(v) {
-        let own = place_of(faulty, v);
-        states.old(v, &mut lies[own]);
+    turn.states.tell();
+    if faulty.contains(turn.v) {
+        let own = place_of(faulty, turn.v);
+        turn.states.old(turn.v, &mut lies[own]);
     }
 }
 
-/// Puts what node `v` hears in a round of the faulty nodes from one place of their set to before
+/// Puts what the node of a turn hears of the faulty nodes from one place of their set to before
 /// another into these places of `lies`, and where it is faulty itself its own state into its place.
-pub fn tell(
-    round: &Round<'_>,
-    v: u32,
-    stretch: (usize, usize),
-    noise: &mut Noise,
-    states: &Packed,
-    lies: &mut [NodeState],
-)
-    requires round { IsRound round.now }
-    requires noise { noise.old ≡ round.now.script.now.key }
-    requires node { v < round.now.script.now.nodes }
-    requires config { IsConfiguration round.now.script.now states.now }
-    requires stretch { stretch.1 ≤ length round.now.faulty.now.ids }
-    requires lies { (length lies.old ≡ round.now.script.now.nodes)
-        × AreOfNodes round.now.script.now lies.old }
+pub fn tell(turn: &Turn<'_>, stretch: (usize, usize), noise: &mut Noise, lies: &mut [NodeState])
+    requires noise { noise.old ≡ turn.now.round.now.script.now.key }
+    requires stretch { stretch.1 ≤ length turn.now.round.now.faulty.now.ids }
+    requires lies { AreLies turn.now.round.now.script.now lies.old }
     ensures told { (j : ℕ) → stretch.0 ≤ j → j < stretch.1 → state_of lies.new j
-        ≡ heard_from round.now.script.now round.now.t v states.now.current
-        (slice_index round.now.faulty.now.ids j) }
-    ensures own { is_in round.now.faulty.now.ids v ≡ true
-        → state_of lies.new (place_among round.now.faulty.now.ids v)
-        ≡ state_of states.now.current v }
-    ensures lies { AreOfNodes round.now.script.now lies.new }
+        ≡ heard_from turn.now.round.now.script.now turn.now.round.now.t turn.now.v
+        turn.now.states.now.current (slice_index turn.now.round.now.faulty.now.ids j) }
+    ensures own { is_in turn.now.round.now.faulty.now.ids turn.now.v ≡ true
+        → state_of lies.new (place_among turn.now.round.now.faulty.now.ids turn.now.v)
+        ≡ state_of turn.now.states.now.current turn.now.v }
+    ensures lies { AreOfNodes turn.now.round.now.script.now lies.new }
     ensures noise { noise.new ≡ noise.old }
 {
+    let round = turn.round;
     let faulty = round.faulty;
+    let v = turn.v;
+    let _liars = liars_in(round);
     faulty.tell();
-    tell_itself(round.script, faulty, v, states, lies);
+    tell_itself(turn, lies);
     for j in stretch.0..stretch.1 {
         let u = faulty.at(j);
         if u != v {
             round
                 .script
-                .lie_into(noise, round.t, u, v, states, &mut lies[j]);
+                .lie_into(noise, round.t, u, v, turn.states, &mut lies[j]);
         }
     }
 }

@@ -1,7 +1,9 @@
 use Rattle.std.proofs.Common.{◌<◌, length, inl, refl, sym, ap, ◌∙◌, subst, arith}
+use Rattle.sync_types.specs.FaultSets.{FaultIds}
 use Rattle.sync_types.specs.States.{State}
 use Rattle.adversary_script.proofs.LiesInRange.{depth_of_node}
 use Rattle.round_runner.specs.Hearing.{IsOfSome}
+use Rattle.round_runner.proofs.FewLie.{few_lie}
 use Rattle.round_runner.proofs.Places.{read_at}
 use Rattle.round_runner.proofs.LiesLaid.{one_laid, all_laid}
 use Rattle.round_runner.proofs.stepping.lay_lies.Goals as goal
@@ -18,17 +20,20 @@ loop-j-init c = record {
 
 pub loop-j-preserved : goal.loop-j-preserved
 loop-j-preserved c =
-    let script = c.args.script.now in
+    let script = c.args.round.now.script.now in
     let size = c.requires.room.size in
     let lt : c.loop-j.j < c.args.stretch.1 = omega (arith, c.loop-j-test.true) in
-    let ids : c.loop-j.j < length c.args.faulty.now.ids = omega (arith, lt, c.requires.stretch) in
-    let lies : c.loop-j.j < length c.args.lies.now = omega (arith, lt, c.requires.told) in
+    let few = few_lie c.args.round.now in
+    let nodes = ap (λ (s : FaultIds). s.nodes) c.args.round.now.liars in
+    let ids : c.loop-j.j < length c.args.round.now.faulty.now.ids =
+    omega (arith, lt, c.requires.stretch) in
+    let lies : c.loop-j.j < length c.args.lies.now = omega (arith, ids, few, c.requires.lies.size) in
     let some = subst (IsOfSome script) (sym c.index-lies-j.is)
-    (c.requires.lies c.loop-j.j c.index-lies-j.result lies) in
-    one_laid (length script.shape.moduli) c.args.faulty.now.ids c.args.stretch.0 c.args.stretch.1
+    (c.requires.lies.states c.loop-j.j c.index-lies-j.result lies) in
+    one_laid (length script.shape.moduli) c.args.round.now.faulty.now.ids c.args.stretch.0 c.args.stretch.1
     c.args.lies.now c.args.heard.now
     c.tell.ensures.rising c.loop-j.j c.at.result c.loop-j.heard c.copy_from.new.self
-    lt ids (omega (arith, c.at.ensures.node, c.requires.nodes, size))
+    lt ids (omega (arith, c.at.ensures.node, nodes, size))
     (sym c.at.ensures.id) c.loop-j.invariant (c.copy_from.ensures
     ∙ read_at c.args.lies.now c.loop-j.j c.index-lies-j.result lies c.index-lies-j.is)
     (ap (λ (s : State). length s.registers) c.copy_from.ensures
@@ -46,18 +51,20 @@ returns-clause-told c = λ j low lt.
 
 pub returns-clause-each : goal.returns-clause-each
 returns-clause-each c =
-    all_laid (length c.args.script.now.shape.moduli) c.args.faulty.now.ids c.args.stretch.0
+    all_laid (length c.args.round.now.script.now.shape.moduli) c.args.round.now.faulty.now.ids c.args.stretch.0
     c.args.stretch.1 c.args.lies.now c.args.heard.now c.loop-j.j c.loop-j.heard c.loop-j.invariant
 
 pub copy_from-requires : goal.copy_from-requires
 copy_from-requires c =
-    let script = c.args.script.now in
+    let script = c.args.round.now.script.now in
+    let few = few_lie c.args.round.now in
+    let nodes = ap (λ (s : FaultIds). s.nodes) c.args.round.now.liars in
     let lies : c.loop-j.j < length c.args.lies.now =
-    omega (arith, c.loop-j-test.true, c.requires.told) in
+    omega (arith, c.loop-j-test.true, c.requires.stretch, few, c.requires.lies.size) in
     let some = subst (IsOfSome script) (sym c.index-lies-j.is)
-    (c.requires.lies c.loop-j.j c.index-lies-j.result lies) in
+    (c.requires.lies.states c.loop-j.j c.index-lies-j.result lies) in
     let long = c.requires.room.size in
     let size = c.loop-j.invariant.size in
     depth_of_node script.shape some.node _ some.range
     ∙ sym (c.loop-j.invariant.deep c.at.result c.index-heard-at.result
-    (omega (arith, c.at.ensures.node, c.requires.nodes, long, size)))
+    (omega (arith, c.at.ensures.node, nodes, long, size)))

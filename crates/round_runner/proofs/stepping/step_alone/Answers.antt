@@ -6,10 +6,10 @@ use Rattle.round_runner.proofs.stepping.step_alone.Goals as goal
 
 pub step_number-requires-clause-below : goal.step_number-requires-clause-below
 step_number-requires-clause-below g c =
-    let states = c.args.states.now in
-    let inside : c.args.v < length states.current =
-    omega (arith, c.requires.set.size, c.requires.node) in
-    (c.requires.set.fits.counts c.args.v (omega (arith, c.requires.node, c.requires.round.nodes))
-    (state_of states.current c.args.v)
-    (subst (λ (s : Shape). InRange (fields_at s c.args.v) (state_of states.current c.args.v))
-    c.requires.set.shape (c.tell.ensures.current c.args.v inside))).x
+    let states = c.args.turn.now.states.now in
+    let inside : c.args.turn.now.v < length states.current =
+    omega (arith, c.requires.set.size, c.args.turn.now.node) in
+    (c.requires.set.fits.counts c.args.turn.now.v (omega (arith, c.args.turn.now.node, c.args.turn.now.round.now.nodes))
+    (state_of states.current c.args.turn.now.v)
+    (subst (λ (s : Shape). InRange (fields_at s c.args.turn.now.v) (state_of states.current c.args.turn.now.v))
+    c.requires.set.shape (c.tell.ensures.current c.args.turn.now.v inside))).x

@@ -13,32 +13,19 @@ use Rattle.round_runner.proofs.Counted.{tells_taken, step_taken}
 use Rattle.round_runner.proofs.Liars.{taken_counts, taken_deep}
 use Rattle.round_runner.proofs.stepping.step_shared.Goals as goal
 
--- what is shared stands for the configuration
-pub stretch_for-stretch-requires-clause-size : goal.stretch_for-stretch-requires-clause-size
-stretch_for-stretch-requires-clause-size g c =
-    ap (λ (s : Shares). length s.states) c.requires.stands
-    ∙ length-map c.args.states.now.current (cut (plan_depth c.args.round.now.tower.now))
-    ∙ c.requires.config.size ∙ c.requires.round.nodes
-
-pub stretch_for-stretch-requires-clause-layers : goal.stretch_for-stretch-requires-clause-layers
-stretch_for-stretch-requires-clause-layers g c =
-    let same = ap (λ (s : Shares). length s.faulty) c.requires.stands in
-    let layers = c.requires.layers in
-    omega (arith, same, layers)
-
 pub tell-requires-clause-stretch : goal.tell-requires-clause-stretch
 tell-requires-clause-stretch g c =
     let within = c.stretch_for-stretch.ensures.within in
     let same = ap (λ (s : Shares). length s.faulty) c.requires.stands in
-    let ids = ap (λ (s : FaultIds). length s.ids) c.requires.round.faulty in
+    let ids = ap (λ (s : FaultIds). length s.ids) c.args.turn.now.round.now.liars in
     omega (arith, within, same, ids)
 
 pub tell-requires-clause-lies : goal.tell-requires-clause-lies
-tell-requires-clause-lies g c = (
-  ap (λ (xs : List State). length xs) c.deref_mut.ensures.value ∙ c.requires.ready.told,
-  subst (AreOfNodes c.args.round.now.script.now) (sym c.deref_mut.ensures.value)
-      c.requires.ready.lies,
-)
+tell-requires-clause-lies g c = record {
+  size = ap (λ (xs : List State). length xs) c.deref_mut.ensures.value ∙ c.requires.ready.told;
+  states = subst (AreOfNodes c.args.turn.now.round.now.script.now) (sym c.deref_mut.ensures.value)
+      c.requires.ready.lies;
+}
 
 -- as many as lie stand in the list
 few : (set : FaultIds) (nodes q long lent : ℕ) → set.nodes ≡ nodes → q ≤ set.nodes → long ≡ nodes
@@ -47,79 +34,79 @@ few set nodes q long lent same within size kept = omega (arith, same, within, si
 
 pub advance_shared-requires-clause-tells : goal.advance_shared-requires-clause-tells
 advance_shared-requires-clause-tells g c =
-    let script = c.args.round.now.script.now in
-    let ids = c.args.round.now.faulty.now.ids in
-    let same = ap (λ (s : FaultIds). s.ids) c.requires.round.faulty in
+    let script = c.args.turn.now.round.now.script.now in
+    let ids = c.args.turn.now.round.now.faulty.now.ids in
+    let same = ap (λ (s : FaultIds). s.ids) c.args.turn.now.round.now.liars in
     let long = c.tell.auto.lies ∙ c.deref_mut.ensures.len in
     let is : c.deref.result.now ≡ c.tell.new.lies = c.deref.ensures.value
     ∙ with_items_is c.args.room.now.lies c.tell.new.lies long in
-    tells_taken c.args.round.now.tower.now script c.args.round.now.t c.args.v
-    c.args.states.now.current ids c.deref.result.now c.requires.config.size c.requires.node same
-    (subst IsStrictlyIncreasing (sym same) c.requires.round.borne.rising)
+    tells_taken c.args.turn.now.round.now.tower.now script c.args.turn.now.round.now.t c.args.turn.now.v
+    c.args.turn.now.states.now.current ids c.deref.result.now c.args.turn.now.size c.args.turn.now.node same
+    (subst IsStrictlyIncreasing (sym same) c.args.turn.now.round.now.borne.rising)
     (subst (AreOfNodes script) (sym is) c.tell.ensures.lies)
     c.len-liars.result c.len-liars.ensures.exact
-    (few c.args.round.now.faulty.now script.nodes c.len-liars.result
-    (length c.args.room.now.lies.items) _ (ap (λ (s : FaultIds). s.nodes) c.requires.round.faulty)
+    (few c.args.turn.now.round.now.faulty.now script.nodes c.len-liars.result
+    (length c.args.room.now.lies.items) _ (ap (λ (s : FaultIds). s.nodes) c.args.turn.now.round.now.liars)
     c.len-liars.ensures.within c.requires.ready.told
     (ap (λ (xs : List State). length xs) is ∙ c.tell.auto.lies
     ∙ ap (λ (xs : List State). length xs) c.deref_mut.ensures.value))
-    (λ yes. ap (λ (xs : List State). state_of xs (place_among ids c.args.v)) is
+    (λ yes. ap (λ (xs : List State). state_of xs (place_among ids c.args.turn.now.v)) is
     ∙ c.tell.ensures.own yes) c.args.room.now.shared c.requires.stands
 
 pub advance_shared-requires-clause-range : goal.advance_shared-requires-clause-range
 advance_shared-requires-clause-range g c =
-    let script = c.args.round.now.script.now in
+    let script = c.args.turn.now.round.now.script.now in
     let long = c.tell.auto.lies ∙ c.deref_mut.ensures.len in
     let is : c.deref.result.now ≡ c.tell.new.lies = c.deref.ensures.value
     ∙ with_items_is c.args.room.now.lies c.tell.new.lies long in
     taken_counts script c.deref.result.now
     (subst (AreOfNodes script) (sym is) c.tell.ensures.lies) c.len-liars.result
-    (few c.args.round.now.faulty.now script.nodes c.len-liars.result
-    (length c.args.room.now.lies.items) _ (ap (λ (s : FaultIds). s.nodes) c.requires.round.faulty)
+    (few c.args.turn.now.round.now.faulty.now script.nodes c.len-liars.result
+    (length c.args.room.now.lies.items) _ (ap (λ (s : FaultIds). s.nodes) c.args.turn.now.round.now.liars)
     c.len-liars.ensures.within c.requires.ready.told
     (ap (λ (xs : List State). length xs) is ∙ c.tell.auto.lies
     ∙ ap (λ (xs : List State). length xs) c.deref_mut.ensures.value))
-    c.args.round.now.tower.now c.requires.takes.counts
+    c.args.turn.now.round.now.tower.now c.requires.takes.counts
 
 pub advance_shared-requires-clause-deep : goal.advance_shared-requires-clause-deep
 advance_shared-requires-clause-deep g c =
-    let script = c.args.round.now.script.now in
+    let script = c.args.turn.now.round.now.script.now in
     let long = c.tell.auto.lies ∙ c.deref_mut.ensures.len in
     let is : c.deref.result.now ≡ c.tell.new.lies = c.deref.ensures.value
     ∙ with_items_is c.args.room.now.lies c.tell.new.lies long in
     taken_deep script c.deref.result.now
     (subst (AreOfNodes script) (sym is) c.tell.ensures.lies) c.len-liars.result
-    (few c.args.round.now.faulty.now script.nodes c.len-liars.result
-    (length c.args.room.now.lies.items) _ (ap (λ (s : FaultIds). s.nodes) c.requires.round.faulty)
+    (few c.args.turn.now.round.now.faulty.now script.nodes c.len-liars.result
+    (length c.args.room.now.lies.items) _ (ap (λ (s : FaultIds). s.nodes) c.args.turn.now.round.now.liars)
     c.len-liars.ensures.within c.requires.ready.told
     (ap (λ (xs : List State). length xs) is ∙ c.tell.auto.lies
     ∙ ap (λ (xs : List State). length xs) c.deref_mut.ensures.value))
-    (plan_depth c.args.round.now.tower.now) c.requires.takes.deep
+    (plan_depth c.args.turn.now.round.now.tower.now) c.requires.takes.deep
 
 pub returns-clause-out : goal.returns-clause-out
 returns-clause-out g c =
-    let script = c.args.round.now.script.now in
-    let ids = c.args.round.now.faulty.now.ids in
-    let same = ap (λ (s : FaultIds). s.ids) c.requires.round.faulty in
+    let script = c.args.turn.now.round.now.script.now in
+    let ids = c.args.turn.now.round.now.faulty.now.ids in
+    let same = ap (λ (s : FaultIds). s.ids) c.args.turn.now.round.now.liars in
     let within = c.stretch_for-stretch.ensures.within in
     let shared = ap (λ (s : Shares). length s.faulty) c.requires.stands in
-    let many = ap (λ (s : FaultIds). length s.ids) c.requires.round.faulty in
+    let many = ap (λ (s : FaultIds). length s.ids) c.args.turn.now.round.now.liars in
     let long = c.tell.auto.lies ∙ c.deref_mut.ensures.len in
     let is : c.deref.result.now ≡ c.tell.new.lies = c.deref.ensures.value
     ∙ with_items_is c.args.room.now.lies c.tell.new.lies long in
     c.advance_shared.ensures.out
-    ∙ ap (λ (s : State). written (plan_depth c.args.round.now.tower.now) s c.args.room.now.out)
-    (step_taken c.args.round.now.tower.now script c.args.round.now.t c.args.v
-    c.args.states.now.current ids c.deref.result.now c.requires.config.size c.requires.node same
-    (subst IsStrictlyIncreasing (sym same) c.requires.round.borne.rising)
+    ∙ ap (λ (s : State). written (plan_depth c.args.turn.now.round.now.tower.now) s c.args.room.now.out)
+    (step_taken c.args.turn.now.round.now.tower.now script c.args.turn.now.round.now.t c.args.turn.now.v
+    c.args.turn.now.states.now.current ids c.deref.result.now c.args.turn.now.size c.args.turn.now.node same
+    (subst IsStrictlyIncreasing (sym same) c.args.turn.now.round.now.borne.rising)
     (subst (AreOfNodes script) (sym is) c.tell.ensures.lies)
     c.len-liars.result c.len-liars.ensures.exact
-    (few c.args.round.now.faulty.now script.nodes c.len-liars.result
-    (length c.args.room.now.lies.items) _ (ap (λ (s : FaultIds). s.nodes) c.requires.round.faulty)
+    (few c.args.turn.now.round.now.faulty.now script.nodes c.len-liars.result
+    (length c.args.room.now.lies.items) _ (ap (λ (s : FaultIds). s.nodes) c.args.turn.now.round.now.liars)
     c.len-liars.ensures.within c.requires.ready.told
     (ap (λ (xs : List State). length xs) is ∙ c.tell.auto.lies
     ∙ ap (λ (xs : List State). length xs) c.deref_mut.ensures.value))
-    (λ yes. ap (λ (xs : List State). state_of xs (place_among ids c.args.v)) is
+    (λ yes. ap (λ (xs : List State). state_of xs (place_among ids c.args.turn.now.v)) is
     ∙ c.tell.ensures.own yes) c.args.room.now.shared c.requires.stands
     c.stretch_for-stretch.result.0 c.stretch_for-stretch.result.1
     (omega (arith, within, shared, many)) c.stretch_for-stretch.ensures.enough
@@ -128,9 +115,9 @@ returns-clause-out g c =
 pub returns-clause-told : goal.returns-clause-told
 returns-clause-told g c = λ j low high.
     let told = c.stretch_for-stretch.ensures.layers j low high in
-    let ids = ap (λ (s : FaultIds). s.ids) c.requires.round.faulty in
+    let ids = ap (λ (s : FaultIds). s.ids) c.args.turn.now.round.now.liars in
     ap (λ (xs : List State). state_of xs j) (with_items_is c.args.room.now.lies c.tell.new.lies
     (c.tell.auto.lies ∙ c.deref_mut.ensures.len))
     ∙ (c.tell.ensures.told j told.0 told.1
-    ∙ ap (λ (xs : List ℕ). heard_from c.args.round.now.script.now c.args.round.now.t c.args.v
-    c.args.states.now.current (slice_index xs j)) ids)
+    ∙ ap (λ (xs : List ℕ). heard_from c.args.turn.now.round.now.script.now c.args.turn.now.round.now.t c.args.turn.now.v
+    c.args.turn.now.states.now.current (slice_index xs j)) ids)

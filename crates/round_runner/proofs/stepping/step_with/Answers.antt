@@ -3,8 +3,6 @@ use Rattle.std.specs.Prelude.{slice_index}
 use Rattle.std.proofs.lemmas.List.{with_items_is}
 use Rattle.sync_types.specs.FaultSets.{FaultIds}
 use Rattle.sync_types.specs.States.{State}
-use Rattle.sync_types.proofs.RisingIds.{count_below}
-use Rattle.construction.specs.Plans.{plan_nodes}
 use Rattle.construction.specs.Steps.{state_of}
 use Rattle.state_codec.specs.Shapes.{IsShape, fields_at}
 use Rattle.state_codec.specs.Ranges.{InRange}
@@ -18,20 +16,17 @@ use Rattle.round_runner.proofs.Laying.{enough, still_laid}
 use Rattle.round_runner.proofs.LayerSteps.{range_of, counted_room, new_in_range, out_is}
 use Rattle.round_runner.proofs.stepping.step_with.Goals as goal
 
-pub heed-layers-requires-clause-laid : goal.heed-layers-requires-clause-laid
-heed-layers-requires-clause-laid g c = c.requires.gathered.laid
-
 pub step_shared-requires-clause-takes : goal.step_shared-requires-clause-takes
 step_shared-requires-clause-takes g c =
     let deep = c.requires.set.fits.depth in
     record {
       deep = omega (arith, deep);
-      counts = λ u lt. c.requires.set.fits.counts u (omega (arith, lt, c.requires.round.nodes));
+      counts = λ u lt. c.requires.set.fits.counts u (omega (arith, lt, c.args.turn.now.round.now.nodes));
     }
 
 pub step_shared-requires-clause-ready : goal.step_shared-requires-clause-ready
 step_shared-requires-clause-ready g c =
-    let script = c.args.round.now.script.now in
+    let script = c.args.turn.now.round.now.script.now in
     let ready = c.requires.set.ready in
     let same = c.heed-layers.ensures.same in
     record {
@@ -46,39 +41,31 @@ step_shared-requires-clause-ready g c =
 
 pub step_shared-requires-clause-stands : goal.step_shared-requires-clause-stands
 step_shared-requires-clause-stands g c =
-    ap (λ (r : Room). r.shared) c.heed-layers.ensures.same ∙ c.requires.gathered.stands
+    ap (λ (r : Room). r.shared) c.heed-layers.ensures.same ∙ c.requires.stands
 
 pub lay_lies-requires-clause-stretch : goal.lay_lies-requires-clause-stretch
 lay_lies-requires-clause-stretch g c =
     let within = c.heed-layers.ensures.within in
-    let same = ap (λ (s : FaultIds). length s.ids) c.requires.round.faulty in
+    let same = ap (λ (s : FaultIds). length s.ids) c.args.turn.now.round.now.liars in
     omega (arith, within, same)
 
 pub lay_lies-requires-clause-lies : goal.lay_lies-requires-clause-lies
-lay_lies-requires-clause-lies g c =
-    subst (AreOfNodes c.args.round.now.script.now) (sym c.deref.ensures.value)
-    c.step_shared.ensures.lies.1
-
-pub lay_lies-requires-clause-told : goal.lay_lies-requires-clause-told
-lay_lies-requires-clause-told g c =
-    let within = c.heed-layers.ensures.within in
-    let borne = c.requires.round.borne in
-    let nodes = c.requires.round.nodes in
-    let many = count_below (plan_nodes c.args.round.now.tower.now)
-    (faulty_at c.args.round.now.script.now c.args.round.now.t) borne.rising borne.ids in
-    let long = ap (λ (xs : List State). length xs) c.deref.ensures.value
-    ∙ c.step_shared.ensures.lies.0 in
-    omega (arith, within, many, nodes, long)
+lay_lies-requires-clause-lies g c = record {
+  size = ap (λ (xs : List State). length xs) c.deref.ensures.value
+      ∙ c.step_shared.ensures.lies.size;
+  states = subst (AreOfNodes c.args.turn.now.round.now.script.now) (sym c.deref.ensures.value)
+      c.step_shared.ensures.lies.states;
+}
 
 pub lay_lies-requires-clause-room : goal.lay_lies-requires-clause-room
 lay_lies-requires-clause-room g c =
-    subst (HasRoom c.args.round.now.script.now) (sym (c.deref_mut.ensures.value
+    subst (HasRoom c.args.turn.now.round.now.script.now) (sym (c.deref_mut.ensures.value
     ∙ ap (λ (r : Room). r.heard.items) c.step_shared.ensures.same)) c.heed-layers.ensures.room
 
 pub step_layer-requires-clause-set : goal.step_layer-requires-clause-set
 step_layer-requires-clause-set g c =
-    let script = c.args.round.now.script.now in
-    let config = c.args.states.now.current in
+    let script = c.args.turn.now.round.now.script.now in
+    let config = c.args.turn.now.states.now.current in
     let set = c.requires.set in
     let heed = c.heed-layers.ensures.same in
     let same = c.step_shared.ensures.same in
@@ -93,21 +80,21 @@ step_layer-requires-clause-set g c =
         noise = ap (λ (r : Room). r.noise) same
             ∙ (ap (λ (r : Room). r.noise) heed ∙ set.ready.noise);
         heard = subst (HasRoom script) (sym heard) c.lay_lies.ensures.room;
-        told = c.step_shared.ensures.lies.0;
-        lies = c.step_shared.ensures.lies.1;
+        told = c.step_shared.ensures.lies.size;
+        lies = c.step_shared.ensures.lies.states;
         shared = ap (λ (r : Room). r.shared.plan) same
             ∙ (ap (λ (r : Room). r.shared.plan) heed ∙ set.ready.shared);
         work = subst (λ (r : Room). IsFor script.nodes r.work) (sym same)
             (subst (λ (r : Room). IsFor script.nodes r.work) (sym heed) set.ready.work);
-        out = counted_room c.args.round.now.tower.now script
+        out = counted_room c.args.turn.now.round.now.tower.now script
             (g.O.Overlay.layer c.args.overlay.now)
-            (g.O.Overlay.kept c.args.overlay.now) c.args.round.now.t c.args.v config
-            c.requires.round.accepted c.requires.round.script
+            (g.O.Overlay.kept c.args.overlay.now) c.args.turn.now.round.now.t c.args.turn.now.v config
+            c.tell-2.ensures.accepted c.tell-2.ensures.script
             (subst IsShape set.shape c.tell.ensures.sound)
             (g.met.O.Overlay.keeps_range c.args.overlay.now) set.fits set.over
             (g.met.O.Overlay.deaf c.args.overlay.now)
-            c.requires.round.nodes c.requires.node
-            (range_of c.args.states.now.shape script.shape script.nodes config set.shape set.size
+            c.args.turn.now.round.now.nodes c.args.turn.now.node
+            (range_of c.args.turn.now.states.now.shape script.shape script.nodes config set.shape set.size
             c.tell.ensures.current)
             c.heed-layers.new.room.out c.step_shared.new.room.out
             (ap (λ (r : Room). length r.out.registers) heed ∙ set.ready.out)
@@ -118,53 +105,53 @@ step_layer-requires-clause-set g c =
 -- the lies that the layer heeds are laid
 pub step_layer-requires-clause-enough : goal.step_layer-requires-clause-enough
 step_layer-requires-clause-enough g c = λ some.
-    let round = c.args.round.now in
-    let script = c.args.round.now.script.now in
-    let config = c.args.states.now.current in
+    let round = c.args.turn.now.round.now in
+    let script = c.args.turn.now.round.now.script.now in
+    let config = c.args.turn.now.states.now.current in
     let from = c.heed-layers.result.0 in
     let to = c.heed-layers.result.1 in
     let lies = c.step_shared.new.room.lies.items in
-    let ids = ap (λ (s : FaultIds). s.ids) c.requires.round.faulty in
+    let ids = ap (λ (s : FaultIds). s.ids) c.args.turn.now.round.now.liars in
     let long = c.lay_lies.auto.heard ∙ c.deref_mut.ensures.len in
     let items = with_items_is c.step_shared.new.room.heard c.lay_lies.new.heard long in
     let before = c.deref_mut.ensures.value
     ∙ ap (λ (r : Room). r.heard.items) c.step_shared.ensures.same in
     subst (IsEnough round (g.O.Overlay.layer c.args.overlay.now)
-    (g.O.Overlay.kept c.args.overlay.now) c.args.v config) (sym items)
-    (enough round c.args.v config c.requires.round c.requires.node
+    (g.O.Overlay.kept c.args.overlay.now) c.args.turn.now.v config) (sym items)
+    (enough round c.args.turn.now.v config c.tell-2.ensures c.args.turn.now.node
     c.heed-layers.new.room.heard.items c.lay_lies.new.heard lies from to
     (c.heed-layers.ensures.laid some) c.heed-layers.ensures.room.size c.lay_lies.ensures.room.size
     c.heed-layers.ensures.within c.step_shared.ensures.told
     (subst (λ (xs : List ℕ). (j : ℕ) → from ≤ j → j < to
     → state_of c.lay_lies.new.heard (slice_index xs j) ≡ state_of lies j) ids
     (subst (λ (ys : List State). (j : ℕ) → from ≤ j → j < to
-    → state_of c.lay_lies.new.heard (slice_index c.args.round.now.faulty.now.ids j)
+    → state_of c.lay_lies.new.heard (slice_index c.args.turn.now.round.now.faulty.now.ids j)
     ≡ state_of ys j) c.deref.ensures.value c.lay_lies.ensures.told))
     (subst (λ (xs : List ℕ). (u : ℕ) → IsSameOrTold xs from to lies
     (state_of c.heed-layers.new.room.heard.items u) u (state_of c.lay_lies.new.heard u)) ids
-    (subst (λ (ys : List State). (u : ℕ) → IsSameOrTold c.args.round.now.faulty.now.ids from to ys
+    (subst (λ (ys : List State). (u : ℕ) → IsSameOrTold c.args.turn.now.round.now.faulty.now.ids from to ys
     (state_of c.heed-layers.new.room.heard.items u) u (state_of c.lay_lies.new.heard u))
     c.deref.ensures.value
-    (subst (λ (ys : List State). (u : ℕ) → IsSameOrTold c.args.round.now.faulty.now.ids from to
+    (subst (λ (ys : List State). (u : ℕ) → IsSameOrTold c.args.turn.now.round.now.faulty.now.ids from to
     c.deref.result.now (state_of ys u) u (state_of c.lay_lies.new.heard u)) before
     c.lay_lies.ensures.each)))
     (g.O.Overlay.layer c.args.overlay.now) (g.O.Overlay.kept c.args.overlay.now)
     (subst IsShape c.requires.set.shape c.tell.ensures.sound)
-    (range_of c.args.states.now.shape script.shape script.nodes config c.requires.set.shape
+    (range_of c.args.turn.now.states.now.shape script.shape script.nodes config c.requires.set.shape
     c.requires.set.size c.tell.ensures.current)
     (c.heed-layers.ensures.enough some))
 
 pub returns-clause-out : goal.returns-clause-out
 returns-clause-out g c =
-    let script = c.args.round.now.script.now in
-    let config = c.args.states.now.current in
-    out_is c.args.round.now.tower.now script (g.O.Overlay.layer c.args.overlay.now)
-    (g.O.Overlay.kept c.args.overlay.now) c.args.round.now.t c.args.v config
-    c.requires.round.accepted c.requires.round.script
+    let script = c.args.turn.now.round.now.script.now in
+    let config = c.args.turn.now.states.now.current in
+    out_is c.args.turn.now.round.now.tower.now script (g.O.Overlay.layer c.args.overlay.now)
+    (g.O.Overlay.kept c.args.overlay.now) c.args.turn.now.round.now.t c.args.turn.now.v config
+    c.tell-2.ensures.accepted c.tell-2.ensures.script
     (subst IsShape c.requires.set.shape c.tell.ensures.sound)
     (g.met.O.Overlay.keeps_range c.args.overlay.now) c.requires.set.fits c.requires.set.over
-    (g.met.O.Overlay.deaf c.args.overlay.now) c.requires.round.nodes c.requires.node
-    (range_of c.args.states.now.shape script.shape script.nodes config c.requires.set.shape
+    (g.met.O.Overlay.deaf c.args.overlay.now) c.args.turn.now.round.now.nodes c.args.turn.now.node
+    (range_of c.args.turn.now.states.now.shape script.shape script.nodes config c.requires.set.shape
     c.requires.set.size c.tell.ensures.current)
     c.heed-layers.new.room.out c.step_shared.new.room.out c.step_layer.new.room.out
     (ap (λ (r : Room). length r.out.registers) c.heed-layers.ensures.same
@@ -172,82 +159,80 @@ returns-clause-out g c =
 
 pub returns-clause-range : goal.returns-clause-range
 returns-clause-range g c =
-    let script = c.args.round.now.script.now in
-    let config = c.args.states.now.current in
-    subst (InRange (fields_at script.shape c.args.v)) (sym (returns-clause-out g c))
-    (new_in_range c.args.round.now.tower.now script (g.O.Overlay.layer c.args.overlay.now)
-    (g.O.Overlay.kept c.args.overlay.now) c.args.round.now.t c.args.v config
-    c.requires.round.accepted c.requires.round.script
+    let script = c.args.turn.now.round.now.script.now in
+    let config = c.args.turn.now.states.now.current in
+    subst (InRange (fields_at script.shape c.args.turn.now.v)) (sym (returns-clause-out g c))
+    (new_in_range c.args.turn.now.round.now.tower.now script (g.O.Overlay.layer c.args.overlay.now)
+    (g.O.Overlay.kept c.args.overlay.now) c.args.turn.now.round.now.t c.args.turn.now.v config
+    c.tell-2.ensures.accepted c.tell-2.ensures.script
     (subst IsShape c.requires.set.shape c.tell.ensures.sound)
     (g.met.O.Overlay.keeps_range c.args.overlay.now) c.requires.set.fits c.requires.set.over
-    (g.met.O.Overlay.deaf c.args.overlay.now) c.requires.round.nodes c.requires.node
-    (range_of c.args.states.now.shape script.shape script.nodes config c.requires.set.shape
+    (g.met.O.Overlay.deaf c.args.overlay.now) c.args.turn.now.round.now.nodes c.args.turn.now.node
+    (range_of c.args.turn.now.states.now.shape script.shape script.nodes config c.requires.set.shape
     c.requires.set.size c.tell.ensures.current))
-
-pub returns-clause-room : goal.returns-clause-room
-returns-clause-room g c =
-    let script = c.args.round.now.script.now in
-    let ready = c.requires.set.ready in
-    let long = c.lay_lies.auto.heard ∙ c.deref_mut.ensures.len in
-    let heard = with_items_is c.step_shared.new.room.heard c.lay_lies.new.heard long in
-    let heed = c.heed-layers.ensures.same in
-    let shared = c.step_shared.ensures.same in
-    let same = c.step_layer.ensures.same in
-    record {
-      noise = ap (λ (r : Room). r.noise) same ∙ (ap (λ (r : Room). r.noise) shared
-          ∙ (ap (λ (r : Room). r.noise) heed ∙ ready.noise));
-      heard = subst (HasRoom script) (sym (ap (λ (r : Room). r.heard.items) same ∙ heard))
-          c.lay_lies.ensures.room;
-      told = ap (λ (r : Room). length r.lies.items) same ∙ c.step_shared.ensures.lies.0;
-      lies = subst (λ (r : Room). AreOfNodes script r.lies.items) (sym same)
-          c.step_shared.ensures.lies.1;
-      shared = ap (λ (r : Room). r.shared.plan) same
-          ∙ (ap (λ (r : Room). r.shared.plan) shared
-          ∙ (ap (λ (r : Room). r.shared.plan) heed ∙ ready.shared));
-      work = c.step_layer.ensures.work;
-      out = depth_of_node script.shape c.args.v _ (returns-clause-range g c);
-    }
 
 pub returns-clause-gathered : goal.returns-clause-gathered
 returns-clause-gathered g c =
-    let round = c.args.round.now in
-    let script = c.args.round.now.script.now in
-    let config = c.args.states.now.current in
+    let round = c.args.turn.now.round.now in
+    let script = c.args.turn.now.round.now.script.now in
+    let config = c.args.turn.now.states.now.current in
     let from = c.heed-layers.result.0 in
     let to = c.heed-layers.result.1 in
     let lies = c.step_shared.new.room.lies.items in
-    let ids = ap (λ (s : FaultIds). s.ids) c.requires.round.faulty in
+    let ids = ap (λ (s : FaultIds). s.ids) c.args.turn.now.round.now.liars in
     let long = c.lay_lies.auto.heard ∙ c.deref_mut.ensures.len in
     let items = with_items_is c.step_shared.new.room.heard c.lay_lies.new.heard long in
     let layer = c.step_layer.ensures.same in
     let shared = c.step_shared.ensures.same in
     let before = c.deref_mut.ensures.value ∙ ap (λ (r : Room). r.heard.items) shared in
+    let heed = c.heed-layers.ensures.same in
+    let set = c.requires.set in
     record {
+      set = record {
+        fits = set.fits;
+        over = set.over;
+        shape = set.shape;
+        size = set.size;
+        ready = record {
+          noise = ap (λ (r : Room). r.noise) layer ∙ (ap (λ (r : Room). r.noise) shared
+              ∙ (ap (λ (r : Room). r.noise) heed ∙ set.ready.noise));
+          heard = subst (HasRoom script) (sym (ap (λ (r : Room). r.heard.items) layer ∙ items))
+              c.lay_lies.ensures.room;
+          told = ap (λ (r : Room). length r.lies.items) layer ∙ c.step_shared.ensures.lies.size;
+          lies = subst (λ (r : Room). AreOfNodes script r.lies.items) (sym layer)
+              c.step_shared.ensures.lies.states;
+          shared = ap (λ (r : Room). r.shared.plan) layer
+              ∙ (ap (λ (r : Room). r.shared.plan) shared
+              ∙ (ap (λ (r : Room). r.shared.plan) heed ∙ set.ready.shared));
+          work = c.step_layer.ensures.work;
+          out = depth_of_node script.shape c.args.turn.now.v _ (returns-clause-range g c);
+        };
+      };
       stands = ap (λ (r : Room). r.shared) layer ∙ (ap (λ (r : Room). r.shared) shared
           ∙ (ap (λ (r : Room). r.shared) c.heed-layers.ensures.same
-          ∙ c.requires.gathered.stands));
-      laid = λ some. subst (IsLaid script c.args.round.now.t config)
+          ∙ c.requires.stands));
+      laid = λ some. subst (IsLaid script c.args.turn.now.round.now.t config)
           (sym (ap (λ (r : Room). r.heard.items) layer ∙ items))
-          (still_laid round c.args.v config c.requires.round c.requires.node
+          (still_laid round c.args.turn.now.v config c.tell-2.ensures c.args.turn.now.node
           c.heed-layers.new.room.heard.items c.lay_lies.new.heard lies from to
           (c.heed-layers.ensures.laid some) c.heed-layers.ensures.room.size
           c.lay_lies.ensures.room.size c.heed-layers.ensures.within c.step_shared.ensures.told
           (subst (λ (xs : List ℕ). (j : ℕ) → from ≤ j → j < to
           → state_of c.lay_lies.new.heard (slice_index xs j) ≡ state_of lies j) ids
           (subst (λ (ys : List State). (j : ℕ) → from ≤ j → j < to
-          → state_of c.lay_lies.new.heard (slice_index c.args.round.now.faulty.now.ids j)
+          → state_of c.lay_lies.new.heard (slice_index c.args.turn.now.round.now.faulty.now.ids j)
           ≡ state_of ys j) c.deref.ensures.value c.lay_lies.ensures.told))
           (subst (λ (xs : List ℕ). (u : ℕ) → IsSameOrTold xs from to lies
           (state_of c.heed-layers.new.room.heard.items u) u (state_of c.lay_lies.new.heard u)) ids
           (subst (λ (ys : List State). (u : ℕ)
-          → IsSameOrTold c.args.round.now.faulty.now.ids from to ys
+          → IsSameOrTold c.args.turn.now.round.now.faulty.now.ids from to ys
           (state_of c.heed-layers.new.room.heard.items u) u (state_of c.lay_lies.new.heard u))
           c.deref.ensures.value
           (subst (λ (ys : List State). (u : ℕ)
-          → IsSameOrTold c.args.round.now.faulty.now.ids from to
+          → IsSameOrTold c.args.turn.now.round.now.faulty.now.ids from to
           c.deref.result.now (state_of ys u) u (state_of c.lay_lies.new.heard u)) before
           c.lay_lies.ensures.each)))
           (subst IsShape c.requires.set.shape c.tell.ensures.sound)
-          (range_of c.args.states.now.shape script.shape script.nodes config c.requires.set.shape
+          (range_of c.args.turn.now.states.now.shape script.shape script.nodes config c.requires.set.shape
           c.requires.set.size c.tell.ensures.current));
     }

@@ -1,25 +1,53 @@
 use Rattle.std.proofs.Common.{ℕ, List, length, Option, refl, sym, ap, ap₂, ◌∙◌, subst, arith}
+use Rattle.std.proofs.lemmas.List.{length-replicate}
 use Rattle.std.proofs.lemmas.List.FromFn.{length-map-range_with_len}
-use Rattle.sync_types.specs.States.{State}
+use Rattle.sync_types.specs.FaultSets.{FaultIds}
+use Rattle.sync_types.specs.States.{State, zero_state}
+use Rattle.state_codec.specs.Packs.{Pack}
 use Rattle.state_codec.specs.Shapes.{Shape, IsShape}
+use Rattle.counter_core.specs.Working.{IsFor}
 use Rattle.adversary_script.specs.Lies.{start_of}
+use Rattle.round_runner.specs.declared.stepping.Room.{Room}
+use Rattle.round_runner.specs.Hearing.{HasRoom, AreOfNodes}
 use Rattle.round_runner.specs.Runners.{Running, IsPlaying, begun_locks}
 use Rattle.round_runner.proofs.Firsts.{begun_era}
 use Rattle.round_runner.proofs.Fitting.{layer_fits}
 use Rattle.round_runner.proofs.Playing.{begins, begun_long}
 use Rattle.round_runner.proofs.runners.Runner.new.Goals as goal
 
-pub first_locks-requires-clause-deep : goal.first_locks-requires-clause-deep
-first_locks-requires-clause-deep g c =
+pub invariant_of-play : goal.invariant_of-play
+invariant_of-play g c =
     let sound = subst IsShape (sym c.requires.shape) c.tell.ensures in
     let long = (layer_fits c.args.tower (g.O.Overlay.layer c.args.overlay) c.args.script.shape
     c.tell-2.ensures c.requires.plan.shape sound c.requires.plan.over).depth in
-    let same = ap (λ (s : Shape). length s.moduli) c.in_ok-states.ensures.shape in
-    omega (arith, long, same)
+    record { nodes = c.requires.plan.nodes; deep = omega (arith, long) }
+
+pub start_all-requires-clause-config : goal.start_all-requires-clause-config
+start_all-requires-clause-config g c = record {
+  shape = ap (λ (p : Pack). p.shape) c.in_ok-states.ensures ∙ sym c.requires.shape;
+  size = ap (λ (p : Pack). length p.current) c.in_ok-states.ensures
+      ∙ length-replicate c.nodes.result (zero_state (length c.args.shape.moduli))
+      ∙ c.nodes.ensures ∙ ap (λ (s : FaultIds). s.nodes) c.faulty.ensures;
+}
+
+pub start_all-requires-clause-room : goal.start_all-requires-clause-room
+start_all-requires-clause-room g c = record {
+  noise = c.in_ok-room.ensures.noise;
+  out = c.in_ok-room.ensures.out;
+}
+
+pub first_locks-requires : goal.first_locks-requires
+first_locks-requires g c = record {
+  shape = c.start_all.ensures.shape
+      ∙ (ap (λ (p : Pack). p.shape) c.in_ok-states.ensures ∙ sym c.requires.shape);
+  size = ap (λ (states : List State). length states) c.start_all.ensures.states
+      ∙ length-map-range_with_len (start_of c.args.script) 0 c.args.script.nodes;
+}
 
 pub invariant_of-result : goal.invariant_of-result
 invariant_of-result g c =
     let room = c.in_ok-room.ensures in
+    let same = c.start_all.ensures.same in
     let sound = subst IsShape (sym c.requires.shape) c.tell.ensures in
     record {
       right = c.requires.plan;
@@ -29,27 +57,28 @@ invariant_of-result g c =
       fits = layer_fits c.args.tower (g.O.Overlay.layer c.args.overlay) c.args.script.shape
           c.tell-2.ensures c.requires.plan.shape sound c.requires.plan.over;
       ready = record {
-        noise = c.started.ensures.noise ∙ room.noise;
-        heard = room.heard;
-        told = room.told;
-        lies = room.lies;
-        shared = room.shared;
-        work = room.work;
-        out = c.started.ensures.depth ∙ room.out;
+        noise = c.start_all.ensures.room.noise;
+        heard = subst (λ (r : Room). HasRoom c.args.script r.heard.items) (sym same) room.heard;
+        told = ap (λ (r : Room). length r.lies.items) same ∙ room.told;
+        lies = subst (λ (r : Room). AreOfNodes c.args.script r.lies.items) (sym same) room.lies;
+        shared = ap (λ (r : Room). r.shared.plan) same ∙ room.shared;
+        work = subst (λ (r : Room). IsFor c.args.script.nodes r.work) (sym same) room.work;
+        out = c.start_all.ensures.room.out;
       };
-      shape = c.in_ok-states.ensures.shape;
-      size = ap (λ (states : List State). length states) c.in_ok-states.ensures.states
+      shape = c.start_all.ensures.shape
+          ∙ (ap (λ (p : Pack). p.shape) c.in_ok-states.ensures ∙ sym c.requires.shape);
+      size = ap (λ (states : List State). length states) c.start_all.ensures.states
           ∙ length-map-range_with_len (start_of c.args.script) 0 c.args.script.nodes;
       within = omega (arith);
       here = sym (begun_era c.args.script c.rounds-rounds.ensures.script.formed.rising 0 0
           (omega (arith)) refl);
       eras = ap (λ (locks : List (Option ℕ)). length locks) c.in_ok-locks.ensures
-          ∙ begun_long c.args.tower c.args.script c.in_ok-states.states.current;
+          ∙ begun_long c.args.tower c.args.script c.start_all.new.states.current;
     }
 
 pub returns-clause-begun : goal.returns-clause-begun
 returns-clause-begun g c =
-    let states = c.in_ok-states.ensures.states in
+    let states = c.start_all.ensures.states in
     let locks = c.in_ok-locks.ensures ∙ ap (begun_locks c.args.tower c.args.script) states in
     ap₂ (λ (states : List State) (locks : List (Option ℕ)). let r : Running _ =
     record {

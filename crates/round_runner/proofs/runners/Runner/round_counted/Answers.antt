@@ -48,13 +48,11 @@ returns-clause-advances g c =
     })
 
 -- how many may be faulty in each era is what the plan bears
-pub step_all-requires-clause-round : goal.step_all-requires-clause-round
-step_all-requires-clause-round g c =
+pub invariant_of-round : goal.invariant_of-round
+invariant_of-round g c =
     let script = c.self.inside.script in
     let kept = c.self.invariant in
     record {
-      accepted = kept.accepted;
-      script = kept.whole;
       nodes = kept.right.nodes;
       borne = All-get_or (IsBorne c.self.inside.tower) (faulty_sets script)
           (era_of script c.self.inside.at) []
@@ -63,24 +61,26 @@ step_all-requires-clause-round g c =
             era_within script c.self.inside.at,
             length-map script.eras (λ (era : Era). era.faulty),
           )) kept.right.borne;
-      faulty = c.era_faulty.ensures ∙ ap (λ (j : ℕ). let set : FaultIds =
+      liars = c.era_faulty.ensures ∙ ap (λ (j : ℕ). let set : FaultIds =
           record { nodes = script.nodes; ids = faulty_of_era script j } in set) kept.here;
-      round = subst (λ (r : Running _). r.at < r.script.rounds) (sym c.self.view_is) c.requires;
-      begins = c.beginning_in.ensures;
+      left = subst (λ (r : Running _). r.at < r.script.rounds) (sym c.self.view_is) c.requires;
+      behind = c.beginning_in.ensures;
     }
 
-pub step_all-requires-clause-set : goal.step_all-requires-clause-set
-step_all-requires-clause-set g c =
+pub step_all-requires : goal.step_all-requires
+step_all-requires g c =
     let kept = c.self.invariant in
-    set_on _ (g.O.Overlay.layer c.self.inside.overlay) _ c.begin.ensures.layer
-    c.self.inside.states c.self.inside.states c.self.inside.room c.self.inside.room refl refl
-    kept.ready (record {
-      fits = kept.fits;
-      over = kept.right.over;
-      shape = kept.shape;
-      size = kept.size;
-      ready = kept.ready;
-    })
+    record {
+      set = set_on _ (g.O.Overlay.layer c.self.inside.overlay) _ c.begin.ensures.layer
+          c.self.inside.states c.self.inside.states c.self.inside.room c.self.inside.room refl refl
+          kept.ready (record {
+            fits = kept.fits;
+            over = kept.right.over;
+            shape = kept.shape;
+            size = kept.size;
+            ready = kept.ready;
+          });
+    }
 
 pub returns-clause-played : goal.returns-clause-played
 returns-clause-played g c = λ began is. plays_on g.O.Overlay.layer g.O.Overlay.kept began _ _ is
