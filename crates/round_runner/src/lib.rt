@@ -22,6 +22,6 @@ mod turns;
 pub use knowing::lowest_correct;
 pub use locks::is_locked;
 pub use rounds::beginning_at;
-pub use runners::{Runner, zero_states};
+pub use runners::Runner;
 pub use stepping::shown_at;
 pub use telling::place_of;

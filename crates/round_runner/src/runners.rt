@@ -1,5 +1,4 @@
-ghost use Rattle.std.specs.Prelude.{◌≡◌, ◌<◌, ◌≤◌, length, replicate, IfOk};
-ghost use Rattle.sync_types.specs.States.{zero_state};
+ghost use Rattle.std.specs.Prelude.{◌≡◌, ◌<◌, ◌≤◌, length, IfOk};
 ghost use Rattle.round_runner.specs.Hearing.{AreOfNodes};
 ghost use Rattle.round_runner.specs.Rooms.{IsReady};
 ghost use Rattle.round_runner.specs.Runners.{begun_locks};
@@ -93,21 +92,6 @@ fn first_locks(
     Ok(locks)
 }
 
-/// Zero states of that depth, one for each node. The only error is want of memory.
-pub fn zero_states(alloc: Global, nodes: u32, depth: usize) -> Result<Vec<NodeState>, NoMemory>
-    ensures { IfOk result (λ states. states.items ≡ replicate nodes (zero_state depth)) }
-{
-    let mut states = Vec::with_capacity(alloc, nodes as usize)?;
-    for _ in 0..nodes {
-        let state = NodeState::zero(alloc, depth)?;
-        match states.push(state) {
-            Ok(()) => {}
-            Err(_) => return Err(NoMemory),
-        }
-    }
-    Ok(states)
-}
-
 /// Zero states of that shape, one for each node. What the faulty nodes tell will stand in them.
 fn zero_lies(alloc: Global, script: &Script, shape: &StateShape) -> Result<Vec<NodeState>, NoMemory>
     requires { shape.now ≡ script.now.shape }
@@ -115,7 +99,7 @@ fn zero_lies(alloc: Global, script: &Script, shape: &StateShape) -> Result<Vec<N
     ensures lies { IfOk result (λ lies. AreOfNodes script.now lies.items) }
 {
     shape.tell();
-    let lies = zero_states(alloc, script.faulty().nodes(), shape.depth())?;
+    let lies = NodeState::zeros(alloc, script.faulty().nodes(), shape.depth())?;
     Ok(lies)
 }
 
@@ -128,7 +112,7 @@ fn room_for(alloc: Global, play: &Play<'_>, shape: &StateShape) -> Result<Room, 
     let depth = shape.depth();
     Ok(Room {
         noise: Noise::with_room(alloc, script)?,
-        heard: zero_states(alloc, script.faulty().nodes(), depth)?,
+        heard: NodeState::zeros(alloc, script.faulty().nodes(), depth)?,
         lies: zero_lies(alloc, script, shape)?,
         shared: play.tower.shared(alloc)?,
         work: play.tower.work(alloc)?,

@@ -9,7 +9,6 @@ ghost use Rattle.run_checker.specs.Rounds.{stepped_all, AreStates, IsReady, IsTo
 use crate::tellings::Tellings;
 use counter_core::Counter;
 use majority_votes::Steps;
-use round_runner::zero_states;
 use state_codec::Packed;
 use std::alloc::Global;
 use std::marker::Brand;
@@ -36,7 +35,7 @@ pub fn room_for(alloc: Global, tower: &Tower) -> Result<Room, NoMemory>
 {
     tower.tell();
     Ok(Room {
-        lies: zero_states(alloc, tower.nodes(), tower.depth())?,
+        lies: NodeState::zeros(alloc, tower.nodes(), tower.depth())?,
         zero: NodeState::zero(alloc, tower.depth())?,
         shared: tower.shared(alloc)?,
         out: NodeState::zero(alloc, tower.depth())?,

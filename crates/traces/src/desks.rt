@@ -5,7 +5,6 @@ ghost use Rattle.traces.specs.Desks.{HasRoom, IsMade};
 
 use counter_core::Work;
 use plan_numbers::{LevelNums, Plan};
-use round_runner::zero_states;
 use std::alloc::Global;
 use sync_types::{NoMemory, NodeState};
 
@@ -37,7 +36,7 @@ fn levels_of(alloc: Global, plan: &Plan) -> Result<Vec<LevelNums>, NoMemory>
 fn states_of(alloc: Global, nodes: u32, depth: usize) -> Result<Vec<NodeState>, NoMemory>
     ensures { IfOk result (λ states. HasRoom nodes depth states.items) }
 {
-    let states = zero_states(alloc, nodes, depth)?;
+    let states = NodeState::zeros(alloc, nodes, depth)?;
     Ok(states)
 }
 

@@ -10,7 +10,7 @@ use Rattle.run_checker.proofs.rounds.room_for.Goals as goal
 pub returns : goal.returns
 returns c =
     let plan = c.args.tower.now in
-    let lies = c.in_ok-zero_states.ensures
+    let lies = c.in_ok-zeros.ensures
     ∙ ap₂ (λ (n d : ℕ). replicate n (zero_state d)) c.nodes.ensures c.depth.ensures in
     record {
       size = ap (λ (l : List State). length l) lies
