@@ -1,6 +1,7 @@
 mod Attributed
 mod BodyKept
 mod BodySteps
+mod Decoded
 mod EraFound
 mod HeardLaid
 mod HeardSteps

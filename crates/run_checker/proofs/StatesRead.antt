@@ -1,5 +1,5 @@
 -- The states of the digits that were told.
-use Rattle.std.proofs.Common.{◌≡◌, ℕ, zero, suc, ◌+◌, ◌<◌, ◌≤◌, inl, inr, Bool, true, false, ◌&&◌, eqb, List, [], ◌∷◌, ◌++◌, length, set, get_or, take, All, refl, sym, ap, ap₂, ◌∙◌, subst, arith}
+use Rattle.std.proofs.Common.{◌≡◌, ℕ, zero, suc, ◌+◌, ◌*◌, ◌<◌, ◌≤◌, inl, inr, Bool, true, false, ◌&&◌, eqb, List, [], ◌∷◌, ◌++◌, length, set, get_or, take, All, refl, sym, ap, ap₂, ◌∙◌, subst, arith}
 use Rattle.std.specs.List.{list_all}
 use Rattle.std.proofs.lemmas.Bool.{cases_eq, eq-eqb, eqb-true, and_parts}
 use Rattle.std.proofs.lemmas.List.{length-set, length-take-le, get_or-set_other, get_or-take, get_or_default}
@@ -123,6 +123,14 @@ module _ (shape : Shape) where
       is_read =
           ap₂ (λ (p : ℕ × ℕ) (t : List ℕ). is_state_text (fields_at shape p.0) t) pair_is text_is
           ∙ told_is_state k lt
+
+      -- it is of as many digits as the state has, and of no others
+      pub is_of_digits : (length text ≡ 2 * bytes_in (fields_at shape pair.0))
+          × (list_all is_lower_digit text ≡ true)
+      is_of_digits =
+          let count : ℕ = 2 * bytes_in (fields_at shape pair.0) in
+          let parts = and_parts (eqb (length text) count) (list_all is_lower_digit text) is_read in
+          (eqb-true (length text) count parts.0, parts.1)
 
       pub read_is : read_text (fields_at shape pair.0) text
           ≡ state_of (states_read shape pairs (take count texts)) k

@@ -1,6 +1,7 @@
-ghost use Rattle.std.specs.Prelude.{◌≡◌, ◌≤◌, ◌==◌, ◌&&◌, [], length};
+ghost use Rattle.std.specs.Prelude.{◌≡◌, ◌≤◌, ◌<◌, ◌*◌, ◌==◌, ◌&&◌, [], true, Some, length, take};
 ghost use Rattle.std.specs.List.{list_all};
-ghost use Rattle.state_codec.specs.Texts.{is_lower_digit};
+ghost use Rattle.hex.specs.Hex.{hex_digit_value};
+ghost use Rattle.state_codec.specs.Texts.{is_lower_digit, decoded};
 
 use std::marker::Model;
 
@@ -41,6 +42,29 @@ fn are_lower(digits: &[u8]) -> bool
         all &= is_lower(*digit);
     }
     all
+}
+
+/// The value of a digit, without a branch.
+fn value_of(digit: u8) -> u8
+    requires { is_lower_digit digit ≡ true }
+    ensures value { hex_digit_value digit ≡ Some result }
+    ensures most { result < 16 }
+{
+    let zero = if digit < b'a' { b'0' } else { b'a' - 10 };
+    digit - zero
+}
+
+/// Puts the bytes that digits stand for at the front of these.
+fn decode(digits: &[u8], count: usize, bytes: &mut [u8])
+    requires twice { length digits.now ≡ 2 * count }
+    requires lower { list_all is_lower_digit digits.now ≡ true }
+    requires room { count ≤ length bytes.old }
+    ensures size { length bytes.new ≡ length bytes.old }
+    ensures value { take count bytes.new ≡ decoded digits.now }
+{
+    for i in 0..count {
+        bytes[i] = value_of(digits[2 * i]) * 16 + value_of(digits[2 * i + 1]);
+    }
 }
 
 impl Digits {
@@ -86,10 +110,14 @@ impl Digits {
         self.text[..self.len].copy_from_slice(text);
     }
 
-    /// The digits.
-    pub fn text(&self) -> &[u8]
-        ensures { result.now ≡ self.now }
+    /// Puts the bytes that they stand for, of which there are so many, at the front of these.
+    pub fn decode(&self, count: usize, bytes: &mut [u8])
+        requires twice { length self.now ≡ 2 * count }
+        requires lower { list_all is_lower_digit self.now ≡ true }
+        requires room { count ≤ length bytes.old }
+        ensures size { length bytes.new ≡ length bytes.old }
+        ensures value { take count bytes.new ≡ decoded self.now }
     {
-        &self.text[..self.len]
+        decode(&self.text[..self.len], count, bytes);
     }
 }

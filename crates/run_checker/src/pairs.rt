@@ -52,17 +52,16 @@ fn put_number(text: &mut [u8], len: usize, value: u32) -> usize
     put(text, end, b" ")
 }
 
-/// Whether a line begins with these bytes.
+/// Whether a line begins with these bytes. All are looked at: most lines do.
 fn begins_with(line: &[u8], front: &[u8]) -> bool
     requires { length front.now ≤ length line.now }
     ensures { result ≡ true → take (length front.now) line.now ≡ front.now }
 {
+    let mut same = true;
     for i in 0..front.len() {
-        if line[i] != front[i] {
-            return false;
-        }
+        same &= line[i] == front[i];
     }
-    true
+    same
 }
 
 impl Pair {

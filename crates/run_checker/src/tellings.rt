@@ -12,10 +12,13 @@ ghost use Rattle.run_checker.specs.NextLies.{IsNextLine};
 use crate::digits::Digits;
 use crate::pairs::Pair;
 use plan_numbers::Plan;
-use state_codec::{NotState, StateShape};
+use state_codec::StateShape;
 use std::alloc::Global;
 use std::marker::Model;
 use sync_types::{FaultSet, NoMemory, NodeState};
+
+/// No state of a plan has more bytes than 32, and eight bytes more are read with one.
+const ROOM: usize = 40;
 
 /// Adds the pair of a faulty node and a node, where that is correct.
 fn add_pair(sender: u32, v: u32, faulty: &FaultSet, pairs: &mut Vec<Pair>)
@@ -278,9 +281,8 @@ impl Tellings {
         ensures { out.new ≡ state_of self.now.states k }
     {
         let sender = self.pairs[k].sender();
-        match self.shape.read_hex(sender, self.digits[k].text(), out) {
-            Ok(()) => {}
-            Err(NotState) => unreachable!(),
-        }
+        let mut bytes = [0; ROOM];
+        self.digits[k].decode(self.shape.bytes_of(sender), &mut bytes);
+        self.shape.read_front(sender, &bytes, out);
     }
 }
