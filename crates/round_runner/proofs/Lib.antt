@@ -16,6 +16,7 @@ pub mod HeardFrom
 pub mod HeardPlaces
 pub mod Hits
 pub mod Laid
+pub mod LastKnown
 pub mod LayerSteps
 pub mod Layered
 pub mod Layering

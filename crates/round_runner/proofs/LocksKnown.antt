@@ -4,12 +4,12 @@ use Rattle.std.specs.Prelude.{is_some, slice_index_or}
 use Rattle.std.proofs.lemmas.Bool.{true≢false, cases_eq, le-ltb}
 use Rattle.counter_core.specs.Overlays.{Layer}
 use Rattle.adversary_script.specs.Scripts.{Script, IsScript}
-use Rattle.adversary_script.specs.Eras.{era_of, first_of_era, end_of_era, faulty_of_era, faulty_at}
+use Rattle.adversary_script.specs.Eras.{era_of, first_of_era, end_of_era}
 use Rattle.round_runner.specs.Known.{KnowsLocks}
 use Rattle.round_runner.specs.Locks.{first_of, first_locked, era_locked, IsFirstLocked}
 use Rattle.round_runner.specs.Runners.{Running, IsPlaying, configuration_of}
 use Rattle.round_runner.proofs.FirstLocked.{first_is_locked}
-use Rattle.round_runner.proofs.Firsts.{in_era, era_from, era_before}
+use Rattle.round_runner.proofs.Firsts.{in_era, era_from}
 use Rattle.round_runner.proofs.Playing.{same_known, other_era}
 use Rattle.round_runner.proofs.ScenesLock.{known_is}
 
@@ -88,22 +88,3 @@ module _ {O Kept : Type 0} (layer : O → Layer Kept) (kept : O → List Kept) (
       r.script.rounds) (sym (known_at_end knows))
       (first_is_locked r.plan r.script (configuration_of layer began r) whole j r.script.rounds
       among (omega arith))
-
--- what such a runner has left to play is of the era of its configuration
-module _ {O : Type 0} (r : Running O) (whole : IsScript r.script) (knows : KnowsLocks r) where
-  one_era : (t : ℕ) → r.at ≤ t → t ≤ r.script.rounds → era_of r.script t ≡ era_of r.script r.at
-  one_era t lo hi = elim knows [
-    | inl end ↦ (let same : t ≡ r.at = omega (arith, end, lo, hi) in
-        ap (era_of r.script) same)
-    | inr later ↦ still_last r.script whole r.at later.0 t lo hi ∙ sym later.0
-  ]
-
-  pub left_in_era : (t : ℕ) → r.at ≤ t → t ≤ r.script.rounds
-      → (t < end_of_era r.script (era_of r.script r.at))
-      × (faulty_at r.script t ≡ faulty_at r.script r.at)
-  left_in_era t lo hi =
-      let same = one_era t lo hi in (
-        subst (λ j. t < end_of_era r.script j) same
-            (era_before r.script whole.formed.rising t hi),
-        ap (faulty_of_era r.script) same,
-      )

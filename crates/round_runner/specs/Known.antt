@@ -7,6 +7,7 @@ use Rattle.construction.specs.Plans.{Plan, plan_modulus}
 use Rattle.construction.specs.Runs.{is_in, AllShow}
 use Rattle.adversary_script.specs.Scripts.{Script}
 use Rattle.adversary_script.specs.Eras.{era_of, end_of_era, faulty_at}
+use Rattle.round_runner.specs.Locks.{first_locked, era_locked}
 use Rattle.round_runner.specs.Runners.{Running}
 
 -- the lowest id of a correct node
@@ -27,3 +28,10 @@ abbrev pub KnowsLocks : {O : Type 0} → Running O → Type 0
 KnowsLocks r =
     (r.at ≡ r.script.rounds) ⊎ ((era_of r.script r.at ≡ length r.script.eras)
     × (is_some (slice_index_or r.locks (era_of r.script r.at) None) ≡ true))
+
+-- The configuration from which on the first locked one of each era is known: that of the last era,
+-- or the last configuration where none of that era is locked.
+abbrev pub known_from : Plan → Script → (config_at : ℕ → List State) → ℕ
+known_from plan script config_at =
+    unwrap_or (first_locked (era_locked plan script config_at (length script.eras)) script.rounds)
+    script.rounds

@@ -18,6 +18,7 @@ mod skipping;
 mod stepping;
 mod telling;
 mod turns;
+mod until_known;
 
 pub use knowing::lowest_correct;
 pub use locks::is_locked;
