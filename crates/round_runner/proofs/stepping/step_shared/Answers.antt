@@ -1,12 +1,12 @@
 use Rattle.std.proofs.Common.{◌≡◌, ◌≤◌, ℕ, List, length, sym, ap, ◌∙◌, subst, arith}
 use Rattle.std.specs.Prelude.{slice_index}
 use Rattle.std.specs.List.Sorted.{IsStrictlyIncreasing}
-use Rattle.std.proofs.lemmas.List.{length-map, with_items_is}
+use Rattle.std.proofs.lemmas.List.{with_items_is}
 use Rattle.sync_types.specs.FaultSets.{FaultIds}
 use Rattle.sync_types.specs.States.{State}
 use Rattle.construction.specs.Plans.{plan_depth}
 use Rattle.construction.specs.Steps.{state_of}
-use Rattle.counter_core.specs.Meanings.{cut, written}
+use Rattle.counter_core.specs.Meanings.{written}
 use Rattle.shared_board.specs.Sharing.{Shares, place_among}
 use Rattle.round_runner.specs.Hearing.{heard_from, AreOfNodes}
 use Rattle.round_runner.proofs.Counted.{tells_taken, step_taken}

@@ -8,7 +8,6 @@ use Rattle.state_codec.specs.Shapes.{IsShape, fields_at}
 use Rattle.state_codec.specs.Ranges.{InRange}
 use Rattle.counter_core.specs.Working.{IsFor}
 use Rattle.adversary_script.proofs.LiesInRange.{depth_of_node}
-use Rattle.adversary_script.specs.Eras.{faulty_at}
 use Rattle.round_runner.specs.declared.stepping.Room.{Room}
 use Rattle.round_runner.specs.Hearing.{HasRoom, AreOfNodes}
 use Rattle.round_runner.specs.Laying.{IsLaid, IsSameOrTold, IsEnough}

@@ -4,7 +4,7 @@ use Rattle.std.proofs.lemmas.List.FromFn.{length-map-range_with_len}
 use Rattle.sync_types.specs.FaultSets.{FaultIds}
 use Rattle.sync_types.specs.States.{State, zero_state}
 use Rattle.state_codec.specs.Packs.{Pack}
-use Rattle.state_codec.specs.Shapes.{Shape, IsShape}
+use Rattle.state_codec.specs.Shapes.{IsShape}
 use Rattle.counter_core.specs.Working.{IsFor}
 use Rattle.adversary_script.specs.Lies.{start_of}
 use Rattle.round_runner.specs.declared.stepping.Room.{Room}

@@ -1,5 +1,4 @@
 use Rattle.std.proofs.Common.{◌≡◌, ◌<◌, ◌*◌, ◌∙◌, length, sym, ap, subst, arith}
-use Rattle.sync_types.specs.States.{State}
 use Rattle.construction.specs.Plans.{plan_nodes}
 use Rattle.construction.specs.Steps.{state_of}
 use Rattle.state_codec.specs.Shapes.{Shape, fields_at, bytes_in}
