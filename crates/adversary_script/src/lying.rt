@@ -20,6 +20,14 @@ const ROOM: usize = 136;
 /// The stream of the noise with which node 0 starts; those of the other nodes stand behind it.
 const FIRST_START_STREAM: u64 = 65536;
 
+/// Who tells whom, and in which round.
+#[derive(Clone, Copy, Debug)]
+struct Message {
+    round: u64,
+    sender: u32,
+    receiver: u32,
+}
+
 impl Script {
     /// Writes the state of noise that node `v` has in a turn of a stream.
     #[tactic(auto, unfolding(crate::specs::Noise::noise_state))]
@@ -76,35 +84,40 @@ impl Script {
         }
     }
 
-    /// Writes the state that a lie gives, where node `u` tells it to node `v` in round `t`.
+    /// Writes the state that a lie gives where it is told.
     fn write_lie(
         &self,
         noise: &mut Noise,
         what: &What,
-        t: u64,
-        u: u32,
-        v: u32,
+        message: Message,
         config: &Packed,
         out: &mut NodeState,
     )
         requires noise { noise.old ≡ self.now.key }
-        requires what { IsLying self.now.nodes (fields_at self.now.shape u) what.now }
-        requires round { t ≤ 1000000 }
-        requires sender { u < self.now.nodes }
-        requires shape { config.now.shape ≡ self.now.shape }
-        requires size { length config.now.current ≡ self.now.nodes }
+        requires what { IsLying self.now.nodes (fields_at self.now.shape message.sender) what.now }
+        requires round { message.round ≤ 1000000 }
+        requires sender { message.sender < self.now.nodes }
+        requires config { (config.now.shape ≡ self.now.shape)
+            × (length config.now.current ≡ self.now.nodes) }
         requires depth { length out.old.registers ≡ length self.now.shape.moduli }
-        ensures value { out.new ≡ lie_state self.now t u v config.now.current what.now }
-        ensures range { InRange (fields_at self.now.shape u) out.new }
+        ensures value { out.new ≡ lie_state self.now message.round message.sender message.receiver
+            config.now.current what.now }
+        ensures range { InRange (fields_at self.now.shape message.sender) out.new }
         ensures noise { noise.new ≡ noise.old }
     {
         config.tell();
         let _few = config.nodes();
+        let Message {
+            round,
+            sender,
+            receiver,
+        } = message;
+        let stream = 256 * u64::from(sender) + u64::from(receiver);
         match what {
-            What::Noise => self.noise_into(noise, u, 256 * u64::from(u) + u64::from(v), t, out),
-            What::Copy(w) => fit_into(config, u, *w as u32, out),
+            What::Noise => self.noise_into(noise, sender, stream, round, out),
+            What::Copy(w) => fit_into(config, sender, *w as u32, out),
             What::State(state) => out.copy_from(state),
-            What::Shift(by) => shift_into(config, u, *by, u, out),
+            What::Shift(by) => shift_into(config, sender, *by, sender, out),
         }
     }
 
@@ -136,7 +149,14 @@ impl Script {
     {
         config.tell();
         match self.lie_for(t, u, v) {
-            Some(lie) => self.write_lie(noise, &lie.what, t, u, v, config, out),
+            Some(lie) => {
+                let message = Message {
+                    round: t,
+                    sender: u,
+                    receiver: v,
+                };
+                self.write_lie(noise, &lie.what, message, config, out);
+            }
             None => config.old(u, out),
         }
     }
