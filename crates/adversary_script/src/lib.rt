@@ -40,3 +40,4 @@ pub use noise::Noise;
 pub use reading::read_script;
 pub use refusals::{ScriptError, ScriptRefusal};
 pub use scripts::Script;
+pub use shifting::shift_into;

@@ -18,13 +18,18 @@ loop-v-init c = record {
   filled = λ u lt. absurd (omega arith);
 }
 
-pub grow_into-requires-clause-node : goal.grow_into-requires-clause-node
-grow_into-requires-clause-node c =
+pub shift_into-requires-clause-node : goal.shift_into-requires-clause-node
+shift_into-requires-clause-node c =
+    let lows = ap (λ (p : Pack). length p.shape.lows) c.loop-v.invariant.fixed in
+    omega (arith, lows, c.tell.ensures.few, c.loop-v-test.true, c.nodes-v-end.ensures.current)
+
+pub shift_into-requires-clause-from : goal.shift_into-requires-clause-from
+shift_into-requires-clause-from c =
     let current = ap (λ (p : Pack). length p.current) c.loop-v.invariant.fixed in
     omega (arith, current, c.loop-v-test.true, c.nodes-v-end.ensures.current)
 
-pub grow_into-requires-clause-depth : goal.grow_into-requires-clause-depth
-grow_into-requires-clause-depth c =
+pub shift_into-requires-clause-depth : goal.shift_into-requires-clause-depth
+shift_into-requires-clause-depth c =
     c.loop-v.invariant.depth
     ∙ (c.requires ∙ sym (ap (λ (p : Pack). length p.shape.moduli) c.loop-v.invariant.fixed))
 
@@ -46,17 +51,17 @@ loop-v-preserved c =
     λ u s. s ≡ shifted c.args.by (fields_at old.shape u) (state_of old.current u) in
     let lt : v < length c.loop-v.states.next =
     omega (arith, h.size, c.loop-v-test.true, c.nodes-v-end.ensures.current) in
-    let here : P v c.grow_into.new.out = c.grow_into.ensures.value
+    let here : P v c.shift_into.new.out = c.shift_into.ensures.value
     ∙ ap (λ (p : Pack). shifted c.args.by (fields_at p.shape v) (state_of p.current v)) h.fixed in
     record {
       fixed = rw (c.put.ensures, h.fixed) refl;
       size = ap (λ (p : Pack). length p.next) c.put.ensures
-          ∙ (length-set c.loop-v.states.next v c.grow_into.new.out ∙ h.size);
-      depth = depth_of_node c.loop-v.states.shape v _ c.grow_into.ensures.range
+          ∙ (length-set c.loop-v.states.next v c.shift_into.new.out ∙ h.size);
+      depth = depth_of_node c.loop-v.states.shape v _ c.shift_into.ensures.range
           ∙ (ap (λ (p : Pack). length p.shape.moduli) h.fixed ∙ sym c.requires);
       filled = λ u less. subst (λ (next : List State). P u (state_of next u))
           (sym (ap (λ (p : Pack). p.next) c.put.ensures))
-          (set_has P c.loop-v.states.next v c.grow_into.new.out lt here u
+          (set_has P c.loop-v.states.next v c.shift_into.new.out lt here u
           (λ other. h.filled u (omega (arith, less, other))));
     }
 
