@@ -20,12 +20,7 @@ pub fn play(runner: &mut Runner<NoOverlay>, seed: u64)
     ensures known { KnowsLocks runner.new }
 {
     runner.restart(key_of(seed));
-    for _ in 0..runner.script().rounds() {
-        if runner.knows_locks() {
-            return;
-        }
-        runner.round();
-    }
+    runner.play_until_known();
 }
 
 /// The first locked configuration of era `j` of what is played, where it is known.
