@@ -1,7 +1,6 @@
 -- A runner that plays its script, and is explained.
-use Rattle.std.proofs.Common.{◌≡◌, ◌≢◌, ◌↔◌, ℕ, ◌+◌, ◌<◌, ◌≤◌, inl, inr, Bool, true, false, List, [], ◌∷◌, ◌++◌, length, Option, Result, codes, refl, sym, ap, ◌∙◌, subst, arith}
+use Rattle.std.proofs.Common.{◌≡◌, ◌≢◌, ℕ, List, [], ◌++◌, Option, Result, codes, refl, sym, ap, ◌∙◌, subst}
 use Rattle.std.proofs.Math.Path.{fun_ext}
-use Rattle.std.proofs.lemmas.Bool.{true≢false, cases_eq}
 use Rattle.std.proofs.lemmas.List.{nil_from_length}
 use Rattle.texts.specs.Growth.{Told, Puts}
 use Rattle.sync_types.specs.States.{State}
@@ -9,9 +8,9 @@ use Rattle.construction.specs.Plans.{Level, Plan, plan_depth}
 use Rattle.counter_core.specs.declared.overlays.NoOverlay.{NoOverlay}
 use Rattle.counter_core.specs.NoLayers.{no_layer}
 use Rattle.adversary_script.specs.Scripts.{Script}
-use Rattle.round_runner.specs.Known.{KnowsLocks}
 use Rattle.round_runner.specs.Played.{played_at}
-use Rattle.round_runner.specs.Runners.{Running, Advances, IsPlaying, configuration_of}
+use Rattle.round_runner.specs.Runners.{Running, IsPlaying, configuration_of}
+use Rattle.round_runner.specs.Skipping.{IsSkipped}
 use Rattle.round_runner.proofs.Playing.{scene_played}
 use Rattle.run_explanations.specs.declared.explanations.Explanation.{Explanation}
 use Rattle.run_explanations.specs.Explanations.{explanation_of}
@@ -42,27 +41,16 @@ puts_after_why result plan old new s t is played puts =
 
 -- ---- a runner that plays
 
-module _ (begun r : Running NoOverlay) (after : HasPlayedAlone begun r.at r)
-    (within : r.at ≤ begun.script.rounds) where
-  -- where locks are not known, a round is left
-  pub round_left : (knows : Bool) → ((knows ≡ true) ↔ KnowsLocks r) → knows ≡ false
-      → r.at < r.script.rounds
-  round_left knows exact not =
-      let last = ap (λ (s : Script). s.rounds) after.script in
-      elim (cases_eq r.at r.script.rounds) [
-        | inl end ↦ absurd (true≢false (sym (exact.1 (inl end)) ∙ not))
-        | inr other ↦ omega (arith, within, last, other)
-      ]
-
-  pub after_round : (new : Running NoOverlay) → Advances (λ o. no_layer) (λ o. []) r new
-      → (Plays r → Plays new) → HasPlayedAlone begun new.at new
-  after_round new step played = record {
-    plan = step.plan ∙ after.plan;
-    script = step.script ∙ after.script;
-    layer = refl;
-    at = refl;
-    plays = played after.plays;
-  }
+-- what was skipped was played
+pub skipped_plays : (begun r : Running NoOverlay) → IsSkipped begun r.at r → Plays r
+    → HasPlayedAlone begun r.at r
+skipped_plays begun r skipped plays = record {
+  plan = skipped.plan;
+  script = skipped.script;
+  layer = refl;
+  at = skipped.at;
+  plays = plays;
+}
 
 -- a runner that is explained has played
 pub explained_plays : (begun r : Running NoOverlay) → explained.HasPlayed begun r.at r

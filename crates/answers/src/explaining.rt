@@ -38,18 +38,6 @@ fn put_explanation<K: TextSink>(
     )
 }
 
-/// Plays until the first locked configuration of each era is known.
-fn play(runner: &mut Runner<NoOverlay>)
-    requires { IsToPlayAlone runner.old }
-    ensures played { HasPlayedAlone runner.old runner.new.at runner.new }
-    ensures knows { KnowsLocks runner.new }
-{
-    let _rounds = runner.script().rounds();
-    while !runner.knows_locks() {
-        runner.round();
-    }
-}
-
 /// Plays until the first locked configuration of each era is known, and writes why the last era
 /// locks.
 fn put_why<K: TextSink>(
@@ -65,7 +53,7 @@ fn put_why<K: TextSink>(
     ensures knows { KnowsLocks runner.new }
 {
     if plan.depth() == 0 {
-        play(runner);
+        runner.play_until_known();
         return sink.text(b"explain base\n");
     }
     put_explanation(sink, explain(plan, runner))

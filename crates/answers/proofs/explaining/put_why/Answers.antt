@@ -1,11 +1,16 @@
-use Rattle.std.proofs.Common.{◌∙◌, sym, arith}
-use Rattle.answers.proofs.Explained.{puts_base, puts_why, explained_plays}
+use Rattle.std.proofs.Common.{[], ◌∙◌, sym, arith}
+use Rattle.answers.proofs.Explained.{puts_base, puts_why, explained_plays, skipped_plays}
 use Rattle.answers.proofs.explaining.put_why.Goals as goal
 
 pub returns-then-depth-eq0-clause-lines : goal.returns-then-depth-eq0-clause-lines
 returns-then-depth-eq0-clause-lines g c =
     puts_base _ c.args.plan.now _ _ _ (sym c.depth.ensures.value ∙ c.if-depth-eq0.true)
     c.text.ensures
+
+pub returns-then-depth-eq0-clause-played : goal.returns-then-depth-eq0-clause-played
+returns-then-depth-eq0-clause-played g c =
+    skipped_plays _ _ c.play_until_known.ensures.skipped
+    (c.play_until_known.ensures.played [] c.requires.start.plays)
 
 pub explain-requires-clause-level : goal.explain-requires-clause-level
 explain-requires-clause-level g c = omega (arith, c.depth.ensures.value, c.if-depth-eq0.false)
