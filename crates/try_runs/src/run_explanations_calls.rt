@@ -15,10 +15,24 @@ const SPARE: &str = "plan 2\nbase 576\nlevel 3 1 10 spare 1\nend\n";
 
 const LONG: &str = "script 1\nfaulty 0\nstart zero\nrounds 900\nshow 0 0\nend\n";
 
+/// Five eras, of which the last begins in configuration 898,555.
+const ERAS: &str = "script 2
+faulty 3
+start zero
+era 7 faulty
+era 300000 faulty 1
+era 300004 faulty
+era 898555 faulty 3
+lie 0 999999 3 to all hex 000700
+rounds 1000000
+show 0 0
+end
+";
+
 /// A plan, the faulty nodes and what follows, and what explains.
 type Row = (&'static str, &'static str, Option<Explanation>);
 
-const ROWS: [Row; 7] = [
+const ROWS: [Row; 9] = [
     (
         FOUR,
         "script 1\nfaulty\nstart zero\nrounds 12\nshow 0 0\nend\n",
@@ -71,6 +85,29 @@ const ROWS: [Row; 7] = [
         FOUR,
         "script 2\nfaulty\nstart zero\nera 5 faulty 3\nrounds 25\nshow 0 0\nend\n",
         None,
+    ),
+    // From 898560 on, which is 390 times 2304, all blocks point to block 0 for a beat; before it to
+    // block 1. The rounds between are locked.
+    (
+        FOUR,
+        ERAS,
+        Some(Explanation {
+            window: 898_560,
+            leader: 0,
+            phase: 898_560,
+            king: 0,
+        }),
+    ),
+    // King 0 is faulty in the last era, as is block 0 then: the next window is that of block 1.
+    (
+        FOUR,
+        "script 2\nfaulty\nstart zero\nera 400000 faulty 3\nera 898555 faulty 0\nrounds 1000000\nshow 0 0\nend\n",
+        Some(Explanation {
+            window: 899_316,
+            leader: 1,
+            phase: 899_319,
+            king: 1,
+        }),
     ),
     (
         SPARE,
