@@ -146,7 +146,7 @@ fn step_number(turn: &Turn<'_>, out: &mut NodeState)
     out.set_x(turn.round.tower.next_number(turn.states.x(turn.v)));
 }
 
-/// Lays the own state of the node of a turn, where it is faulty, into its place among what is heard.
+/// Where the node of a turn is faulty, lays its own state into its place among what is heard.
 fn lay_itself(turn: &Turn<'_>, heard: &mut [NodeState])
     requires room { HasRoom turn.now.round.now.script.now heard.old }
     requires laid { IsLaid turn.now.round.now.script.now turn.now.round.now.t

@@ -8,7 +8,8 @@ pub era_start-requires : goal.era_start-requires
 era_start-requires c = omega (arith, c.requires, era_within c.args.script.now c.args.t)
 
 pub returns-else-era-gt0 : goal.returns-else-era-gt0
-returns-else-era-gt0 c = none_begins c.args.script.now c.rounds-rounds.ensures.script.formed.rising c.args.t
+returns-else-era-gt0 c = none_begins c.args.script.now c.rounds-rounds.ensures.script.formed.rising
+    c.args.t
     (λ some is. elim c.else-era-gt0.branch [
       | else-era-gt0-via-then-era-gt0+else-era_start-t w ↦
           w.if-era_start-t.false (w.era_start.ensures

@@ -17,7 +17,8 @@ returns-then-hears-clause-room c =
       size = c.requires.config.size;
       deep = all_places (λ (s : State). length s.registers ≡ length script.shape.moduli) config
           (λ u lt. depth_of_node script.shape u _
-          (subst (λ (s : Shape). InRange (fields_at s u) (state_of config u)) c.requires.config.shape
+          (subst (λ (s : Shape). InRange (fields_at s u) (state_of config u))
+          c.requires.config.shape
           (c.tell.ensures.current u lt)));
     })
 
@@ -30,7 +31,8 @@ returns-then-hears-clause-laid c = λ is.
       some = all_places (IsOfSome script) config (λ u lt. record {
         node = u;
         inside = omega (arith, lt, c.requires.config.size);
-        range = subst (λ (s : Shape). InRange (fields_at s u) (state_of config u)) c.requires.config.shape
+        range = subst (λ (s : Shape). InRange (fields_at s u) (state_of config u))
+            c.requires.config.shape
             (c.tell.ensures.current u lt);
       });
     })

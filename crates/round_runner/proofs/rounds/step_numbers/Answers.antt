@@ -64,7 +64,8 @@ loop-v-preserved g c =
     record {
       stepped = rw (put, c.step_alone.ensures.kept, fixed)
           (one_stepped (plan_meaning plan) script (g.O.Overlay.layer c.args.overlay.now)
-          c.args.round.now.t c.args.states.now.current (g.O.Overlay.kept c.args.overlay.now) c.loop-v.v
+          c.args.round.now.t c.args.states.now.current (g.O.Overlay.kept c.args.overlay.now)
+          c.loop-v.v
           c.loop-v.states.next (g.O.Overlay.layer c.loop-v.overlay)
           (g.O.Overlay.layer c.step_alone.new.overlay) (g.O.Overlay.kept c.loop-v.overlay) lt
           h.stepped c.step_alone.ensures.layer);

@@ -131,7 +131,8 @@ loop-v-preserved g c =
     (c.put_at.ensures.state ∙ ap (unwrap_or hit) c.step_with.ensures.out) in
     record {
       stepped = rw (put, c.step_with.ensures.kept, fixed)
-          (one_stepped (plan_meaning plan) script (g.O.Overlay.layer c.args.overlay.now) c.args.round.now.t
+          (one_stepped (plan_meaning plan) script (g.O.Overlay.layer c.args.overlay.now)
+          c.args.round.now.t
           c.args.states.now.current (g.O.Overlay.kept c.args.overlay.now) c.loop-v.v
           c.loop-v.states.next (g.O.Overlay.layer c.loop-v.overlay)
           (g.O.Overlay.layer c.step_with.new.overlay) (g.O.Overlay.kept c.loop-v.overlay) lt

@@ -11,22 +11,35 @@ pub returns-then-contains-clause-room : goal.returns-then-contains-clause-room
 returns-then-contains-clause-room c =
     let script = c.args.turn.now.round.now.script.now in
     let config = c.args.turn.now.states.now.current in
-    let lt : c.args.turn.now.v < length config = omega (arith, c.args.turn.now.node, c.args.turn.now.size) in
+    let lt : c.args.turn.now.v < length config = omega (
+      arith,
+      c.args.turn.now.node,
+      c.args.turn.now.size,
+    ) in
     room_laid script c.args.turn.now.v c.args.heard.now c.old.new.out c.requires.room
-    (depth_of_node script.shape c.args.turn.now.v _ (read_range c.args.turn.now.states.now.shape script.shape config
-    c.args.turn.now.v c.old.new.out c.args.turn.now.shape (c.tell.ensures.current c.args.turn.now.v lt)
+    (depth_of_node script.shape c.args.turn.now.v _ (read_range c.args.turn.now.states.now.shape
+    script.shape config
+    c.args.turn.now.v c.old.new.out c.args.turn.now.shape (c.tell.ensures.current c.args.turn.now.v
+    lt)
     c.old.ensures))
 
 pub returns-then-contains-clause-laid : goal.returns-then-contains-clause-laid
 returns-then-contains-clause-laid c =
     let script = c.args.turn.now.round.now.script.now in
     let config = c.args.turn.now.states.now.current in
-    let lt : c.args.turn.now.v < length config = omega (arith, c.args.turn.now.node, c.args.turn.now.size) in
-    state_laid script c.args.turn.now.round.now.t c.args.turn.now.v config c.args.heard.now c.old.new.out
-    c.requires.laid (omega (arith, c.args.turn.now.node, c.requires.room.size)) c.old.ensures (record {
+    let lt : c.args.turn.now.v < length config = omega (
+      arith,
+      c.args.turn.now.node,
+      c.args.turn.now.size,
+    ) in
+    state_laid script c.args.turn.now.round.now.t c.args.turn.now.v config c.args.heard.now
+    c.old.new.out
+    c.requires.laid (omega (arith, c.args.turn.now.node, c.requires.room.size)) c.old.ensures
+    (record {
       node = c.args.turn.now.v;
       inside = c.args.turn.now.node;
-      range = read_range c.args.turn.now.states.now.shape script.shape config c.args.turn.now.v c.old.new.out
+      range = read_range c.args.turn.now.states.now.shape script.shape config c.args.turn.now.v
+          c.old.new.out
           c.args.turn.now.shape (c.tell.ensures.current c.args.turn.now.v lt) c.old.ensures;
     })
 

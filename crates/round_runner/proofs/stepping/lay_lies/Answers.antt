@@ -27,10 +27,12 @@ loop-j-preserved c =
     let nodes = ap (λ (s : FaultIds). s.nodes) c.args.round.now.liars in
     let ids : c.loop-j.j < length c.args.round.now.faulty.now.ids =
     omega (arith, lt, c.requires.stretch) in
-    let lies : c.loop-j.j < length c.args.lies.now = omega (arith, ids, few, c.requires.lies.size) in
+    let lies : c.loop-j.j < length c.args.lies.now = omega (arith, ids, few, c.requires.lies.size)
+    in
     let some = subst (IsOfSome script) (sym c.index-lies-j.is)
     (c.requires.lies.states c.loop-j.j c.index-lies-j.result lies) in
-    one_laid (length script.shape.moduli) c.args.round.now.faulty.now.ids c.args.stretch.0 c.args.stretch.1
+    one_laid (length script.shape.moduli) c.args.round.now.faulty.now.ids c.args.stretch.0
+    c.args.stretch.1
     c.args.lies.now c.args.heard.now
     c.tell.ensures.rising c.loop-j.j c.at.result c.loop-j.heard c.copy_from.new.self
     lt ids (omega (arith, c.at.ensures.node, nodes, size))
@@ -51,7 +53,8 @@ returns-clause-told c = λ j low lt.
 
 pub returns-clause-each : goal.returns-clause-each
 returns-clause-each c =
-    all_laid (length c.args.round.now.script.now.shape.moduli) c.args.round.now.faulty.now.ids c.args.stretch.0
+    all_laid (length c.args.round.now.script.now.shape.moduli) c.args.round.now.faulty.now.ids
+    c.args.stretch.0
     c.args.stretch.1 c.args.lies.now c.args.heard.now c.loop-j.j c.loop-j.heard c.loop-j.invariant
 
 pub copy_from-requires : goal.copy_from-requires

@@ -13,7 +13,8 @@ advance-requires-clause-step g c =
     let script = c.args.turn.now.round.now.script.now in
     let config = c.args.turn.now.states.now.current in
     can_step c.args.turn.now.round.now.tower.now script (g.O.Overlay.layer c.args.overlay.now)
-    (g.O.Overlay.kept c.args.overlay.now) c.args.turn.now.round.now.t c.args.turn.now.v config c.tell-2.ensures.accepted
+    (g.O.Overlay.kept c.args.overlay.now) c.args.turn.now.round.now.t c.args.turn.now.v config
+    c.tell-2.ensures.accepted
     c.tell-2.ensures.script (subst IsShape c.requires.set.shape c.tell.ensures.sound)
     (g.met.O.Overlay.keeps_range c.args.overlay.now) c.requires.set.fits c.requires.set.over
     (g.met.O.Overlay.deaf c.args.overlay.now) c.args.turn.now.round.now.nodes c.args.turn.now.node
@@ -32,7 +33,8 @@ returns-clause-out g c =
     c.advance.ensures.out
     ∙ ap (λ s. layered (g.O.Overlay.layer c.args.overlay.now) s.registers c.args.room.now.out)
     (step_is_that c.args.turn.now.round.now.tower.now script (g.O.Overlay.layer c.args.overlay.now)
-    (g.O.Overlay.kept c.args.overlay.now) c.args.turn.now.round.now.t c.args.turn.now.v config c.tell-2.ensures.accepted
+    (g.O.Overlay.kept c.args.overlay.now) c.args.turn.now.round.now.t c.args.turn.now.v config
+    c.tell-2.ensures.accepted
     c.tell-2.ensures.script (subst IsShape c.requires.set.shape c.tell.ensures.sound)
     (g.met.O.Overlay.keeps_range c.args.overlay.now) c.requires.set.fits c.requires.set.over
     (g.met.O.Overlay.deaf c.args.overlay.now) c.args.turn.now.round.now.nodes c.args.turn.now.node
@@ -51,7 +53,8 @@ returns-clause-kept g c =
     c.advance.ensures.kept
     ∙ ap (λ s. slice_set (g.O.Overlay.kept c.args.overlay.now) c.args.turn.now.v s.kept)
     (step_is_that c.args.turn.now.round.now.tower.now script (g.O.Overlay.layer c.args.overlay.now)
-    (g.O.Overlay.kept c.args.overlay.now) c.args.turn.now.round.now.t c.args.turn.now.v config c.tell-2.ensures.accepted
+    (g.O.Overlay.kept c.args.overlay.now) c.args.turn.now.round.now.t c.args.turn.now.v config
+    c.tell-2.ensures.accepted
     c.tell-2.ensures.script (subst IsShape c.requires.set.shape c.tell.ensures.sound)
     (g.met.O.Overlay.keeps_range c.args.overlay.now) c.requires.set.fits c.requires.set.over
     (g.met.O.Overlay.deaf c.args.overlay.now) c.args.turn.now.round.now.nodes c.args.turn.now.node
@@ -64,5 +67,6 @@ returns-clause-kept g c =
     (λ some. let e = c.requires.enough some in e.step))
 
 pub returns-clause-work : goal.returns-clause-work
-returns-clause-work g c = as_roomy c.args.turn.now.round.now.script.now.nodes c.args.room.now.work c.advance.new.work
+returns-clause-work g c = as_roomy c.args.turn.now.round.now.script.now.nodes c.args.room.now.work
+    c.advance.new.work
     c.advance.ensures.work c.requires.set.ready.work

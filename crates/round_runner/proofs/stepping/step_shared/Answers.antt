@@ -40,13 +40,16 @@ advance_shared-requires-clause-tells g c =
     let long = c.tell.auto.lies ∙ c.deref_mut.ensures.len in
     let is : c.deref.result.now ≡ c.tell.new.lies = c.deref.ensures.value
     ∙ with_items_is c.args.room.now.lies c.tell.new.lies long in
-    tells_taken c.args.turn.now.round.now.tower.now script c.args.turn.now.round.now.t c.args.turn.now.v
-    c.args.turn.now.states.now.current ids c.deref.result.now c.args.turn.now.size c.args.turn.now.node same
+    tells_taken c.args.turn.now.round.now.tower.now script c.args.turn.now.round.now.t
+    c.args.turn.now.v
+    c.args.turn.now.states.now.current ids c.deref.result.now c.args.turn.now.size
+    c.args.turn.now.node same
     (subst IsStrictlyIncreasing (sym same) c.args.turn.now.round.now.borne.rising)
     (subst (AreOfNodes script) (sym is) c.tell.ensures.lies)
     c.len-liars.result c.len-liars.ensures.exact
     (few c.args.turn.now.round.now.faulty.now script.nodes c.len-liars.result
-    (length c.args.room.now.lies.items) _ (ap (λ (s : FaultIds). s.nodes) c.args.turn.now.round.now.liars)
+    (length c.args.room.now.lies.items) _ (ap (λ (s : FaultIds). s.nodes)
+    c.args.turn.now.round.now.liars)
     c.len-liars.ensures.within c.requires.ready.told
     (ap (λ (xs : List State). length xs) is ∙ c.tell.auto.lies
     ∙ ap (λ (xs : List State). length xs) c.deref_mut.ensures.value))
@@ -62,7 +65,8 @@ advance_shared-requires-clause-range g c =
     taken_counts script c.deref.result.now
     (subst (AreOfNodes script) (sym is) c.tell.ensures.lies) c.len-liars.result
     (few c.args.turn.now.round.now.faulty.now script.nodes c.len-liars.result
-    (length c.args.room.now.lies.items) _ (ap (λ (s : FaultIds). s.nodes) c.args.turn.now.round.now.liars)
+    (length c.args.room.now.lies.items) _ (ap (λ (s : FaultIds). s.nodes)
+    c.args.turn.now.round.now.liars)
     c.len-liars.ensures.within c.requires.ready.told
     (ap (λ (xs : List State). length xs) is ∙ c.tell.auto.lies
     ∙ ap (λ (xs : List State). length xs) c.deref_mut.ensures.value))
@@ -77,7 +81,8 @@ advance_shared-requires-clause-deep g c =
     taken_deep script c.deref.result.now
     (subst (AreOfNodes script) (sym is) c.tell.ensures.lies) c.len-liars.result
     (few c.args.turn.now.round.now.faulty.now script.nodes c.len-liars.result
-    (length c.args.room.now.lies.items) _ (ap (λ (s : FaultIds). s.nodes) c.args.turn.now.round.now.liars)
+    (length c.args.room.now.lies.items) _ (ap (λ (s : FaultIds). s.nodes)
+    c.args.turn.now.round.now.liars)
     c.len-liars.ensures.within c.requires.ready.told
     (ap (λ (xs : List State). length xs) is ∙ c.tell.auto.lies
     ∙ ap (λ (xs : List State). length xs) c.deref_mut.ensures.value))
@@ -95,14 +100,18 @@ returns-clause-out g c =
     let is : c.deref.result.now ≡ c.tell.new.lies = c.deref.ensures.value
     ∙ with_items_is c.args.room.now.lies c.tell.new.lies long in
     c.advance_shared.ensures.out
-    ∙ ap (λ (s : State). written (plan_depth c.args.turn.now.round.now.tower.now) s c.args.room.now.out)
-    (step_taken c.args.turn.now.round.now.tower.now script c.args.turn.now.round.now.t c.args.turn.now.v
-    c.args.turn.now.states.now.current ids c.deref.result.now c.args.turn.now.size c.args.turn.now.node same
+    ∙ ap (λ (s : State). written (plan_depth c.args.turn.now.round.now.tower.now) s
+    c.args.room.now.out)
+    (step_taken c.args.turn.now.round.now.tower.now script c.args.turn.now.round.now.t
+    c.args.turn.now.v
+    c.args.turn.now.states.now.current ids c.deref.result.now c.args.turn.now.size
+    c.args.turn.now.node same
     (subst IsStrictlyIncreasing (sym same) c.args.turn.now.round.now.borne.rising)
     (subst (AreOfNodes script) (sym is) c.tell.ensures.lies)
     c.len-liars.result c.len-liars.ensures.exact
     (few c.args.turn.now.round.now.faulty.now script.nodes c.len-liars.result
-    (length c.args.room.now.lies.items) _ (ap (λ (s : FaultIds). s.nodes) c.args.turn.now.round.now.liars)
+    (length c.args.room.now.lies.items) _ (ap (λ (s : FaultIds). s.nodes)
+    c.args.turn.now.round.now.liars)
     c.len-liars.ensures.within c.requires.ready.told
     (ap (λ (xs : List State). length xs) is ∙ c.tell.auto.lies
     ∙ ap (λ (xs : List State). length xs) c.deref_mut.ensures.value))
@@ -119,5 +128,6 @@ returns-clause-told g c = λ j low high.
     ap (λ (xs : List State). state_of xs j) (with_items_is c.args.room.now.lies c.tell.new.lies
     (c.tell.auto.lies ∙ c.deref_mut.ensures.len))
     ∙ (c.tell.ensures.told j told.0 told.1
-    ∙ ap (λ (xs : List ℕ). heard_from c.args.turn.now.round.now.script.now c.args.turn.now.round.now.t c.args.turn.now.v
+    ∙ ap (λ (xs : List ℕ). heard_from c.args.turn.now.round.now.script.now
+    c.args.turn.now.round.now.t c.args.turn.now.v
     c.args.turn.now.states.now.current (slice_index xs j)) ids)

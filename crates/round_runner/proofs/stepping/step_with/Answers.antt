@@ -20,7 +20,11 @@ step_shared-requires-clause-takes g c =
     let deep = c.requires.set.fits.depth in
     record {
       deep = omega (arith, deep);
-      counts = λ u lt. c.requires.set.fits.counts u (omega (arith, lt, c.args.turn.now.round.now.nodes));
+      counts = λ u lt. c.requires.set.fits.counts u (omega (
+        arith,
+        lt,
+        c.args.turn.now.round.now.nodes,
+      ));
     }
 
 pub step_shared-requires-clause-ready : goal.step_shared-requires-clause-ready
@@ -87,13 +91,15 @@ step_layer-requires-clause-set g c =
             (subst (λ (r : Room). IsFor script.nodes r.work) (sym heed) set.ready.work);
         out = counted_room c.args.turn.now.round.now.tower.now script
             (g.O.Overlay.layer c.args.overlay.now)
-            (g.O.Overlay.kept c.args.overlay.now) c.args.turn.now.round.now.t c.args.turn.now.v config
+            (g.O.Overlay.kept c.args.overlay.now) c.args.turn.now.round.now.t c.args.turn.now.v
+            config
             c.tell-2.ensures.accepted c.tell-2.ensures.script
             (subst IsShape set.shape c.tell.ensures.sound)
             (g.met.O.Overlay.keeps_range c.args.overlay.now) set.fits set.over
             (g.met.O.Overlay.deaf c.args.overlay.now)
             c.args.turn.now.round.now.nodes c.args.turn.now.node
-            (range_of c.args.turn.now.states.now.shape script.shape script.nodes config set.shape set.size
+            (range_of c.args.turn.now.states.now.shape script.shape script.nodes config set.shape
+            set.size
             c.tell.ensures.current)
             c.heed-layers.new.room.out c.step_shared.new.room.out
             (ap (λ (r : Room). length r.out.registers) heed ∙ set.ready.out)
@@ -128,10 +134,12 @@ step_layer-requires-clause-enough g c = λ some.
     ≡ state_of ys j) c.deref.ensures.value c.lay_lies.ensures.told))
     (subst (λ (xs : List ℕ). (u : ℕ) → IsSameOrTold xs from to lies
     (state_of c.heed-layers.new.room.heard.items u) u (state_of c.lay_lies.new.heard u)) ids
-    (subst (λ (ys : List State). (u : ℕ) → IsSameOrTold c.args.turn.now.round.now.faulty.now.ids from to ys
+    (subst (λ (ys : List State). (u : ℕ) → IsSameOrTold c.args.turn.now.round.now.faulty.now.ids
+    from to ys
     (state_of c.heed-layers.new.room.heard.items u) u (state_of c.lay_lies.new.heard u))
     c.deref.ensures.value
-    (subst (λ (ys : List State). (u : ℕ) → IsSameOrTold c.args.turn.now.round.now.faulty.now.ids from to
+    (subst (λ (ys : List State). (u : ℕ) → IsSameOrTold c.args.turn.now.round.now.faulty.now.ids
+    from to
     c.deref.result.now (state_of ys u) u (state_of c.lay_lies.new.heard u)) before
     c.lay_lies.ensures.each)))
     (g.O.Overlay.layer c.args.overlay.now) (g.O.Overlay.kept c.args.overlay.now)
@@ -232,6 +240,7 @@ returns-clause-gathered g c =
           c.deref.result.now (state_of ys u) u (state_of c.lay_lies.new.heard u)) before
           c.lay_lies.ensures.each)))
           (subst IsShape c.requires.set.shape c.tell.ensures.sound)
-          (range_of c.args.turn.now.states.now.shape script.shape script.nodes config c.requires.set.shape
+          (range_of c.args.turn.now.states.now.shape script.shape script.nodes config
+          c.requires.set.shape
           c.requires.set.size c.tell.ensures.current));
     }

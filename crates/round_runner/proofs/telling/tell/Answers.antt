@@ -22,16 +22,19 @@ loop-j-preserved c =
     let lt : u < script.nodes = omega (arith, c.at-u.ensures.node, nodes) in
     elim c.if-u-v.branch [
       | then-u-v w ↦
-          rw (w.noise-is, w.lies-is) (one_told script c.args.turn.now.round.now.t c.args.turn.now.v config ids
+          rw (w.noise-is, w.lies-is) (one_told script c.args.turn.now.round.now.t c.args.turn.now.v
+          config ids
           c.args.stretch.0 (length c.args.lies.now) c.args.noise.now c.loop-j.j u c.loop-j.lies
           c.loop-j.noise w.lie_into.new.noise w.lie_into.new.out among few
           (sym c.at-u.ensures.id) w.if-u-v.true c.loop-j.invariant
           (w.lie_into.ensures.value
-          ∙ sym (heard_other script c.args.turn.now.round.now.t c.args.turn.now.v config u w.if-u-v.true))
+          ∙ sym (heard_other script c.args.turn.now.round.now.t c.args.turn.now.v config u
+          w.if-u-v.true))
           (record { node = u; inside = lt; range = w.lie_into.ensures.range })
           w.lie_into.ensures.noise)
       | else-u-v w ↦
-          rw (w.noise-is, w.lies-is) (none_told script c.args.turn.now.round.now.t c.args.turn.now.v config ids
+          rw (w.noise-is, w.lies-is) (none_told script c.args.turn.now.round.now.t
+          c.args.turn.now.v config ids
           c.args.stretch.0 (length c.args.lies.now) c.args.noise.now c.loop-j.j u c.loop-j.lies
           c.loop-j.noise among (sym c.at-u.ensures.id) w.if-u-v.false c.loop-j.invariant)
     ]

@@ -4,4 +4,5 @@ use Rattle.round_runner.proofs.telling.tell.Given as goal
 
 abbrev pub invariant-loop-j : goal.invariant-loop-j
 invariant-loop-j l = ToldBelow l.turn.round.now.script.now l.turn.round.now.t l.turn.v
-    l.turn.states.now.current l.turn.round.now.faulty.now.ids l.fn.stretch.0 (length l.fn.lies) l.fn.noise l.j l.lies l.noise
+    l.turn.states.now.current l.turn.round.now.faulty.now.ids l.fn.stretch.0 (length l.fn.lies)
+    l.fn.noise l.j l.lies l.noise

@@ -26,4 +26,5 @@ returns-then-contains-clause-own c =
 pub returns-else-contains-clause-own : goal.returns-else-contains-clause-own
 returns-else-contains-clause-own c =
     none_stands c.args.turn.now.round.now.faulty.now.ids c.args.turn.now.v
-    c.args.turn.now.states.now.current c.args.lies.now (sym c.contains.ensures ∙ c.if-contains.false)
+    c.args.turn.now.states.now.current c.args.lies.now (sym c.contains.ensures ∙
+    c.if-contains.false)

@@ -9,7 +9,8 @@ pub loop-u-init : goal.loop-u-init
 loop-u-init c = record {
   laid = record {
     size = c.requires.room.size
-        ∙ sym (heard_long c.args.self.now.script.now c.args.self.now.t c.args.self.now.states.now.current c.args.self.now.v);
+        ∙ sym (heard_long c.args.self.now.script.now c.args.self.now.t
+        c.args.self.now.states.now.current c.args.self.now.v);
     deep = c.requires.room.deep;
     done = λ u lt. absurd (omega (arith, lt));
   };
@@ -36,7 +37,8 @@ returns-clause-heard c =
     let script = c.args.self.now.script.now in
     let config = c.args.self.now.states.now.current in
     let long = heard_long script c.args.self.now.t config c.args.self.now.v in
-    all_laid (heard_at script c.args.self.now.t config c.args.self.now.v) _ c.loop-u.u c.loop-u.heard
+    all_laid (heard_at script c.args.self.now.t config c.args.self.now.v) _ c.loop-u.u
+    c.loop-u.heard
     (omega (
       arith,
       c.loop-u-test.false,
@@ -48,6 +50,7 @@ returns-clause-heard c =
 pub returns-clause-room : goal.returns-clause-room
 returns-clause-room c = record {
   size = c.loop-u.invariant.laid.size
-      ∙ heard_long c.args.self.now.script.now c.args.self.now.t c.args.self.now.states.now.current c.args.self.now.v;
+      ∙ heard_long c.args.self.now.script.now c.args.self.now.t c.args.self.now.states.now.current
+      c.args.self.now.v;
   deep = c.loop-u.invariant.laid.deep;
 }

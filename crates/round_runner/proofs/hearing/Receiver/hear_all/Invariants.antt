@@ -5,7 +5,8 @@ use Rattle.round_runner.proofs.hearing.Receiver.hear_all.Given as goal
 
 abbrev pub invariant-loop-u : goal.invariant-loop-u
 invariant-loop-u l = record {
-  laid : LaidBelow (heard_at l.self.script.now l.self.t l.self.states.now.current l.self.v) (length l.self.script.now.shape.moduli) l.u
+  laid : LaidBelow (heard_at l.self.script.now l.self.t l.self.states.now.current l.self.v) (length
+      l.self.script.now.shape.moduli) l.u
       l.heard;
   noise : l.noise ≡ l.fn.noise;
 }

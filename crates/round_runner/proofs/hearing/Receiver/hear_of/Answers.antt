@@ -14,8 +14,10 @@ lent_in lent nodes ids u is = sym (ap (λ (s : FaultIds). is_in s.ids u) is)
 
 pub returns-then-u-self-clause-heard : goal.returns-then-u-self-clause-heard
 returns-then-u-self-clause-heard c =
-    let yes : (c.args.u == c.args.self.now.v) ≡ true = eq-eqb c.args.u c.args.self.now.v c.if-u-self.true in
-    heard_place c.args.self.now.script.now c.args.self.now.t c.args.self.now.v c.args.self.now.states.now.current c.args.self.now.node
+    let yes : (c.args.u == c.args.self.now.v) ≡ true = eq-eqb c.args.u c.args.self.now.v
+    c.if-u-self.true in
+    heard_place c.args.self.now.script.now c.args.self.now.t c.args.self.now.v
+    c.args.self.now.states.now.current c.args.self.now.node
     c.args.u c.requires.sender c.old.new.out (λ is. rw yes c.old.ensures) (λ no. c.old.ensures)
 
 pub returns-then-contains-clause-heard : goal.returns-then-contains-clause-heard
@@ -24,17 +26,20 @@ returns-then-contains-clause-heard c =
     let is : is_in (faulty_at script c.args.self.now.t) c.args.u ≡ true =
     lent_in _ _ _ c.args.u c.faulty_at.ensures
     ∙ (sym c.contains.ensures ∙ c.if-contains.true) in
-    heard_place script c.args.self.now.t c.args.self.now.v c.args.self.now.states.now.current c.args.self.now.node c.args.u
+    heard_place script c.args.self.now.t c.args.self.now.v c.args.self.now.states.now.current
+    c.args.self.now.node c.args.u
     c.requires.sender c.lie_into.new.out
     (λ yes. c.lie_into.ensures.value
-    ∙ sym (heard_other script c.args.self.now.t c.args.self.now.v c.args.self.now.states.now.current c.args.u
+    ∙ sym (heard_other script c.args.self.now.t c.args.self.now.v
+    c.args.self.now.states.now.current c.args.u
     c.if-u-self.false))
     (λ no. absurd (true≢false (sym is ∙ no)))
 
 pub returns-else-contains-clause-heard : goal.returns-else-contains-clause-heard
 returns-else-contains-clause-heard c =
     let script = c.args.self.now.script.now in
-    heard_place script c.args.self.now.t c.args.self.now.v c.args.self.now.states.now.current c.args.self.now.node c.args.u
+    heard_place script c.args.self.now.t c.args.self.now.v c.args.self.now.states.now.current
+    c.args.self.now.node c.args.u
     c.requires.sender c.old-else-contains.new.out
     (λ yes. absurd (true≢false (sym yes ∙ (lent_in _ _ _ c.args.u c.faulty_at.ensures
     ∙ (sym c.contains.ensures ∙ c.if-contains.false)))))

@@ -9,6 +9,8 @@ loop-v-preserved c =
     let lt : c.loop-v.v < c.args.self.now.faulty.now.nodes =
     omega (arith, c.loop-v-test.true, c.nodes-v-end.ensures) in
     ap (λ (registers : List Reg). first_value registers)
-    (sym (from_faulty c.args.self.now.level c.args.self.now.faulty.now.nodes c.args.self.now.faulty.now.ids
-    c.args.self.now.config.now.current c.loop-v.v lt (sym c.contains.ensures ∙ c.if-not-contains.false)))
+    (sym (from_faulty c.args.self.now.level c.args.self.now.faulty.now.nodes
+    c.args.self.now.faulty.now.ids
+    c.args.self.now.config.now.current c.loop-v.v lt (sym c.contains.ensures ∙
+    c.if-not-contains.false)))
     ∙ c.loop-v.invariant

@@ -55,7 +55,8 @@ returns-clause-begun g c =
 pub returns-clause-played : goal.returns-clause-played
 returns-clause-played g c =
     let script = c.args.self.now.script in
-    let whole = subst (λ (r : Running _). IsScript r.script) c.self.view_is c.self.invariant.whole in
+    let whole = subst (λ (r : Running _). IsScript r.script) c.self.view_is c.self.invariant.whole
+    in
     subst (IsPlaying g.O.Overlay.layer g.O.Overlay.kept
     (g.O.Overlay.kept c.args.self.now.overlay)) (sym (returns-clause-begun g c))
     (begins g.O.Overlay.layer g.O.Overlay.kept c.args.self.now.plan (rekeyed script c.args.key)
