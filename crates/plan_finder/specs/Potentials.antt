@@ -30,8 +30,11 @@ StepsAreKnownBy most pots pot k = (g : ℕ) → StepIsKnown most pots pot k g
 abbrev pub StepsAreKnown : (most : ℕ) → List Pot → Pot → Type 0
 StepsAreKnown most pots pot = (k : ℕ) → StepsAreKnownBy most pots pot k
 
--- what a step of few blocks and faults needs beside its cost
+-- what a step needs beside its cost
 pub record MayStep (most n f k g : ℕ) : Type 0 where
+  pub least_blocks : 3 ≤ k
+  pub most_blocks : k ≤ 16
+  pub most_faults : g ≤ 85
   pub most_nodes : k * n ≤ most
   pub quorum : 3 * g < k * n
   pub share : g < (f + 1) * div_ceil k 2

@@ -1,48 +1,42 @@
-ghost use Rattle.std.specs.Prelude.{◌≡◌, ◌+◌, ◌*◌, ◌<◌, ◌≤◌, length, IfOk};
+ghost use Rattle.std.specs.Prelude.{◌≡◌, ◌+◌, ◌*◌, ◌≤◌, length, IfOk};
 ghost use Rattle.plan_finder.specs.Costs.{AreLeastCosts};
 ghost use Rattle.plan_finder.specs.Least.{costs_within};
 ghost use Rattle.plan_finder.specs.Best.{AreBest, IsBestOf, HasFaults};
 
 use crate::best::{Best, lesser};
 use crate::pots::Pot;
+use crate::rows::Rows;
 use std::alloc::Global;
 use sync_types::NoMemory;
 
 /// The best levels with `f` faults, from those of each pair.
-pub fn best_with(cells: &[Option<Best>], most: u64, width: usize, f: u64) -> Option<Best>
-    requires most { (most ≤ 256) × (most < 3 * width) × (width ≤ 86) }
-    requires cells { AreBest most width cells.now }
-    requires size { length cells.now ≡ (most + 1) * width }
-    ensures { IsBestOf (HasFaults most f (most + 1)) result }
+pub fn best_with(rows: &Rows<'_>, f: u64) -> Option<Best>
+    requires cells { AreBest rows.now.most rows.now.width rows.now.cells.now }
+    requires size { length rows.now.cells.now ≡ (rows.now.most + 1) * rows.now.width }
+    ensures { IsBestOf (HasFaults rows.now.most f (rows.now.most + 1)) result }
 {
-    if f >= width as u64 {
+    if f >= rows.width as u64 {
         return None;
     }
     let mut best = None;
-    for n in 0..most as usize + 1 {
-        best = lesser(best, cells[n * width + f as usize]);
+    for n in 0..rows.most as usize + 1 {
+        best = lesser(best, rows.cells[n * rows.width + f as usize]);
     }
     best
 }
 
 /// The pairs that are reached, with their least costs, in rising order.
-pub fn least_costs(
-    alloc: Global,
-    cells: &[Option<Best>],
-    most: u64,
-    width: usize,
-) -> Result<Vec<Pot>, NoMemory>
-    requires most { (most ≤ 256) × (most < 3 * width) × (width ≤ 86) }
-    requires cells { AreBest most width cells.now }
-    requires size { length cells.now ≡ (most + 1) * width }
-    requires some { 1 ≤ most }
-    ensures costs { IfOk result (λ pots. AreLeastCosts most pots.items) }
-    ensures exact { IfOk result (λ pots. pots.items ≡ costs_within most width) }
+pub fn least_costs(alloc: Global, rows: &Rows<'_>) -> Result<Vec<Pot>, NoMemory>
+    requires cells { AreBest rows.now.most rows.now.width rows.now.cells.now }
+    requires size { length rows.now.cells.now ≡ (rows.now.most + 1) * rows.now.width }
+    requires some { 1 ≤ rows.now.most }
+    ensures costs { IfOk result (λ pots. AreLeastCosts rows.now.most pots.items) }
+    ensures exact { IfOk result (λ pots. pots.items ≡ costs_within rows.now.most rows.now.width) }
 {
     let mut pots = Vec::new(alloc);
-    for n in 0..most as usize + 1 {
-        for f in 0..width {
-            match cells[n * width + f] {
+    for n in 0..rows.most as usize + 1 {
+        for f in 0..rows.width {
+            match rows.cells[n * rows.width + f] {
                 None => {}
                 Some(best) => {
                     let pot = Pot {

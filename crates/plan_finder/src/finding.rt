@@ -7,6 +7,7 @@ ghost use Rattle.plan_finder.specs.Potentials.{ArePotentials, bound_in};
 use crate::building::plan_if;
 use crate::choosing::{best_with, least_costs};
 use crate::pots::Pots;
+use crate::rows::Rows;
 use crate::table::best_cells;
 use plan_numbers::Plan;
 use std::alloc::Global;
@@ -40,8 +41,13 @@ pub fn find(alloc: Global, f: u64, c: u64, most: u64) -> Result<Found, NoMemory>
 {
     let width = most as usize / 3 + 1;
     let cells = best_cells(alloc, most, width)?;
-    let pots = Pots::new(least_costs(alloc, &cells, most, width)?);
-    let best = best_with(&cells, most, width, f);
+    let rows = Rows {
+        cells: &cells,
+        most,
+        width,
+    };
+    let pots = Pots::new(least_costs(alloc, &rows)?);
+    let best = best_with(&rows, f);
     let plan = plan_if(alloc, best, c, most)?;
     Ok(Found { plan, pots })
 }

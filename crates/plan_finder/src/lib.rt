@@ -9,6 +9,7 @@
 mod best;
 mod building;
 mod choosing;
+mod costed;
 mod costs;
 mod finding;
 pub mod laws;
@@ -16,6 +17,7 @@ mod lookups;
 mod pots;
 mod reading;
 mod refusals;
+mod rows;
 mod searching;
 mod table;
 mod want_lines;

@@ -1,4 +1,3 @@
-ghost use Rattle.std.specs.Prelude.{◌+◌, ◌*◌, ◌<◌, ◌≤◌, ◌^◌};
 ghost use Rattle.std.specs.Bool.{Decides};
 ghost use Rattle.std.specs.List.{All};
 ghost use Rattle.plan_finder.specs.Costs.{IsBelow, IsRising};
@@ -43,10 +42,11 @@ fn is_known(pots: &[Pot], nodes: u64, faults: u64, most_value: u128) -> bool
 
 /// Whether a pair has a step to `g` faults by `k` blocks, the cost left aside.
 fn may_step(pot: Pot, most: u64, k: u64, g: u64) -> bool
-    requires blocks { (3 ≤ k) × (k ≤ 16) }
-    requires faults { g ≤ 85 }
     ensures { Decides result (MayStep most pot.nodes pot.faults k g) }
 {
+    if k < 3 || k > 16 || g > 85 {
+        return false;
+    }
     let nodes = u128::from(k) * u128::from(pot.nodes);
     nodes <= u128::from(most)
         && u128::from(3 * g) < nodes
@@ -55,8 +55,6 @@ fn may_step(pot: Pot, most: u64, k: u64, g: u64) -> bool
 
 /// Whether a step from a pair, if it is one, leads to a pair that is there with at most the sum.
 fn step_is_known(pots: &[Pot], pot: Pot, most: u64, k: u64, g: u64) -> bool
-    requires blocks { (3 ≤ k) × (k ≤ 16) }
-    requires faults { g ≤ 85 }
     ensures { Decides result (StepIsKnown most pots.now pot k g) }
 {
     if !may_step(pot, most, k, g) {
@@ -73,7 +71,6 @@ fn step_is_known(pots: &[Pot], pot: Pot, most: u64, k: u64, g: u64) -> bool
 
 /// The same of all steps by `k` blocks.
 fn steps_are_known_by(pots: &[Pot], pot: Pot, most: u64, k: u64) -> bool
-    requires { (3 ≤ k) × (k ≤ 16) }
     ensures { Decides result (StepsAreKnownBy most pots.now pot k) }
 {
     for g in 0..86 {

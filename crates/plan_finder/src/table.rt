@@ -2,6 +2,7 @@ ghost use Rattle.std.specs.Prelude.{◌≡◌, ◌+◌, ◌*◌, ◌<◌, ◌≤
 ghost use Rattle.plan_finder.specs.Best.{AreBest};
 
 use crate::best::Best;
+use crate::rows::Rows;
 use crate::searching::best_at;
 use std::alloc::Global;
 use sync_types::NoMemory;
@@ -16,7 +17,12 @@ pub fn best_cells(alloc: Global, most: u64, width: usize) -> Result<Vec<Option<B
     let mut cells = Vec::with_capacity(alloc, (most as usize + 1) * width)?;
     for n in 0..most as usize + 1 {
         for g in 0..width {
-            let best = best_at(&cells, most, width, n as u64, g as u64);
+            let rows = Rows {
+                cells: &cells,
+                most,
+                width,
+            };
+            let best = best_at(&rows, n as u64, g as u64);
             cells.push(best).map_err(|_| NoMemory)?;
         }
     }

@@ -7,12 +7,12 @@ use Rattle.plan_finder.proofs.choosing.least_costs.Given as goal
 
 abbrev pub invariant-loop-n : goal.invariant-loop-n
 invariant-loop-n l = record {
-  costs : AreCostsBefore l.most l.n 0 l.pots.items;
-  same : l.pots.items ≡ rows_before l.most l.width l.n;
+  costs : AreCostsBefore l.rows.most l.n 0 l.pots.items;
+  same : l.pots.items ≡ rows_before l.rows.most l.rows.width l.n;
 }
 
 abbrev pub invariant-loop-f : goal.invariant-loop-f
 invariant-loop-f l = record {
-  costs : AreCostsBefore l.most l.n l.f l.pots.items;
-  same : l.pots.items ≡ rows_before l.most l.width l.n ++ flat_map (pots_at l.most l.n) (range_with_len 0 l.f);
+  costs : AreCostsBefore l.rows.most l.n l.f l.pots.items;
+  same : l.pots.items ≡ rows_before l.rows.most l.rows.width l.n ++ flat_map (pots_at l.rows.most l.n) (range_with_len 0 l.f);
 }
