@@ -76,8 +76,8 @@ fn put_explained_lines<K: TextSink>(
 }
 
 /// Writes what the word `explain` writes: the bound, why the last era locks, and the first locked
-/// configuration of each era. It plays until these are known, and takes no memory. The runner is
-/// one of this plan, at configuration 0.
+/// configuration of each era. It goes on until these and the explanation are known, skips what it
+/// can of earlier eras, and takes no memory. The runner is one of this plan, at configuration 0.
 pub fn put_explained<K: Sink>(
     sink: &mut K,
     plan: &Plan,

@@ -1,18 +1,17 @@
-ghost use Rattle.std.specs.Prelude.{◌≡◌, ◌+◌, ◌*◌, ◌<◌, ◌≤◌, true, length, map, All, unwrap_or, slice_set};
+ghost use Rattle.std.specs.Prelude.{◌≡◌, ◌+◌, ◌*◌, ◌<◌, ◌≤◌, true, length, map, All, unwrap_or};
 ghost use Rattle.std.specs.List.{range_with_len};
 ghost use Rattle.construction.specs.Plans.{plan_nodes, plan_depth, plan_faults};
 ghost use Rattle.plan_laws.specs.PlanMeaning.{plan_meaning};
 ghost use Rattle.state_codec.specs.Shapes.{fields_at};
 ghost use Rattle.state_codec.specs.Ranges.{InRange};
-ghost use Rattle.adversary_script.specs.Eras.{era_of, faulty_at};
+ghost use Rattle.adversary_script.specs.Eras.{era_of};
 ghost use Rattle.adversary_script.specs.Lookup.{hit_at};
 ghost use Rattle.round_runner.specs.Beginnings.{BeginsAt};
 ghost use Rattle.round_runner.specs.Hearing.{HasRoom};
 ghost use Rattle.round_runner.specs.Laying.{IsLaid};
-ghost use Rattle.round_runner.specs.Played.{heard_at};
 ghost use Rattle.round_runner.specs.Rooms.{IsReady};
-ghost use Rattle.round_runner.specs.Scenes.{layer_step, state_behind, kept_at};
-ghost use Rattle.round_runner.specs.Turns.{IsConfiguration, IsGathered, IsSet};
+ghost use Rattle.round_runner.specs.Scenes.{state_behind, kept_at};
+ghost use Rattle.round_runner.specs.Turns.{IsConfiguration, IsSet};
 
 use crate::stepping::{Room, step_alone, step_with};
 use crate::turns::{Round, Turn};
