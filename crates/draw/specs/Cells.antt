@@ -1,9 +1,10 @@
 -- The cells of a picture, and the numbers and words beside them, in SVG.
-use Rattle.std.specs.Prelude.{ℕ, ◌+◌, ◌*◌, ◌%◌, ◌/◌, ◌==◌, List, [], ◌∷◌, ◌++◌, Bool, true, false, Option, Some, None, if◌then◌else◌, codes, decimal}
+use Rattle.std.specs.Prelude.{ℕ, ◌+◌, ◌*◌, ◌%◌, ◌==◌, List, [], ◌∷◌, ◌++◌, Bool, true, false, Option, Some, None, if◌then◌else◌, codes, decimal}
 use Rattle.std.specs.List.{concat}
 use Rattle.draw.specs.declared.charts.Cell.{Cell}
 use Rattle.draw.specs.declared.frames.Frame.{Frame}
-use Rattle.draw.specs.Frames.{band_top, column_left, column_middle, column_width, line_top}
+use Rattle.draw.specs.declared.frames.Spot.{Spot}
+use Rattle.draw.specs.Frames.{band_top, column_middle, left, line_top, middle, spot_top, width}
 
 -- ---- beside the cells
 
@@ -36,10 +37,9 @@ abbrev pub column_head : Frame → (column : ℕ) → List ℕ
 column_head frame column = axes_at frame column ++ column_number frame column
 
 -- the id of a node, before its line in each band
-abbrev pub node_label : Frame → (column top node : ℕ) → List ℕ
-node_label frame column top node =
-    if column % 120 == 0
-    then number_text 26 (band_top frame.height column + top + 13) node else []
+abbrev pub node_label : Spot → (node : ℕ) → List ℕ
+node_label spot node =
+    if spot.column % 120 == 0 then number_text 26 (spot_top spot + 13) node else []
 
 -- ---- cells
 
@@ -49,11 +49,11 @@ abbrev pub shade : (turn size output : ℕ) → ℕ
 shade turn size output = 128 + output % size * turn % size
 
 -- the front of a rectangle, up to its filling
-abbrev pub rectangle_front : (x y width : ℕ) → List ℕ
-rectangle_front x y width = concat (
-    codes "<rect x='" ∷ decimal x
-    ∷ codes "' y='" ∷ decimal y
-    ∷ codes "' width='" ∷ decimal width
+abbrev pub rectangle_front : Spot → List ℕ
+rectangle_front spot = concat (
+    codes "<rect x='" ∷ decimal (left spot)
+    ∷ codes "' y='" ∷ decimal (spot_top spot)
+    ∷ codes "' width='" ∷ decimal (width spot)
     ∷ codes "' height='18' stroke='white' fill='" ∷ [])
 
 -- the rest of it: hatched for a faulty node, else the output's colour
@@ -66,43 +66,43 @@ filling (Some output) = concat (
     ∷ codes ")'/>\n" ∷ [])
 
 -- an output within its rectangle
-abbrev pub inscription : (x y : ℕ) → Option ℕ → List ℕ
-inscription x y None = []
-inscription x y (Some output) = number_text x (y + 13) output
+abbrev pub inscription : Spot → Option ℕ → List ℕ
+inscription spot None = []
+inscription spot (Some output) = number_text (middle spot) (spot_top spot + 13) output
 
 -- a rectangle with what a node shows
-abbrev pub square_at : (x y width : ℕ) → Option ℕ → List ℕ
-square_at x y width shown =
-    rectangle_front x y width ++ (filling shown ++ inscription (x + width / 2) y shown)
+abbrev pub square : Spot → Option ℕ → List ℕ
+square spot shown = rectangle_front spot ++ (filling shown ++ inscription spot shown)
 
 -- a corner, black where the start of an era put a node into another state
-abbrev pub hit_mark : (x y : ℕ) → Bool → List ℕ
-hit_mark x y true = concat (
-    codes "<path d='M" ∷ decimal x
-    ∷ codes " " ∷ decimal y
+abbrev pub hit_mark : Spot → Bool → List ℕ
+hit_mark spot true = concat (
+    codes "<path d='M" ∷ decimal (left spot)
+    ∷ codes " " ∷ decimal (spot_top spot)
     ∷ codes "h8l-8 8z'/>\n" ∷ [])
-hit_mark x y false = []
+hit_mark spot false = []
 
--- the same, with that corner
-abbrev pub marked_square : (x y width : ℕ) → Option ℕ → (hit : Bool) → List ℕ
-marked_square x y width shown hit = square_at x y width shown ++ hit_mark x y hit
-
--- what a node shows in a column, in the line that has this top in its band
-abbrev pub shown_at : Frame → (column top : ℕ) → Option ℕ → (hit : Bool) → List ℕ
-shown_at frame column top shown hit =
-    marked_square (column_left frame.digits column) (band_top frame.height column + top)
-    (column_width frame.digits) shown hit
+-- what a node shows, with that corner
+abbrev pub shown_at : Spot → Option ℕ → (hit : Bool) → List ℕ
+shown_at spot shown hit = square spot shown ++ hit_mark spot hit
 
 -- what stands above a column, drawn with the first cell
 abbrev pub cell_head : Frame → Cell → List ℕ
 cell_head frame cell = if cell.node == 0 then column_head frame cell.row else []
 
--- a cell in the line that has this top
-abbrev pub cell_at : Frame → (top : ℕ) → Cell → List ℕ
-cell_at frame top cell =
-    cell_head frame cell
-    ++ (node_label frame cell.row top cell.node
-    ++ shown_at frame cell.row top cell.shown cell.is_hit)
+-- where a cell is drawn
+abbrev pub cell_spot : Frame → Cell → Spot
+cell_spot frame cell = record {
+  frame = frame;
+  column = cell.row;
+  top = line_top cell.node;
+}
+
+-- a cell in its spot
+abbrev pub cell_at : Spot → Cell → List ℕ
+cell_at spot cell =
+    cell_head spot.frame cell
+    ++ (node_label spot cell.node ++ shown_at spot cell.shown cell.is_hit)
 
 abbrev pub cell_picture : Frame → Cell → List ℕ
-cell_picture frame cell = cell_at frame (line_top cell.node) cell
+cell_picture frame cell = cell_at (cell_spot frame cell) cell

@@ -2,6 +2,7 @@
 -- is at most 7 wide. Columns stand side by side in bands of 120, one band below the other.
 use Rattle.std.specs.Prelude.{ℕ, ◌+◌, ◌*◌, ◌%◌, ◌/◌, min}
 use Rattle.draw.specs.declared.frames.Frame.{Frame}
+use Rattle.draw.specs.declared.frames.Spot.{Spot}
 
 -- how wide a column is
 abbrev pub column_width : (digits : ℕ) → ℕ
@@ -18,6 +19,21 @@ column_middle digits column = column_left digits column + column_width digits / 
 -- the top of a column's band
 abbrev pub band_top : (height column : ℕ) → ℕ
 band_top height column = column / 120 * height
+
+-- the left side of a spot, and its middle
+abbrev pub left : Spot → ℕ
+left spot = column_left spot.frame.digits spot.column
+
+abbrev pub middle : Spot → ℕ
+middle spot = column_middle spot.frame.digits spot.column
+
+-- how wide it is
+abbrev pub width : Spot → ℕ
+width spot = column_width spot.frame.digits
+
+-- its top, below those of the bands before its own
+abbrev pub spot_top : Spot → ℕ
+spot_top spot = band_top spot.frame.height spot.column + spot.top
 
 -- what is below all bands
 abbrev pub bottom : Frame → ℕ

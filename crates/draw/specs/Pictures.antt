@@ -132,15 +132,12 @@ sized_front chart =
     picture_front (picture_width (frame_of chart))
     (bottom (frame_of chart) + 50 + 16 * length chart.ends.items)
 
--- how many nodes there are, and the bound, below a height
-abbrev pub counts : (under nodes bound : ℕ) → List ℕ
-counts under nodes bound =
-    number_caption (under + 28) (codes "nodes") nodes
-    ++ number_caption (under + 44) (codes "bound") bound
-
 -- what the picture is of: configurations, nodes and the bound
 abbrev pub facts_in : Frame → (nodes bound : ℕ) → List ℕ
-facts_in frame nodes bound = span_caption frame ++ counts (bottom frame) nodes bound
+facts_in frame nodes bound =
+    span_caption frame
+    ++ (number_caption (bottom frame + 28) (codes "nodes") nodes
+    ++ number_caption (bottom frame + 44) (codes "bound") bound)
 
 abbrev pub facts : Chart → List ℕ
 facts chart = facts_in (frame_of chart) chart.nodes chart.bound

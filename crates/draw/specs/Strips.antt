@@ -13,8 +13,9 @@ use Rattle.draw.specs.declared.traces.Seen.TheVariants.{Shows, Holds}
 use Rattle.draw.specs.declared.traces.Note.{Note}
 use Rattle.draw.specs.declared.traces.Reign.{Reign}
 use Rattle.draw.specs.declared.traces.Title.{Title}
-use Rattle.draw.specs.Frames.{band_top, column_left, column_middle, column_width}
-use Rattle.draw.specs.Cells.{column_head, hit_mark, node_label, number_text, rectangle_front, shown_at}
+use Rattle.draw.specs.declared.frames.Spot.{Spot}
+use Rattle.draw.specs.Frames.{band_top, left, middle, spot_top, width}
+use Rattle.draw.specs.Cells.{column_head, node_label, number_text, rectangle_front, shown_at}
 
 -- ---- registers
 
@@ -26,41 +27,36 @@ ground (Some value) Marked = codes "#b5d3f2'/>\n"
 ground (Some value) Locked = codes "#a6dba0'/>\n"
 
 -- what lies on it: nothing, dots, or a frame
-abbrev pub cover : (x y width : ℕ) → Held → List ℕ
-cover x y width Unmarked = []
-cover x y width Marked = concat (
-    codes "<path d='M" ∷ decimal x
-    ∷ codes " " ∷ decimal y
-    ∷ codes "h" ∷ decimal width
-    ∷ codes "v18H" ∷ decimal x
+abbrev pub cover : Spot → Held → List ℕ
+cover spot Unmarked = []
+cover spot Marked = concat (
+    codes "<path d='M" ∷ decimal (left spot)
+    ∷ codes " " ∷ decimal (spot_top spot)
+    ∷ codes "h" ∷ decimal (width spot)
+    ∷ codes "v18H" ∷ decimal (left spot)
     ∷ codes "z' fill='url(#marked)'/>\n" ∷ [])
-cover x y width Locked = concat (
-    codes "<path d='M" ∷ decimal (x + 2)
-    ∷ codes " " ∷ decimal (y + 2)
-    ∷ codes "h" ∷ decimal (width - 4)
-    ∷ codes "v14H" ∷ decimal (x + 2)
+cover spot Locked = concat (
+    codes "<path d='M" ∷ decimal (left spot + 2)
+    ∷ codes " " ∷ decimal (spot_top spot + 2)
+    ∷ codes "h" ∷ decimal (width spot - 4)
+    ∷ codes "v14H" ∷ decimal (left spot + 2)
     ∷ codes "z' fill='none' stroke='darkgreen' stroke-width='2'/>\n" ∷ [])
 
--- the value, or a cross, in the middle of x
-abbrev pub value_text : (x y : ℕ) → Option ℕ → List ℕ
-value_text x y (Some value) = number_text x (y + 13) value
-value_text x y None = concat (
-    codes "<path d='M" ∷ decimal (x - 3)
-    ∷ codes " " ∷ decimal (y + 6)
+-- the value, or a cross, in the middle
+abbrev pub value_text : Spot → Option ℕ → List ℕ
+value_text spot (Some value) = number_text (middle spot) (spot_top spot + 13) value
+value_text spot None = concat (
+    codes "<path d='M" ∷ decimal (middle spot - 3)
+    ∷ codes " " ∷ decimal (spot_top spot + 6)
     ∷ codes "l6 6m0 -6l-6 6' stroke='dimgray'/>\n" ∷ [])
 
-abbrev pub register_at : (x y width : ℕ) → Register → List ℕ
-register_at x y width register =
-    rectangle_front x y width
+abbrev pub register_at : Spot → Register → List ℕ
+register_at spot register =
+    rectangle_front spot
     ++ (ground register.value register.held
-    ++ (cover x y width register.held ++ value_text (x + width / 2) y register.value))
+    ++ (cover spot register.held ++ value_text spot register.value))
 
 -- ---- lines of a trace
-
-abbrev pub register_cell : Frame → (column top : ℕ) → Register → List ℕ
-register_cell frame column top register =
-    register_at (column_left frame.digits column) (band_top frame.height column + top)
-    (column_width frame.digits) register
 
 -- what is drawn of an output: that of a faulty node counts for nothing
 abbrev pub output_of : (faulty : Bool) → ℕ → Option ℕ
@@ -68,23 +64,33 @@ output_of true output = None
 output_of false output = Some output
 
 -- a faulty node is hatched, whatever it holds
-abbrev pub held_cell : Frame → (column top : ℕ) → (faulty : Bool) → Register → List ℕ
-held_cell frame column top true register = shown_at frame column top None false
-held_cell frame column top false register = register_cell frame column top register
+abbrev pub held_cell : Spot → (faulty : Bool) → Register → List ℕ
+held_cell spot true register = shown_at spot None false
+held_cell spot false register = register_at spot register
 
-abbrev pub seen_cell : Frame → Note → Seen → List ℕ
-seen_cell frame note (Shows shown) =
-    shown_at frame note.column note.top (output_of note.is_faulty shown.output) note.is_hit
-seen_cell frame note (Holds register) =
-    held_cell frame note.column note.top note.is_faulty register
+abbrev pub seen_cell : Spot → Note → Seen → List ℕ
+seen_cell spot note (Shows shown) =
+    shown_at spot (output_of note.is_faulty shown.output) note.is_hit
+seen_cell spot note (Holds register) = held_cell spot note.is_faulty register
 
 abbrev pub note_head : Frame → Note → List ℕ
 note_head frame note = if note.is_first then column_head frame note.column else []
 
+-- where a line is drawn
+abbrev pub note_spot : Frame → Note → Spot
+note_spot frame note = record {
+  frame = frame;
+  column = note.column;
+  top = note.top;
+}
+
+-- a line in its spot
+abbrev pub note_at : Spot → Note → List ℕ
+note_at spot note =
+    note_head spot.frame note ++ (node_label spot note.node ++ seen_cell spot note note.seen)
+
 abbrev pub note_picture : Frame → Note → List ℕ
-note_picture frame note =
-    note_head frame note
-    ++ (node_label frame note.column note.top note.node ++ seen_cell frame note note.seen)
+note_picture frame note = note_at (note_spot frame note) note
 
 -- ---- the kings' turns
 
@@ -100,32 +106,36 @@ edge true = codes "z' fill='none' stroke='black'/>\n"
 edge false = codes "z' fill='none' stroke='black' stroke-dasharray='2'/>\n"
 
 -- a part of a cell in gold, and a frame about the cell
-abbrev pub gold_part : (x y width part : ℕ) (edge : List ℕ) → List ℕ
-gold_part x y width part edge = concat (
-    codes "<path d='M" ∷ decimal x
-    ∷ codes " " ∷ decimal y
+abbrev pub gold_part : Spot → (part : ℕ) (edge : List ℕ) → List ℕ
+gold_part spot part edge = concat (
+    codes "<path d='M" ∷ decimal (left spot)
+    ∷ codes " " ∷ decimal (spot_top spot)
     ∷ codes "h" ∷ decimal part
-    ∷ codes "v14H" ∷ decimal x
-    ∷ codes "z' fill='gold'/>\n<path d='M" ∷ decimal x
-    ∷ codes " " ∷ decimal y
-    ∷ codes "h" ∷ decimal width
-    ∷ codes "v14H" ∷ decimal x
+    ∷ codes "v14H" ∷ decimal (left spot)
+    ∷ codes "z' fill='gold'/>\n<path d='M" ∷ decimal (left spot)
+    ∷ codes " " ∷ decimal (spot_top spot)
+    ∷ codes "h" ∷ decimal (width spot)
+    ∷ codes "v14H" ∷ decimal (left spot)
     ∷ edge ∷ [])
 
 -- the turn: its front in gold, and a frame
-abbrev pub reign_box : (x y width : ℕ) → Reign → List ℕ
-reign_box x y width reign =
-    gold_part x y width (share width reign.turn) (edge reign.is_common)
+abbrev pub reign_box : Spot → Reign → List ℕ
+reign_box spot reign = gold_part spot (share (width spot) reign.turn) (edge reign.is_common)
 
-abbrev pub reign_at : (x y width : ℕ) → Reign → List ℕ
-reign_at x y width reign =
-    reign_box x y width reign ++ number_text (x + width / 2) (y + 11) reign.king
+abbrev pub reign_at : Spot → Reign → List ℕ
+reign_at spot reign =
+    reign_box spot reign ++ number_text (middle spot) (spot_top spot + 11) reign.king
+
+-- where a turn is drawn
+abbrev pub reign_spot : Frame → Reign → Spot
+reign_spot frame reign = record {
+  frame = frame;
+  column = reign.column;
+  top = reign.top;
+}
 
 abbrev pub reign_picture : Frame → Reign → List ℕ
-reign_picture frame reign =
-    reign_at (column_left frame.digits reign.column)
-    (band_top frame.height reign.column + reign.top)
-    (column_width frame.digits) reign
+reign_picture frame reign = reign_at (reign_spot frame reign) reign
 
 -- ---- the word before a strip
 

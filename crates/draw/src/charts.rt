@@ -30,7 +30,7 @@ pub struct End {
 }
 
 /// What `run` wrote: the bound, the rows, and the lines behind them.
-#[derive(Debug, Drop)]
+#[derive(Debug)]
 pub struct Chart {
     pub bound: u64,
     /// The configuration of the first row.
@@ -43,6 +43,23 @@ pub struct Chart {
     /// The words of all rows, one after the other.
     pub cells: Vec<Cell>,
     pub ends: Vec<End>,
+}
+
+// Written out, so that what lets go of one calls this, and no more.
+impl Drop for Chart {
+    fn drop(self) {
+        let Chart {
+            bound: _,
+            first: _,
+            nodes: _,
+            rows: _,
+            digits: _,
+            cells,
+            ends,
+        } = self;
+        drop(cells);
+        drop(ends);
+    }
 }
 
 impl Chart {

@@ -1,6 +1,6 @@
 //! Draws what `run` or `trace` writes.
 
-ghost use Rattle.std.specs.Prelude.{◌≡◌, ◌≤◌, ◌^◌, length, true, IfOk};
+ghost use Rattle.std.specs.Prelude.{◌≡◌, true, IfOk};
 ghost use Rattle.draw.specs.Charts.{chart_text};
 ghost use Rattle.draw.specs.Traces.{trace_text};
 ghost use Rattle.draw.specs.Drawn.{Does, Draws, DrawsRows, DrawsTrace};
@@ -11,7 +11,7 @@ use crate::laid::is_laid;
 use crate::layouts::lay_out;
 use crate::pictures::put_picture;
 use crate::printing::put_chart;
-use crate::reading::{ChartError, MOST_BOUND, read_chart};
+use crate::reading::{ChartError, read_chart};
 use crate::trace_pictures::put_trace_picture;
 use crate::trace_printing::put_trace;
 use crate::trace_reading::{is_trace, read_trace};
@@ -19,9 +19,6 @@ use crate::traces::Trace;
 use edge_io::{MemSink, NoMemory, Sink, WriteFault};
 use std::alloc::Global;
 use thiserror::Error;
-
-/// There are fewer lines behind the rows.
-const MOST_ENDS: usize = 1 << 20;
 
 /// Why nothing was drawn, or not all.
 #[derive(Clone, Copy, Debug, PartialEq, Eq, Error)]
@@ -84,13 +81,9 @@ fn is_text_of_trace(alloc: Global, trace: &Trace, text: &[u8]) -> Result<bool, N
 
 /// Draws a text that `run` wrote.
 fn draw_rows<K: Sink>(alloc: Global, text: &[u8], sink: &mut K) -> Result<(), DrawError>
-    requires { length text.now ≤ 2 ^ 32 }
     ensures { Does result (DrawsRows text.now) (K.told sink.old) (K.told sink.new) }
 {
     let chart = read_chart(alloc, text)?;
-    if chart.bound >= MOST_BOUND || chart.ends.len() >= MOST_ENDS {
-        return Err(DrawError::Open);
-    }
     if !is_text_of(alloc, &chart, text)? || !is_laid(&chart) {
         return Err(DrawError::Open);
     }
@@ -101,9 +94,7 @@ fn draw_rows<K: Sink>(alloc: Global, text: &[u8], sink: &mut K) -> Result<(), Dr
 }
 
 /// Reads a trace, with all that is drawn of it.
-fn trace_of(alloc: Global, text: &[u8]) -> Result<Trace, ChartError>
-    requires { length text.now ≤ 2 ^ 32 }
-{
+fn trace_of(alloc: Global, text: &[u8]) -> Result<Trace, ChartError> {
     let mut trace = read_trace(alloc, text)?;
     mark_trace(alloc, &mut trace)?;
     lay_out(&mut trace)?;
@@ -112,13 +103,9 @@ fn trace_of(alloc: Global, text: &[u8]) -> Result<Trace, ChartError>
 
 /// Draws a text that `trace` wrote.
 fn draw_trace<K: Sink>(alloc: Global, text: &[u8], sink: &mut K) -> Result<(), DrawError>
-    requires { length text.now ≤ 2 ^ 32 }
     ensures { Does result (DrawsTrace text.now) (K.told sink.old) (K.told sink.new) }
 {
     let trace = trace_of(alloc, text)?;
-    if trace.levels.len() >= MOST_ENDS {
-        return Err(DrawError::Open);
-    }
     if !is_text_of_trace(alloc, &trace, text)? {
         return Err(DrawError::Open);
     }
@@ -135,7 +122,6 @@ fn draw_trace<K: Sink>(alloc: Global, text: &[u8], sink: &mut K) -> Result<(), D
 /// missing, `NoMemory` where memory ran out; then nothing was written. `Write` comes where the sink
 /// counted a fault; a front of the picture was then taken.
 pub fn draw<K: Sink>(alloc: Global, text: &[u8], sink: &mut K) -> Result<(), DrawError>
-    requires { length text.now ≤ 2 ^ 32 }
     ensures { Does result (Draws text.now) (K.told sink.old) (K.told sink.new) }
 {
     if is_trace(alloc, text)? {

@@ -2,7 +2,7 @@
 
 ghost use Rattle.std.specs.Prelude.{◌≡◌, ◌≤◌, ◌<◌, ◌^◌};
 ghost use Rattle.draw.specs.Frames.{band_height, band_top, bottom, column_left, column_middle};
-ghost use Rattle.draw.specs.Frames.{column_width, line_top, right};
+ghost use Rattle.draw.specs.Frames.{column_width, left, line_top, middle, right, spot_top, width};
 
 /// How many columns stand side by side at most.
 pub const MOST_COLUMNS: u32 = 120;
@@ -17,6 +17,15 @@ pub struct Frame {
     pub digits: u16,
     /// How high a band is.
     pub height: u32,
+}
+
+/// Where something is drawn: in a column, from a height of its band on.
+#[derive(Clone, Copy, Debug, PartialEq, Eq)]
+pub struct Spot {
+    pub frame: Frame,
+    pub column: u32,
+    /// How far it is below the top of its band.
+    pub top: u32,
 }
 
 /// How wide a column is whose longest number has so many digits.
@@ -47,6 +56,39 @@ pub fn band_top(height: u32, column: u32) -> u64
     ensures most { result < 2 ^ 58 }
 {
     u64::from(column / MOST_COLUMNS) * u64::from(height)
+}
+
+/// The left side of a spot.
+pub fn left(spot: Spot) -> u64
+    ensures value { result ≡ left spot }
+    ensures most { result ≤ 2 ^ 40 }
+{
+    column_left(spot.frame.digits, spot.column)
+}
+
+/// The middle of a spot.
+pub fn middle(spot: Spot) -> u64
+    ensures value { result ≡ middle spot }
+    ensures least { 3 ≤ result }
+{
+    column_middle(spot.frame.digits, spot.column)
+}
+
+/// How wide a spot is.
+pub fn width(spot: Spot) -> u64
+    ensures value { result ≡ width spot }
+    ensures least { 4 ≤ result }
+    ensures most { result ≤ 2 ^ 20 }
+{
+    column_width(spot.frame.digits)
+}
+
+/// The top of a spot.
+pub fn spot_top(spot: Spot) -> u64
+    ensures value { result ≡ spot_top spot }
+    ensures most { result < 2 ^ 59 }
+{
+    band_top(spot.frame.height, spot.column) + u64::from(spot.top)
 }
 
 /// What is below all bands.

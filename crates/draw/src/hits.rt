@@ -1,6 +1,6 @@
 //! Finds the nodes that the start of an era put into another state, as far as counts show it.
 
-ghost use Rattle.std.specs.Prelude.{◌≡◌, ◌<◌, ◌^◌};
+ghost use Rattle.std.specs.Prelude.{◌≡◌};
 ghost use Rattle.draw.specs.Hits.{may_follow};
 
 use crate::charts::{Cell, Chart};
@@ -11,16 +11,15 @@ use std::alloc::{AllocFailed, Global};
 /// Whether a count that goes at least up to `most` may go on so: by one, or from its largest number
 /// to 0.
 fn may_follow(most: u64, before: u64, after: u64) -> bool
-    requires { before < 2 ^ 60 }
     ensures { result ≡ may_follow most before after }
 {
-    after == before + 1 || (after == 0 && most <= before)
+    after.checked_sub(1) == Some(before) || (after == 0 && most <= before)
 }
 
 /// Whether a count was broken off, of which the numbers are known where they are there.
 fn breaks(most: u64, before: Option<u64>, after: Option<u64>) -> bool {
     match (before, after) {
-        (Some(before), Some(after)) => before < 1 << 60 && !may_follow(most, before, after),
+        (Some(before), Some(after)) => !may_follow(most, before, after),
         _ => false,
     }
 }

@@ -1,14 +1,14 @@
 //! Draws what `counterlab run` or `trace` writes: a picture in SVG with a column for each
-//! configuration and a line of cells for each node; of a trace also a strip for each level, with the
-//! kings' turns above it. It reads standard input and writes standard output. Where it reads
+//! configuration and a line of cells for each node; of a trace also a strip for each level, with
+//! the kings' turns above it. It reads standard input and writes standard output. Where it reads
 //! anything else it writes one line to standard error, and ends with 1. With `--help` or
 //! `--version`, alone, it reads nothing and writes what these ask for; other words count for
 //! nothing.
 //!
-//! That each picture is the defined one of a chart or a trace, whose own text is just what was read,
-//! is proved ([`drawing::draw`]), and of a chart that its words stand row by row and node by node; so
-//! is what is written for words ([`asking::tell`]). That all that `run` and `trace` write is read, how
-//! wide columns are, how a trace is laid out, and who is found hit, is not.
+//! That each picture is the defined one of a chart or a trace, whose own text is just what was
+//! read, is proved ([`drawing::draw`]), and of a chart that its words stand row by row and node by
+//! node; so is what is written for words ([`asking::tell`]). That all that `run` and `trace` write
+//! is read, how wide columns are, how a trace is laid out, and who is found hit, is not.
 #![tactic(auto)]
 
 mod asking;

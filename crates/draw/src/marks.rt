@@ -1,6 +1,6 @@
 //! Draws the marks of eras, and the lines below the cells.
 
-ghost use Rattle.std.specs.Prelude.{◌≡◌, ◌<◌, ◌≤◌, ◌^◌};
+ghost use Rattle.std.specs.Prelude.{◌≡◌, ◌<◌, ◌^◌};
 ghost use Rattle.std.specs.List.{flat_map};
 ghost use Rattle.texts.specs.Growth.{Puts};
 ghost use Rattle.draw.specs.Pictures.{bound_at, bound_mark, caption, caption_at, caption_front};
@@ -154,12 +154,17 @@ fn put_bound_at<K: Sink>(
     }
 }
 
-/// Draws the bound, counted from where an era begins, if the era is so long.
+/// Draws the bound, counted from where an era begins, if the era is so long. A bound behind all
+/// columns has none.
 fn put_bound_mark<K: Sink>(sink: &mut K, chart: &Chart, end: End) -> Result<(), WriteFault>
-    requires { chart.now.bound < 2 ^ 60 }
     ensures { Puts result (bound_mark chart.now end) (K.told sink.old) (K.told sink.new) }
 {
-    put_bound_at(sink, chart, era_begin(end.era) + chart.bound, end.next)
+    let behind = u64::from(chart.first) + u64::from(chart.rows);
+    if chart.bound < behind {
+        put_bound_at(sink, chart, era_begin(end.era) + chart.bound, end.next)
+    } else {
+        Ok(())
+    }
 }
 
 /// Draws the first locked configuration.
@@ -212,7 +217,6 @@ fn put_caption<K: Sink>(sink: &mut K, chart: &Chart, end: End) -> Result<(), Wri
 
 /// Draws what a line behind the rows says.
 fn put_end_picture<K: Sink>(sink: &mut K, chart: &Chart, end: End) -> Result<(), WriteFault>
-    requires { chart.now.bound < 2 ^ 60 }
     ensures { Puts result (end_picture chart.now end) (K.told sink.old) (K.told sink.new) }
 {
     put_era_mark(sink, chart, end.era)?;
@@ -223,7 +227,6 @@ fn put_end_picture<K: Sink>(sink: &mut K, chart: &Chart, end: End) -> Result<(),
 
 /// Draws what the lines behind the rows say.
 pub fn put_ends<K: Sink>(sink: &mut K, chart: &Chart, ends: &[End]) -> Result<(), WriteFault>
-    requires { chart.now.bound < 2 ^ 60 }
     ensures { Puts result (flat_map (end_picture chart.now) ends.now)
         (K.told sink.old) (K.told sink.new) }
 {

@@ -1,8 +1,8 @@
 //! Draws a chart.
 
-ghost use Rattle.std.specs.Prelude.{◌≡◌, ◌<◌, ◌≤◌, ◌^◌, length};
+ghost use Rattle.std.specs.Prelude.{◌≡◌, length};
 ghost use Rattle.texts.specs.Growth.{Puts};
-ghost use Rattle.draw.specs.Pictures.{counts, facts, facts_in, last_of, number_caption};
+ghost use Rattle.draw.specs.Pictures.{facts, facts_in, last_of, number_caption};
 ghost use Rattle.draw.specs.Pictures.{picture_front, picture_ground, picture_text, picture_width};
 ghost use Rattle.draw.specs.Pictures.{sized_front, span_at, span_caption};
 
@@ -37,14 +37,13 @@ pub fn picture_width(frame: Frame) -> u64
 
 /// Writes the front, with the picture's width and height.
 fn put_sized_front<K: Sink>(sink: &mut K, chart: &Chart) -> Result<(), WriteFault>
-    requires { length chart.now.ends.items < 2 ^ 32 }
     ensures { Puts result (sized_front chart.now) (K.told sink.old) (K.told sink.new) }
 {
     let frame = chart.frame();
     put_front(
         sink,
         picture_width(frame),
-        bottom(frame) + 50 + 16 * chart.ends.len() as u64,
+        bottom(frame) + 50 + 16 * chart.lines().len() as u64,
     )
 }
 
@@ -125,15 +124,6 @@ pub fn put_number_caption<'a, K: Sink>(
     )
 }
 
-/// Writes how many nodes there are, and the bound.
-fn put_counts<K: Sink>(sink: &mut K, under: u64, nodes: u64, bound: u64) -> Result<(), WriteFault>
-    requires { under ≤ 2 ^ 60 }
-    ensures { Puts result (counts under nodes bound) (K.told sink.old) (K.told sink.new) }
-{
-    put_number_caption(sink, under + 28, b"nodes", nodes)?;
-    put_number_caption(sink, under + 44, b"bound", bound)
-}
-
 /// Writes what a picture is of, in its frame.
 fn put_facts_in<K: Sink>(
     sink: &mut K,
@@ -144,7 +134,8 @@ fn put_facts_in<K: Sink>(
     ensures { Puts result (facts_in frame nodes bound) (K.told sink.old) (K.told sink.new) }
 {
     put_span(sink, frame)?;
-    put_counts(sink, bottom(frame), nodes, bound)
+    put_number_caption(sink, bottom(frame) + 28, b"nodes", nodes)?;
+    put_number_caption(sink, bottom(frame) + 44, b"bound", bound)
 }
 
 /// Writes what a picture is of.
@@ -156,8 +147,6 @@ fn put_facts<K: Sink>(sink: &mut K, chart: &Chart) -> Result<(), WriteFault>
 
 /// Writes all parts of a picture.
 fn put_parts<K: Sink>(sink: &mut K, chart: &Chart) -> Result<(), WriteFault>
-    requires bound { chart.now.bound < 2 ^ 60 }
-    requires ends { length chart.now.ends.items < 2 ^ 32 }
     ensures { Puts result (picture_text chart.now) (K.told sink.old) (K.told sink.new) }
 {
     put_sized_front(sink, chart)?;
@@ -170,8 +159,6 @@ fn put_parts<K: Sink>(sink: &mut K, chart: &Chart) -> Result<(), WriteFault>
 
 /// Writes the picture of a chart.
 pub fn put_picture<K: Sink>(sink: &mut K, chart: &Chart) -> Result<(), WriteFault>
-    requires bound { chart.now.bound < 2 ^ 60 }
-    requires ends { length chart.now.ends.items < 2 ^ 32 }
     ensures { Puts result (picture_text chart.now) (K.told sink.old) (K.told sink.new) }
 {
     let mut parts = Gathered::new(sink);

@@ -1,7 +1,5 @@
 //! Reads a chart from what `run` writes.
 
-ghost use Rattle.std.specs.Prelude.{◌≤◌, ◌^◌, length};
-
 use crate::charts::{Cell, Chart, End};
 use crate::hits::mark_hits;
 use crate::lines::{era_line, locked_line, next_is, next_number, number_after, shown};
@@ -16,7 +14,7 @@ const MOST_NODES: u16 = 256;
 const MOST_ERAS: usize = 17;
 
 /// A bound is below this.
-pub const MOST_BOUND: u64 = 1 << 50;
+const MOST_BOUND: u64 = 1 << 50;
 
 /// Which line should stand at a place.
 #[derive(Clone, Copy, Debug, PartialEq, Eq, Error)]
@@ -252,9 +250,7 @@ fn empty(alloc: Global) -> Chart {
 
 /// Reads a chart. The error is the first line that is not what should stand there, which is the
 /// line after the last where one is missing; or want of memory.
-pub fn read_chart(alloc: Global, text: &[u8]) -> Result<Chart, ChartError>
-    requires { length text.now ≤ 2 ^ 32 }
-{
+pub fn read_chart(alloc: Global, text: &[u8]) -> Result<Chart, ChartError> {
     let mut draft = Draft {
         chart: empty(alloc),
         wanted: Wanted::Bound,

@@ -1,28 +1,26 @@
 //! Draws cells, and the numbers and words beside them.
 
-ghost use Rattle.std.specs.Prelude.{◌≡◌, ◌<◌, ◌≤◌, ◌^◌};
+ghost use Rattle.std.specs.Prelude.{◌≡◌, ◌<◌};
 ghost use Rattle.std.specs.List.{flat_map};
 ghost use Rattle.texts.specs.Growth.{Puts};
-ghost use Rattle.draw.specs.Cells.{axes, axes_at, cell_at, cell_head, cell_picture, column_head};
-ghost use Rattle.draw.specs.Cells.{column_number, filling, hit_mark, inscription, marked_square};
-ghost use Rattle.draw.specs.Cells.{node_label};
-ghost use Rattle.draw.specs.Cells.{number_text, rectangle_front, shade, shown_at, square_at};
-ghost use Rattle.draw.specs.Frames.{line_top};
+ghost use Rattle.draw.specs.Cells.{axes, axes_at, cell_at, cell_head, cell_picture, cell_spot};
+ghost use Rattle.draw.specs.Cells.{column_head, column_number, filling, hit_mark, inscription};
+ghost use Rattle.draw.specs.Cells.{node_label, number_text, rectangle_front, shade, shown_at};
+ghost use Rattle.draw.specs.Cells.{square};
+ghost use Rattle.draw.specs.Frames.{band_top};
 
 use crate::charts::Cell;
 use crate::frames::{
-    Frame, MOST_COLUMNS, band_top, column_left, column_middle, column_width, line_top,
+    Frame, MOST_COLUMNS, Spot, band_top, column_middle, left, line_top, middle, spot_top, width,
 };
 use edge_io::{Piece, Sink, WriteFault, put_all, put_pieces};
 
 /// One of three parts of an output's colour.
-fn shade(turn: u64, size: u64, output: u64) -> u64
-    requires some { 0 < size }
-    requires turn { turn ≤ 128 }
-    requires size { size ≤ 128 }
+fn shade(turn: u8, size: u8, output: u64) -> u64
+    requires { 0 < size }
     ensures { result ≡ shade turn size output }
 {
-    128 + output % size * turn % size
+    128 + output % u64::from(size) * u64::from(turn) % u64::from(size)
 }
 
 /// Writes a number, in the middle of x.
@@ -43,11 +41,12 @@ pub fn put_number_at<K: Sink>(sink: &mut K, x: u64, y: u64, n: u64) -> Result<()
     )
 }
 
-/// Writes what is counted to the right and down.
-fn put_axes<K: Sink>(sink: &mut K, top: u64) -> Result<(), WriteFault>
-    requires { top ≤ 2 ^ 60 }
-    ensures { Puts result (axes top) (K.told sink.old) (K.told sink.new) }
+/// Writes what is counted to the right and down, at the top of a column's band.
+fn put_axes<K: Sink>(sink: &mut K, frame: Frame, column: u32) -> Result<(), WriteFault>
+    ensures { Puts result (axes (band_top frame.height column))
+        (K.told sink.old) (K.told sink.new) }
 {
+    let top = band_top(frame.height, column);
     put_pieces(
         sink,
         &[
@@ -65,7 +64,7 @@ fn put_axes_at<K: Sink>(sink: &mut K, frame: Frame, column: u32) -> Result<(), W
     ensures { Puts result (axes_at frame column) (K.told sink.old) (K.told sink.new) }
 {
     if column % MOST_COLUMNS == 0 {
-        put_axes(sink, band_top(frame.height, column))
+        put_axes(sink, frame, column)
     } else {
         Ok(())
     }
@@ -92,41 +91,29 @@ pub fn put_column_head<K: Sink>(sink: &mut K, frame: Frame, column: u32) -> Resu
 }
 
 /// Writes the id of a node, before its line in each band.
-pub fn put_node_label<K: Sink>(
-    sink: &mut K,
-    frame: Frame,
-    column: u32,
-    top: u32,
-    node: u64,
-) -> Result<(), WriteFault>
-    ensures { Puts result (node_label frame column top node)
-        (K.told sink.old) (K.told sink.new) }
+pub fn put_node_label<K: Sink>(sink: &mut K, spot: Spot, node: u64) -> Result<(), WriteFault>
+    ensures { Puts result (node_label spot node) (K.told sink.old) (K.told sink.new) }
 {
-    if column % MOST_COLUMNS == 0 {
-        put_number_at(
-            sink,
-            26,
-            band_top(frame.height, column) + u64::from(top) + 13,
-            node,
-        )
+    if spot.column % MOST_COLUMNS == 0 {
+        put_number_at(sink, 26, spot_top(spot) + 13, node)
     } else {
         Ok(())
     }
 }
 
 /// Writes the front of a rectangle, up to its filling.
-pub fn put_rectangle<K: Sink>(sink: &mut K, x: u64, y: u64, width: u64) -> Result<(), WriteFault>
-    ensures { Puts result (rectangle_front x y width) (K.told sink.old) (K.told sink.new) }
+pub fn put_rectangle<K: Sink>(sink: &mut K, spot: Spot) -> Result<(), WriteFault>
+    ensures { Puts result (rectangle_front spot) (K.told sink.old) (K.told sink.new) }
 {
     put_pieces(
         sink,
         &[
             Piece::Text(b"<rect x='"),
-            Piece::Number(x),
+            Piece::Number(left(spot)),
             Piece::Text(b"' y='"),
-            Piece::Number(y),
+            Piece::Number(spot_top(spot)),
             Piece::Text(b"' width='"),
-            Piece::Number(width),
+            Piece::Number(width(spot)),
             Piece::Text(b"' height='18' stroke='white' fill='"),
         ],
     )
@@ -154,51 +141,36 @@ fn put_filling<K: Sink>(sink: &mut K, shown: Option<u64>) -> Result<(), WriteFau
 }
 
 /// Writes an output within its rectangle.
-fn put_inscription<K: Sink>(
-    sink: &mut K,
-    x: u64,
-    y: u64,
-    shown: Option<u64>,
-) -> Result<(), WriteFault>
-    requires { y ≤ 2 ^ 60 }
-    ensures { Puts result (inscription x y shown) (K.told sink.old) (K.told sink.new) }
+fn put_inscription<K: Sink>(sink: &mut K, spot: Spot, shown: Option<u64>) -> Result<(), WriteFault>
+    ensures { Puts result (inscription spot shown) (K.told sink.old) (K.told sink.new) }
 {
     match shown {
         None => Ok(()),
-        Some(output) => put_number_at(sink, x, y + 13, output),
+        Some(output) => put_number_at(sink, middle(spot), spot_top(spot) + 13, output),
     }
 }
 
 /// Draws a rectangle with what a node shows.
-fn put_square_at<K: Sink>(
-    sink: &mut K,
-    x: u64,
-    y: u64,
-    width: u64,
-    shown: Option<u64>,
-) -> Result<(), WriteFault>
-    requires x { x ≤ 2 ^ 60 }
-    requires y { y ≤ 2 ^ 60 }
-    requires width { width ≤ 2 ^ 60 }
-    ensures { Puts result (square_at x y width shown) (K.told sink.old) (K.told sink.new) }
+fn put_square<K: Sink>(sink: &mut K, spot: Spot, shown: Option<u64>) -> Result<(), WriteFault>
+    ensures { Puts result (square spot shown) (K.told sink.old) (K.told sink.new) }
 {
-    put_rectangle(sink, x, y, width)?;
+    put_rectangle(sink, spot)?;
     put_filling(sink, shown)?;
-    put_inscription(sink, x + width / 2, y, shown)
+    put_inscription(sink, spot, shown)
 }
 
 /// Draws a black corner where the start of an era put a node into another state.
-pub fn put_hit_mark<K: Sink>(sink: &mut K, x: u64, y: u64, hit: bool) -> Result<(), WriteFault>
-    ensures { Puts result (hit_mark x y hit) (K.told sink.old) (K.told sink.new) }
+fn put_hit_mark<K: Sink>(sink: &mut K, spot: Spot, hit: bool) -> Result<(), WriteFault>
+    ensures { Puts result (hit_mark spot hit) (K.told sink.old) (K.told sink.new) }
 {
     match hit {
         true => put_pieces(
             sink,
             &[
                 Piece::Text(b"<path d='M"),
-                Piece::Number(x),
+                Piece::Number(left(spot)),
                 Piece::Text(b" "),
-                Piece::Number(y),
+                Piece::Number(spot_top(spot)),
                 Piece::Text(b"h8l-8 8z'/>\n"),
             ],
         ),
@@ -207,43 +179,16 @@ pub fn put_hit_mark<K: Sink>(sink: &mut K, x: u64, y: u64, hit: bool) -> Result<
 }
 
 /// Draws a rectangle with what a node shows, and the corner.
-fn put_marked_square<K: Sink>(
-    sink: &mut K,
-    x: u64,
-    y: u64,
-    width: u64,
-    shown: Option<u64>,
-    hit: bool,
-) -> Result<(), WriteFault>
-    requires x { x ≤ 2 ^ 60 }
-    requires y { y ≤ 2 ^ 60 }
-    requires width { width ≤ 2 ^ 60 }
-    ensures { Puts result (marked_square x y width shown hit) (K.told sink.old) (K.told sink.new) }
-{
-    put_square_at(sink, x, y, width, shown)?;
-    put_hit_mark(sink, x, y, hit)
-}
-
-/// Draws what a node shows in a column, in the line that has this top in its band.
 pub fn put_shown<K: Sink>(
     sink: &mut K,
-    frame: Frame,
-    column: u32,
-    top: u32,
+    spot: Spot,
     shown: Option<u64>,
     hit: bool,
 ) -> Result<(), WriteFault>
-    ensures { Puts result (shown_at frame column top shown hit)
-        (K.told sink.old) (K.told sink.new) }
+    ensures { Puts result (shown_at spot shown hit) (K.told sink.old) (K.told sink.new) }
 {
-    put_marked_square(
-        sink,
-        column_left(frame.digits, column),
-        band_top(frame.height, column) + u64::from(top),
-        column_width(frame.digits),
-        shown,
-        hit,
-    )
+    put_square(sink, spot, shown)?;
+    put_hit_mark(sink, spot, hit)
 }
 
 /// Writes what stands above a column, with the first cell.
@@ -257,20 +202,31 @@ fn put_cell_head<K: Sink>(sink: &mut K, frame: Frame, cell: Cell) -> Result<(), 
     }
 }
 
-/// Draws a cell in the line that has this top, with the labels that stand beside it.
-fn put_cell_at<K: Sink>(sink: &mut K, frame: Frame, top: u32, cell: Cell) -> Result<(), WriteFault>
-    ensures { Puts result (cell_at frame top cell) (K.told sink.old) (K.told sink.new) }
+/// Where a cell is drawn.
+fn cell_spot(frame: Frame, cell: Cell) -> Spot
+    ensures { result ≡ cell_spot frame cell }
 {
-    put_cell_head(sink, frame, cell)?;
-    put_node_label(sink, frame, cell.row, top, u64::from(cell.node))?;
-    put_shown(sink, frame, cell.row, top, cell.shown, cell.is_hit)
+    Spot {
+        frame,
+        column: cell.row,
+        top: line_top(cell.node),
+    }
+}
+
+/// Draws a cell in its spot, with the labels that stand beside it.
+fn put_cell_at<K: Sink>(sink: &mut K, spot: Spot, cell: Cell) -> Result<(), WriteFault>
+    ensures { Puts result (cell_at spot cell) (K.told sink.old) (K.told sink.new) }
+{
+    put_cell_head(sink, spot.frame, cell)?;
+    put_node_label(sink, spot, u64::from(cell.node))?;
+    put_shown(sink, spot, cell.shown, cell.is_hit)
 }
 
 /// Draws a cell.
 fn put_cell<K: Sink>(sink: &mut K, frame: Frame, cell: Cell) -> Result<(), WriteFault>
     ensures { Puts result (cell_picture frame cell) (K.told sink.old) (K.told sink.new) }
 {
-    put_cell_at(sink, frame, line_top(cell.node), cell)
+    put_cell_at(sink, cell_spot(frame, cell), cell)
 }
 
 /// Draws all cells.

@@ -1,13 +1,13 @@
 //! Draws the strips of a trace.
 
-ghost use Rattle.std.specs.Prelude.{◌≡◌, ◌<◌, ◌≤◌, ◌^◌};
+ghost use Rattle.std.specs.Prelude.{◌≡◌};
 ghost use Rattle.std.specs.List.{flat_map};
 ghost use Rattle.texts.specs.Growth.{Puts};
-ghost use Rattle.draw.specs.Strips.{cover, ground, held_cell, note_head, note_picture};
-ghost use Rattle.draw.specs.Strips.{output_of, register_at, register_cell, seen_cell};
-ghost use Rattle.draw.specs.Strips.{title_at, title_picture, value_text};
+ghost use Rattle.draw.specs.Strips.{cover, ground, held_cell, note_at, note_head, note_picture};
+ghost use Rattle.draw.specs.Strips.{note_spot, output_of, register_at, seen_cell, title_at};
+ghost use Rattle.draw.specs.Strips.{title_picture, value_text};
 
-use crate::frames::{Frame, band_top, column_left, column_width};
+use crate::frames::{Frame, Spot, band_top, left, middle, spot_top, width};
 use crate::squares::{put_column_head, put_node_label, put_number_at, put_rectangle, put_shown};
 use crate::traces::{Held, Note, Register, Seen, Title};
 use edge_io::{Piece, Sink, WriteFault, put_all, put_pieces};
@@ -31,18 +31,12 @@ fn put_register_ground<K: Sink>(
 }
 
 /// Draws what lies on it: nothing, dots, or a frame.
-fn put_cover<K: Sink>(
-    sink: &mut K,
-    x: u64,
-    y: u64,
-    width: u64,
-    held: Held,
-) -> Result<(), WriteFault>
-    requires x { x ≤ 2 ^ 60 }
-    requires y { y ≤ 2 ^ 60 }
-    requires width { 4 ≤ width }
-    ensures { Puts result (cover x y width held) (K.told sink.old) (K.told sink.new) }
+fn put_cover<K: Sink>(sink: &mut K, spot: Spot, held: Held) -> Result<(), WriteFault>
+    ensures { Puts result (cover spot held) (K.told sink.old) (K.told sink.new) }
 {
+    let x = left(spot);
+    let y = spot_top(spot);
+    let wide = width(spot);
     match held {
         Held::Unmarked => Ok(()),
         Held::Marked => put_pieces(
@@ -53,7 +47,7 @@ fn put_cover<K: Sink>(
                 Piece::Text(b" "),
                 Piece::Number(y),
                 Piece::Text(b"h"),
-                Piece::Number(width),
+                Piece::Number(wide),
                 Piece::Text(b"v18H"),
                 Piece::Number(x),
                 Piece::Text(b"z' fill='url(#marked)'/>\n"),
@@ -67,7 +61,7 @@ fn put_cover<K: Sink>(
                 Piece::Text(b" "),
                 Piece::Number(y + 2),
                 Piece::Text(b"h"),
-                Piece::Number(width - 4),
+                Piece::Number(wide - 4),
                 Piece::Text(b"v14H"),
                 Piece::Number(x + 2),
                 Piece::Text(b"z' fill='none' stroke='darkgreen' stroke-width='2'/>\n"),
@@ -77,20 +71,18 @@ fn put_cover<K: Sink>(
 }
 
 /// Writes a value, or a cross.
-fn put_value<K: Sink>(sink: &mut K, x: u64, y: u64, value: Option<u64>) -> Result<(), WriteFault>
-    requires left { 3 ≤ x }
-    requires y { y ≤ 2 ^ 60 }
-    ensures { Puts result (value_text x y value) (K.told sink.old) (K.told sink.new) }
+fn put_value<K: Sink>(sink: &mut K, spot: Spot, value: Option<u64>) -> Result<(), WriteFault>
+    ensures { Puts result (value_text spot value) (K.told sink.old) (K.told sink.new) }
 {
     match value {
-        Some(value) => put_number_at(sink, x, y + 13, value),
+        Some(value) => put_number_at(sink, middle(spot), spot_top(spot) + 13, value),
         None => put_pieces(
             sink,
             &[
                 Piece::Text(b"<path d='M"),
-                Piece::Number(x - 3),
+                Piece::Number(middle(spot) - 3),
                 Piece::Text(b" "),
-                Piece::Number(y + 6),
+                Piece::Number(spot_top(spot) + 6),
                 Piece::Text(b"l6 6m0 -6l-6 6' stroke='dimgray'/>\n"),
             ],
         ),
@@ -98,44 +90,13 @@ fn put_value<K: Sink>(sink: &mut K, x: u64, y: u64, value: Option<u64>) -> Resul
 }
 
 /// Draws a register.
-fn put_register_at<K: Sink>(
-    sink: &mut K,
-    x: u64,
-    y: u64,
-    width: u64,
-    register: &Register,
-) -> Result<(), WriteFault>
-    requires left { 3 ≤ x }
-    requires x { x ≤ 2 ^ 60 }
-    requires y { y ≤ 2 ^ 60 }
-    requires some { 4 ≤ width }
-    requires width { width ≤ 2 ^ 60 }
-    ensures { Puts result (register_at x y width register.now) (K.told sink.old) (K.told sink.new) }
+fn put_register_at<K: Sink>(sink: &mut K, spot: Spot, register: &Register) -> Result<(), WriteFault>
+    ensures { Puts result (register_at spot register.now) (K.told sink.old) (K.told sink.new) }
 {
-    put_rectangle(sink, x, y, width)?;
+    put_rectangle(sink, spot)?;
     put_register_ground(sink, register.value, register.held)?;
-    put_cover(sink, x, y, width, register.held)?;
-    put_value(sink, x + width / 2, y, register.value)
-}
-
-/// Draws the register of a line.
-fn put_register_cell<K: Sink>(
-    sink: &mut K,
-    frame: Frame,
-    column: u32,
-    top: u32,
-    register: &Register,
-) -> Result<(), WriteFault>
-    ensures { Puts result (register_cell frame column top register.now)
-        (K.told sink.old) (K.told sink.new) }
-{
-    put_register_at(
-        sink,
-        column_left(frame.digits, column),
-        band_top(frame.height, column) + u64::from(top),
-        column_width(frame.digits),
-        register,
-    )
+    put_cover(sink, spot, register.held)?;
+    put_value(sink, spot, register.value)
 }
 
 /// What is drawn of an output: that of a faulty node counts for nothing.
@@ -151,47 +112,36 @@ fn output_of(is_faulty: bool, output: u64) -> Option<u64>
 /// Draws the register of a line. A faulty node is hatched, whatever it holds.
 fn put_held_cell<K: Sink>(
     sink: &mut K,
-    frame: Frame,
-    column: u32,
-    top: u32,
+    spot: Spot,
     is_faulty: bool,
     register: &Register,
 ) -> Result<(), WriteFault>
-    ensures { Puts result (held_cell frame column top is_faulty register.now)
+    ensures { Puts result (held_cell spot is_faulty register.now)
         (K.told sink.old) (K.told sink.new) }
 {
     match is_faulty {
-        true => put_shown(sink, frame, column, top, None, false),
-        false => put_register_cell(sink, frame, column, top, register),
+        true => put_shown(sink, spot, None, false),
+        false => put_register_at(sink, spot, register),
     }
 }
 
 /// Draws what a line is about.
 fn put_seen_cell<K: Sink>(
     sink: &mut K,
-    frame: Frame,
+    spot: Spot,
     note: &Note,
     seen: &Seen,
 ) -> Result<(), WriteFault>
-    ensures { Puts result (seen_cell frame note.now seen.now) (K.told sink.old) (K.told sink.new) }
+    ensures { Puts result (seen_cell spot note.now seen.now) (K.told sink.old) (K.told sink.new) }
 {
     match seen {
         Seen::Shows(shown) => put_shown(
             sink,
-            frame,
-            note.column,
-            note.top,
+            spot,
             output_of(note.is_faulty, shown.output),
             note.is_hit,
         ),
-        Seen::Holds(register) => put_held_cell(
-            sink,
-            frame,
-            note.column,
-            note.top,
-            note.is_faulty,
-            register,
-        ),
+        Seen::Holds(register) => put_held_cell(sink, spot, note.is_faulty, register),
     }
 }
 
@@ -206,13 +156,31 @@ fn put_note_head<K: Sink>(sink: &mut K, frame: Frame, note: &Note) -> Result<(),
     }
 }
 
+/// Where a line is drawn.
+fn note_spot(frame: Frame, note: &Note) -> Spot
+    ensures { result ≡ note_spot frame note.now }
+{
+    Spot {
+        frame,
+        column: note.column,
+        top: note.top,
+    }
+}
+
+/// Draws a line in its spot.
+fn put_note_at<K: Sink>(sink: &mut K, spot: Spot, note: &Note) -> Result<(), WriteFault>
+    ensures { Puts result (note_at spot note.now) (K.told sink.old) (K.told sink.new) }
+{
+    put_note_head(sink, spot.frame, note)?;
+    put_node_label(sink, spot, note.node)?;
+    put_seen_cell(sink, spot, note, &note.seen)
+}
+
 /// Draws a line of a trace.
 fn put_note_picture<K: Sink>(sink: &mut K, frame: Frame, note: &Note) -> Result<(), WriteFault>
     ensures { Puts result (note_picture frame note.now) (K.told sink.old) (K.told sink.new) }
 {
-    put_note_head(sink, frame, note)?;
-    put_node_label(sink, frame, note.column, note.top, note.node)?;
-    put_seen_cell(sink, frame, note, &note.seen)
+    put_note_at(sink, note_spot(frame, note), note)
 }
 
 /// Draws all lines of a trace.

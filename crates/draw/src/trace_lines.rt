@@ -1,7 +1,7 @@
 //! Reads a line that `trace` writes.
 
 use crate::lines::{next_is, next_number};
-use crate::traces::{Heard, Held, Output, Register, Seen, Turn};
+use crate::traces::{Heard, Held, Note, Output, Register, Seen, Turn};
 use edge_io::{Words, number};
 use std::alloc::{AllocFailed, Global};
 
@@ -19,12 +19,46 @@ impl<T: Drop> From<AllocFailed<T>> for TraceFault {
 }
 
 /// What a line says.
-#[derive(Debug, Drop)]
+#[derive(Debug)]
 pub struct TraceLine {
     pub t: u32,
     pub node: u64,
     pub is_faulty: bool,
     pub seen: Seen,
+}
+
+// Written out, so that what lets go of one calls this, and no more.
+impl Drop for TraceLine {
+    fn drop(self) {
+        let TraceLine {
+            t: _,
+            node: _,
+            is_faulty: _,
+            seen,
+        } = self;
+        drop(seen);
+    }
+}
+
+impl TraceLine {
+    /// The line as it is drawn, in a column, with no height of its own yet.
+    pub fn into_note(self, column: u32, is_first: bool) -> Note {
+        let TraceLine {
+            t: _,
+            node,
+            is_faulty,
+            seen,
+        } = self;
+        Note {
+            column,
+            top: 0,
+            node,
+            is_first,
+            is_faulty,
+            is_hit: false,
+            seen,
+        }
+    }
 }
 
 /// The words of a line that are still to be read.

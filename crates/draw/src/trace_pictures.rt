@@ -1,6 +1,6 @@
 //! Draws a trace.
 
-ghost use Rattle.std.specs.Prelude.{◌≡◌, ◌<◌, ◌≤◌, ◌^◌, length};
+ghost use Rattle.std.specs.Prelude.{length};
 ghost use Rattle.std.specs.List.{flat_map};
 ghost use Rattle.texts.specs.Growth.{Puts};
 ghost use Rattle.draw.specs.TracePictures.{bands, blocks_words, dots, legend, legend_below};
@@ -161,11 +161,12 @@ fn put_legend<K: Sink>(sink: &mut K, y: u64) -> Result<(), WriteFault>
     )
 }
 
-/// Writes what the cells mean, below the captions of so many levels.
-fn put_legend_below<K: Sink>(sink: &mut K, frame: Frame, levels: u32) -> Result<(), WriteFault>
-    ensures { Puts result (legend_below frame levels) (K.told sink.old) (K.told sink.new) }
+/// Writes what the cells mean, below the captions of these levels.
+fn put_legend_below<K: Sink>(sink: &mut K, frame: Frame, levels: &[Level]) -> Result<(), WriteFault>
+    ensures { Puts result (legend_below frame (length levels.now))
+        (K.told sink.old) (K.told sink.new) }
 {
-    put_legend(sink, bottom(frame) + 40 + 16 * u64::from(levels))
+    put_legend(sink, bottom(frame) + 40 + 16 * levels.len() as u64)
 }
 
 /// Writes what a picture is of.
@@ -183,20 +184,18 @@ fn put_trace_facts<K: Sink>(sink: &mut K, trace: &Trace) -> Result<(), WriteFaul
 
 /// Writes the front, with the picture's width and height.
 fn put_trace_front<K: Sink>(sink: &mut K, trace: &Trace) -> Result<(), WriteFault>
-    requires { length trace.now.levels.items < 2 ^ 32 }
     ensures { Puts result (trace_front trace.now) (K.told sink.old) (K.told sink.new) }
 {
-    let height = bottom(trace.frame) + 146 + 16 * trace.levels.len() as u64;
+    let height = bottom(trace.frame) + 146 + 16 * trace.captions().len() as u64;
     put_front(sink, picture_width(trace.frame).max(284), height)
 }
 
 /// Writes the captions of the levels, and what the cells mean.
 fn put_captions<K: Sink>(sink: &mut K, trace: &Trace) -> Result<(), WriteFault>
-    requires { length trace.now.levels.items < 2 ^ 32 }
     ensures { Puts result (trace_captions trace.now) (K.told sink.old) (K.told sink.new) }
 {
     put_levels(sink, trace.frame, trace.captions())?;
-    put_legend_below(sink, trace.frame, trace.levels.len() as u32)
+    put_legend_below(sink, trace.frame, trace.captions())
 }
 
 /// Draws all that is within the bands.
@@ -211,7 +210,6 @@ fn put_bands<K: Sink>(sink: &mut K, trace: &Trace) -> Result<(), WriteFault>
 
 /// Writes all parts of a picture.
 fn put_parts<K: Sink>(sink: &mut K, trace: &Trace) -> Result<(), WriteFault>
-    requires { length trace.now.levels.items < 2 ^ 32 }
     ensures { Puts result (trace_picture trace.now) (K.told sink.old) (K.told sink.new) }
 {
     put_trace_front(sink, trace)?;
@@ -225,7 +223,6 @@ fn put_parts<K: Sink>(sink: &mut K, trace: &Trace) -> Result<(), WriteFault>
 
 /// Writes the picture of a trace.
 pub fn put_trace_picture<K: Sink>(sink: &mut K, trace: &Trace) -> Result<(), WriteFault>
-    requires { length trace.now.levels.items < 2 ^ 32 }
     ensures { Puts result (trace_picture trace.now) (K.told sink.old) (K.told sink.new) }
 {
     let mut parts = Gathered::new(sink);

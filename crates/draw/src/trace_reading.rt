@@ -1,11 +1,9 @@
 //! Reads a trace from what `trace` writes.
 
-ghost use Rattle.std.specs.Prelude.{◌≤◌, ◌^◌, length};
-
 use crate::frames::Frame;
 use crate::reading::{ChartError, Wanted, digits_of};
 use crate::trace_lines::{TraceFault, TraceLine, trace_line};
-use crate::traces::{Note, Register, Seen, Trace};
+use crate::traces::{Register, Seen, Trace};
 use edge_io::{Lines, first_line};
 use std::alloc::Global;
 
@@ -153,15 +151,8 @@ fn take(draft: &mut Draft, line: TraceLine) -> Result<(), TraceFault> {
     };
     draft.digits = draft.digits.max(digits);
     let is_first = draft.place == 0 && draft.level == 0;
-    draft.trace.notes.push(Note {
-        column: draft.trace.frame.columns.saturating_sub(1),
-        top: 0,
-        node: line.node,
-        is_first,
-        is_faulty: line.is_faulty,
-        is_hit: false,
-        seen: line.seen,
-    })?;
+    let column = draft.trace.frame.columns.saturating_sub(1);
+    draft.trace.notes.push(line.into_note(column, is_first))?;
     Ok(())
 }
 
@@ -207,9 +198,7 @@ fn take_bytes(alloc: Global, draft: &mut Draft, bytes: &[u8]) -> Result<(), Trac
 
 /// Reads a trace. The error is the first line that is not what should stand there, which is the
 /// line after the last where one is missing; or want of memory.
-pub fn read_trace(alloc: Global, text: &[u8]) -> Result<Trace, ChartError>
-    requires { length text.now ≤ 2 ^ 32 }
-{
+pub fn read_trace(alloc: Global, text: &[u8]) -> Result<Trace, ChartError> {
     let mut draft = Draft {
         trace: empty(alloc),
         nodes: Vec::new(alloc),

@@ -106,7 +106,7 @@ pub struct Level {
 }
 
 /// What `trace` wrote, and what is drawn of it.
-#[derive(Debug, Drop)]
+#[derive(Debug)]
 pub struct Trace {
     pub frame: Frame,
     pub nodes: u16,
@@ -119,6 +119,27 @@ pub struct Trace {
     pub levels: Vec<Level>,
     /// The columns where an era must begin.
     pub eras: Vec<u32>,
+}
+
+// Written out, so that what lets go of one calls this, and no more.
+impl Drop for Trace {
+    fn drop(self) {
+        let Trace {
+            frame: _,
+            nodes: _,
+            cells: _,
+            notes,
+            reigns,
+            titles,
+            levels,
+            eras,
+        } = self;
+        drop(notes);
+        drop(reigns);
+        drop(titles);
+        drop(levels);
+        drop(eras);
+    }
 }
 
 impl Trace {

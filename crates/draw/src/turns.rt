@@ -1,24 +1,25 @@
 //! Draws the kings' turns.
 
-ghost use Rattle.std.specs.Prelude.{◌≡◌, ◌<◌, ◌≤◌, ◌^◌};
+ghost use Rattle.std.specs.Prelude.{◌≡◌};
 ghost use Rattle.std.specs.List.{flat_map};
 ghost use Rattle.texts.specs.Growth.{Puts};
-ghost use Rattle.draw.specs.Strips.{edge, gold_part, reign_at, reign_box, reign_picture, share};
+ghost use Rattle.draw.specs.Frames.{width};
+ghost use Rattle.draw.specs.Strips.{edge, gold_part, reign_at, reign_box, reign_picture};
+ghost use Rattle.draw.specs.Strips.{reign_spot, share};
 
-use crate::frames::{Frame, band_top, column_left, column_width};
+use crate::frames::{Frame, Spot, left, middle, spot_top, width};
 use crate::squares::put_number_at;
 use crate::traces::{Reign, Turn};
 use edge_io::{Piece, Sink, WriteFault, put_pieces};
 
 /// How far a turn has come, as a part of its cell.
-fn share(width: u64, turn: Turn) -> u64
-    requires { width ≤ 2 ^ 60 }
-    ensures { result ≡ share width turn }
+fn share(spot: Spot, turn: Turn) -> u64
+    ensures { result ≡ share (width spot) turn }
 {
     match turn {
-        Turn::Keep => width / 3,
-        Turn::Mark => width * 2 / 3,
-        Turn::King => width,
+        Turn::Keep => width(spot) / 3,
+        Turn::Mark => width(spot) * 2 / 3,
+        Turn::King => width(spot),
     }
 }
 
@@ -35,14 +36,14 @@ fn edge(is_common: bool) -> &'static [u8]
 /// Draws a part of a cell in gold, and a frame about the cell.
 fn put_gold_part<'a, K: Sink>(
     sink: &mut K,
-    x: u64,
-    y: u64,
-    width: u64,
+    spot: Spot,
     part: u64,
     edge: &'a [u8],
 ) -> Result<(), WriteFault>
-    ensures { Puts result (gold_part x y width part edge.now) (K.told sink.old) (K.told sink.new) }
+    ensures { Puts result (gold_part spot part edge.now) (K.told sink.old) (K.told sink.new) }
 {
+    let x = left(spot);
+    let y = spot_top(spot);
     put_pieces(
         sink,
         &[
@@ -59,7 +60,7 @@ fn put_gold_part<'a, K: Sink>(
             Piece::Text(b" "),
             Piece::Number(y),
             Piece::Text(b"h"),
-            Piece::Number(width),
+            Piece::Number(width(spot)),
             Piece::Text(b"v14H"),
             Piece::Number(x),
             Piece::Text(edge),
@@ -68,54 +69,36 @@ fn put_gold_part<'a, K: Sink>(
 }
 
 /// Draws a turn: its front in gold, and a frame.
-fn put_reign_box<K: Sink>(
-    sink: &mut K,
-    x: u64,
-    y: u64,
-    width: u64,
-    reign: Reign,
-) -> Result<(), WriteFault>
-    requires { width ≤ 2 ^ 60 }
-    ensures { Puts result (reign_box x y width reign) (K.told sink.old) (K.told sink.new) }
+fn put_reign_box<K: Sink>(sink: &mut K, spot: Spot, reign: Reign) -> Result<(), WriteFault>
+    ensures { Puts result (reign_box spot reign) (K.told sink.old) (K.told sink.new) }
 {
-    put_gold_part(
-        sink,
-        x,
-        y,
-        width,
-        share(width, reign.turn),
-        edge(reign.is_common),
-    )
+    put_gold_part(sink, spot, share(spot, reign.turn), edge(reign.is_common))
 }
 
 /// Draws a turn, with its king.
-fn put_reign_at<K: Sink>(
-    sink: &mut K,
-    x: u64,
-    y: u64,
-    width: u64,
-    reign: Reign,
-) -> Result<(), WriteFault>
-    requires x { x ≤ 2 ^ 60 }
-    requires y { y ≤ 2 ^ 60 }
-    requires width { width ≤ 2 ^ 60 }
-    ensures { Puts result (reign_at x y width reign) (K.told sink.old) (K.told sink.new) }
+fn put_reign_at<K: Sink>(sink: &mut K, spot: Spot, reign: Reign) -> Result<(), WriteFault>
+    ensures { Puts result (reign_at spot reign) (K.told sink.old) (K.told sink.new) }
 {
-    put_reign_box(sink, x, y, width, reign)?;
-    put_number_at(sink, x + width / 2, y + 11, reign.king)
+    put_reign_box(sink, spot, reign)?;
+    put_number_at(sink, middle(spot), spot_top(spot) + 11, reign.king)
+}
+
+/// Where a turn is drawn.
+fn reign_spot(frame: Frame, reign: Reign) -> Spot
+    ensures { result ≡ reign_spot frame reign }
+{
+    Spot {
+        frame,
+        column: reign.column,
+        top: reign.top,
+    }
 }
 
 /// Draws a turn in its place.
 fn put_reign<K: Sink>(sink: &mut K, frame: Frame, reign: Reign) -> Result<(), WriteFault>
     ensures { Puts result (reign_picture frame reign) (K.told sink.old) (K.told sink.new) }
 {
-    put_reign_at(
-        sink,
-        column_left(frame.digits, reign.column),
-        band_top(frame.height, reign.column) + u64::from(reign.top),
-        column_width(frame.digits),
-        reign,
-    )
+    put_reign_at(sink, reign_spot(frame, reign), reign)
 }
 
 /// Draws all turns.

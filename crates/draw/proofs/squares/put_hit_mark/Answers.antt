@@ -2,7 +2,9 @@ use Rattle.texts.proofs.Growth.{wrote_none}
 use Rattle.draw.proofs.squares.put_hit_mark.Goals as goal
 
 pub returns-in-true : goal.returns-in-true
-returns-in-true g c = rw c.in-true.is c.put_pieces.ensures
+returns-in-true g c =
+    rw c.in-true.is
+    (rw (c.left.ensures.value, c.spot_top.ensures.value) at c.put_pieces.ensures)
 
 pub returns-in-false : goal.returns-in-false
 returns-in-false g c = rw c.in-false.is (wrote_none _)

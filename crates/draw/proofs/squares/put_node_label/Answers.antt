@@ -2,5 +2,5 @@ use Rattle.std.specs.Prelude.{◌%◌}
 use Rattle.draw.proofs.Parts.{wrote_unless_is}
 use Rattle.draw.proofs.squares.put_node_label.Goals as goal
 
-pub returns-else-column-eq0 : goal.returns-else-column-eq0
-returns-else-column-eq0 g c = wrote_unless_is (c.args.column % 120) 0 _ _ c.if-column-eq0.false
+pub returns-else-spot-eq0 : goal.returns-else-spot-eq0
+returns-else-spot-eq0 g c = wrote_unless_is (c.args.spot.column % 120) 0 _ _ c.if-spot-eq0.false
