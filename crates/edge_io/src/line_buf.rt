@@ -4,9 +4,16 @@ use std::alloc::{AllocError, Global};
 use std::marker::Model;
 
 /// Room for one line of at most 4096 bytes.
-#[derive(Drop)]
 pub struct LineBuf {
     bytes: Vec<u8>,
+}
+
+// Written out, so that what lets go of one calls this, and no more.
+impl Drop for LineBuf {
+    fn drop(self) {
+        let LineBuf { bytes } = self;
+        drop(bytes);
+    }
 }
 
 impl Model for LineBuf {

@@ -13,7 +13,6 @@ use thiserror::Error;
 pub struct NoMemory;
 
 /// Room in memory that is filled in pieces of given sizes, where given calls fail.
-#[derive(Drop)]
 pub struct MemSink {
     taken: Vec<u8>,
     room: usize,
@@ -22,6 +21,24 @@ pub struct MemSink {
     calls: u64,
     turn: usize,
     faults: u64,
+}
+
+// Written out, so that what lets go of one calls this, and no more.
+impl Drop for MemSink {
+    fn drop(self) {
+        let MemSink {
+            taken,
+            room: _,
+            fails,
+            cuts,
+            calls: _,
+            turn: _,
+            faults: _,
+        } = self;
+        drop(taken);
+        drop(fails);
+        drop(cuts);
+    }
 }
 
 impl Model for MemSink {

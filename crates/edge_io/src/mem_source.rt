@@ -6,7 +6,6 @@ use crate::{Failed, Source};
 use std::marker::Model;
 
 /// Bytes in memory that are read in pieces of given sizes, where given calls fail.
-#[derive(Drop)]
 pub struct MemSource {
     bytes: Vec<u8>,
     at: usize,
@@ -16,6 +15,25 @@ pub struct MemSource {
     turn: usize,
     faults: u64,
     met: bool,
+}
+
+// Written out, so that what lets go of one calls this, and no more.
+impl Drop for MemSource {
+    fn drop(self) {
+        let MemSource {
+            bytes,
+            at: _,
+            fails,
+            cuts,
+            calls: _,
+            turn: _,
+            faults: _,
+            met: _,
+        } = self;
+        drop(bytes);
+        drop(fails);
+        drop(cuts);
+    }
 }
 
 impl Model for MemSource {

@@ -43,12 +43,25 @@ impl From<AllocError> for PremiseError {
 }
 
 /// An accepted plan: a base modulus, and levels over it, at most five.
-#[derive(Debug, Drop)]
+#[derive(Debug)]
 pub struct Plan {
     version: u32,
     base: u64,
     levels: Vec<LevelNums>,
     top: Below,
+}
+
+// Written out, so that what lets go of one calls this, and no more.
+impl Drop for Plan {
+    fn drop(self) {
+        let Plan {
+            version: _,
+            base: _,
+            levels,
+            top: _,
+        } = self;
+        drop(levels);
+    }
 }
 
 impl Model for Plan {

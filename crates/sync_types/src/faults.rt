@@ -7,12 +7,25 @@ use std::alloc::Global;
 use std::marker::Model;
 
 /// The faulty nodes among so many: their ids in rising order.
-#[derive(Debug, Drop)]
+#[derive(Debug)]
 pub struct FaultSet {
     nodes: u32,
     ids: Vec<u32>,
     // Whether a node is faulty, by its id.
     marks: Vec<bool>,
+}
+
+// Written out, so that what lets go of one calls this, and no more.
+impl Drop for FaultSet {
+    fn drop(self) {
+        let FaultSet {
+            nodes: _,
+            ids,
+            marks,
+        } = self;
+        drop(ids);
+        drop(marks);
+    }
 }
 
 impl Model for FaultSet {

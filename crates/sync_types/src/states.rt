@@ -15,10 +15,18 @@ pub struct Reg {
 }
 
 /// The state of a node: a number, and a register for each level, bottom up.
-#[derive(Debug, Drop)]
+#[derive(Debug)]
 pub struct NodeState {
     x: u64,
     registers: Vec<Reg>,
+}
+
+// Written out, so that what lets go of one calls this, and no more.
+impl Drop for NodeState {
+    fn drop(self) {
+        let NodeState { x: _, registers } = self;
+        drop(registers);
+    }
 }
 
 impl Model for NodeState {
