@@ -33,13 +33,27 @@ pub enum Outlook {
 
 /// A list of values that is counted as it grows. Contracts see the values in order of adding, and
 /// the capacity beside them.
-#[derive(Debug, Drop)]
+#[derive(Debug)]
 pub struct Tally {
     capacity: usize,
     values: Vec<Option<u64>>,
     // The distinct numbers among the values in rising order, each with its places.
     counts: Vec<Count>,
     infinities: usize,
+}
+
+// Written out, so that what lets go of one calls this, and no more.
+impl Drop for Tally {
+    fn drop(self) {
+        let Tally {
+            capacity: _,
+            values,
+            counts,
+            infinities: _,
+        } = self;
+        drop(values);
+        drop(counts);
+    }
 }
 
 impl Model for Tally {

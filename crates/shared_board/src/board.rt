@@ -15,7 +15,6 @@ use sync_types::{FaultSet, NoMemory, Reg};
 
 /// A configuration by columns, and who lies in it. It is seen as the states, each with so many
 /// registers, and the ids of the liars.
-#[derive(Drop)]
 pub struct Board {
     nodes: usize,
     // What each node shows to each level, and at last to the top.
@@ -26,6 +25,25 @@ pub struct Board {
     // Whether a node lies, and how many liars there are below it.
     marks: Vec<bool>,
     before: Vec<u32>,
+}
+
+// Written out, so that what lets go of one calls this, and no more.
+impl Drop for Board {
+    fn drop(self) {
+        let Board {
+            nodes: _,
+            outputs,
+            registers,
+            liars,
+            marks,
+            before,
+        } = self;
+        drop(outputs);
+        drop(registers);
+        drop(liars);
+        drop(marks);
+        drop(before);
+    }
 }
 
 impl Model for Board {
