@@ -128,7 +128,7 @@ impl<'a> Draft<'a> {
         requires ids { All (λ id. id < self.old.nodes) faulty.ids }
         ensures { self.new ≡ record self.old { faulty = faulty.ids } }
     {
-        self.faulty = Some(faulty);
+        drop(self.faulty.replace(faulty));
     }
 
     /// Says the key of the noise.
