@@ -17,6 +17,7 @@ mod faults;
 mod layers;
 mod ranges;
 mod reading;
+mod shaped;
 #[cfg(test)]
 mod tests;
 mod turning;

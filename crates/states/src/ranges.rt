@@ -1,9 +1,9 @@
-ghost use Rattle.std.specs.Prelude.{◌≡◌, ◌<◌, length, true};
+ghost use Rattle.std.specs.Prelude.{◌≡◌, true};
 ghost use Rattle.state_codec.specs.Shapes.{fields_at};
 ghost use Rattle.state_codec.specs.Ranges.{InRange, IsField};
 
-use state_codec::StateShape;
-use sync_types::{NodeState, Reg};
+use crate::shaped::ShapedState;
+use sync_types::Reg;
 
 /// Whether a register has a value that its modulus allows; one that is lacking is zero.
 fn is_field(modulus: u64, reg: Reg) -> bool
@@ -18,19 +18,20 @@ fn is_field(modulus: u64, reg: Reg) -> bool
     }
 }
 
-/// Whether this is a state of node `v`.
-pub fn is_in_range(shape: &StateShape, v: u32, state: &NodeState) -> bool
-    requires node { v < length shape.now.lows }
-    requires depth { length state.now.registers ≡ length shape.now.moduli }
-    ensures { result ≡ true → InRange (fields_at shape.now v) state.now }
-{
-    if state.x() >= shape.base_of(v) {
-        return false;
-    }
-    for i in 0..shape.depth() {
-        if !is_field(shape.modulus_of(v, i), state.reg(i)) {
+impl ShapedState<'_> {
+    /// Whether this is a state of the node.
+    pub fn is_in_range(&self) -> bool
+        ensures { result ≡ true
+            → InRange (fields_at self.now.shape.now self.now.node) self.now.state }
+    {
+        if self.state.x() >= self.shape.base_of(self.node) {
             return false;
         }
+        for i in 0..self.shape.depth() {
+            if !is_field(self.shape.modulus_of(self.node, i), self.state.reg(i)) {
+                return false;
+            }
+        }
+        true
     }
-    true
 }

@@ -1,10 +1,8 @@
 //! Reads a state that is written in words.
 
-ghost use Rattle.std.specs.Prelude.{◌≡◌, ◌<◌, length};
-
+use crate::shaped::ShapedState;
 use edge_io::{Words, number};
-use state_codec::StateShape;
-use sync_types::{NodeState, Reg};
+use sync_types::Reg;
 
 /// A word without the comma behind it, and whether there is one.
 fn without_comma(word: &[u8]) -> (&[u8], bool) {
@@ -52,77 +50,56 @@ fn next_register(words: &mut Words<'_>) -> Option<(Reg, bool)> {
     Some((Reg { a, d }, further))
 }
 
-/// Reads the registers that node `v` has, the lowest first. Whether there are just so many.
-fn read_registers(
-    shape: &StateShape,
-    v: u32,
-    words: &mut Words<'_>,
-    state: &mut NodeState,
-) -> Option<()>
-    requires node { v < length shape.now.lows }
-    requires depth { length state.old.registers ≡ length shape.now.moduli }
-    ensures { length state.new.registers ≡ length state.old.registers }
-{
-    let mut further = true;
-    for i in 0..shape.depth() {
-        if shape.modulus_of(v, i) > 0 {
-            if !further {
+impl ShapedState<'_> {
+    /// Reads the registers that the node has, the lowest first. Whether there are just so many.
+    fn read_registers(&mut self, words: &mut Words<'_>) -> Option<()> {
+        let mut further = true;
+        for i in 0..self.shape.depth() {
+            if self.has_register(i) {
+                if !further {
+                    return None;
+                }
+                let (reg, more) = next_register(words)?;
+                self.state.set_reg(i, reg);
+                further = more;
+            }
+        }
+        if further { None } else { Some(()) }
+    }
+
+    /// Whether the node has a register.
+    fn has_registers(&self) -> bool {
+        for i in 0..self.shape.depth() {
+            if self.has_register(i) {
+                return true;
+            }
+        }
+        false
+    }
+
+    /// Reads the number of a node that has one, from the word behind `number`. It answers the word
+    /// behind that.
+    fn read_number<'w>(&mut self, words: &mut Words<'w>) -> Option<Option<&'w [u8]>> {
+        self.state.set_x(number(words.next()?)?);
+        Some(words.next())
+    }
+
+    /// Reads the state in words, of which `key` is the first, into the zero state. None comes
+    /// where these are not the words of just the fields that the node has.
+    pub fn read_words(&mut self, key: &[u8], words: &mut Words<'_>) -> Option<()> {
+        let mut next = Some(key);
+        if self.has_number() {
+            if key != b"number".as_slice() {
                 return None;
             }
-            let (reg, more) = next_register(words)?;
-            state.set_reg(i, reg);
-            further = more;
+            next = self.read_number(words)?;
         }
-    }
-    if further { None } else { Some(()) }
-}
-
-/// Whether node `v` has a register.
-fn has_registers(shape: &StateShape, v: u32) -> bool
-    requires { v < length shape.now.lows }
-{
-    for i in 0..shape.depth() {
-        if shape.modulus_of(v, i) > 0 {
-            return true;
+        if !self.has_registers() {
+            return if next.is_none() { Some(()) } else { None };
         }
-    }
-    false
-}
-
-/// Reads the number of a node that has one, from the word behind `number`. It answers the word
-/// behind that.
-fn read_number<'a>(words: &mut Words<'a>, state: &mut NodeState) -> Option<Option<&'a [u8]>>
-    ensures { length state.new.registers ≡ length state.old.registers }
-{
-    state.set_x(number(words.next()?)?);
-    Some(words.next())
-}
-
-/// Reads a state of node `v` in words, of which `key` is the first, into a zero state. None comes
-/// where these are not the words of just the fields that the node has.
-pub fn read_words(
-    shape: &StateShape,
-    v: u32,
-    key: &[u8],
-    words: &mut Words<'_>,
-    state: &mut NodeState,
-) -> Option<()>
-    requires node { v < length shape.now.lows }
-    requires depth { length state.old.registers ≡ length shape.now.moduli }
-    ensures { length state.new.registers ≡ length state.old.registers }
-{
-    let mut next = Some(key);
-    if shape.base_of(v) > 1 {
-        if key != b"number".as_slice() {
+        if next? != b"registers".as_slice() {
             return None;
         }
-        next = read_number(words, state)?;
+        self.read_registers(words)
     }
-    if !has_registers(shape, v) {
-        return if next.is_none() { Some(()) } else { None };
-    }
-    if next? != b"registers".as_slice() {
-        return None;
-    }
-    read_registers(shape, v, words, state)
 }

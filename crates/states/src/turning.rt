@@ -1,36 +1,28 @@
 //! Turns a line.
 
-ghost use Rattle.std.specs.Prelude.{◌≡◌, ◌<◌, length, IfOk};
+ghost use Rattle.std.specs.Prelude.{◌<◌, IfOk};
 ghost use Rattle.state_codec.specs.Shapes.{fields_at};
 ghost use Rattle.state_codec.specs.Ranges.{InRange};
 
 use crate::faults::Fault;
-use crate::ranges::is_in_range;
-use crate::reading::read_words;
-use crate::writing::write_words;
+use crate::shaped::ShapedState;
 use edge_io::{Words, number};
 use state_codec::{NotState, StateShape};
 use std::alloc::{AllocError, Global};
 use std::fmt::Write;
-use sync_types::NodeState;
 
 /// No state has more digits.
 const MOST_DIGITS: usize = 256;
 
-/// Writes a line with a state of node `v` in hex digits.
-fn write_digits(
-    out: &mut String,
-    shape: &StateShape,
-    v: u32,
-    state: &NodeState,
-) -> Result<(), AllocError>
-    requires node { v < length shape.now.lows }
-    requires range { InRange (fields_at shape.now v) state.now }
+/// Writes a line with a state in hex digits.
+fn write_digits(out: &mut String, held: &ShapedState<'_>) -> Result<(), AllocError>
+    requires { InRange (fields_at held.now.shape.now held.now.node) held.now.state }
 {
+    let (shape, node) = (held.shape, held.node);
     let mut buffer = [0; MOST_DIGITS];
-    let digits = &mut buffer[..2 * shape.bytes_of(v)];
-    shape.write_hex(v, state, digits);
-    write!(out, "node {v} ")?;
+    let digits = &mut buffer[..2 * shape.bytes_of(node)];
+    shape.write_hex(node, &held.state, digits);
+    write!(out, "node {node} ")?;
     for digit in digits.iter() {
         out.push(char::from(*digit))?;
     }
@@ -39,44 +31,30 @@ fn write_digits(
 
 /// Turns words, of which `key` is the first, into digits, by way of a zero state.
 fn turn_words(
-    shape: &StateShape,
-    v: u32,
     key: &[u8],
     words: &mut Words<'_>,
-    state: &mut NodeState,
+    held: &mut ShapedState<'_>,
     out: &mut String,
-) -> Result<(), Fault>
-    requires node { v < length shape.now.lows }
-    requires depth { length state.old.registers ≡ length shape.now.moduli }
-{
-    let read = read_words(shape, v, key, words, state);
+) -> Result<(), Fault> {
+    let read = held.read_words(key, words);
     if read.is_none() || words.next().is_some() {
         return Err(Fault::Fields);
     }
-    if !is_in_range(shape, v, state) {
+    if !held.is_in_range() {
         return Err(Fault::Fields);
     }
-    write_digits(out, shape, v, state)?;
+    write_digits(out, held)?;
     Ok(())
 }
 
 /// Turns digits into words.
-fn turn_digits(
-    shape: &StateShape,
-    v: u32,
-    digits: &[u8],
-    state: &mut NodeState,
-    out: &mut String,
-) -> Result<(), Fault>
-    requires node { v < length shape.now.lows }
-    requires depth { length state.old.registers ≡ length shape.now.moduli }
-{
-    match shape.read_hex(v, digits, state) {
+fn turn_digits(digits: &[u8], held: &mut ShapedState<'_>, out: &mut String) -> Result<(), Fault> {
+    match held.shape.read_hex(held.node, digits, &mut held.state) {
         Ok(()) => {
-            write_words(out, shape, v, state)?;
+            held.write_words(out)?;
             Ok(())
         }
-        Err(NotState) => Err(Fault::Hex(2 * shape.bytes_of(v))),
+        Err(NotState) => Err(Fault::Hex(2 * held.shape.bytes_of(held.node))),
     }
 }
 
@@ -109,12 +87,12 @@ pub fn turn(alloc: Global, shape: &StateShape, line: &[u8], out: &mut String) ->
     let Some(key) = words.next() else {
         return Err(Fault::Form);
     };
-    let mut state = NodeState::zero(alloc, shape.depth())?;
+    let mut held = ShapedState::zero(alloc, shape, v)?;
     if key == b"number".as_slice() || key == b"registers".as_slice() {
-        return turn_words(shape, v, key, &mut words, &mut state, out);
+        return turn_words(key, &mut words, &mut held, out);
     }
     if words.next().is_some() {
         return Err(Fault::Form);
     }
-    turn_digits(shape, v, key, &mut state, out)
+    turn_digits(key, &mut held, out)
 }

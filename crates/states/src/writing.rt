@@ -1,11 +1,9 @@
 //! Writes a state in words.
 
-ghost use Rattle.std.specs.Prelude.{◌≡◌, ◌<◌, length};
-
-use state_codec::StateShape;
+use crate::shaped::ShapedState;
 use std::alloc::AllocError;
 use std::fmt::Write;
-use sync_types::{NodeState, Reg};
+use sync_types::Reg;
 
 /// Writes a register, behind what parts it from what stands before.
 fn write_register(out: &mut String, before: &str, reg: Reg) -> Result<(), AllocError> {
@@ -19,41 +17,28 @@ fn write_register(out: &mut String, before: &str, reg: Reg) -> Result<(), AllocE
     Ok(())
 }
 
-/// Writes the registers that node `v` has.
-fn write_registers(
-    out: &mut String,
-    shape: &StateShape,
-    v: u32,
-    state: &NodeState,
-) -> Result<(), AllocError>
-    requires node { v < length shape.now.lows }
-    requires depth { length state.now.registers ≡ length shape.now.moduli }
-{
-    let mut before = " registers ";
-    for i in 0..shape.depth() {
-        if shape.modulus_of(v, i) > 0 {
-            write_register(out, before, state.reg(i))?;
-            before = ", ";
+impl ShapedState<'_> {
+    /// Writes the registers that the node has.
+    fn write_registers(&self, out: &mut String) -> Result<(), AllocError> {
+        let mut before = " registers ";
+        for i in 0..self.shape.depth() {
+            if self.has_register(i) {
+                write_register(out, before, self.state.reg(i))?;
+                before = ", ";
+            }
         }
+        Ok(())
     }
-    Ok(())
-}
 
-/// Writes a line with a state of node `v` in words.
-pub fn write_words(
-    out: &mut String,
-    shape: &StateShape,
-    v: u32,
-    state: &NodeState,
-) -> Result<(), AllocError>
-    requires node { v < length shape.now.lows }
-    requires depth { length state.now.registers ≡ length shape.now.moduli }
-{
-    write!(out, "node {v}")?;
-    if shape.base_of(v) > 1 {
-        let number = state.x();
-        write!(out, " number {number}")?;
+    /// Writes a line with the state in words.
+    pub fn write_words(&self, out: &mut String) -> Result<(), AllocError> {
+        let node = self.node;
+        write!(out, "node {node}")?;
+        if self.has_number() {
+            let number = self.state.x();
+            write!(out, " number {number}")?;
+        }
+        self.write_registers(out)?;
+        writeln!(out)
     }
-    write_registers(out, shape, v, state)?;
-    writeln!(out)
 }

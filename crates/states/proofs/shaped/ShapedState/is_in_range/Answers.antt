@@ -1,14 +1,15 @@
 use Rattle.std.proofs.Common.{◌≡◌, length, sym, ◌∙◌, arith}
 use Rattle.state_codec.specs.Shapes.{fields_at}
 use Rattle.state_codec.proofs.Lows.{length-moduli_from}
-use Rattle.states.proofs.ranges.is_in_range.Goals as goal
+use Rattle.states.proofs.shaped.ShapedState.is_in_range.Goals as goal
 
 pub returns : goal.returns
 returns c _ =
-    let long : length (fields_at c.args.shape.now c.args.v).moduli ≡ length c.args.shape.now.moduli =
-    length-moduli_from _ c.args.shape.now.moduli in
+    let self = c.args.self.now in
+    let long : length (fields_at self.shape.now self.node).moduli ≡ length self.shape.now.moduli =
+    length-moduli_from _ self.shape.now.moduli in
     record {
-      depth = c.requires.depth ∙ sym long;
+      depth = self.depth ∙ sym long;
       x = omega (arith, c.if-x-base_of.false, c.x.ensures, c.base_of.ensures.value);
       values = λ i lt. c.loop-i.invariant i
           (omega (arith, lt, long, c.loop-i-test.false, c.depth-i-end.ensures));
