@@ -10,6 +10,7 @@ pub mod Intervals
 pub mod Known
 pub mod Groups
 pub mod Beats
+pub mod Common
 pub mod Obeys
 pub mod Locked
 pub mod Registers

@@ -62,12 +62,6 @@ AreVotes s intervals leaders first n votes pointers =
     → IsVote s (slice_index_or intervals i 0) leaders (first + i * n) n
     (slice_index_or votes i None) (slice_index_or pointers i none)
 
--- the votes that are known, of a stretch of blocks
-abbrev pub known_in : (votes : List (Option ℕ)) (first count : ℕ) → List (Option ℕ)
-known_in votes first count =
-    map (λ i. slice_index_or votes i None)
-    (filter (λ i. is_some (slice_index_or votes i None)) (range_with_len first count))
-
 -- where some votes are known, the lead is this, whatever the others are
 abbrev pub IsLead : (votes : List (Option ℕ)) → (lead : Option ℕ) → Type 0
 IsLead votes lead = IfSome lead (λ x.

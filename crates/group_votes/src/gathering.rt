@@ -1,14 +1,14 @@
-ghost use Rattle.std.specs.Prelude.{◌≡◌, ◌+◌, ◌*◌, ◌%◌, ◌<◌, ◌≤◌, ◌++◌, ℕ, length, slice_index_or, IfSome};
-ghost use Rattle.counting.specs.Values.{least_above};
+ghost use Rattle.std.specs.Prelude.{◌≡◌, ◌+◌, ◌*◌, ◌%◌, ◌<◌, ◌≤◌, ℕ, max, length, slice_index_or, IfSome};
+ghost use Rattle.counting.specs.Values.{count_of, least_above};
 ghost use Rattle.majority_votes.specs.Votes.{Votes};
 ghost use Rattle.group_votes.specs.Senders.{correct_in, parts_of, values_of, values_heard};
-ghost use Rattle.group_votes.specs.Votes.{IsKnown, IsBeat, IsLead, AreVotes, AreAsked, HasVotesIn, HasRoomIn, known_in};
+ghost use Rattle.group_votes.specs.Votes.{IsKnown, IsBeat, IsLead, AreVotes, AreAsked, HasVotesIn, HasRoomIn};
 
 use crate::polls::Poll;
 use crate::readings::{Parts, Pointers};
 use crate::sites::Site;
-use crate::stretches::{Stretch, known_number};
-use majority_votes::{Steps, Tally};
+use crate::stretches::Stretch;
+use majority_votes::Steps;
 use std::sync::ledger::Ledger;
 
 /// Counts the pointers of the blocks, as far as they decide a vote.
@@ -40,29 +40,43 @@ fn gather_votes<G: Ledger>(
     }
 }
 
-/// Adds the vote of a block, where it is known.
-fn add_known(votes: &[Option<u64>], i: usize, scratch: &mut Tally)
-    requires within { i < length votes.now }
-    requires room { length scratch.old.values < scratch.old.capacity }
-    ensures { scratch.new
-        ≡ record scratch.old { values = scratch.old.values ++ known_in votes.now i 1 } }
+/// How many of the votes are this one; None is one that is not known.
+fn places_of(votes: &[Option<u64>], vote: Option<u64>) -> usize
+    ensures { result ≡ count_of votes.now vote }
 {
-    if votes[i].is_some() {
-        scratch.add(votes[i]);
+    let mut places = 0;
+    for other in votes {
+        if vote == *other {
+            places += 1;
+        }
     }
+    places
+}
+
+/// The greater of two.
+fn greater(one: usize, other: usize) -> usize
+    ensures { result ≡ max one other }
+{
+    if one < other { other } else { one }
 }
 
 /// The lead, where the votes that are known decide it.
-fn known_lead(votes: &[Option<u64>], scratch: &mut Tally) -> Option<u64>
-    requires { length votes.now ≤ scratch.old.capacity }
-    ensures lead { IsLead votes.now result }
-    ensures capacity { scratch.new.capacity ≡ scratch.old.capacity }
+fn known_lead(votes: &[Option<u64>]) -> Option<u64>
+    ensures { IsLead votes.now result }
 {
-    scratch.clear();
+    let half = votes.len() / 2;
+    let open = places_of(votes, None);
+    let mut most = 0;
     for i in 0..votes.len() {
-        add_known(votes, i, scratch);
+        if let Some(vote) = votes[i] {
+            let places = places_of(votes, votes[i]);
+            if half < places {
+                return Some(vote);
+            }
+            most = greater(most, places);
+        }
     }
-    known_number(scratch.majority_with(votes.len() - scratch.len()))
+    if most + open <= half { Some(0) } else { None }
 }
 
 /// Counts the pointers of the blocks, as far as they decide a vote. The answer is the lead, where
@@ -71,21 +85,17 @@ pub(crate) fn gather_lead<G: Ledger>(
     site: &Site<'_>,
     pointers: &mut [Poll],
     votes: &mut [Option<u64>],
-    scratch: &mut Tally,
     steps: &mut Steps<G>,
 ) -> Option<u64>
-    requires votes { HasVotesIn (length site.now.intervals.now) site.now.size
-        votes.old pointers.old }
-    requires room { length site.now.intervals.now ≤ scratch.old.capacity }
+    requires { HasVotesIn (length site.now.intervals.now) site.now.size votes.old pointers.old }
     ensures blocks { AreAsked site.now.senders.now site.now.intervals.now site.now.leaders
         site.now.first site.now.size result votes.new pointers.new }
     ensures below { IfSome result (λ lead. lead < site.now.leaders) }
-    ensures capacity { scratch.new.capacity ≡ scratch.old.capacity }
     ensures steps { steps.new ≤ steps.old + length (correct_in site.now.senders.now
         site.now.first (length site.now.intervals.now * site.now.size)) }
 {
     gather_votes(site, pointers, votes, steps);
-    known_lead(votes, scratch)
+    known_lead(votes)
 }
 
 /// Counts the parts of the correct nodes of each leader.

@@ -8,7 +8,7 @@ use crate::rooms::{intervals, polls};
 use crate::senders::Senders;
 use crate::sites::Site;
 use crate::stretches::Stretch;
-use majority_votes::{Steps, Tally};
+use majority_votes::Steps;
 use plan_numbers::LevelNums;
 use std::alloc::Global;
 use std::sync::ledger::Ledger;
@@ -67,21 +67,13 @@ impl Group {
     }
 
     /// Counts the group's correct nodes, as far as something may hang on it, and finds what is
-    /// known whatever its liars tell: at most three steps for each correct node. `scratch` has room
-    /// for a vote of each block.
-    pub fn gather<G: Ledger>(
-        &mut self,
-        senders: &Senders<'_>,
-        scratch: &mut Tally,
-        steps: &mut Steps<G>,
-    )
+    /// known whatever its liars tell: at most three steps for each correct node.
+    pub fn gather<G: Ledger>(&mut self, senders: &Senders<'_>, steps: &mut Steps<G>)
         requires group { IsGroup self.old }
         requires within { self.old.first + self.old.nums.nodes ≤ length senders.now.registers }
-        requires room { self.old.nums.blocks ≤ scratch.old.capacity }
         ensures stands { StandsFor senders.now self.new }
         ensures nums { self.new.nums ≡ self.old.nums }
         ensures first { self.new.first ≡ self.old.first }
-        ensures capacity { scratch.new.capacity ≡ scratch.old.capacity }
         ensures steps { steps.new ≤ steps.old
             + 3 * length (correct_in senders.now self.old.first self.old.nums.nodes) }
     {
@@ -107,7 +99,7 @@ impl Group {
             leaders: u64::from(self.nums.leaders),
             beat: self.nums.beat,
         };
-        self.lead = gather_lead(&site, &mut self.pointers, &mut self.votes, scratch, steps);
+        self.lead = gather_lead(&site, &mut self.pointers, &mut self.votes, steps);
         self.beat = gather_beat(&site, self.lead, &mut self.parts, steps);
         self.least = gather_least(&stretch, faults, self.beat, &mut self.values, steps);
     }

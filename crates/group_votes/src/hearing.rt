@@ -2,7 +2,7 @@ ghost use Rattle.std.specs.Prelude.{◌≡◌, ◌+◌, ◌-◌, ◌/◌, ◌<�
 ghost use Rattle.std.proofs.Props.{props};
 ghost use Rattle.sync_types.specs.States.{register_at};
 ghost use Rattle.construction.specs.Steps.{state_of};
-ghost use Rattle.group_votes.specs.Senders.{IsTold, lies_in, liars_in, value_heard};
+ghost use Rattle.group_votes.specs.Senders.{IsTold, lies_in, value_heard};
 ghost use Rattle.group_votes.specs.Votes.{IsMost, most_heard};
 ghost use Rattle.group_votes.specs.Groups.{AreNumbers, AreBelow, AreLies};
 

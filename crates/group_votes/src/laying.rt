@@ -77,6 +77,9 @@ impl Lies<'_> {
         }
         for lie in self.lies {
             let number = reading.of(shown_to(self.height, lie));
+            if half == 0 {
+                return number;
+            }
             if self.is_above(reading, number, half, poll) {
                 return number;
             }

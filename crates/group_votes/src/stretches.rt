@@ -1,5 +1,5 @@
-ghost use Rattle.std.specs.Prelude.{◌≡◌, ◌+◌, ◌<◌, ◌≤◌, ◌++◌, length};
-ghost use Rattle.group_votes.specs.Senders.{correct_in, liars_in, values_of, numbers_of};
+ghost use Rattle.std.specs.Prelude.{◌≡◌, ◌+◌, ◌<◌, ◌≤◌, ◌++◌, ◌↔◌, ℕ, false, length, IsTrue};
+ghost use Rattle.group_votes.specs.Senders.{is_liar, output_of, correct_in, liars_in, values_of, numbers_of};
 ghost use Rattle.group_votes.specs.Votes.{known_number, IsMost};
 
 use crate::polls::Poll;
@@ -94,8 +94,33 @@ impl Stretch<'_> {
         }
     }
 
+    /// What its first correct node shows, if there is one.
+    fn first_output(&self) -> Option<u64> {
+        for u in self.first..self.end() {
+            if !self.senders.is_liar(u) {
+                return Some(self.senders.output(u));
+            }
+        }
+        None
+    }
+
+    /// Whether all of its correct nodes show this.
+    fn all_show(&self, output: u64) -> bool
+        ensures { IsTrue result ↔ ((u : ℕ) → self.now.first ≤ u
+            → u < self.now.first + self.now.count → is_liar self.now.senders.now u ≡ false
+            → output_of self.now.senders.now u ≡ output) }
+    {
+        for u in self.first..self.end() {
+            if !self.senders.is_liar(u) && self.senders.output(u) != output {
+                return false;
+            }
+        }
+        true
+    }
+
     /// Counts what is read of its correct nodes, as far as the liars may decide what most have.
-    /// Else that is known. Nothing is counted of one node alone that is correct.
+    /// Else that is known. Nothing is counted where all correct nodes show one number, and they
+    /// are more than the liars.
     pub fn gather_most<R: Reading, G: Ledger>(
         &self,
         reading: &R,
@@ -109,8 +134,11 @@ impl Stretch<'_> {
         ensures steps { steps.new ≤ steps.old
             + length (correct_in self.now.senders.now self.now.first self.now.count) }
     {
-        if self.count == 1 && !self.senders.is_liar(self.first) {
-            return Some(reading.of(self.senders.output(self.first)));
+        if self.liars() < self.count - self.count / 2
+            && let Some(output) = self.first_output()
+            && self.all_show(output)
+        {
+            return Some(reading.of(output));
         }
         self.gather_numbers(reading, poll, steps);
         known_number(poll.majority_with(self.liars()))

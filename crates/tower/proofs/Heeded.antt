@@ -26,9 +26,9 @@ use Rattle.tower.proofs.Stepped.{place_less, key_is, groups_fit}
 use Rattle.tower.proofs.Heeding.{settled_shut, leads_in, step_alike}
 
 module _ (version base : ℕ) (items : List LevelNums) (rows : List Row) (made : Bool) (board : Board)
-    (groups : List Placing) (scratch : Votes) (all_settled : Bool) (now : Shares) (node : ℕ)
+    (groups : List Placing) (all_settled : Bool) (now : Shares) (node : ℕ)
     (row : Row)
-    (kept : IsShared version base items rows made board groups scratch all_settled)
+    (kept : IsShared version base items rows made board groups all_settled)
     (stands : shares_of version base items made board ≡ now)
     (size : length now.states ≡ plan_nodes now.plan) (some : node < plan_nodes now.plan)
     (at : row ≡ get_or rows node row) where

@@ -1,11 +1,10 @@
 -- What a shared round stands for, and what it keeps.
-use Rattle.std.specs.Prelude.{◌≡◌, ℕ, ◌≤◌, List, [], length, map, Bool, true, All, if◌then◌else◌}
+use Rattle.std.specs.Prelude.{◌≡◌, ℕ, List, [], length, map, Bool, true, All, if◌then◌else◌}
 use Rattle.construction.specs.Plans.{Plan, nodes_of}
 use Rattle.plan_numbers.specs.declared.numbers.LevelNums.{LevelNums}
 use Rattle.plan_numbers.specs.Numbers.{levels_in, numbers_of}
 use Rattle.plan_numbers.specs.Premises.{IsAccepted}
 use Rattle.plan_laws.specs.PlanMeaning.{IsInRange}
-use Rattle.majority_votes.specs.Votes.{Votes}
 use Rattle.group_votes.specs.Groups.{Stands}
 use Rattle.shared_board.specs.Sharing.{Shares}
 use Rattle.shared_board.specs.Groups.{groups_of}
@@ -31,7 +30,7 @@ abbrev pub AllStand : Board → List Placing → Type 0
 AllStand board groups = All (λ p. Stands (sent_of board p.height) p.group) groups
 
 pub record IsShared (version base : ℕ) (items : List LevelNums) (rows : List Row) (is_made : Bool)
-    (board : Board) (groups : List Placing) (scratch : Votes) (all_settled : Bool) : Type 0 where
+    (board : Board) (groups : List Placing) (all_settled : Bool) : Type 0 where
   pub accepted : IsAccepted (plan_of version base items)
   pub numbers : items ≡ numbers_of base (levels_in items)
   pub are_rows : AreRows (levels_in items) (nodes_of (levels_in items)) rows
@@ -39,7 +38,6 @@ pub record IsShared (version base : ℕ) (items : List LevelNums) (rows : List R
   pub depth : board.depth ≡ length (levels_in items)
   pub keys : map key_of groups ≡ groups_of (levels_in items) 0
   pub ready : All IsReady groups
-  pub room : 16 ≤ scratch.capacity
   pub stand : is_made ≡ true → AllStand board groups
   pub range : is_made ≡ true → All (IsInRange (plan_of version base items)) board.states
   pub settled : all_settled ≡ true → All (λ p. p.group.is_settled ≡ true) groups

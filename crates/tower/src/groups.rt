@@ -16,7 +16,7 @@ ghost use Rattle.tower.specs.Sharing.{AllStand};
 
 use crate::rows::Row;
 use group_votes::Group;
-use majority_votes::{Steps, Tally};
+use majority_votes::Steps;
 use plan_numbers::LevelNums;
 use shared_board::Board;
 use std::alloc::Global;
@@ -59,27 +59,20 @@ impl Placed {
 
     /// Counts what it has of a board. The answer is whether all its registers are locked at one
     /// value.
-    fn gather<G: Ledger>(
-        &mut self,
-        board: &Board,
-        scratch: &mut Tally,
-        steps: &mut Steps<G>,
-    ) -> bool
+    fn gather<G: Ledger>(&mut self, board: &Board, steps: &mut Steps<G>) -> bool
         requires ready { IsReady self.old }
         requires height { self.old.height < board.now.depth }
         requires within { self.old.group.first + self.old.group.nums.nodes
             ≤ length board.now.states }
-        requires blocks { self.old.group.nums.blocks ≤ scratch.old.capacity }
         ensures stands { Stands (sent_of board.now self.new.height) self.new.group }
         ensures same_height { self.new.height ≡ self.old.height }
         ensures same_nums { self.new.group.nums ≡ self.old.group.nums }
         ensures same_first { self.new.group.first ≡ self.old.group.first }
-        ensures capacity { scratch.new.capacity ≡ scratch.old.capacity }
         ensures steps { steps.new ≤ steps.old + 3 * cost_of board.now self.old }
         ensures settled { result ≡ self.new.group.is_settled }
     {
         let senders = board.senders(self.height);
-        self.group.gather(&senders, scratch, steps);
+        self.group.gather(&senders, steps);
         self.group.is_settled()
     }
 
@@ -183,24 +176,21 @@ fn both(one: bool, other: bool) -> bool
 pub(crate) fn gather_groups<G: Ledger>(
     board: &Board,
     groups: &mut [Placed],
-    scratch: &mut Tally,
     steps: &mut Steps<G>,
 ) -> bool
     requires ready { All IsReady groups.old }
     requires heights { All (λ p. p.height < board.now.depth) groups.old }
     requires within { All (λ p. p.group.first + p.group.nums.nodes ≤ length board.now.states)
         groups.old }
-    requires room { 16 ≤ scratch.old.capacity }
     ensures keys { map key_of groups.new ≡ map key_of groups.old }
     ensures ready { All IsReady groups.new }
     ensures stand { AllStand board.now groups.new }
-    ensures capacity { scratch.new.capacity ≡ scratch.old.capacity }
     ensures steps { steps.new ≤ steps.old + 3 * sum_by (cost_of board.now) groups.old }
     ensures settled { result ≡ true → All (λ p. p.group.is_settled ≡ true) groups.new }
 {
     let mut all_settled = true;
     for g in 0..groups.len() {
-        let settled = groups[g].gather(board, scratch, steps);
+        let settled = groups[g].gather(board, steps);
         all_settled = both(all_settled, settled);
     }
     all_settled

@@ -9,7 +9,7 @@ ghost use Rattle.shared_board.specs.Sharing.{heard_with, stands_for, Tells};
 
 use crate::groups::{Placed, gather_groups, open_levels, write_registers};
 use crate::rows::Row;
-use majority_votes::{Steps, Tally};
+use majority_votes::Steps;
 use plan_numbers::LevelNums;
 use shared_board::Board;
 use state_codec::Packed;
@@ -31,8 +31,6 @@ pub struct Shared {
     pub(crate) groups: Vec<Placed>,
     // Whether the registers of each group are locked at one value.
     pub(crate) all_settled: bool,
-    // Room for a vote of each block of a level.
-    pub(crate) scratch: Tally,
 }
 
 // Written out, so that what lets go of one calls this, and no more.
@@ -47,7 +45,6 @@ impl Drop for Shared {
             board,
             groups,
             all_settled,
-            scratch,
         } = self;
         drop(version);
         drop(base);
@@ -57,7 +54,6 @@ impl Drop for Shared {
         drop(board);
         drop(groups);
         drop(all_settled);
-        drop(scratch);
     }
 }
 
@@ -70,7 +66,7 @@ impl Model for Shared {
     ghost view = { λ s. shares_of s.version s.base s.levels.items s.is_made s.board };
 
     ghost invariant = { λ s. IsShared s.version s.base s.levels.items s.rows.items s.is_made s.board
-        s.groups.items s.scratch s.all_settled };
+        s.groups.items s.all_settled };
 }
 
 /// The number after a number that is below the base.
@@ -100,7 +96,7 @@ impl Shared {
     {
         faulty.tell();
         self.board.take(config, faulty);
-        let all_settled = gather_groups(&self.board, &mut self.groups, &mut self.scratch, steps);
+        let all_settled = gather_groups(&self.board, &mut self.groups, steps);
         self.all_settled = all_settled;
         self.is_made = true;
     }

@@ -12,16 +12,13 @@ use crate::rows::rows_of;
 use crate::shared::{Shared, after};
 use crate::towers::Tower;
 use counter_core::Counter;
-use majority_votes::{Steps, Tally};
+use majority_votes::Steps;
 use plan_numbers::LevelNums;
 use shared_board::Board;
 use state_codec::Packed;
 use std::alloc::Global;
 use std::sync::ledger::Ledger;
 use sync_types::{FaultSet, NoMemory, NodeState};
-
-/// Blocks of a level, at most.
-const BLOCKS: usize = 16;
 
 /// The same numbers of levels.
 fn copy_levels(alloc: Global, levels: &[LevelNums]) -> Result<Vec<LevelNums>, NoMemory>
@@ -54,7 +51,6 @@ impl Tower {
             board: Board::new(alloc, nodes as usize, self.levels.len())?,
             groups,
             all_settled: false,
-            scratch: Tally::new(alloc, BLOCKS).map_err(|_| NoMemory)?,
         })
     }
 

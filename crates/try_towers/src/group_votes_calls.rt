@@ -3,7 +3,7 @@ ghost use Rattle.sync_types.specs.States.{register_at};
 ghost use Rattle.group_votes.specs.Groups.{AreNumbers, AreBelow, AreLies};
 
 use group_votes::{Group, Senders};
-use majority_votes::{Steps, Tally};
+use majority_votes::Steps;
 use plan_numbers::LevelNums;
 use std::alloc::Global;
 use std::marker::Brand;
@@ -106,11 +106,10 @@ fn heard<G: Ledger>(
     requires lies { AreLies 0 10 lies.now }
 {
     let mut group = Group::new(alloc, &four(), 0)?;
-    let mut scratch = Tally::new(alloc, 4).map_err(|_| NoMemory)?;
     let mut steps = Steps::<G>::new(blank);
     let outputs = [x; 4];
     let senders = with_a_liar(&outputs, registers);
-    group.gather(&senders, &mut scratch, &mut steps);
+    group.gather(&senders, &mut steps);
     let open = group.is_open(&senders, node);
     let register = group.register(&senders, node, lies, &mut steps);
     Ok((group.common_register(), open, register))

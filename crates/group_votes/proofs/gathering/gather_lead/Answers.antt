@@ -13,7 +13,7 @@ returns-clause-blocks g c =
       known = lead_is_known at.senders.now at.intervals.now at.leaders at.first at.size
           c.gather_votes.new.votes c.gather_votes.new.pointers none
           c.gather_votes.ensures.room.0 c.gather_votes.ensures.votes c.known_lead.result
-          c.known_lead.ensures.lead;
+          c.known_lead.ensures;
       counted = c.gather_votes.ensures.votes;
       room = c.gather_votes.ensures.room;
     }
@@ -25,4 +25,4 @@ returns-clause-below g c =
     known_lead_below at.senders.now at.intervals.now at.leaders at.first at.size
     c.gather_votes.new.votes c.gather_votes.new.pointers none
     c.gather_votes.ensures.room.0 c.gather_votes.ensures.votes
-    (omega (arith, at.some_leaders)) c.known_lead.result c.known_lead.ensures.lead
+    (omega (arith, at.some_leaders)) c.known_lead.result c.known_lead.ensures

@@ -1,55 +1,39 @@
-use Rattle.std.proofs.Common.{◌≡◌, ◌-◌, ◌++◌, ◌∙◌, None, is_some, get_or, length, ap, arith}
-use Rattle.majority_votes.specs.Votes.{Votes}
-use Rattle.group_votes.specs.Votes.{known_in}
-use Rattle.group_votes.proofs.Passing.{mapped_next}
-use Rattle.group_votes.proofs.Leads.{known_most, lead_known}
+use Rattle.std.proofs.Common.{ℕ, List, Option, get_or, None, ◌∙◌, ap, arith}
+use Rattle.counting.specs.Values.{count_of}
+use Rattle.group_votes.proofs.Leads.{lead_is, lead_none, few_some, few_none, few_next}
 use Rattle.group_votes.proofs.gathering.known_lead.Goals as goal
+use Rattle.group_votes.proofs.gathering.known_lead.Goals.{in-Some+else-half-places, in_default}
 
--- there is room for each block's vote
-pub add_known-requires-clause-room : goal.add_known-requires-clause-room
-add_known-requires-clause-room c =
-    let i = c.loop-i.invariant in
-    omega (
-      arith,
-      ap length i.0,
-      i.1,
-      known_most c.args.votes.now c.loop-i.i,
-      c.requires,
-      c.loop-i-test.true,
-      ap (λ (v : Votes). v.capacity) c.clear.ensures,
-    )
+-- more than half are known to be this vote
+pub returns-then-half-places : goal.returns-then-half-places
+returns-then-half-places c =
+    let same = c.places_of-places.ensures ∙ ap (count_of c.args.votes.now) c.in-Some.is in
+    lead_is c.args.votes.now c.in-Some.vote (omega (arith, c.if-half-places.true, same))
 
--- the next block's vote
+-- the next vote
 pub loop-i-preserved : goal.loop-i-preserved
 loop-i-preserved c =
-    let i = c.loop-i.invariant in (
-      ap (λ (v : Votes). v.values) c.add_known.ensures
-          ∙ (ap (λ vs. vs ++ known_in c.args.votes.now c.loop-i.i 1) i.0
-          ∙ mapped_next (λ i. is_some (get_or c.args.votes.now i None))
-          (λ i. get_or c.args.votes.now i None) c.loop-i.i),
-      ap (λ (v : Votes). v.capacity) c.add_known.ensures ∙ i.1,
-    )
+    let votes : List (Option ℕ) = c.args.votes.now in
+    let i = c.loop-i.invariant in
+    elim c.match-votes-i.branch [
+      | in-Some+else-half-places w ↦ (
+        few_next votes c.loop-i.most c.match-votes-i.most c.loop-i.i
+            (omega (arith, w.most-is, w.greater-most.ensures)) i.0
+            (few_some votes c.match-votes-i.most w.in-Some.vote (get_or votes c.loop-i.i None)
+            w.in-Some.is (omega (arith, w.most-is, w.greater-most.ensures, w.places_of-places.ensures))),
+        omega (arith, w.most-is, w.greater-most.ensures, w.if-half-places.false, i.1),
+      )
+      | in_default w ↦ (
+        few_next votes c.loop-i.most c.match-votes-i.most c.loop-i.i
+            (omega (arith, w.most-is)) i.0
+            (few_none votes c.match-votes-i.most (get_or votes c.loop-i.i None) w.in_default.is),
+        omega (arith, w.most-is, i.1),
+      )
+    ]
 
--- no more are known than there are
-pub overflow_sub-votes : goal.overflow_sub-votes
-overflow_sub-votes c =
-    omega (
-      arith,
-      c.len.ensures.exact,
-      ap length c.loop-i.invariant.0,
-      known_most c.args.votes.now
-          c.loop-i.i,
-      c.loop-i.auto.i-end,
-      c.loop-i-test.false,
-    )
-
--- the lead that the known votes decide
-pub returns-clause-lead : goal.returns-clause-lead
-returns-clause-lead c =
-    let end : c.loop-i.i ≡ length c.args.votes.now =
-    omega (arith, c.loop-i.auto.i-end, c.loop-i-test.false) in
-    rw c.known_number.ensures
-    (lead_known c.args.votes.now c.loop-i.scratch.values
-    (length c.args.votes.now - c.len.result) c.majority_with.result
-    (c.loop-i.invariant.0 ∙ ap (known_in c.args.votes.now 0) end)
-    (ap (λ n. length c.args.votes.now - n) c.len.ensures.exact) c.majority_with.ensures)
+-- none can come to more than half
+pub returns-then-most-open : goal.returns-then-most-open
+returns-then-most-open c =
+    lead_none c.args.votes.now c.loop-i.most
+    (λ k lt. c.loop-i.invariant.0 k (omega (arith, c.loop-i.auto.i-end, c.loop-i-test.false)))
+    (omega (arith, c.if-most-open.true, c.places_of-open.ensures))

@@ -1,9 +1,10 @@
-use Rattle.std.proofs.Common.{◌≡◌}
-use Rattle.group_votes.specs.Votes.{known_in}
+use Rattle.std.proofs.Common.{ℕ, ◌<◌, ◌≤◌, get_or, Some, None, IfSome}
+use Rattle.counting.specs.Values.{count_of}
 use Rattle.group_votes.proofs.gathering.known_lead.Given as goal
 
--- the known votes so far
+-- no vote that is known so far has more places than the most, and that is at most half
 abbrev pub invariant-loop-i : goal.invariant-loop-i
 invariant-loop-i l =
-    (l.scratch.values ≡ known_in l.votes 0 l.i)
-    × (l.scratch.capacity ≡ l.initial.scratch.capacity)
+    ((k : ℕ) → k < l.i
+    → IfSome (get_or l.votes k None) (λ vote. count_of l.votes (Some vote) ≤ l.most))
+    × (l.most ≤ l.half)

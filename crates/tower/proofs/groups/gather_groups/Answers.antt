@@ -92,6 +92,5 @@ loop-g-preserved g c =
           (λ le. let is : j ≡ at = omega arith in
           subst Settled (sym (get_or-set_at gs at j new none is less)) (sym e.settled ∙ both.1))
           (cases_lt j at);
-      capacity = e.capacity ∙ i.capacity;
       steps = omega (arith, e.steps, i.steps, sum, one, cost_at);
     }

@@ -18,6 +18,5 @@ invariant-loop-g g l = record {
       → Stands (sent_of l.board (get_or l.groups i none).height) (get_or l.groups i none).group;
   settled : l.all_settled ≡ true → (i : ℕ) (none : Placing) → i < l.g
       → (get_or l.groups i none).group.is_settled ≡ true;
-  capacity : l.scratch.capacity ≡ l.initial.scratch.capacity;
   steps : l.steps ≤ l.initial.steps + 3 * sum_by (cost_of l.board) (take l.g l.initial.groups);
 }

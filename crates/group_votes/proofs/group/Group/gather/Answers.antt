@@ -27,8 +27,8 @@ invariant_of-site g c =
       within = c.requires.within;
     }
 
-pub gather_lead-self-requires-clause-votes : goal.gather_lead-self-requires-clause-votes
-gather_lead-self-requires-clause-votes g c =
+pub gather_lead-self-requires : goal.gather_lead-self-requires
+gather_lead-self-requires g c =
     let n : ℕ = c.args.self.now.block in
     let long = ap length c.deref.ensures.value ∙ (facts c.args.self.now c.requires.group).long in (
       ap length c.deref_mut-2.ensures.value ∙ (c.requires.group.votes ∙ sym long),
@@ -37,15 +37,6 @@ gather_lead-self-requires-clause-votes g c =
         subst (All (λ (t : Votes). n ≤ t.capacity))
             (sym c.deref_mut.ensures.value) c.requires.group.pointers_room,
       ),
-    )
-
-pub gather_lead-self-requires-clause-room : goal.gather_lead-self-requires-clause-room
-gather_lead-self-requires-clause-room g c =
-    omega (
-      arith,
-      ap length c.deref.ensures.value,
-      (facts c.args.self.now c.requires.group).long,
-      c.requires.room,
     )
 
 -- all is counted or known

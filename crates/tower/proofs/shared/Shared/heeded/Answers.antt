@@ -9,7 +9,7 @@ open_levels-open-requires-clause-leads c =
     let row = c.index-row.result.now in
     subst (λ gs. (l : ℕ) → l < length row.places.items → row.low ≤ l + 1
     → LeadsIn s.board row c.args.node gs l) (sym c.deref.ensures.value)
-    (leads s.version s.base s.levels.items s.rows.items s.is_made s.board s.groups.items s.scratch
+    (leads s.version s.base s.levels.items s.rows.items s.is_made s.board s.groups.items
     s.all_settled c.args.self.now c.args.node row
     c.self.invariant c.self.view_is c.requires.size c.requires.node c.index-row.ensures)
 
@@ -18,11 +18,11 @@ returns-then-self-clause-enough c = λ lies told tells tells_too same.
     let s = c.self.inside in
     let row = c.index-row.result.now in
     let shut = all_shut s.version s.base s.levels.items s.rows.items s.is_made s.board
-    s.groups.items s.scratch s.all_settled c.args.self.now c.args.node row
+    s.groups.items s.all_settled c.args.self.now c.args.node row
     c.self.invariant c.self.view_is c.requires.size c.requires.node c.index-row.ensures
     c.if-self.true in
     none_heeded s.version s.base s.levels.items s.rows.items s.is_made s.board s.groups.items
-    s.scratch s.all_settled c.args.self.now c.args.node row
+    s.all_settled c.args.self.now c.args.node row
     c.self.invariant c.self.view_is c.requires.size c.requires.node c.index-row.ensures
     c.tell.ensures.liars 0 shut refl lies told tells tells_too
 
@@ -35,7 +35,7 @@ returns-then-open-eq0-clause-enough c = λ lies told tells tells_too same.
     subst (λ gs. AreShut s.board row c.args.node gs n) c.deref.ensures.value
     c.open_levels-open.ensures.shut in
     none_heeded s.version s.base s.levels.items s.rows.items s.is_made s.board s.groups.items
-    s.scratch s.all_settled c.args.self.now c.args.node row
+    s.all_settled c.args.self.now c.args.node row
     c.self.invariant c.self.view_is c.requires.size c.requires.node c.index-row.ensures
     c.tell.ensures.liars n shut c.if-open-eq0.true lies told tells tells_too
 
@@ -48,7 +48,7 @@ index-requires-2 c =
     omega (arith, c.open_levels-open.ensures.within, c.len.ensures, row.places.ok.0) in
     let some : 0 < n = omega (arith, c.if-open-eq0.false) in
     let fits = place_fits s.version s.base s.levels.items s.rows.items s.is_made s.board
-    s.groups.items s.scratch s.all_settled c.args.self.now c.args.node row
+    s.groups.items s.all_settled c.args.self.now c.args.node row
     c.self.invariant c.self.view_is c.requires.size c.requires.node c.index-row.ensures
     n order (c.open_levels-open.ensures.lowest some) some c.index.result.now c.index.ensures in
     omega (arith, fits, c.deref.ensures.len, s.groups.ok.0)
@@ -62,7 +62,7 @@ liars-requires c =
     omega (arith, c.open_levels-open.ensures.within, c.len.ensures, row.places.ok.0) in
     let some : 0 < n = omega (arith, c.if-open-eq0.false) in
     group_fits s.version s.base s.levels.items s.rows.items s.is_made s.board s.groups.items
-    s.scratch s.all_settled c.args.self.now c.args.node row
+    s.all_settled c.args.self.now c.args.node row
     c.self.invariant c.self.view_is c.requires.size c.requires.node c.index-row.ensures
     n order (c.open_levels-open.ensures.lowest some) some c.index.result.now c.index.ensures
     c.index-2.result.now c.index-2.ensures
@@ -76,7 +76,7 @@ returns-clause-range c =
     omega (arith, c.open_levels-open.ensures.within, c.len.ensures, row.places.ok.0) in
     let some : 0 < n = omega (arith, c.if-open-eq0.false) in
     stretch_fits s.version s.base s.levels.items s.rows.items s.is_made s.board s.groups.items
-    s.scratch s.all_settled c.args.self.now c.args.node row
+    s.all_settled c.args.self.now c.args.node row
     c.self.invariant c.self.view_is c.requires.size c.requires.node c.index-row.ensures
     n order (c.open_levels-open.ensures.lowest some) some c.index.result.now c.index.ensures
     c.index-2.result.now c.index-2.ensures
@@ -95,7 +95,7 @@ returns-clause-enough c =
     subst (λ gs. AreShut s.board row c.args.node gs n) c.deref.ensures.value
     c.open_levels-open.ensures.shut in
     some_heeded s.version s.base s.levels.items s.rows.items s.is_made s.board s.groups.items
-    s.scratch s.all_settled c.args.self.now c.args.node row
+    s.all_settled c.args.self.now c.args.node row
     c.self.invariant c.self.view_is c.requires.size c.requires.node c.index-row.ensures
     n order (c.open_levels-open.ensures.lowest some) some c.index.result.now c.index.ensures
     c.index-2.result.now c.index-2.ensures

@@ -110,7 +110,7 @@ invariant_of-self g c =
     let long : length new ≡ inside.groups.len = ap length c.write_registers.ensures.same
     ∙ c.deref_mut.ensures.len in
     let kept : IsShared inside.version inside.base inside.levels.items inside.rows.items
-    inside.is_made inside.board inside.groups.items inside.scratch
+    inside.is_made inside.board inside.groups.items
     inside.all_settled = record {
       accepted = i.accepted;
       numbers = i.numbers;
@@ -119,13 +119,12 @@ invariant_of-self g c =
       depth = i.depth;
       keys = i.keys;
       ready = i.ready;
-      room = i.room;
       stand = i.stand;
       range = i.range;
       settled = i.settled;
     } in
     subst (λ gs. IsShared inside.version inside.base inside.levels.items inside.rows.items
-    inside.is_made inside.board gs inside.scratch inside.all_settled)
+    inside.is_made inside.board gs inside.all_settled)
     (sym (with_items_is inside.groups new long ∙ same)) kept
 
 pub returns-clause-out : goal.returns-clause-out

@@ -78,7 +78,7 @@ invariant_of-self g c =
     (subst (λ (p : Plan). All (IsInRange p) c.args.config.now.current)
     (sym plan_is) c.requires.range)) in
     let kept : IsShared inside.version inside.base inside.levels.items inside.rows.items true board
-    new c.gather_groups-all_settled.new.scratch c.gather_groups-all_settled.result = record {
+    new c.gather_groups-all_settled.result = record {
       accepted = i.accepted;
       numbers = i.numbers;
       are_rows = i.are_rows;
@@ -86,13 +86,12 @@ invariant_of-self g c =
       depth = depth;
       keys = keys;
       ready = c.gather_groups-all_settled.ensures.ready;
-      room = omega (arith, c.gather_groups-all_settled.ensures.capacity, i.room);
       stand = λ made. c.gather_groups-all_settled.ensures.stand;
       range = λ made. range;
       settled = c.gather_groups-all_settled.ensures.settled;
     } in
     subst (λ gs. IsShared inside.version inside.base inside.levels.items inside.rows.items true
-    board gs c.gather_groups-all_settled.new.scratch c.gather_groups-all_settled.result)
+    board gs c.gather_groups-all_settled.result)
     (sym (with_items_is inside.groups new long)) kept
 
 pub returns-clause-cost : goal.returns-clause-cost
