@@ -7,6 +7,7 @@ use Rattle.plan_numbers.specs.declared.numbers.LevelNums.{LevelNums}
 use Rattle.plan_numbers.specs.Numbers.{level_of, levels_in}
 use Rattle.plan_numbers.specs.Sizes.{IsSizedLevel, block_nodes}
 use Rattle.plan_numbers.specs.Stacked.{AreSomeLevels}
+use Rattle.plan_numbers.proofs.Accepted.{accepted_sized, accepted_depth}
 use Rattle.plan_numbers.proofs.Stacking.{top_is, levels_in_push, length-levels_in}
 use Rattle.shared_board.specs.Groups.{group_count, index_at}
 use Rattle.shared_board.proofs.Places.{index_other}
@@ -16,6 +17,19 @@ pub before_less : (place n c : ℕ) → c < n → place / n * c + place % n ≤ 
 before_less place n c less =
     let product = mul-le (place / n) c (place / n) n (omega arith) (omega arith) in
     omega (arith, div-add-mod' place n, product)
+
+-- levels have at most 256 nodes, and are few
+pub most_nodes : (levels : List LevelNums) → AreSomeLevels levels
+    → nodes_of (levels_in levels) ≤ 256
+most_nodes levels (base, are) =
+    (accepted_sized base (levels_in levels) are.accepted).most
+
+pub few_levels : (levels : List LevelNums) → AreSomeLevels levels → length levels ≤ 5
+few_levels levels (base, are) = omega (
+  arith,
+  accepted_depth base (levels_in levels) are.accepted,
+  length-levels_in levels,
+)
 
 module _ (xs items : List LevelNums) (top : LevelNums) (e : xs ≡ items ++ top ∷ [])
     (are : AreSomeLevels xs) where

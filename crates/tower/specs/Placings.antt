@@ -28,6 +28,12 @@ key_of placed = record {
 abbrev pub IsReady : Placing → Type 0
 IsReady placed = HasRoom placed.group
 
+-- it has the room that it needs, and the board has its level and its nodes
+pub record Fits (board : Board) (placed : Placing) : Type 0 where
+  pub ready : IsReady placed
+  pub height : placed.height < board.depth
+  pub within : placed.group.first + placed.group.nums.nodes ≤ length board.states
+
 -- how many correct nodes it has
 abbrev pub cost_of : Board → Placing → ℕ
 cost_of board placed =

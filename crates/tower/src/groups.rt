@@ -11,7 +11,7 @@ ghost use Rattle.shared_board.specs.Boards.{Board, sent_of};
 ghost use Rattle.shared_board.specs.Groups.{groups_of};
 ghost use Rattle.shared_board.specs.Sharing.{place_among};
 ghost use Rattle.tower.specs.Heeding.{Holds, IsShut, LeadsIn, AreShut};
-ghost use Rattle.tower.specs.Placings.{key_of, cost_of, IsReady, CanStep, Leads, register_by, row_register};
+ghost use Rattle.tower.specs.Placings.{key_of, cost_of, IsReady, Fits, CanStep, Leads, register_by, row_register};
 ghost use Rattle.tower.specs.Sharing.{AllStand};
 
 use crate::rows::Row;
@@ -60,10 +60,7 @@ impl Placed {
     /// Counts what it has of a board. The answer is whether all its registers are locked at one
     /// value.
     fn gather<G: Ledger>(&mut self, board: &Board, steps: &mut Steps<G>) -> bool
-        requires ready { IsReady self.old }
-        requires height { self.old.height < board.now.depth }
-        requires within { self.old.group.first + self.old.group.nums.nodes
-            ≤ length board.now.states }
+        requires { Fits board.now self.old }
         ensures stands { Stands (sent_of board.now self.new.height) self.new.group }
         ensures same_height { self.new.height ≡ self.old.height }
         ensures same_nums { self.new.group.nums ≡ self.old.group.nums }
@@ -178,12 +175,8 @@ pub(crate) fn gather_groups<G: Ledger>(
     groups: &mut [Placed],
     steps: &mut Steps<G>,
 ) -> bool
-    requires ready { All IsReady groups.old }
-    requires heights { All (λ p. p.height < board.now.depth) groups.old }
-    requires within { All (λ p. p.group.first + p.group.nums.nodes ≤ length board.now.states)
-        groups.old }
+    requires { All (Fits board.now) groups.old }
     ensures keys { map key_of groups.new ≡ map key_of groups.old }
-    ensures ready { All IsReady groups.new }
     ensures stand { AllStand board.now groups.new }
     ensures steps { steps.new ≤ steps.old + 3 * sum_by (cost_of board.now) groups.old }
     ensures settled { result ≡ true → All (λ p. p.group.is_settled ≡ true) groups.new }

@@ -6,6 +6,7 @@ ghost use Rattle.plan_numbers.specs.Stacked.{AreSomeLevels};
 ghost use Rattle.shared_board.specs.Groups.{group_count, index_at};
 ghost use Rattle.tower.specs.Rows.{IsRow, AreRows};
 
+use crate::steps::nodes_over;
 use plan_numbers::{LevelNums, low_in};
 use std::alloc::Global;
 use sync_types::NoMemory;
@@ -34,7 +35,6 @@ fn group_count(levels: &[LevelNums]) -> usize
 fn group_index(levels: &[LevelNums], place: u32, height: usize) -> usize
     requires levels { AreSomeLevels levels.now }
     requires place { place < 256 }
-    requires shallow { length levels.now ≤ 256 }
     ensures index { result ≡ index_at (levels_in levels.now) place height }
     ensures small { result ≤ length levels.now + place }
 {
@@ -53,7 +53,6 @@ fn group_index(levels: &[LevelNums], place: u32, height: usize) -> usize
 fn row_of(alloc: Global, levels: &[LevelNums], node: u32) -> Result<Row, NoMemory>
     requires levels { AreSomeLevels levels.now }
     requires node { node < 256 }
-    requires shallow { length levels.now ≤ 256 }
     ensures { IfOk result (IsRow (levels_in levels.now) node) }
 {
     let mut places = Vec::with_capacity(alloc, levels.len())?;
@@ -66,13 +65,13 @@ fn row_of(alloc: Global, levels: &[LevelNums], node: u32) -> Result<Row, NoMemor
     })
 }
 
-/// The rows of so many nodes.
-pub(crate) fn rows_of(alloc: Global, levels: &[LevelNums], nodes: u32) -> Result<Vec<Row>, NoMemory>
-    requires levels { AreSomeLevels levels.now }
-    requires nodes { nodes ≤ 256 }
-    requires shallow { length levels.now ≤ 256 }
-    ensures { IfOk result (λ rows. AreRows (levels_in levels.now) nodes rows.items) }
+/// The rows of the nodes of these levels.
+pub(crate) fn rows_of(alloc: Global, levels: &[LevelNums]) -> Result<Vec<Row>, NoMemory>
+    requires { AreSomeLevels levels.now }
+    ensures { IfOk result
+        (λ rows. AreRows (levels_in levels.now) (nodes_of (levels_in levels.now)) rows.items) }
 {
+    let nodes = nodes_over(levels);
     let mut rows = Vec::with_capacity(alloc, nodes as usize)?;
     for node in 0..nodes {
         rows.push(row_of(alloc, levels, node)?).unwrap();

@@ -46,7 +46,7 @@ impl Tower {
             version: self.version,
             base: self.base,
             levels,
-            rows: rows_of(alloc, &self.levels, nodes)?,
+            rows: rows_of(alloc, &self.levels)?,
             is_made: false,
             board: Board::new(alloc, nodes as usize, self.levels.len())?,
             groups,

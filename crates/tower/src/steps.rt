@@ -13,7 +13,7 @@ use plan_numbers::LevelNums;
 use sync_types::NodeState;
 
 /// How many nodes a group of these levels has, the lowest of which stands first.
-fn nodes_over(levels: &[LevelNums]) -> u32
+pub(crate) fn nodes_over(levels: &[LevelNums]) -> u32
     requires { AreSomeLevels levels.now }
     ensures { result ≡ nodes_of (levels_in levels.now) }
 {

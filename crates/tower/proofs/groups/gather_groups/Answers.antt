@@ -13,7 +13,7 @@ use Rattle.group_votes.specs.Groups.{Stands}
 use Rattle.shared_board.specs.Sharing.{honest_in}
 use Rattle.shared_board.specs.Boards.{Board, sent_of}
 use Rattle.tower.specs.Placings.{Placing}
-use Rattle.tower.specs.Placings.{key_of, cost_of, IsReady}
+use Rattle.tower.specs.Placings.{key_of, cost_of, Fits}
 use Rattle.tower.proofs.groups.gather_groups.Goals as goal
 
 pub loop-g-preserved : goal.loop-g-preserved
@@ -42,8 +42,7 @@ loop-g-preserved g c =
     let one = sum_by-cons (cost_of board) (get_or first at d) [] in
     let height = e.same_height in
     let nodes = ap (λ (m : LevelNums). m.nodes) e.same_nums in
-    let old_height = i.heights at d less in
-    let old_within = i.within at d less in
+    let old_fits : Fits board old = i.fits at d less in
     let key : key_of new ≡ key_of old =
     ap (λ (m : LevelNums).
     record {
@@ -71,11 +70,13 @@ loop-g-preserved g c =
       keys = map-set_same key_of gs at new d key ∙ i.keys;
       costs = map-set_same (cost_of board) gs at new d cost ∙ i.costs;
       size = length-set gs at new ∙ i.size;
-      ready = All-set IsReady gs at new e.stands.room i.ready;
-      heights = All-set (λ p. p.height < board.depth) gs at new
-          (omega (arith, height, old_height)) i.heights;
-      within = All-set (λ p. p.group.first + p.group.nums.nodes ≤ length board.states) gs at new
-          (omega (arith, e.same_first, nodes, old_within)) i.within;
+      fits = All-set (Fits board) gs at new
+          (record {
+            ready = e.stands.room;
+            height = omega (arith, height, old_fits.height);
+            within = omega (arith, e.same_first, nodes, old_fits.within);
+          })
+          i.fits;
       stand = λ j none lt. ⊎_elim
           (λ earlier. subst Stands
           (sym (get_or-set_other gs at j new none (λ (same : j ≡ at). omega arith)))

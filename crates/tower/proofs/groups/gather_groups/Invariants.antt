@@ -3,7 +3,7 @@ use Rattle.std.specs.List.{sum_by}
 use Rattle.group_votes.specs.Groups.{Stands}
 use Rattle.shared_board.specs.Boards.{sent_of}
 use Rattle.tower.specs.Placings.{Placing}
-use Rattle.tower.specs.Placings.{key_of, cost_of, IsReady}
+use Rattle.tower.specs.Placings.{key_of, cost_of, Fits}
 use Rattle.tower.proofs.groups.gather_groups.Given as goal
 
 abbrev pub invariant-loop-g : goal.invariant-loop-g
@@ -11,9 +11,7 @@ invariant-loop-g g l = record {
   keys : map key_of l.groups ≡ map key_of l.initial.groups;
   costs : map (cost_of l.board) l.groups ≡ map (cost_of l.board) l.initial.groups;
   size : length l.groups ≡ length l.initial.groups;
-  ready : All IsReady l.groups;
-  heights : All (λ p. p.height < l.board.depth) l.groups;
-  within : All (λ p. p.group.first + p.group.nums.nodes ≤ length l.board.states) l.groups;
+  fits : All (Fits l.board) l.groups;
   stand : (i : ℕ) (none : Placing) → i < l.g
       → Stands (sent_of l.board (get_or l.groups i none).height) (get_or l.groups i none).group;
   settled : l.all_settled ≡ true → (i : ℕ) (none : Placing) → i < l.g

@@ -1,5 +1,5 @@
 use Rattle.std.proofs.Common.{ℕ, ◌<◌, arith}
-use Rattle.tower.proofs.Indices.{before_less, sized, block_is, index_step}
+use Rattle.tower.proofs.Indices.{few_levels, before_less, sized, block_is, index_step}
 use Rattle.tower.proofs.rows.+group_index.Goals as goal
 
 pub block_nodes-n-requires : goal.block_nodes-n-requires
@@ -37,7 +37,7 @@ overflow_add-result-2 t c =
       before_less c.args.place n c.group_count.result less,
       c.group_index.ensures.small,
       c.requires.place,
-      c.requires.shallow,
+      few_levels c.args.levels.now c.requires.levels,
       c.in-Some.ensures.cases.1,
     )
 

@@ -7,15 +7,16 @@ use Rattle.plan_numbers.specs.Numbers.{levels_in}
 use Rattle.plan_laws.specs.PlanMeaning.{IsInRange}
 use Rattle.shared_board.specs.Sharing.{Shares}
 use Rattle.shared_board.specs.Boards.{Board, AreLiars}
-use Rattle.tower.specs.Placings.{Placing, key_of, cost_of}
+use Rattle.tower.specs.Placings.{Placing, key_of, cost_of, Fits}
 use Rattle.tower.specs.Sharing.{IsShared, plan_of}
 use Rattle.tower.proofs.Stepped.{groups_fit, groups_low}
 use Rattle.tower.proofs.Taken.{cut_range, all_cost}
 use Rattle.tower.proofs.shared.Shared.take.Goals as goal
 
-pub gather_groups-all_settled-requires-clause-heights : goal.gather_groups-all_settled-requires-clause-heights
-gather_groups-all_settled-requires-clause-heights g c =
+pub gather_groups-all_settled-requires : goal.gather_groups-all_settled-requires
+gather_groups-all_settled-requires g c =
     let inside = c.self.inside in
+    let i = c.self.invariant in
     let levels : List Level = levels_in inside.levels.items in
     let board : Board = c.take.new.self in
     let nodes = ap (λ (s : Shares). plan_nodes s.plan) c.self.view_is in
@@ -24,27 +25,15 @@ gather_groups-all_settled-requires-clause-heights g c =
     ∙ (length-map c.args.config.now.current (cut inside.board.depth)
     ∙ (c.requires.size ∙ sym nodes)) in
     let depth : board.depth ≡ length levels = ap (λ (b : Board). b.depth) c.take.ensures
-    ∙ c.self.invariant.depth in
-    subst (All (λ (p : Placing). p.height < board.depth)) (sym c.deref_mut.ensures.value)
-    (groups_low levels board inside.groups.items size depth c.self.invariant.keys
-    c.self.invariant.ready)
-
-pub gather_groups-all_settled-requires-clause-within : goal.gather_groups-all_settled-requires-clause-within
-gather_groups-all_settled-requires-clause-within g c =
-    let inside = c.self.inside in
-    let levels : List Level = levels_in inside.levels.items in
-    let board : Board = c.take.new.self in
-    let nodes = ap (λ (s : Shares). plan_nodes s.plan) c.self.view_is in
-    let size : length board.states ≡ nodes_of levels =
-    ap (λ (b : Board). length b.states) c.take.ensures
-    ∙ (length-map c.args.config.now.current (cut inside.board.depth)
-    ∙ (c.requires.size ∙ sym nodes)) in
-    let depth : board.depth ≡ length levels = ap (λ (b : Board). b.depth) c.take.ensures
-    ∙ c.self.invariant.depth in
-    subst (All (λ (p : Placing). p.group.first + p.group.nums.nodes ≤ length board.states))
-    (sym c.deref_mut.ensures.value)
-    (groups_fit levels board inside.groups.items size depth c.self.invariant.keys
-    c.self.invariant.ready)
+    ∙ i.depth in
+    let low = groups_low levels board inside.groups.items size depth i.keys i.ready in
+    let fit = groups_fit levels board inside.groups.items size depth i.keys i.ready in
+    subst (All (Fits board)) (sym c.deref_mut.ensures.value)
+    (λ k none lt. record {
+      ready = i.ready k none lt;
+      height = low k none lt;
+      within = fit k none lt;
+    })
 
 pub invariant_of-self : goal.invariant_of-self
 invariant_of-self g c =
@@ -85,7 +74,8 @@ invariant_of-self g c =
       size = size;
       depth = depth;
       keys = keys;
-      ready = c.gather_groups-all_settled.ensures.ready;
+      ready = λ k none lt. let stands = c.gather_groups-all_settled.ensures.stand k none lt in
+          stands.room;
       stand = λ made. c.gather_groups-all_settled.ensures.stand;
       range = λ made. range;
       settled = c.gather_groups-all_settled.ensures.settled;
