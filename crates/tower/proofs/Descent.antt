@@ -1,6 +1,6 @@
 -- The step of a group, as the code comes by it: the register at the group's level, and below that
 -- the step in a block, or nothing where the node is a spare.
-use Rattle.std.proofs.Common.{◌≡◌, ℕ, ◌+◌, ◌*◌, ◌/◌, ◌%◌, ◌<◌, ◌≤◌, ◌^◌, Bool, true, false, cond, ltb, List, [], ◌∷◌, ◌++◌, IfSome, All, length, set, refl, sym, ap, ap₂, ◌∙◌, subst, arith}
+use Rattle.std.proofs.Common.{◌≡◌, ℕ, ◌+◌, ◌-◌, ◌*◌, ◌/◌, ◌%◌, ◌<◌, ◌≤◌, ◌^◌, Bool, true, false, cond, ltb, List, [], ◌∷◌, ◌++◌, IfSome, All, length, map, take, set, refl, sym, ap, ap₂, ◌∙◌, subst, arith}
 use Rattle.std.proofs.Math.Nat.{mod-lt}
 use Rattle.std.proofs.lemmas.Nat.{div_below}
 use Rattle.std.proofs.lemmas.Bool.{lt-ltb, le-ltb}
@@ -10,7 +10,8 @@ use Rattle.sync_types.specs.declared.states.Reg.{Reg}
 use Rattle.sync_types.specs.States.{State, zero_state, zero_register, register_at}
 use Rattle.construction.specs.Plans.{Level, group_size, nodes_of}
 use Rattle.construction.specs.Votes.{block}
-use Rattle.construction.specs.Steps.{new_register, with_register, step_in}
+use Rattle.construction.specs.Shown.{shown}
+use Rattle.construction.specs.Steps.{state_of, register_after, new_register, with_register, step_in}
 use Rattle.construction.proofs.Blocks.{block_some, length-block}
 use Rattle.construction.proofs.Ranges.{length-step_in}
 use Rattle.plan_numbers.specs.declared.numbers.LevelNums.{LevelNums}
@@ -21,7 +22,7 @@ use Rattle.plan_numbers.specs.Stacked.{AreLevels}
 use Rattle.plan_numbers.proofs.Accepted.{accepted_sized}
 use Rattle.plan_numbers.proofs.Stacking.{levels_in_push, length-levels_in, parts, top_is}
 use Rattle.counter_core.specs.Meanings.{written}
-use Rattle.boost_step.specs.Numbers.{AreNumbers}
+use Rattle.boost_step.specs.Numbers.{AreNumbers, in_blocks}
 use Rattle.boost_step.proofs.Stepping.{register_written}
 use Rattle.plan_laws.specs.PlanMeaning.{InRange, IsWithin}
 
@@ -99,6 +100,21 @@ module _ (base : ℕ) (xs items : List LevelNums) (top : LevelNums) (e : xs ≡ 
 
   abbrev top_register : (place : ℕ) → (group : List State) → Reg
   top_register place group = new_register depth size (level_of top) place group
+
+  -- it is the one that is counted from what the nodes of the blocks show
+  pub top_register_is : (place : ℕ) (group : List State) (items : List ℕ) (r : Reg)
+      → take (top.nodes - top.spares) items
+      ≡ map (shown depth) (take (top.nodes - top.spares) group)
+      → r ≡ register_after size (level_of top) (register_at depth (state_of group place))
+      (take (in_blocks top) items) (map (λ s. (register_at depth s).a) group)
+      → r ≡ top_register place group
+  top_register_is place group items r outputs is =
+      let whole = top_sized.whole in
+      let same : top.nodes - top.spares ≡ in_blocks top = omega (arith, whole) in
+      is
+      ∙ ap (λ (os : List ℕ). register_after size (level_of top)
+      (register_at depth (state_of group place)) os (map (λ s. (register_at depth s).a) group))
+      (subst (λ (k : ℕ). take k items ≡ map (shown depth) (take k group)) same outputs)
 
   step_by : (place : ℕ) (group : List State) → step_in base (levels_in xs) place group
       ≡ with_register (below_top (ltb place (top.blocks * size)) place group)

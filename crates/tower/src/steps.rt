@@ -1,13 +1,14 @@
-ghost use Rattle.std.specs.Prelude.{◌≡◌, ◌≤◌, ◌<◌, ◌^◌, length, All};
+ghost use Rattle.std.specs.Prelude.{◌≡◌, ◌≤◌, ◌<◌, length};
 ghost use Rattle.construction.specs.Plans.{nodes_of};
 ghost use Rattle.construction.specs.Steps.{step_in};
 ghost use Rattle.plan_numbers.specs.Numbers.{levels_in};
 ghost use Rattle.plan_numbers.specs.Stacked.{AreLevels, AreSomeLevels};
 ghost use Rattle.counter_core.specs.Meanings.{written};
 ghost use Rattle.counter_core.specs.Working.{IsFor, IsAsRoomy};
-ghost use Rattle.plan_laws.specs.PlanMeaning.{IsWithin};
+ghost use Rattle.tower.specs.GroupStates.{AreGroupStates};
 
-use crate::registers::new_register;
+use crate::registers::set_outputs;
+use boost_step::level_step;
 use counter_core::{Heard, Work, clear};
 use plan_numbers::LevelNums;
 use sync_types::NodeState;
@@ -34,13 +35,9 @@ pub(crate) fn step_in(
     work: &mut Work,
     out: &mut NodeState,
 )
-    requires least { 2 ≤ base }
-    requires most { base ≤ 2 ^ 40 }
     requires levels { AreLevels base levels.now }
     requires place { place < nodes_of (levels_in levels.now) }
-    requires group { length group.now ≡ nodes_of (levels_in levels.now) }
-    requires range { All (IsWithin base (levels_in levels.now)) group.now }
-    requires deep { All (λ s. length levels.now ≤ length s.registers) group.now }
+    requires group { AreGroupStates base (levels_in levels.now) group.now }
     requires work { IsFor (length group.now) work.old }
     requires out { length levels.now ≤ length out.old.registers }
     ensures work { IsAsRoomy work.old work.new }
@@ -52,7 +49,8 @@ pub(crate) fn step_in(
         out.set_x((own + 1) % base);
         return;
     };
-    let register = new_register(nums, below.len(), place, group, work);
+    set_outputs(below.len(), nums.nodes - nums.spares, group, work);
+    let register = level_step(nums, place, group, below.len(), work);
     let n = nodes_over(below);
     if place < nums.blocks * n {
         let block = group.block(place / n, n);

@@ -1,4 +1,4 @@
-use Rattle.std.proofs.Common.{◌≡◌, subst, ℕ, All, ◌+◌, ◌*◌, ◌/◌, ◌%◌, ◌<◌, ◌≤◌, length, ap, sym, ◌∙◌, arith}
+use Rattle.std.proofs.Common.{Vec, ◌≡◌, subst, ℕ, All, ◌+◌, ◌*◌, ◌/◌, ◌%◌, ◌<◌, ◌≤◌, length, ap, sym, ◌∙◌, arith}
 use Rattle.std.proofs.Math.Nat.{mul-le-mul_right}
 use Rattle.std.proofs.lemmas.Nat.{div_below}
 use Rattle.std.proofs.lemmas.List.{length-replicate}
@@ -14,17 +14,17 @@ use Rattle.counter_core.specs.Meanings.{written}
 use Rattle.counter_core.specs.Working.{IsFor}
 use Rattle.boost_step.proofs.Stepping.{length_written}
 use Rattle.plan_laws.specs.PlanMeaning.{IsWithin}
-use Rattle.tower.proofs.Descent.{below_levels, top_numbers, top_sized, group_nodes, top_range, below_range, size_is, place_below, block_size, block_written, spare_written}
+use Rattle.tower.proofs.Descent.{below_levels, top_numbers, top_sized, group_nodes, top_range, below_range, size_is, place_below, top_register_is, block_size, block_written, spare_written}
 use Rattle.tower.proofs.steps.+step_in.Goals as goal
 use Rattle.tower.proofs.steps.+step_in.Goals.{then-place-nums, else-place-nums}
 
-pub new_register-register-requires-clause-numbers : goal.new_register-register-requires-clause-numbers
-new_register-register-requires-clause-numbers t c =
+pub level_step-register-requires-clause-numbers : goal.level_step-register-requires-clause-numbers
+level_step-register-requires-clause-numbers t c =
     top_numbers _ _ _ _ c.in-Some.ensures.cases.0 c.requires.levels
 
-pub new_register-register-requires-clause-range : goal.new_register-register-requires-clause-range
-new_register-register-requires-clause-range t c =
-    top_range _ _ _ _ c.in-Some.ensures.cases.0 c.requires.levels c.args.group.now c.requires.range
+pub level_step-register-requires-clause-range : goal.level_step-register-requires-clause-range
+level_step-register-requires-clause-range t c =
+    top_range _ _ _ _ c.in-Some.ensures.cases.0 c.requires.levels c.args.group.now c.requires.group.range
 
 pub nodes_over-n-requires : goal.nodes_over-n-requires
 nodes_over-n-requires t c =
@@ -53,7 +53,7 @@ block-block-requires t c =
     let among = div_below place n nums.blocks (block_some nums.blocks n place lt) lt in
     let fits : (place / n + 1) * n ≤ nums.blocks * n = mul-le-mul_right n (omega (arith, among)) in
     let product = ap (λ (m : ℕ). nums.blocks * m) same in
-    let whole = c.requires.group ∙ group_nodes _ _ _ _ e are in
+    let whole = c.requires.group.size ∙ group_nodes _ _ _ _ e are in
     omega (arith, fits, product, sized.whole, whole)
 
 -- that the list falls, and the clauses in their order
@@ -71,25 +71,28 @@ step_in-requires t c =
     let mine = c.block-block.ensures in
     let fewer : length below ≤ length c.args.levels.now =
     omega (arith, c.in-Some.ensures.cases.1) in
-    let size = c.requires.group ∙ group_nodes _ _ _ _ e are in
+    let size = c.requires.group.size ∙ group_nodes _ _ _ _ e are in
     let less : length own ≤ length group =
     omega (arith, ap length mine, length-block-most n (place / n) group) in
     let InBelow : State → Type 0 = IsWithin c.args.base (levels_in below) in
-    let HasBelow : State → Type 0 = λ s. length below ≤ length s.registers in
-    let within : All InBelow group = below_range _ _ _ _ e are group c.requires.range in
+    let HasBelow : State → Type 0 = λ s. length (levels_in below) ≤ length s.registers in
+    let within : All InBelow group = below_range _ _ _ _ e are group c.requires.group.range in
     let deep : All HasBelow group =
-    All-weaker (λ (s : State). length c.args.levels.now ≤ length s.registers) HasBelow
-    (λ s h. omega arith) group c.requires.deep in
+    All-weaker (λ (s : State). length (levels_in c.args.levels.now) ≤ length s.registers) HasBelow
+    (λ s h. omega (arith, h, fewer, length-levels_in below, length-levels_in c.args.levels.now))
+    group c.requires.group.deep in
     let room = c.requires.work in
-    let roomy = c.new_register-register.ensures.work in
+    let set = c.set_outputs.ensures.work in
+    let kept = c.level_step-register.ensures.work in
+    let outputs = ap (λ (os : Vec ℕ _). length os.items) kept.outputs in
     let own_within = All-same InBelow own (block n (place / n) group) mine
     (All-block InBelow n (place / n) group within) in
     let own_deep = All-same HasBelow own (block n (place / n) group) mine
     (All-block HasBelow n (place / n) group deep) in
-    let for_work : IsFor (length own) c.new_register-register.new.work = record {
-      outputs = omega (arith, room.outputs, roomy.outputs, less);
-      values = omega (arith, room.values, roomy.values, less);
-      votes = omega (arith, room.votes, roomy.votes, less);
+    let for_work : IsFor (length own) c.level_step-register.new.work = record {
+      outputs = omega (arith, room.outputs, set.outputs, outputs, less);
+      values = omega (arith, room.values, set.values, kept.values, less);
+      votes = omega (arith, room.votes, set.votes, kept.votes, less);
     } in
     let falls : length below < t = omega (arith, c.decreases, c.in-Some.ensures.cases.1) in
     let stays = below_levels _ _ _ _ e are in
@@ -97,24 +100,12 @@ step_in-requires t c =
     let has = block_size _ _ _ _ e are place n group same lt size own mine in (
       falls,
       (
-        c.requires.least,
+        stays,
         (
-          c.requires.most,
+          stands,
           (
-            stays,
-            (
-              stands,
-              (
-                has,
-                (
-                  own_within,
-                  (
-                    own_deep,
-                    (for_work, omega (arith, c.requires.out, fewer)),
-                  ),
-                ),
-              ),
-            ),
+            record { size = has; range = own_within; deep = own_deep },
+            (for_work, omega (arith, c.requires.out, fewer)),
           ),
         ),
       ),
@@ -159,10 +150,12 @@ returns-clause-out t c =
       | then-place-nums w ↦
           block_written _ _ _ _ e are place _ group same w.if-place-nums.true out _ _ _ _
           w.block-block.ensures (omega arith) (w.out-is ∙ w.step_in.ensures.out)
-          c.new_register-register.ensures.register c.set_reg.ensures
+          (top_register_is _ _ _ _ e are place group _ _ c.set_outputs.ensures.outputs
+          c.level_step-register.ensures.register) c.set_reg.ensures
       | else-place-nums w ↦
           spare_written _ _ _ _ e are place _ group same out _ _ _ w.if-place-nums.false
           (omega arith)
-          (w.out-is ∙ w.clear.ensures) c.new_register-register.ensures.register
-          c.set_reg.ensures
+          (w.out-is ∙ w.clear.ensures)
+          (top_register_is _ _ _ _ e are place group _ _ c.set_outputs.ensures.outputs
+          c.level_step-register.ensures.register) c.set_reg.ensures
     ])
