@@ -1,21 +1,20 @@
-ghost use Rattle.std.specs.Prelude.{◌≡◌, ◌<◌, ◌≤◌, ◌+◌, ◌-◌, ◌*◌, ◌^◌, ℕ, List, length, All};
+ghost use Rattle.std.specs.Prelude.{◌≡◌, ◌<◌, ◌≤◌, ◌+◌, ◌*◌, ℕ, List, length, All};
 ghost use Rattle.sync_types.specs.States.{State};
 ghost use Rattle.construction.specs.Plans.{plan_nodes, plan_depth};
 ghost use Rattle.construction.specs.PhaseKing.{up};
 ghost use Rattle.construction.specs.Steps.{state_of, step_of};
 ghost use Rattle.counter_core.specs.Meanings.{written};
 ghost use Rattle.plan_laws.specs.PlanMeaning.{IsInRange};
-ghost use Rattle.shared_board.specs.Sharing.{heard_with, stands_for, Tells};
+ghost use Rattle.shared_board.specs.Sharing.{heard_with, Tells};
 
-use crate::groups::{Placed, gather_groups, open_levels, write_registers};
+use crate::groups::{Placed, open_levels, write_registers};
 use crate::rows::Row;
 use majority_votes::Steps;
 use plan_numbers::LevelNums;
 use shared_board::Board;
-use state_codec::Packed;
 use std::marker::Model;
 use std::sync::ledger::Ledger;
-use sync_types::{FaultSet, NodeState};
+use sync_types::NodeState;
 
 /// What all receivers of a round share: what is counted of the correct nodes of each group, for one
 /// configuration and faulty set. It is seen as what it stands for.
@@ -71,36 +70,13 @@ impl Model for Shared {
 
 /// The number after a number that is below the base.
 pub(crate) fn after(x: u64, base: u64) -> u64
-    requires below { x < base }
-    requires small { base ≤ 2 ^ 40 }
+    requires { x < base }
     ensures { result ≡ up base x }
 {
     if x + 1 == base { 0 } else { x + 1 }
 }
 
 impl Shared {
-    /// Stands for the current states of a configuration and a faulty set.
-    pub(crate) fn take<G: Ledger>(
-        &mut self,
-        config: &Packed,
-        faulty: &FaultSet,
-        steps: &mut Steps<G>,
-    )
-        requires size { length config.now.current ≡ plan_nodes self.old.plan }
-        requires deep { plan_depth self.old.plan ≤ length config.now.shape.moduli }
-        requires range { All (IsInRange self.old.plan) config.now.current }
-        requires ids { All (λ id. id < plan_nodes self.old.plan) faulty.now.ids }
-        ensures stands { self.new ≡ stands_for self.old.plan config.now.current faulty.now.ids }
-        ensures cost { steps.new ≤ steps.old
-            + 3 * plan_depth self.old.plan * (plan_nodes self.old.plan - length faulty.now.ids) }
-    {
-        faulty.tell();
-        self.board.take(config, faulty);
-        let all_settled = gather_groups(&self.board, &mut self.groups, steps);
-        self.all_settled = all_settled;
-        self.is_made = true;
-    }
-
     /// Writes the step of a node, by what it is told.
     pub(crate) fn step<G: Ledger>(
         &mut self,

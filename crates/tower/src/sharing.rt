@@ -7,7 +7,7 @@ ghost use Rattle.counter_core.specs.Meanings.{written};
 ghost use Rattle.plan_laws.specs.PlanMeaning.{IsInRange};
 ghost use Rattle.shared_board.specs.Sharing.{heard_with, stands_for, Tells};
 
-use crate::groups::{add_groups, gather_groups, write_registers};
+use crate::groups::{add_groups, gather_groups};
 use crate::rows::rows_of;
 use crate::shared::{Shared, after};
 use crate::towers::Tower;
@@ -81,7 +81,10 @@ impl Tower {
         ensures cost { steps.new ≤ steps.old
             + 3 * plan_depth self.now * (plan_nodes self.now - length faulty.now.ids) }
     {
-        shared.take(config, faulty, steps);
+        faulty.tell();
+        shared.board.take(config, faulty);
+        shared.all_settled = gather_groups(&shared.board, &mut shared.groups, steps);
+        shared.is_made = true;
     }
 
     /// The step of a node, by what the liars tell it: `lies` has a state of each, in the order of

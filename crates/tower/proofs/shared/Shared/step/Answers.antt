@@ -26,10 +26,6 @@ use Rattle.tower.proofs.Stepped.{place_less, can_step, step_is}
 use Rattle.tower.proofs.shared.Shared.step.Goals as goal
 use Rattle.tower.proofs.shared.Shared.step.Goals.{then-row-eq0, else-row-eq0}
 
-pub after-next-requires-clause-small : goal.after-next-requires-clause-small
-after-next-requires-clause-small g c =
-    (base_limits c.self.inside.base _ c.self.invariant.accepted.levels).1
-
 pub write_registers-requires-clause-leads : goal.write_registers-requires-clause-leads
 write_registers-requires-clause-leads g c = λ l lt has.
     let inside = c.self.inside in
