@@ -1,5 +1,5 @@
 -- A number that is read of all correct nodes of a stretch.
-use Rattle.std.proofs.Common.{◌≡◌, ℕ, zero, suc, ◌+◌, ◌*◌, ◌<◌, ◌≤◌, Bool, true, false, not, cond, nat_eq, List, [], ◌∷◌, map, length, Option, Some, refl, ap, ◌∙◌, arith}
+use Rattle.std.proofs.Common.{◌≡◌, ℕ, zero, suc, ◌+◌, ◌*◌, ◌<◌, ◌≤◌, Bool, true, false, not, cond, nat_eq, ◌∷◌, map, length, Option, Some, refl, ap, ◌∙◌, arith}
 use Rattle.std.specs.List.{filter, range_with_len}
 use Rattle.std.specs.Option.{option_eq}
 use Rattle.std.proofs.lemmas.Bool.{false≢true}
@@ -7,7 +7,7 @@ use Rattle.counting.specs.Values.{count_of}
 use Rattle.counting.specs.Unfinished.{MajorityStays}
 use Rattle.counting.proofs.Counts.{count_of-cons, value_itself}
 use Rattle.counting.proofs.Unfinished.{majority_stays}
-use Rattle.group_votes.specs.Senders.{Sent, is_liar, output_of, numbers_of, liars_in}
+use Rattle.group_votes.specs.Senders.{Sent, is_liar, output_of, numbers_of}
 
 not_true : (b : Bool) → not b ≡ true → b ≡ false
 not_true false e = refl

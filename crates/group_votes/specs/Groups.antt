@@ -1,5 +1,6 @@
 -- What is counted and known of a group of a level, from its first node on.
-use Rattle.std.specs.Prelude.{◌≡◌, ℕ, ◌+◌, ◌*◌, ◌%◌, ◌<◌, ◌≤◌, List, length, map, slice_index_or, Bool, true, false, All, IfSome, Option, Some, None}
+use Rattle.std.specs.Prelude.{◌≡◌, ℕ, ◌+◌, ◌*◌, ◌%◌, ◌<◌, ◌≤◌, List, length, map, slice_index_or}
+use Rattle.std.specs.Prelude.{Bool, true, false, All, IfSome, Option, Some, None}
 use Rattle.std.specs.List.{range_with_len}
 use Rattle.counting.specs.Values.{least_above}
 use Rattle.sync_types.specs.declared.states.Reg.{Reg}
@@ -12,7 +13,8 @@ use Rattle.phase_king.specs.Groups.{IsLockedGroup}
 use Rattle.plan_numbers.specs.declared.numbers.LevelNums.{LevelNums}
 use Rattle.plan_numbers.specs.Numbers.{level_of}
 use Rattle.plan_numbers.specs.Sizes.{block_nodes, IsSizedLevel}
-use Rattle.group_votes.specs.Senders.{Sent, is_liar, register_of, values_of, parts_of, outputs_heard, values_heard}
+use Rattle.group_votes.specs.Senders.{Sent, is_liar, register_of, values_of, parts_of}
+use Rattle.group_votes.specs.Senders.{outputs_heard, values_heard}
 use Rattle.group_votes.specs.Votes.{IsKnown, AreVotes, block_part, blocks_lead}
 use Rattle.group_votes.specs.declared.group.Group.{Group}
 

@@ -1,5 +1,6 @@
 -- The nodes of a plan as one of its levels sees them, and what is heard of them.
-use Rattle.std.specs.Prelude.{◌≡◌, ℕ, ◌+◌, ◌-◌, ◌≤◌, List, length, map, take, drop, slice_index_or, Bool, true, false, not, if◌then◌else◌, Option, Some}
+use Rattle.std.specs.Prelude.{◌≡◌, ℕ, ◌+◌, ◌-◌, ◌≤◌, List, length, map, take, drop, slice_index_or}
+use Rattle.std.specs.Prelude.{Bool, true, false, not, if◌then◌else◌, Option, Some}
 use Rattle.std.specs.List.{filter, range_with_len}
 use Rattle.counting.specs.Places.{places}
 use Rattle.sync_types.specs.declared.states.Reg.{Reg}

@@ -1,6 +1,7 @@
 -- The votes heard in stretches of nodes, and what of them is known whatever is told.
-use Rattle.std.specs.Prelude.{◌≡◌, ℕ, ◌+◌, ◌*◌, ◌/◌, ◌%◌, ◌<◌, ◌≤◌, List, length, map, slice_index_or, All, IfSome, Option, Some, None, is_some, unwrap_or}
-use Rattle.std.specs.List.{filter, range_with_len}
+use Rattle.std.specs.Prelude.{◌≡◌, ℕ, ◌+◌, ◌*◌, ◌/◌, ◌%◌, ◌<◌, ◌≤◌, List, length, map}
+use Rattle.std.specs.Prelude.{slice_index_or, All, IfSome, Option, Some, None, unwrap_or}
+use Rattle.std.specs.List.{range_with_len}
 use Rattle.counting.specs.Values.{majority_or_zero}
 use Rattle.sync_types.specs.States.{State}
 use Rattle.construction.specs.Pointers.{part_of}

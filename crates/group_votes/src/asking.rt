@@ -1,11 +1,14 @@
-ghost use Rattle.std.specs.Prelude.{◌≡◌, ◌+◌, ◌*◌, ◌<◌, ◌≤◌, ℕ, List, length, map, slice_index_or, IfSome, Some, true, false};
+ghost use Rattle.std.specs.Prelude.{◌≡◌, ◌+◌, ◌*◌, ◌<◌, ◌≤◌, ℕ, List, length, map, slice_index_or};
+ghost use Rattle.std.specs.Prelude.{IfSome, Some, true, false};
 ghost use Rattle.std.specs.List.{range_with_len};
 ghost use Rattle.counting.specs.Values.{count_of, majority_or_zero};
 ghost use Rattle.sync_types.specs.States.{State};
 ghost use Rattle.majority_votes.specs.Votes.{Votes};
 ghost use Rattle.group_votes.specs.Senders.{Sent, IsTold, TellsItself, liars_in, parts_of};
-ghost use Rattle.group_votes.specs.Votes.{AreAsked, AreVotes, HasRoomIn, HasVotesIn, block_part, block_vote, blocks_lead};
-ghost use Rattle.group_votes.specs.Groups.{contents, IsGroup, StandsFor, register_heard, AreBelow, AreLies, beat_of_lead};
+ghost use Rattle.group_votes.specs.Votes.{AreAsked, AreVotes, HasRoomIn, HasVotesIn, block_part};
+ghost use Rattle.group_votes.specs.Votes.{block_vote, blocks_lead};
+ghost use Rattle.group_votes.specs.Groups.{contents, IsGroup, StandsFor, register_heard, AreBelow};
+ghost use Rattle.group_votes.specs.Groups.{AreLies, beat_of_lead};
 
 use crate::group::Group;
 use crate::hearing::Hearing;

@@ -1,8 +1,10 @@
-ghost use Rattle.std.specs.Prelude.{◌≡◌, ◌+◌, ◌*◌, ◌%◌, ◌<◌, ◌≤◌, ℕ, max, length, slice_index_or, IfSome};
+ghost use Rattle.std.specs.Prelude.{◌≡◌, ◌+◌, ◌*◌, ◌%◌, ◌<◌, ◌≤◌, ℕ, max, length, slice_index_or};
+ghost use Rattle.std.specs.Prelude.{IfSome};
 ghost use Rattle.counting.specs.Values.{count_of, least_above};
 ghost use Rattle.majority_votes.specs.Votes.{Votes};
 ghost use Rattle.group_votes.specs.Senders.{correct_in, parts_of, values_of, values_heard};
-ghost use Rattle.group_votes.specs.Votes.{IsKnown, IsBeat, IsLead, AreVotes, AreAsked, HasVotesIn, HasRoomIn};
+ghost use Rattle.group_votes.specs.Votes.{IsKnown, IsBeat, IsLead, AreVotes, AreAsked, HasVotesIn};
+ghost use Rattle.group_votes.specs.Votes.{HasRoomIn};
 
 use crate::polls::Poll;
 use crate::readings::{Parts, Pointers};

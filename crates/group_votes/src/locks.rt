@@ -1,4 +1,5 @@
-ghost use Rattle.std.specs.Prelude.{◌≡◌, ◌+◌, ◌*◌, ◌<◌, ◌≤◌, ◌↔◌, ℕ, false, IsTrue, IfSome, Some, None, [], slice_index_or};
+ghost use Rattle.std.specs.Prelude.{◌≡◌, ◌+◌, ◌*◌, ◌<◌, ◌≤◌, ◌↔◌, ℕ, false, IsTrue, IfSome, Some};
+ghost use Rattle.std.specs.Prelude.{None, [], slice_index_or};
 ghost use Rattle.construction.specs.PhaseKing.{locked_at};
 ghost use Rattle.phase_king.specs.Groups.{IsLockedGroup};
 ghost use Rattle.group_votes.specs.Senders.{is_liar, register_of, correct_in, values_of};

@@ -1,5 +1,6 @@
 ghost use Rattle.std.specs.Prelude.{◌≡◌, ◌+◌, ◌<◌, ◌≤◌, ◌++◌, ◌↔◌, ℕ, false, length, IsTrue};
-ghost use Rattle.group_votes.specs.Senders.{is_liar, output_of, correct_in, liars_in, values_of, numbers_of};
+ghost use Rattle.group_votes.specs.Senders.{is_liar, output_of, correct_in, liars_in, values_of};
+ghost use Rattle.group_votes.specs.Senders.{numbers_of};
 ghost use Rattle.group_votes.specs.Votes.{known_number, IsMost};
 
 use crate::polls::Poll;

@@ -8,7 +8,6 @@ use Rattle.sync_types.specs.States.{State}
 use Rattle.construction.specs.Plans.{Plan, nodes_of, low_of, plan_nodes, plan_depth}
 use Rattle.construction.specs.Steps.{state_of, step_of}
 use Rattle.counter_core.specs.Meanings.{cut}
-use Rattle.majority_votes.specs.Votes.{Votes}
 use Rattle.plan_numbers.specs.declared.numbers.LevelNums.{LevelNums}
 use Rattle.plan_numbers.specs.Numbers.{levels_in}
 use Rattle.shared_board.specs.Sharing.{Shares, Tells, heard_with, place_among}

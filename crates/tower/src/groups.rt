@@ -1,17 +1,17 @@
-ghost use Rattle.std.specs.Prelude.{◌≡◌, ◌<◌, ◌≤◌, ◌+◌, ◌*◌, [], ◌∷◌, ◌++◌, ℕ, map, length, drop, true, false, All, IfOk, OnOk, List, slice_index_or, sum_by};
+ghost use Rattle.std.specs.Prelude.{◌≡◌, ◌<◌, ◌≤◌, ◌+◌, ◌*◌, [], ◌∷◌, ◌++◌, ℕ, map, length, drop};
+ghost use Rattle.std.specs.Prelude.{true, false, All, IfOk, OnOk, sum_by};
 ghost use Rattle.std.specs.List.{range_with_len};
-ghost use Rattle.sync_types.specs.States.{State};
 ghost use Rattle.construction.specs.Plans.{nodes_of};
 ghost use Rattle.plan_numbers.specs.Numbers.{level_of, levels_in};
 ghost use Rattle.plan_numbers.specs.Sizes.{block_nodes};
 ghost use Rattle.plan_numbers.specs.Stacked.{AreSomeLevels};
-ghost use Rattle.group_votes.specs.Senders.{IsTold};
 ghost use Rattle.group_votes.specs.Groups.{AreNumbers, Stands};
 ghost use Rattle.shared_board.specs.Boards.{Board, sent_of};
 ghost use Rattle.shared_board.specs.Groups.{groups_of};
 ghost use Rattle.shared_board.specs.Sharing.{place_among};
 ghost use Rattle.tower.specs.Heeding.{Holds, IsShut, LeadsIn, AreShut};
-ghost use Rattle.tower.specs.Placings.{key_of, cost_of, IsReady, Fits, CanStep, Leads, register_by, row_register};
+ghost use Rattle.tower.specs.Placings.{key_of, cost_of, IsReady, Fits, CanStep, Leads, register_by};
+ghost use Rattle.tower.specs.Placings.{row_register};
 ghost use Rattle.tower.specs.Sharing.{AllStand};
 
 use crate::rows::Row;

@@ -1,6 +1,5 @@
-ghost use Rattle.std.specs.Prelude.{◌≡◌, ◌<◌, ◌≤◌, ◌+◌, ℕ, map, length, All, IfOk};
-ghost use Rattle.std.specs.List.{range_with_len};
-ghost use Rattle.construction.specs.Plans.{nodes_of, low_of};
+ghost use Rattle.std.specs.Prelude.{◌≡◌, ◌<◌, ◌≤◌, ◌+◌, length, IfOk};
+ghost use Rattle.construction.specs.Plans.{nodes_of};
 ghost use Rattle.plan_numbers.specs.Numbers.{levels_in};
 ghost use Rattle.plan_numbers.specs.Stacked.{AreSomeLevels};
 ghost use Rattle.shared_board.specs.Groups.{group_count, index_at};

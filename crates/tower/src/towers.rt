@@ -1,10 +1,8 @@
-ghost use Rattle.std.specs.Prelude.{◌≡◌, ◌<◌, ◌≤◌, replicate, length, All, IfOk};
-ghost use Rattle.sync_types.specs.States.{register_at};
-ghost use Rattle.construction.specs.Plans.{plan_nodes, plan_depth};
-ghost use Rattle.construction.specs.Steps.{step_of};
+ghost use Rattle.std.specs.Prelude.{◌≡◌, ◌<◌, replicate, IfOk};
+ghost use Rattle.construction.specs.Plans.{plan_nodes};
 ghost use Rattle.construction.specs.Runs.{Settles};
 ghost use Rattle.plan_numbers.specs.Premises.{IsAccepted};
-ghost use Rattle.counter_core.specs.Working.{IsFor, IsAsRoomy};
+ghost use Rattle.counter_core.specs.Working.{IsFor};
 ghost use Rattle.plan_laws.specs.PlanMeaning.{plan_meaning, IsInRange};
 ghost use Rattle.plan_laws.proofs.PlanCounter.{plan_sizes, plan_stays, plan_ignores, plan_zero};
 ghost use Rattle.plan_laws.proofs.RunLaws.{plan_settles};

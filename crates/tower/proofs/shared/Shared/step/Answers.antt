@@ -20,7 +20,6 @@ use Rattle.tower.specs.declared.rows.Row.{Row}
 use Rattle.tower.specs.Rows.{IsRow}
 use Rattle.tower.specs.Placings.{Placing, Leads, row_register}
 use Rattle.tower.specs.Sharing.{IsShared, plan_of}
-use Rattle.tower.proofs.Descent.{base_limits}
 use Rattle.tower.proofs.Made.{is_made, made_states}
 use Rattle.tower.proofs.Stepped.{place_less, can_step, step_is}
 use Rattle.tower.proofs.shared.Shared.step.Goals as goal

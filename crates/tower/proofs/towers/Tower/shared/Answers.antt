@@ -1,4 +1,4 @@
-use Rattle.std.proofs.Common.{length, ap, arith}
+use Rattle.std.proofs.Common.{arith}
 use Rattle.plan_numbers.proofs.Stacking.{length-levels_in}
 use Rattle.plan_laws.proofs.PlanCounter.{plan_sizes}
 use Rattle.tower.proofs.towers.Tower.shared.Goals as goal

@@ -1,1 +1,0 @@
-use Rattle.tower.proofs.towers.TowerCounter.advance.Goals as goal
