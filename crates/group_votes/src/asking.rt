@@ -39,12 +39,13 @@ fn places_of(votes: &[u64], vote: u64) -> usize
     places
 }
 
-/// The vote that more than half of the votes are, 0 where there is none.
+/// The vote that more than half of the votes are, 0 where there is none. It stands among those that
+/// are left without half of them.
 fn most_of(votes: &[u64]) -> u64
     ensures { result ≡ majority_or_zero votes.now }
 {
     let half = votes.len() / 2;
-    for i in 0..votes.len() {
+    for i in 0..votes.len() - half {
         if half < places_of(votes, votes[i]) {
             return votes[i];
         }

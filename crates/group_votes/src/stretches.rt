@@ -135,6 +135,9 @@ impl Stretch<'_> {
         ensures steps { steps.new ≤ steps.old
             + length (correct_in self.now.senders.now self.now.first self.now.count) }
     {
+        if self.count == 1 && !self.senders.is_liar(self.first) {
+            return Some(reading.of(self.senders.output(self.first)));
+        }
         if self.liars() < self.count - self.count / 2
             && let Some(output) = self.first_output()
             && self.all_show(output)
