@@ -6,7 +6,7 @@ use Rattle.std.proofs.lemmas.Bool.{true≢false, eq-eqb}
 use Rattle.sync_types.specs.declared.answers.Rule.{Rule}
 use Rattle.sync_types.specs.declared.answers.Rule.TheVariants as rule
 use Rattle.sync_types.specs.States.{State}
-use Rattle.construction.specs.Plans.{Plan, plan_nodes, plan_faults}
+use Rattle.construction.specs.Plans.{Plan, plan_faults}
 use Rattle.state_codec.specs.Shapes.{Shape, fields_at}
 use Rattle.adversary_script.specs.declared.kinds.Kind.{Kind}
 use Rattle.adversary_script.specs.declared.kinds.Kind.TheVariants as kind
@@ -19,12 +19,12 @@ use Rattle.adversary_script.specs.Kinds.{may_follow}
 use Rattle.adversary_script.specs.LieWords.{LieSaid, lie_words}
 use Rattle.adversary_script.specs.WordTests.{numbers_in, only, both, is_name, are_below, is_rising, are_ids, is_crossed}
 use Rattle.texts.specs.Numbers.{number_of}
-use Rattle.adversary_script.specs.Scripts.{Era, Script, faulty_sets, empty_script}
-use Rattle.adversary_script.specs.FaultySteps.{faulty_tested, era_words, last_era, last_first, with_era, era_tested}
+use Rattle.adversary_script.specs.Scripts.{Era, Script, faulty_sets}
+use Rattle.adversary_script.specs.FaultySteps.{faulty_tested, era_words, last_era, last_first, era_tested}
 use Rattle.adversary_script.specs.StartSteps.{is_above, last_starts, started, with_start, start_tested, start_step}
 use Rattle.adversary_script.specs.LieSteps.{group_at, state_of_digits, who_of, what_of, with_lie, lie_tested}
 use Rattle.adversary_script.specs.Steps.{done, head_tested, key_of_digits, with_key, seed_tested, group_tested, group_step, rounds_tested, show_tested, line_step}
-use Rattle.adversary_script.specs.ScriptPart.{IsAnswer, script_of}
+use Rattle.adversary_script.specs.ScriptPart.{IsAnswer}
 use Rattle.adversary_script.proofs.LineByLine.{script_has}
 use Rattle.adversary_script.proofs.SoundLines.{guarded}
 

@@ -1,8 +1,8 @@
 -- Noise: the words of ChaCha8 by key, stream and place, as bytes and as states.
-use Rattle.std.specs.Prelude.{◌≡◌, ℕ, ◌+◌, ◌*◌, List, map, take, All}
+use Rattle.std.specs.Prelude.{ℕ, ◌+◌, ◌*◌, List, map, take}
 use Rattle.std.specs.List.{range_with_len, flat_map}
 use Rattle.std.specs.Int.{w32, to_le_bytes, div_ceil}
-use Rattle.rand_chacha.specs.ChaCha.{ChaCha, word_at, key_of}
+use Rattle.rand_chacha.specs.ChaCha.{word_at, key_of}
 use Rattle.sync_types.specs.States.{State}
 use Rattle.state_codec.specs.Shapes.{Fields, bytes_in}
 use Rattle.state_codec.specs.Reading.{read}
@@ -10,10 +10,6 @@ use Rattle.state_codec.specs.Reading.{read}
 -- the words of a key of 32 bytes
 unfoldable pub key_in : List ℕ → List ℕ
 key_in key = key_of key
-
--- generators of a key of 32 bytes
-abbrev pub AreOfKey : List ℕ → List ChaCha → Type 0
-AreOfKey key generators = All (λ g. g.key ≡ key_in key) generators
 
 -- the word at a place of a stream: ChaCha of four double rounds
 abbrev pub noise_word : List ℕ → (stream place : ℕ) → ℕ

@@ -8,11 +8,12 @@
 //! those into which they are put where an era begins, and those that faulty nodes tell. The states
 //! of a node have the fields of that node. States of noise come from ChaCha8 by the script's key:
 //! the lies from node u to node v have the stream 256u + v, in which each round has its own words,
-//! and the start of node v has the stream 65536 + v. [`Noise`] keeps generators that stand where
-//! these streams were last read.
+//! and the start of node v has the stream 65536 + v. [`Noise`] keeps the words of these streams
+//! that were last made.
 #![tactic(auto)]
 
 mod drafts;
+mod draws;
 mod eras;
 mod faulty_lines;
 mod group_lines;
@@ -34,6 +35,7 @@ mod scripts;
 mod shifting;
 mod single_lines;
 mod start_lines;
+mod stretches;
 mod word_tests;
 
 pub use noise::Noise;

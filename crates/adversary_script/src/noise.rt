@@ -1,70 +1,63 @@
-ghost use Rattle.std.specs.Prelude.{◌≡◌, ◌<◌, ◌≤◌, ◌^◌, ◌*◌, ◌+◌, ℕ, All, length, slice_index, slice_index_or, IfOk};
-ghost use Rattle.std.specs.Int.{w32, to_le_bytes};
-ghost use Rattle.adversary_script.specs.Noise.{key_in, noise_words, bytes_of, noise_bytes};
+ghost use Rattle.std.specs.Prelude.{◌≡◌, ◌<◌, ◌≤◌, ◌^◌, ◌+◌, ◌*◌, ◌%◌, length, take, IfOk, IfSome};
+ghost use Rattle.state_codec.specs.Shapes.{fields_at, bytes_in};
+ghost use Rattle.state_codec.specs.Ranges.{InRange};
+ghost use Rattle.adversary_script.specs.Noise.{key_in, words_in, noise_bytes, noise_state};
 
+use crate::draws::Draw;
 use crate::scripts::Script;
+use crate::stretches::Stretch;
 use rand_chacha::ChaCha8Rng;
 use rand_core::SeedableRng;
-use rand_core::utils::NextWord;
 use std::alloc::Global;
 use std::marker::Model;
-use sync_types::{FaultSet, NoMemory};
+use sync_types::{FaultSet, NoMemory, NodeState};
 
-/// A state has 128 bytes at most, which are 32 words.
-const MOST_WORDS: usize = 32;
-
-/// A generator that is so many words or more behind is not led there word by word.
-const MOST_BEHIND: u64 = 64;
-
-/// The row of a node that is never faulty, and the place of a generator that is not made yet.
+/// The first pair of a node that is never faulty, and the place of a stretch that is not made yet.
 const NONE: u32 = u32::MAX;
 
 /// The noise of a script. Each word of it is given by the script's key, a stream and a place.
 ///
-/// It keeps generators that stand where streams were last read, since the next words of a stream
-/// cost little there: one for each pair of a faulty node and a receiver that was asked for, where
-/// it has room for them, and one that all other streams share.
+/// Words are made in stretches. It keeps the last one of each pair of a faulty node and a receiver
+/// that was asked for, where it has room for them.
 pub struct Noise {
-    shared: ChaCha8Rng,
+    generator: ChaCha8Rng,
     // Those of pairs, in the order in which they were first asked for.
-    generators: Vec<ChaCha8Rng>,
-    // Where the generator of a pair stands among these, by row and receiver.
+    stretches: Vec<Stretch>,
+    // Where the stretch of a pair stands among these.
     places: Vec<u32>,
-    // The rows of the nodes that are faulty in some era, by id.
-    rows: Vec<u32>,
+    // The first pair of each node that is faulty in some era, by id. Its others stand behind it.
+    firsts: Vec<u32>,
     key: [u8; 32],
-    nodes: u32,
 }
 
 // Written out, so that what lets go of one calls this, and no more.
 impl Drop for Noise {
     fn drop(self) {
         let Noise {
-            shared,
-            generators,
+            generator,
+            stretches,
             places,
-            rows,
+            firsts,
             key,
-            nodes,
         } = self;
-        drop(shared);
-        drop(generators);
+        drop(generator);
+        drop(stretches);
         drop(places);
-        drop(rows);
+        drop(firsts);
         drop(key);
-        drop(nodes);
     }
 }
 
 impl Model for Noise {
-    ghost use Rattle.std.specs.Prelude.{ℕ, List, ◌≡◌};
-    ghost use Rattle.adversary_script.specs.Noise.{AreOfKey, key_in};
+    ghost use Rattle.std.specs.Prelude.{ℕ, List, All, ◌≡◌};
+    ghost use Rattle.adversary_script.specs.Noise.{key_in};
 
     ghost Value = { List ℕ };
 
     ghost view = { λ n. n.key };
 
-    ghost invariant = { λ n. (n.shared.key ≡ key_in n.key) × AreOfKey n.key n.generators.items };
+    ghost invariant = { λ n. (n.generator.key ≡ key_in n.key)
+        × All (λ s. s.key ≡ n.key) n.stretches.items };
 }
 
 /// A generator of a key, at the first word of stream 0.
@@ -75,103 +68,26 @@ fn generator_of(key: [u8; 32]) -> ChaCha8Rng
     ChaCha8Rng::from_seed(key)
 }
 
-/// Leads a generator on by so many words.
-fn skip(generator: &mut ChaCha8Rng, count: u64)
-    requires { generator.old.word_pos + count < 2 ^ 64 }
-    ensures { generator.new
-        ≡ record generator.old { word_pos = generator.old.word_pos + count } }
-{
-    for _ in 0..count {
-        let _word = generator.next_word();
-    }
-}
-
-/// Leads a generator of a stream to a place of it.
-fn move_to(generator: &mut ChaCha8Rng, place: u64)
-    ensures { generator.new ≡ record generator.old { word_pos = place } }
-{
-    let place = u128::from(place);
-    let at = generator.get_word_pos();
-    if at <= place && place - at < u128::from(MOST_BEHIND) {
-        skip(generator, (place - at) as u64);
-    } else {
-        generator.set_word_pos(place);
-    }
-}
-
-/// Leads a generator to a place of a stream.
-fn set_at(generator: &mut ChaCha8Rng, stream: u64, place: u64)
-    ensures { generator.new ≡ record generator.old { stream = stream; word_pos = place } }
-{
-    if generator.get_stream() != stream {
-        // A generator at the first word of its block makes no words when its stream is set.
-        generator.set_word_pos(0);
-        generator.set_stream(stream);
-    }
-    move_to(generator, place);
-}
-
-/// Fills `words` with those of a stream from a place on, by a generator that may stand there.
-fn fill_words(generator: &mut ChaCha8Rng, stream: u64, first: u64, words: &mut [u32])
-    requires { first + length words.old < 2 ^ 64 }
-    ensures words { words.new ≡ noise_words generator.old.key stream first (length words.old) }
-    ensures key { generator.new.key ≡ generator.old.key }
-{
-    set_at(generator, stream, first);
-    for i in 0..words.len() {
-        words[i] = generator.next_word();
-    }
-}
-
-/// Writes a word as four bytes from a place on, the low byte first.
-fn put_word(word: u32, at: usize, bytes: &mut [u8])
-    requires { at + 4 ≤ length bytes.old }
-    ensures before { (j : ℕ) → j < at
-        → slice_index_or bytes.new j 0 ≡ slice_index_or bytes.old j 0 }
-    ensures here { (j : ℕ) → j < 4
-        → slice_index_or bytes.new (at + j) 0 ≡ slice_index (to_le_bytes w32 word) j }
-    ensures length { length bytes.new ≡ length bytes.old }
-{
-    let parts = word.to_le_bytes();
-    for k in 0..4 {
-        bytes[at + k] = parts[k];
-    }
-}
-
-/// Writes words as bytes, the low byte of each first, as many as there is room for.
-fn spread(words: &[u32], bytes: &mut [u8])
-    requires { length bytes.old ≤ 4 * length words.now }
-    ensures { bytes.new ≡ bytes_of words.now (length bytes.old) }
-{
-    let whole = bytes.len() / 4;
-    for n in 0..whole {
-        put_word(words[n], 4 * n, bytes);
-    }
-    for i in 4 * whole..bytes.len() {
-        bytes[i] = words[i / 4].to_le_bytes()[i % 4];
-    }
-}
-
-/// Gives each of these nodes that has no row yet the next one. So many rows were given; the answer
-/// is how many then are.
-fn give_rows(rows: &mut [u32], given: u32, faulty: &FaultSet) -> u32 {
+/// Gives each of these nodes that has no pairs yet the next ones, one for each receiver. So many
+/// were given; the answer is how many then are.
+fn give_pairs(firsts: &mut [u32], given: u32, faulty: &FaultSet) -> u32 {
     let mut given = given;
     for i in 0..faulty.len() {
-        if let Some(row) = rows.get_mut(faulty.at(i) as usize) {
-            if *row == NONE {
-                *row = given;
-                given = given.wrapping_add(1);
+        if let Some(first) = firsts.get_mut(faulty.at(i) as usize) {
+            if *first == NONE {
+                *first = given;
+                given = given.wrapping_add(faulty.nodes());
             }
         }
     }
     given
 }
 
-/// Gives each node that is faulty in some era a row, and answers how many there are.
-fn give_all_rows(script: &Script, rows: &mut [u32]) -> u32 {
+/// Gives each node that is faulty in some era its pairs, and answers how many there are.
+fn give_all_pairs(script: &Script, firsts: &mut [u32]) -> u32 {
     let mut given = 0;
     for j in 0..script.eras() {
-        given = give_rows(rows, given, script.era_faulty(j));
+        given = give_pairs(firsts, given, script.era_faulty(j));
     }
     given
 }
@@ -184,27 +100,25 @@ impl Noise {
         let key = script.key();
         let alloc = script.alloc();
         Noise {
-            shared: generator_of(key),
-            generators: Vec::new(alloc),
+            generator: generator_of(key),
+            stretches: Vec::new(alloc),
             places: Vec::new(alloc),
-            rows: Vec::new(alloc),
+            firsts: Vec::new(alloc),
             key,
-            nodes: script.faulty().nodes(),
         }
     }
 
-    /// The noise of a script, with room for a generator for each pair of a node that is faulty in
+    /// The noise of a script, with room for a stretch for each pair of a node that is faulty in
     /// some era and a receiver: a round's lies cost the less. It takes all the memory that it ever
-    /// needs, and makes a generator where its pair is first asked for.
+    /// needs, and makes a stretch where its pair is first asked for.
     pub fn with_room(alloc: Global, script: &Script) -> Result<Noise, NoMemory>
         ensures { IfOk result (λ noise. noise ≡ script.now.key) }
     {
         let mut noise = Noise::new(script);
-        noise.rows = vec![in alloc; NONE; noise.nodes as usize]?;
-        let given = give_all_rows(script, &mut noise.rows);
-        let pairs = u64::from(given).wrapping_mul(u64::from(noise.nodes)) as usize;
+        noise.firsts = vec![in alloc; NONE; script.faulty().nodes() as usize]?;
+        let pairs = give_all_pairs(script, &mut noise.firsts) as usize;
         noise.places = vec![in alloc; NONE; pairs]?;
-        noise.generators = Vec::with_capacity(alloc, pairs)?;
+        noise.stretches = Vec::with_capacity(alloc, pairs)?;
         Ok(noise)
     }
 
@@ -213,50 +127,63 @@ impl Noise {
         ensures { self.new ≡ key }
     {
         self.key = key;
-        self.shared = generator_of(key);
-        self.generators.clear();
+        self.generator = generator_of(key);
+        self.stretches.clear();
         self.places.fill(NONE);
     }
 
     /// The number of a pair, by its stream, if it is one.
     fn pair_of(&self, stream: u64) -> usize {
-        match self.rows.get((stream / 256) as usize) {
-            Some(row) => {
-                let begin = u64::from(*row).wrapping_mul(u64::from(self.nodes));
-                begin.wrapping_add(stream % 256) as usize
-            }
+        match self.firsts.get((stream / 256) as usize) {
+            Some(first) => u64::from(*first).wrapping_add(stream % 256) as usize,
             None => usize::MAX,
         }
     }
 
-    /// Where the generator of a stream stands among those of pairs, if it is one of a pair. It is
-    /// made where there is none yet, and room for it.
-    fn place_of(&mut self, stream: u64) -> usize
-        ensures { self.new ≡ self.old }
+    /// The bytes of a state of noise, and eight more, where they were made.
+    fn find(&self, draw: &Draw) -> Option<&[u8]>
+        ensures size { IfSome result
+            (λ bytes. bytes_in (fields_at draw.now.shape.now draw.now.v) + 8 ≤ length bytes.now) }
+        ensures bytes { IfSome result
+            (λ bytes. take (bytes_in (fields_at draw.now.shape.now draw.now.v)) bytes.now
+            ≡ noise_bytes self.now draw.now.stream
+            (draw.now.turn * words_in (fields_at draw.now.shape.now draw.now.v))
+            (bytes_in (fields_at draw.now.shape.now draw.now.v))) }
     {
-        let pair = self.pair_of(stream);
-        if pair >= self.places.len() {
-            return usize::MAX;
-        }
-        if self.places[pair] == NONE && self.generators.len() < self.generators.capacity() {
-            self.places[pair] = u32::try_from(self.generators.len()).unwrap_or(NONE);
-            self.generators.push(generator_of(self.key)).unwrap();
-        }
-        self.places[pair] as usize
+        let at = *self.places.get(self.pair_of(draw.stream))?;
+        self.stretches
+            .get(at as usize)?
+            .find(draw.stream, draw.place(), draw.count())
     }
 
-    /// Fills `words` with those of a stream from a place on.
-    fn fill_words(&mut self, stream: u64, first: u64, words: &mut [u32])
-        requires { first + length words.old < 2 ^ 64 }
-        ensures words { words.new ≡ noise_words (key_in self.old) stream first (length words.old) }
+    /// Keeps a stretch as that of its pair, if it is one of a pair and there is room.
+    fn keep(&mut self, stretch: Stretch)
+        requires { stretch.key ≡ self.old }
+        ensures { self.new ≡ self.old }
+    {
+        let pair = self.pair_of(stretch.stream);
+        if pair >= self.places.len() {
+            return;
+        }
+        let at = self.places[pair] as usize;
+        if at < self.stretches.len() {
+            self.stretches[at] = stretch;
+        } else if self.stretches.len() < self.stretches.capacity() {
+            self.places[pair] = u32::try_from(self.stretches.len()).unwrap_or(NONE);
+            self.stretches.push(stretch).unwrap();
+        }
+    }
+
+    /// Makes the words of a stream from the block of a place on.
+    fn make(&mut self, stream: u64, place: u64) -> Stretch
+        ensures key { result.key ≡ self.old }
+        ensures stream { result.stream ≡ stream }
+        ensures place { result.first + place % 16 ≡ place }
         ensures same { self.new ≡ self.old }
     {
-        let place = self.place_of(stream);
-        if place < self.generators.len() {
-            fill_words(&mut self.generators[place], stream, first, words);
-        } else {
-            fill_words(&mut self.shared, stream, first, words);
-        }
+        let stretch = Stretch::at(&mut self.generator, self.key, stream, place);
+        self.keep(stretch);
+        stretch
     }
 
     /// Fills `bytes`, at most 128, with those of a stream from a place on.
@@ -266,9 +193,41 @@ impl Noise {
         ensures bytes { bytes.new ≡ noise_bytes self.old stream first (length bytes.old) }
         ensures same { self.new ≡ self.old }
     {
-        let mut room = [0; MOST_WORDS];
-        let words = &mut room[..bytes.len().div_ceil(4)];
-        self.fill_words(stream, first, words);
-        spread(words, bytes);
+        let stretch = self.make(stream, first);
+        let count = bytes.len();
+        bytes.copy_from_slice(&stretch.front((first % 16) as usize, count)[..count]);
+    }
+
+    /// Writes a state of noise, of which words may have been made.
+    #[tactic(auto, unfolding(crate::specs::Noise::noise_state))]
+    pub(crate) fn state_into(&mut self, draw: &Draw, out: &mut NodeState)
+        requires { length out.old.registers ≡ length draw.now.shape.now.moduli }
+        ensures value { out.new
+            ≡ noise_state (fields_at draw.now.shape.now draw.now.v) self.old draw.now.stream
+            draw.now.turn }
+        ensures range { InRange (fields_at draw.now.shape.now draw.now.v) out.new }
+        ensures same { self.new ≡ self.old }
+    {
+        match self.find(draw) {
+            Some(bytes) => draw.read(bytes, out),
+            None => self.make_state(draw, out),
+        }
+    }
+
+    /// Writes a state of noise of which no words were made. It has room for them, which is made
+    /// anew at each call, and so the other call is kept free of it.
+    #[inline(never)]
+    #[tactic(auto, unfolding(crate::specs::Noise::noise_state))]
+    pub(crate) fn make_state(&mut self, draw: &Draw, out: &mut NodeState)
+        requires { length out.old.registers ≡ length draw.now.shape.now.moduli }
+        ensures value { out.new
+            ≡ noise_state (fields_at draw.now.shape.now draw.now.v) self.old draw.now.stream
+            draw.now.turn }
+        ensures range { InRange (fields_at draw.now.shape.now draw.now.v) out.new }
+        ensures same { self.new ≡ self.old }
+    {
+        let place = draw.place();
+        let stretch = self.make(draw.stream, place);
+        draw.read(stretch.front((place % 16) as usize, draw.count()), out);
     }
 }

@@ -14,28 +14,120 @@ const ZERO: Reg = Reg {
     d: false,
 };
 
-/// The sum of two numbers modulo the modulus, which is 1 to 2^40.
-fn sum_modulo(modulus: u64, a: u64, by: u64) -> u64
-    requires least { 1 ≤ modulus }
-    requires most { modulus ≤ 2 ^ 40 }
-    ensures { result ≡ (a + by) % modulus }
-{
-    (a % modulus + by % modulus) % modulus
+/// A modulus, which is 0 where a node lacks the field.
+#[derive(Clone, Copy, Debug)]
+struct Modulus {
+    value: u64,
+    ghost most: { value ≤ 2 ^ 40 },
 }
 
-/// A register whose finite value is `by` larger, modulo the modulus. One of modulus 0 stays zero.
-fn shifted_register(modulus: u64, register: Reg, by: u64) -> Reg
-    requires { modulus ≤ 2 ^ 40 }
-    ensures { result ≡ shifted_register by modulus register }
-{
-    if modulus == 0 {
-        return ZERO;
+impl Modulus {
+    /// The sum of two numbers modulo this, where it is not 0.
+    fn sum(self, a: u64, by: u64) -> u64
+        ensures { 1 ≤ self.value → result ≡ (a + by) % self.value }
+    {
+        if self.value == 0 {
+            return 0;
+        }
+        (a % self.value + by % self.value) % self.value
     }
-    let a = match register.a {
-        Some(a) => Some(sum_modulo(modulus, a, by)),
-        None => None,
-    };
-    Reg { a, d: register.d }
+
+    /// A register whose finite value is `by` larger, modulo this. One that is lacking stays zero.
+    fn shifted(self, register: Reg, by: u64) -> Reg
+        ensures { result ≡ shifted_register by self.value register }
+    {
+        if self.value == 0 {
+            return ZERO;
+        }
+        let a = match register.a {
+            Some(a) => Some(self.sum(a, by)),
+            None => None,
+        };
+        Reg { a, d: register.d }
+    }
+}
+
+/// A register, or the zero register where the modulus is 0.
+fn fitted_register(modulus: u64, register: Reg) -> Reg
+    ensures { result ≡ fitted_register modulus register }
+{
+    if modulus == 0 { ZERO } else { register }
+}
+
+/// The state of node `w` in a configuration, from which one of node `v` is made.
+#[derive(Clone, Copy)]
+pub struct Source<'a> {
+    pub config: &'a Packed,
+    pub w: u32,
+    pub v: u32,
+    ghost from: { w < length config.now.current },
+    ghost node: { v < length config.now.shape.lows },
+}
+
+impl Source<'_> {
+    /// Writes the state of node `v` whose number and finite values are `by` larger, each modulo
+    /// its own modulus.
+    pub fn shift_into(&self, by: u64, out: &mut NodeState)
+        requires { length out.old.registers ≡ length self.now.config.now.shape.moduli }
+        ensures value { out.new ≡ shifted by (fields_at self.now.config.now.shape self.now.v)
+            (state_of self.now.config.now.current self.now.w) }
+        ensures range { InRange (fields_at self.now.config.now.shape self.now.v) out.new }
+    {
+        self.config.tell();
+        let modulus = Modulus {
+            value: self.config.shape().base_of(self.v),
+        };
+        out.set_x(modulus.sum(self.config.x(self.w), by));
+        self.shift_registers(by, out);
+    }
+
+    /// Writes registers whose finite values are `by` larger, each modulo its own modulus.
+    fn shift_registers(&self, by: u64, out: &mut NodeState)
+        requires { length out.old.registers ≡ length self.now.config.now.shape.moduli }
+        ensures { out.new ≡ record out.old {
+          registers =
+              (shifted by (fields_at self.now.config.now.shape self.now.v)
+              (state_of self.now.config.now.current self.now.w)).registers;
+        } }
+    {
+        for i in 0..self.config.shape().depth() {
+            let modulus = Modulus {
+                value: self.config.shape().modulus_of(self.v, i),
+            };
+            out.set_reg(i, modulus.shifted(self.config.reg(self.w, i), by));
+        }
+    }
+
+    /// Writes those fields that node `v` has, and zero in the place of what it lacks.
+    pub fn fit_into(&self, out: &mut NodeState)
+        requires { length out.old.registers ≡ length self.now.config.now.shape.moduli }
+        ensures value { out.new ≡ fitted (fields_at self.now.config.now.shape self.now.v)
+            (state_of self.now.config.now.current self.now.w) }
+        ensures range { InRange (fields_at self.now.config.now.shape self.now.v) out.new }
+    {
+        self.config.tell();
+        out.set_x(if self.config.shape().base_of(self.v) == 1 {
+            0
+        } else {
+            self.config.x(self.w)
+        });
+        self.fit_registers(out);
+    }
+
+    /// Writes those registers that node `v` has, and zero in the place of the others.
+    fn fit_registers(&self, out: &mut NodeState)
+        requires { length out.old.registers ≡ length self.now.config.now.shape.moduli }
+        ensures { out.new ≡ record out.old {
+          registers =
+              (fitted (fields_at self.now.config.now.shape self.now.v)
+              (state_of self.now.config.now.current self.now.w)).registers;
+        } }
+    {
+        for i in 0..self.config.shape().depth() {
+            let modulus = self.config.shape().modulus_of(self.v, i);
+            out.set_reg(i, fitted_register(modulus, self.config.reg(self.w, i)));
+        }
+    }
 }
 
 /// Writes the state of node `v` whose number and finite values are `by` larger than those of node
@@ -48,67 +140,7 @@ pub fn shift_into(config: &Packed, v: u32, by: u64, w: u32, out: &mut NodeState)
         ≡ shifted by (fields_at config.now.shape v) (state_of config.now.current w) }
     ensures range { InRange (fields_at config.now.shape v) out.new }
 {
-    config.tell();
-    out.set_x(sum_modulo(config.shape().base_of(v), config.x(w), by));
-    shift_registers(config, v, by, w, out);
-}
-
-/// Writes registers whose finite values are `by` larger, each modulo its own modulus.
-fn shift_registers(config: &Packed, v: u32, by: u64, w: u32, out: &mut NodeState)
-    requires node { v < length config.now.shape.lows }
-    requires from { w < length config.now.current }
-    requires depth { length out.old.registers ≡ length config.now.shape.moduli }
-    ensures { out.new ≡ record out.old {
-      registers =
-          (shifted by (fields_at config.now.shape v) (state_of config.now.current w)).registers;
-    } }
-{
-    for i in 0..config.shape().depth() {
-        let modulus = config.shape().modulus_of(v, i);
-        out.set_reg(i, shifted_register(modulus, config.reg(w, i), by));
-    }
-}
-
-/// Writes those fields of the state of node `w` that node `v` has, and zero in the place of what it
-/// lacks.
-pub fn fit_into(config: &Packed, v: u32, w: u32, out: &mut NodeState)
-    requires node { v < length config.now.shape.lows }
-    requires from { w < length config.now.current }
-    requires depth { length out.old.registers ≡ length config.now.shape.moduli }
-    ensures value { out.new
-        ≡ fitted (fields_at config.now.shape v) (state_of config.now.current w) }
-    ensures range { InRange (fields_at config.now.shape v) out.new }
-{
-    config.tell();
-    out.set_x(if config.shape().base_of(v) == 1 {
-        0
-    } else {
-        config.x(w)
-    });
-    fit_registers(config, v, w, out);
-}
-
-/// A register, or the zero register where the modulus is 0.
-fn fitted_register(modulus: u64, register: Reg) -> Reg
-    ensures { result ≡ fitted_register modulus register }
-{
-    if modulus == 0 { ZERO } else { register }
-}
-
-/// Writes those registers that node `v` has, and zero in the place of the others.
-fn fit_registers(config: &Packed, v: u32, w: u32, out: &mut NodeState)
-    requires node { v < length config.now.shape.lows }
-    requires from { w < length config.now.current }
-    requires depth { length out.old.registers ≡ length config.now.shape.moduli }
-    ensures { out.new ≡ record out.old {
-      registers =
-          (fitted (fields_at config.now.shape v) (state_of config.now.current w)).registers;
-    } }
-{
-    for i in 0..config.shape().depth() {
-        let modulus = config.shape().modulus_of(v, i);
-        out.set_reg(i, fitted_register(modulus, config.reg(w, i)));
-    }
+    Source { config, w, v }.shift_into(by, out);
 }
 
 /// Makes a state the zero state of its depth.

@@ -5,15 +5,17 @@ use Rattle.construction.specs.Steps.{state_of}
 use Rattle.state_codec.specs.Shapes.{Shape, fields_at}
 use Rattle.state_codec.proofs.Lows.{length-moduli_from}
 use Rattle.state_codec.proofs.RegisterSteps.{state_is}
-use Rattle.adversary_script.specs.Lies.{fitted_register}
-use Rattle.adversary_script.proofs.shifting.fit_registers.Goals as goal
+use Rattle.adversary_script.specs.Lies.{shifted_register}
+use Rattle.adversary_script.proofs.shifting.Source.shift_registers.Goals as goal
 
 pub returns : goal.returns
 returns c =
-    let size = length-moduli_from _ c.args.config.now.shape.moduli in
+    let size = length-moduli_from _ c.args.self.now.config.now.shape.moduli in
     let depth = ap (λ (s : Shape). length s.moduli) c.shape.ensures in
     state_is c.loop-i.out _ _ c.loop-i.invariant.number
-    (fill_by_all (λ i. fitted_register (slice_index (fields_at c.args.config.now.shape c.args.v).moduli i)
-    (register_at i (state_of c.args.config.now.current c.args.w))) c.loop-i.out.registers _ zero_register
+    (fill_by_all
+    (λ i. shifted_register c.args.by
+    (slice_index (fields_at c.args.self.now.config.now.shape c.args.self.now.v).moduli i)
+    (register_at i (state_of c.args.self.now.config.now.current c.args.self.now.w))) c.loop-i.out.registers _ zero_register
     (c.loop-i.invariant.depth ∙ sym size)
     (λ k lt. c.loop-i.invariant.filled k (omega (arith, size, depth))))

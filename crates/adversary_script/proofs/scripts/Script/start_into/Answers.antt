@@ -2,7 +2,7 @@ use Rattle.std.proofs.Common.{subst}
 use Rattle.state_codec.specs.Shapes.{IsShape}
 use Rattle.adversary_script.specs.Scripts.{Script}
 use Rattle.adversary_script.proofs.LiesInRange.{zero_of_node}
-use Rattle.adversary_script.proofs.scripts.Script.common_into.Goals as goal
+use Rattle.adversary_script.proofs.scripts.Script.start_into.Goals as goal
 
 pub returns-in-Zero-clause-range : goal.returns-in-Zero-clause-range
 returns-in-Zero-clause-range c =

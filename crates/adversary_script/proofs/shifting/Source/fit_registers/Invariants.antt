@@ -3,12 +3,12 @@ use Rattle.sync_types.specs.States.{register_at, zero_register}
 use Rattle.construction.specs.Steps.{state_of}
 use Rattle.state_codec.specs.Shapes.{fields_at}
 use Rattle.adversary_script.specs.Lies.{fitted_register}
-use Rattle.adversary_script.proofs.shifting.fit_registers.Given as goal
+use Rattle.adversary_script.proofs.shifting.Source.fit_registers.Given as goal
 
 abbrev pub invariant-loop-i : goal.invariant-loop-i
 invariant-loop-i l = record {
   number : l.out.x ≡ l.fn.out.x;
-  depth : length l.out.registers ≡ length l.config.shape.moduli;
+  depth : length l.out.registers ≡ length l.self.config.now.shape.moduli;
   filled : (j : ℕ) → j < l.i → slice_index_or l.out.registers j zero_register ≡ fitted_register
-      (slice_index (fields_at l.config.shape l.v).moduli j) (register_at j (state_of l.config.current l.w));
+      (slice_index (fields_at l.self.config.now.shape l.self.v).moduli j) (register_at j (state_of l.self.config.now.current l.self.w));
 }

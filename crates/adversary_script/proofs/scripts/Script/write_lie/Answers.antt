@@ -1,8 +1,0 @@
-use Rattle.std.proofs.Common.{◌∙◌, sym}
-use Rattle.adversary_script.proofs.LiesInRange.{depth_of_node}
-use Rattle.adversary_script.proofs.scripts.Script.write_lie.Goals as goal
-
-pub copy_from-requires : goal.copy_from-requires
-copy_from-requires c =
-    depth_of_node c.args.self.now.shape c.args.message.sender c.in-State.state
-    (rw c.in-State.is at c.requires.what) ∙ sym c.requires.depth

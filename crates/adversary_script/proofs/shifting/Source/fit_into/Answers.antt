@@ -1,0 +1,14 @@
+use Rattle.std.proofs.Common.{rules, ◌≡◌}
+use Rattle.construction.specs.Steps.{state_of}
+use Rattle.state_codec.specs.Shapes.{fields_at}
+use Rattle.adversary_script.specs.Lies.{fitted}
+use Rattle.adversary_script.proofs.Fitted.{fitted_in_range}
+use Rattle.adversary_script.proofs.shifting.Source.fit_into.Goals as goal
+
+pub returns-clause-range : goal.returns-clause-range
+returns-clause-range c =
+    let is : c.fit_registers.new.out ≡ fitted (fields_at c.args.self.now.config.now.shape c.args.self.now.v)
+    (state_of c.args.self.now.config.now.current c.args.self.now.w) = search rules in
+    rw is (fitted_in_range c.args.self.now.config.now.shape c.args.self.now.v c.args.self.now.w
+    (state_of c.args.self.now.config.now.current c.args.self.now.w) c.tell.ensures.sound
+    (c.tell.ensures.current c.args.self.now.w c.args.self.now.from))
