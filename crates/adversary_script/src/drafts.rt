@@ -1,4 +1,4 @@
-ghost use Rattle.std.specs.Prelude.{◌≡◌, ◌<◌, ◌≤◌, ◌++◌, ◌∷◌, [], None, All, IfOk, length, map};
+ghost use Rattle.std.specs.Prelude.{◌≡◌, ◌<◌, ◌≤◌, ◌++◌, ◌∷◌, [], None, IfOk, length, map};
 ghost use Rattle.std.specs.List.{list_any};
 ghost use Rattle.sync_types.specs.FaultSets.{is_in};
 ghost use Rattle.construction.specs.Plans.{plan_nodes};
@@ -124,10 +124,10 @@ impl<'a> Draft<'a> {
 
     /// Says which nodes are faulty at first.
     pub fn set_faulty(&mut self, faulty: FaultSet)
-        requires nodes { faulty.nodes ≡ self.old.nodes }
-        requires ids { All (λ id. id < self.old.nodes) faulty.ids }
+        requires { faulty.nodes ≡ self.old.nodes }
         ensures { self.new ≡ record self.old { faulty = faulty.ids } }
     {
+        faulty.tell();
         drop(self.faulty.replace(faulty));
     }
 
@@ -162,9 +162,9 @@ impl<'a> Draft<'a> {
         requires many { length self.old.eras < 16 }
         requires above { last_first self.old < first }
         requires nodes { faulty.nodes ≡ self.old.nodes }
-        requires ids { All (λ id. id < self.old.nodes) faulty.ids }
         ensures { IfOk result (λ _. self.new ≡ with_era self.old first faulty.ids) }
     {
+        faulty.tell();
         self.parts.eras.push(Era {
             first,
             faulty,

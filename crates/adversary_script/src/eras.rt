@@ -94,8 +94,7 @@ impl Script {
 
     /// Whether node `v` is put into a state where era `j` begins, which is not the first.
     pub fn hits(&self, j: usize, v: u32) -> bool
-        requires further { 1 ≤ j }
-        requires era { j ≤ length self.now.eras }
+        requires { j ≤ length self.now.eras }
         ensures { result ≡ is_some (start_in (starts_of_era self.now j) v) }
     {
         self.start_in(j, v).is_some()
@@ -105,7 +104,6 @@ impl Script {
     /// and answers whether there is one. Else `out` is unchanged. `out` has the depth of the states
     /// for which the script was read. It takes no memory.
     pub fn hit_into(&self, j: usize, v: u32, out: &mut NodeState) -> bool
-        requires further { 1 ≤ j }
         requires era { j ≤ length self.now.eras }
         requires depth { length out.old.registers ≡ length self.now.shape.moduli }
         ensures hits { result ≡ is_some (start_in (starts_of_era self.now j) v) }

@@ -37,7 +37,16 @@ pub fn read_script(
     ensures eras { IfOk result (λ script. script.version ≡ 1 → script.eras ≡ []) }
 {
     shape.tell();
-    read_exactly(alloc, plan, shape, bytes, first_line)
+    read_exactly(alloc, plan, shape, &Numbered { bytes, first_line })
+}
+
+/// Lines of an input, of which the first has a number.
+#[derive(Clone, Copy)]
+struct Numbered<'a> {
+    bytes: &'a [u8],
+    first_line: u64,
+    ghost first: { 1 ≤ first_line },
+    ghost count: { first_line + length bytes.now < 2 ^ 64 },
 }
 
 /// Reads a script, exactly as it is defined.
@@ -46,17 +55,14 @@ fn read_exactly(
     alloc: Global,
     plan: &Plan,
     shape: &StateShape,
-    bytes: &[u8],
-    first_line: u64,
+    input: &Numbered,
 ) -> Result<Script, ScriptError>
-    requires shape { IsShapeFor plan.now shape.now }
-    requires first { 1 ≤ first_line }
-    requires count { first_line + length bytes.now < 2 ^ 64 }
-    ensures { IsAnswer plan.now shape.now first_line (lines_of bytes.now) result }
+    requires { IsShapeFor plan.now shape.now }
+    ensures { IsAnswer plan.now shape.now input.now.first_line (lines_of input.now.bytes.now) result }
 {
     let lines = ScriptLines::new(alloc, plan, shape);
-    let read = read_part(lines, Rule::Form, bytes, first_line)?;
-    match first_unskipped(&bytes[read.bytes..], first_line + read.lines) {
+    let read = read_part(lines, Rule::Form, input.bytes, input.first_line)?;
+    match first_unskipped(&input.bytes[read.bytes..], input.first_line + read.lines) {
         Some(line) => Err(ScriptError::Refused(ScriptRefusal {
             line,
             rule: Rule::Form,
