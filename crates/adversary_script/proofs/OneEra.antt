@@ -1,5 +1,7 @@
 -- A script of version 1 has no further era.
-use Rattle.std.proofs.Common.{◌≡◌, ℕ, List, [], ◌∷◌, length, Bool, true, false, ◌||◌, not, nat_lt, if◌then◌else◌, Option, Some, None, Result, Ok, Err, refl, sym, ap, ◌∙◌}
+use Rattle.std.proofs.Common.{◌≡◌, ℕ, List, [], ◌∷◌, length, Bool, true, false, ◌||◌, not, nat_lt}
+use Rattle.std.proofs.Common.{if◌then◌else◌, Option, Some, None, Result, Ok, Err, refl, sym, ap}
+use Rattle.std.proofs.Common.{◌∙◌}
 use Rattle.std.specs.Prelude.{IfOk, is_some, codes, nat_le, ◌==◌}
 use Rattle.std.specs.Str.{bytes_eq}
 use Rattle.std.proofs.lemmas.Bool.{true≢false, eq-eqb}
@@ -17,13 +19,19 @@ use Rattle.adversary_script.specs.declared.lies.What.{What}
 use Rattle.adversary_script.specs.declared.refusals.ScriptError.{ScriptError}
 use Rattle.adversary_script.specs.Kinds.{may_follow}
 use Rattle.adversary_script.specs.LieWords.{LieSaid, lie_words}
-use Rattle.adversary_script.specs.WordTests.{numbers_in, only, both, is_name, are_below, is_rising, are_ids, is_crossed}
+use Rattle.adversary_script.specs.WordTests.{numbers_in, only, both, is_name, are_below, is_rising}
+use Rattle.adversary_script.specs.WordTests.{are_ids, is_crossed}
 use Rattle.texts.specs.Numbers.{number_of}
 use Rattle.adversary_script.specs.Scripts.{Era, Script, faulty_sets}
-use Rattle.adversary_script.specs.FaultySteps.{faulty_tested, era_words, last_era, last_first, era_tested}
-use Rattle.adversary_script.specs.StartSteps.{is_above, last_starts, started, with_start, start_tested, start_step}
-use Rattle.adversary_script.specs.LieSteps.{group_at, state_of_digits, who_of, what_of, with_lie, lie_tested}
-use Rattle.adversary_script.specs.Steps.{done, head_tested, key_of_digits, with_key, seed_tested, group_tested, group_step, rounds_tested, show_tested, line_step}
+use Rattle.adversary_script.specs.FaultySteps.{faulty_tested, era_words, last_era, last_first}
+use Rattle.adversary_script.specs.FaultySteps.{era_tested}
+use Rattle.adversary_script.specs.StartSteps.{is_above, last_starts, started, with_start}
+use Rattle.adversary_script.specs.StartSteps.{start_tested, start_step}
+use Rattle.adversary_script.specs.LieSteps.{group_at, state_of_digits, who_of, what_of, with_lie}
+use Rattle.adversary_script.specs.LieSteps.{lie_tested}
+use Rattle.adversary_script.specs.Steps.{done, head_tested, key_of_digits, with_key, seed_tested}
+use Rattle.adversary_script.specs.Steps.{group_tested, group_step, rounds_tested, show_tested}
+use Rattle.adversary_script.specs.Steps.{line_step}
 use Rattle.adversary_script.specs.ScriptPart.{IsAnswer}
 use Rattle.adversary_script.proofs.LineByLine.{script_has}
 use Rattle.adversary_script.proofs.SoundLines.{guarded}

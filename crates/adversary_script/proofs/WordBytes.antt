@@ -1,9 +1,13 @@
 -- The bytes of the words that a generator makes, by their places.
-use Rattle.std.proofs.Common.{◌≡◌, ℕ, zero, suc, ◌+◌, ◌*◌, ◌/◌, ◌%◌, ◌^◌, ◌-◌, ◌<◌, ◌≤◌, ◌++◌, List, [], ◌∷◌, length, map, take, drop, get_or, slice_index, refl, sym, ap, ◌∙◌, arith}
+use Rattle.std.proofs.Common.{◌≡◌, ℕ, zero, suc, ◌+◌, ◌*◌, ◌/◌, ◌%◌, ◌^◌, ◌-◌, ◌<◌, ◌≤◌, ◌++◌, List}
+use Rattle.std.proofs.Common.{[], ◌∷◌, length, map, take, drop, get_or, slice_index, refl, sym, ap}
+use Rattle.std.proofs.Common.{◌∙◌, arith}
 use Rattle.std.specs.Int.{w32, to_le_bytes, div_ceil}
 use Rattle.std.specs.List.{flat_map, range_with_len}
-use Rattle.std.proofs.lemmas.List.{get_or-take, get_or-drop, length-take, length-take-le, length-drop, flat_map_more}
-use Rattle.std.proofs.lemmas.List.FromFn.{fill_by_all, length-map-range_with_len, get_or-map-range_with_len, map-range_with_len_more}
+use Rattle.std.proofs.lemmas.List.{get_or-take, get_or-drop, length-take, length-take-le}
+use Rattle.std.proofs.lemmas.List.{length-drop, flat_map_more}
+use Rattle.std.proofs.lemmas.List.FromFn.{fill_by_all, length-map-range_with_len}
+use Rattle.std.proofs.lemmas.List.FromFn.{get_or-map-range_with_len, map-range_with_len_more}
 use Rattle.std.proofs.Math.Nat.{mod-eq_of_lt}
 use Rattle.std.proofs.Math.Seq.{take-append_seam}
 use Rattle.rand_core.specs.Steps.{word_bytes, fill_via_u32}
@@ -26,7 +30,8 @@ words_made g (suc k) fits =
     let word : ℕ → ℕ = λ i. noise_word g.key g.stream (g.word_pos + i) in
     let next : suc k ≡ k + 1 = omega arith in
     let more : map word (range_with_len 0 (suc k)) ≡ map word (range_with_len 0 k) ++ word k ∷ [] =
-    ap (λ n. map word (range_with_len 0 n)) next ∙ map-range_with_len_more word 0 k k (omega arith) in
+    ap (λ n. map word (range_with_len 0 n)) next
+    ∙ map-range_with_len_more word 0 k k (omega arith) in
     let place : (g.word_pos + k + 1) % 2 ^ 68 ≡ g.word_pos + suc k =
     mod-eq_of_lt (omega arith) ∙ omega arith in
     rw before
@@ -96,7 +101,8 @@ noise_at key stream first count i lt =
 -- the bytes from a word on, among those that were made
 pub part : (key bytes : List ℕ) (stream first at count : ℕ)
     → take 256 bytes ≡ noise_bytes key stream first 256 → 4 * at + count ≤ 256
-    → take count (take (264 - 4 * at) (drop (4 * at) bytes)) ≡ noise_bytes key stream (first + at) count
+    → take count (take (264 - 4 * at) (drop (4 * at) bytes)) ≡ noise_bytes key stream (first + at)
+    count
 part key bytes stream first at count said fits =
     let rest : List ℕ = take (264 - 4 * at) (drop (4 * at) bytes) in
     let whole = sym (length-take 256 bytes)

@@ -1,6 +1,7 @@
 -- The eras of a script. Era 0 begins with configuration 0, each further one where its line says,
 -- and each goes on to the next one; the last to the end.
-use Rattle.std.specs.Prelude.{ℕ, ◌+◌, nat_le, nat_lt, List, [], ◌∷◌, length, map, slice_index, slice_index_or, if◌then◌else◌}
+use Rattle.std.specs.Prelude.{ℕ, ◌+◌, nat_le, nat_lt, List, [], ◌∷◌, length, map, slice_index}
+use Rattle.std.specs.Prelude.{slice_index_or, if◌then◌else◌}
 use Rattle.std.specs.List.{count_by}
 use Rattle.adversary_script.specs.declared.lies.Start.{Start}
 use Rattle.adversary_script.specs.Scripts.{Script, firsts, faulty_sets}

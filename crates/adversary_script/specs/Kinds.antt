@@ -1,5 +1,6 @@
 -- The kinds of a script's lines, and in which order they may stand.
-use Rattle.std.specs.Prelude.{ℕ, List, [], ◌∷◌, Bool, true, false, Option, Some, None, if◌then◌else◌, codes}
+use Rattle.std.specs.Prelude.{ℕ, List, [], ◌∷◌, Bool, true, false, Option, Some, None}
+use Rattle.std.specs.Prelude.{if◌then◌else◌, codes}
 use Rattle.std.specs.Str.{bytes_eq}
 use Rattle.adversary_script.specs.declared.kinds.Kind.{Kind}
 use Rattle.adversary_script.specs.declared.kinds.Kind.TheVariants as kind

@@ -1,5 +1,6 @@
 -- The line of a lie, with its tests in their order.
-use Rattle.std.specs.Prelude.{ℕ, List, [], ◌∷◌, ◌++◌, length, ◌||◌, not, nat_le, nat_lt, Option, Some, None, Result, Ok, Err, position, if◌then◌else◌}
+use Rattle.std.specs.Prelude.{ℕ, List, [], ◌∷◌, ◌++◌, length, ◌||◌, not, nat_le, nat_lt, Option}
+use Rattle.std.specs.Prelude.{Some, None, Result, Ok, Err, position, if◌then◌else◌}
 use Rattle.std.specs.Option.{option_map}
 use Rattle.std.specs.Str.{bytes_eq}
 use Rattle.sync_types.specs.declared.answers.Rule.{Rule}
@@ -11,7 +12,8 @@ use Rattle.adversary_script.specs.declared.lies.Who.{Who}
 use Rattle.adversary_script.specs.declared.lies.Who.TheVariants.{All, Ids, Group}
 use Rattle.adversary_script.specs.declared.lies.What.{What}
 use Rattle.adversary_script.specs.declared.lies.What.TheVariants as what
-use Rattle.adversary_script.specs.LieWords.{WhoSaid, everyone, between, named, WhatSaid, noise, copy, digits, shift, LieSaid, lie_words}
+use Rattle.adversary_script.specs.LieWords.{WhoSaid, everyone, between, named, WhatSaid, noise}
+use Rattle.adversary_script.specs.LieWords.{copy, digits, shift, LieSaid, lie_words}
 use Rattle.adversary_script.specs.WordTests.{are_ids, is_crossed}
 use Rattle.adversary_script.specs.Scripts as scripts
 use Rattle.adversary_script.specs.Scripts.{Script, faulty_sets}

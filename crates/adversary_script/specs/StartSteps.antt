@@ -1,6 +1,7 @@
 -- The line of a node's start, in era 0 or in the era whose line stands before, with its tests in
 -- their order.
-use Rattle.std.specs.Prelude.{ℕ, List, [], ◌∷◌, ◌++◌, ◌-◌, length, Bool, not, nat_le, nat_lt, Option, Some, None, Result, Ok, Err, slice_set, if◌then◌else◌}
+use Rattle.std.specs.Prelude.{ℕ, List, [], ◌∷◌, ◌++◌, ◌-◌, length, Bool, not, nat_le, nat_lt}
+use Rattle.std.specs.Prelude.{Option, Some, None, Result, Ok, Err, slice_set, if◌then◌else◌}
 use Rattle.std.specs.List.{list_all}
 use Rattle.texts.specs.Numbers.{number_of}
 use Rattle.sync_types.specs.declared.answers.Rule.{Rule}

@@ -1,10 +1,12 @@
 -- The tests of a script's words and numbers.
-use Rattle.std.specs.Prelude.{ℕ, List, [], ◌∷◌, length, Bool, true, false, ◌&&◌, nat_le, nat_lt, Option, Some, None}
+use Rattle.std.specs.Prelude.{ℕ, List, [], ◌∷◌, length, Bool, true, false, ◌&&◌, nat_le, nat_lt}
+use Rattle.std.specs.Prelude.{Option, Some, None}
 use Rattle.std.specs.List.{list_all, list_any}
 use Rattle.texts.specs.Numbers.{number_of}
 use Rattle.texts.specs.Shapes.{onto_numbers}
 use Rattle.sync_types.specs.FaultSets.{is_in}
-use Rattle.adversary_script.specs.LieWords.{WhoSaid, everyone, between, named, WhatSaid, copy, LieSaid}
+use Rattle.adversary_script.specs.LieWords.{WhoSaid, everyone, between, named, WhatSaid, copy}
+use Rattle.adversary_script.specs.LieWords.{LieSaid}
 
 -- the numbers of the words, where each is one
 abbrev pub numbers_in : List (List ℕ) → Option (List ℕ)

@@ -37,7 +37,8 @@ impl Draw<'_> {
 
     /// Reads it from the front of bytes into `out`; eight bytes more stand behind it.
     pub fn read(&self, bytes: &[u8], out: &mut NodeState)
-        requires within { bytes_in (fields_at self.now.shape.now self.now.v) + 8 ≤ length bytes.now }
+        requires within { bytes_in (fields_at self.now.shape.now self.now.v) + 8
+            ≤ length bytes.now }
         requires depth { length out.old.registers ≡ length self.now.shape.now.moduli }
         ensures value { out.new ≡ read (fields_at self.now.shape.now self.now.v)
             (take (bytes_in (fields_at self.now.shape.now self.now.v)) bytes.now) }

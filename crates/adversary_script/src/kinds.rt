@@ -5,7 +5,7 @@ ghost use Rattle.adversary_script.specs.Answers.{ReadsFront};
 use edge_io::Words;
 
 /// The kinds of a script's lines.
-#[derive(Clone, Copy, Debug, PartialEq, Eq)]
+#[derive(Clone, Copy, PartialEq, Eq)]
 pub enum Kind {
     /// `script 1` or `script 2`
     Script,

@@ -6,7 +6,7 @@ ghost use Rattle.adversary_script.specs.LieWords.{lie_seen};
 use edge_io::{Words, number};
 
 /// Who hears a lie, as its line has it.
-#[derive(Clone, Copy, Debug)]
+#[derive(Clone, Copy)]
 pub enum WhoWords<'a> {
     /// `all`
     All,
@@ -17,7 +17,7 @@ pub enum WhoWords<'a> {
 }
 
 /// What a lie says, as its line has it.
-#[derive(Clone, Copy, Debug)]
+#[derive(Clone, Copy)]
 pub enum WhatWords<'a> {
     /// `noise`
     Noise,
@@ -30,7 +30,7 @@ pub enum WhatWords<'a> {
 }
 
 /// The words of a lie behind its first: `A B U to WHO WHAT`.
-#[derive(Clone, Copy, Debug)]
+#[derive(Clone, Copy)]
 pub struct LieWords<'a> {
     pub first: u64,
     pub last: u64,

@@ -1,7 +1,7 @@
 use sync_types::NodeState;
 
 /// How the nodes start that have no start line of their own.
-#[derive(Clone, Copy, Debug, PartialEq, Eq)]
+#[derive(Clone, Copy, PartialEq, Eq)]
 pub enum CommonStart {
     /// In the zero state.
     Zero,
@@ -10,7 +10,7 @@ pub enum CommonStart {
 }
 
 /// Who hears a lie.
-#[derive(Clone, Copy, Debug, PartialEq, Eq)]
+#[derive(Clone, Copy, PartialEq, Eq)]
 pub enum Who {
     /// Every node.
     All,
@@ -21,7 +21,7 @@ pub enum Who {
 }
 
 /// What a lie says.
-#[derive(Debug, Drop)]
+#[derive(Drop)]
 pub enum What {
     /// A state of noise.
     Noise,
@@ -35,7 +35,6 @@ pub enum What {
 
 /// A rule of lies: from the round `first` to the round `last`, both included, the node `sender`
 /// tells those nodes that.
-#[derive(Debug)]
 pub struct Lie {
     pub first: u64,
     pub last: u64,
@@ -63,7 +62,6 @@ impl Drop for Lie {
 }
 
 /// The state in which a node starts.
-#[derive(Debug)]
 pub struct Start {
     pub node: u64,
     pub state: NodeState,

@@ -7,7 +7,6 @@ use sync_types::NoMemory;
 
 /// Where the lies of each sender stand among all lies, so that those of one are found without the
 /// others. Where there is none, a place is the number of lies.
-#[derive(Debug)]
 pub struct Links {
     /// For each node the place of its first lie.
     pub firsts: Vec<usize>,

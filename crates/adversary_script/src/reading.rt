@@ -58,7 +58,8 @@ fn read_exactly(
     input: &Numbered,
 ) -> Result<Script, ScriptError>
     requires { IsShapeFor plan.now shape.now }
-    ensures { IsAnswer plan.now shape.now input.now.first_line (lines_of input.now.bytes.now) result }
+    ensures { IsAnswer plan.now shape.now input.now.first_line (lines_of input.now.bytes.now)
+        result }
 {
     let lines = ScriptLines::new(alloc, plan, shape);
     let read = read_part(lines, Rule::Form, input.bytes, input.first_line)?;

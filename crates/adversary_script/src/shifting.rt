@@ -15,7 +15,7 @@ const ZERO: Reg = Reg {
 };
 
 /// A modulus, which is 0 where a node lacks the field.
-#[derive(Clone, Copy, Debug)]
+#[derive(Clone, Copy)]
 struct Modulus {
     value: u64,
     ghost most: { value ≤ 2 ^ 40 },

@@ -7,8 +7,10 @@ use Rattle.adversary_script.proofs.shifting.Source.fit_into.Goals as goal
 
 pub returns-clause-range : goal.returns-clause-range
 returns-clause-range c =
-    let is : c.fit_registers.new.out ≡ fitted (fields_at c.args.self.now.config.now.shape c.args.self.now.v)
-    (state_of c.args.self.now.config.now.current c.args.self.now.w) = search rules in
-    rw is (fitted_in_range c.args.self.now.config.now.shape c.args.self.now.v c.args.self.now.w
-    (state_of c.args.self.now.config.now.current c.args.self.now.w) c.tell.ensures.sound
+    let shape = c.args.self.now.config.now.shape in
+    let states = c.args.self.now.config.now.current in
+    let is : c.fit_registers.new.out ≡ fitted (fields_at shape c.args.self.now.v)
+    (state_of states c.args.self.now.w) = search rules in
+    rw is (fitted_in_range shape c.args.self.now.v c.args.self.now.w
+    (state_of states c.args.self.now.w) c.tell.ensures.sound
     (c.tell.ensures.current c.args.self.now.w c.args.self.now.from))

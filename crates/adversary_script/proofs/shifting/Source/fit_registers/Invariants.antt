@@ -10,5 +10,6 @@ invariant-loop-i l = record {
   number : l.out.x ≡ l.fn.out.x;
   depth : length l.out.registers ≡ length l.self.config.now.shape.moduli;
   filled : (j : ℕ) → j < l.i → slice_index_or l.out.registers j zero_register ≡ fitted_register
-      (slice_index (fields_at l.self.config.now.shape l.self.v).moduli j) (register_at j (state_of l.self.config.now.current l.self.w));
+      (slice_index (fields_at l.self.config.now.shape l.self.v).moduli j)
+      (register_at j (state_of l.self.config.now.current l.self.w));
 }

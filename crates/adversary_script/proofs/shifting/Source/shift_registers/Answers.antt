@@ -10,12 +10,12 @@ use Rattle.adversary_script.proofs.shifting.Source.shift_registers.Goals as goal
 
 pub returns : goal.returns
 returns c =
-    let size = length-moduli_from _ c.args.self.now.config.now.shape.moduli in
+    let shape = c.args.self.now.config.now.shape in
+    let state = state_of c.args.self.now.config.now.current c.args.self.now.w in
+    let moduli = (fields_at shape c.args.self.now.v).moduli in
+    let size = length-moduli_from _ shape.moduli in
     let depth = ap (λ (s : Shape). length s.moduli) c.shape.ensures in
     state_is c.loop-i.out _ _ c.loop-i.invariant.number
-    (fill_by_all
-    (λ i. shifted_register c.args.by
-    (slice_index (fields_at c.args.self.now.config.now.shape c.args.self.now.v).moduli i)
-    (register_at i (state_of c.args.self.now.config.now.current c.args.self.now.w))) c.loop-i.out.registers _ zero_register
-    (c.loop-i.invariant.depth ∙ sym size)
+    (fill_by_all (λ i. shifted_register c.args.by (slice_index moduli i) (register_at i state))
+    c.loop-i.out.registers _ zero_register (c.loop-i.invariant.depth ∙ sym size)
     (λ k lt. c.loop-i.invariant.filled k (omega (arith, size, depth))))
