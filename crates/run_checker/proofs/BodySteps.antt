@@ -12,7 +12,7 @@ use Rattle.run_certificates.specs.Stated.{same_rows, shown_row}
 use Rattle.run_checker.specs.Sets.{borne_ids}
 use Rattle.run_checker.specs.Rows.{row_compared}
 use Rattle.run_checker.specs.declared.check_lines.Phase.{Phase}
-use Rattle.run_checker.specs.Phases.{phase_seen, Enters, HasVersion}
+use Rattle.run_checker.specs.Phases.{phase_seen, Enters}
 use Rattle.run_checker.specs.Changes.{may_begin, era_more, played_into, marked_by, IsMarked, Marks, may_row, at_row}
 
 -- ---- what an answer says
@@ -151,11 +151,6 @@ row_marks b (Some row) same is = row_marks_by b row same (is_row b.known.plan b.
 -- ---- a line of the head
 
 pub entered : (next : Onward) (new : Phase) → Enters next (Ok new) → Takes next (phase_seen new) (Ok None)
-entered (goes stage) new h = h.0
+entered (goes stage) new h = h
 entered (ends v) new h = absurd h
 entered (refuses r) new h = absurd h
-
-pub entered_has : (next : Onward) (new : Phase) → Enters next (Ok new) → HasVersion new
-entered_has (goes stage) new h = h.1
-entered_has (ends v) new h = absurd h
-entered_has (refuses r) new h = absurd h

@@ -1,10 +1,21 @@
 -- Digits are decoded pair by pair.
-use Rattle.std.proofs.Common.{◌≡◌, ℕ, ◌+◌, ◌*◌, List, length, take, drop, Some, Ok, refl, sym, ap, ◌∙◌, arith}
+use Rattle.std.proofs.Common.{◌≡◌, ℕ, zero, suc, ◌+◌, ◌*◌, Bool, true, ◌&&◌, List, [], ◌∷◌, length, take, drop, Some, Ok, refl, sym, ap, ap₂, ◌∙◌, arith}
+use Rattle.std.specs.List.{list_all}
+use Rattle.std.proofs.lemmas.Bool.{and_parts}
 use Rattle.std.proofs.lemmas.List.{append-nil, drop_all}
 use Rattle.hex.specs.Hex.{decode_pairs, digit_or_error, hex_digit_value, pair_value, value_at}
 use Rattle.hex.proofs.HexLemmas.{decode_of-even}
 use Rattle.hex.proofs.Pairs.{prepend}
 use Rattle.state_codec.specs.Texts.{bytes_or_none, decoded}
+
+-- the first of some digits are digits
+pub front_lower : (p : ℕ → Bool) (n : ℕ) (text : List ℕ) → list_all p text ≡ true
+    → list_all p (take n text) ≡ true
+front_lower p zero text all = refl
+front_lower p (suc n) [] all = refl
+front_lower p (suc n) (x ∷ text) all =
+    let parts = and_parts (p x) (list_all p text) all in
+    ap₂ (λ a b. a && b) parts.0 (front_lower p n text parts.1)
 
 -- the byte of two digits
 pub pair_of : (high low h l i : ℕ) → hex_digit_value high ≡ Some h → hex_digit_value low ≡ Some l

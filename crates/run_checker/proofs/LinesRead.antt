@@ -1,17 +1,15 @@
 -- A line that was read where it stood in the buffer of a feed.
-use Rattle.std.proofs.Common.{◌≡◌, ℕ, zero, suc, ◌+◌, ◌<◌, ◌≤◌, Bool, true, false, cond, eqb, List, [], ◌∷◌, ◌++◌, length, take, get_or, Option, Some, None, refl, sym, ap, ◌∙◌, subst, arith}
+use Rattle.std.proofs.Common.{◌≡◌, ℕ, zero, suc, ◌+◌, ◌<◌, ◌≤◌, Bool, true, false, cond, List, [], ◌∷◌, ◌++◌, length, take, get_or, Option, None, refl, sym, ap, ◌∙◌, subst, arith}
 use Rattle.std.specs.Prelude.{nat_le}
-use Rattle.std.specs.Io.KnownBytes.{Consumes}
 use Rattle.std.proofs.lemmas.Bool.{leb-true}
-use Rattle.std.proofs.lemmas.List.{length-take-le}
 use Rattle.texts.specs.EndedTexts.{with_length}
-use Rattle.texts.specs.Lines.{is_one_line, words_of}
+use Rattle.texts.specs.Lines.{words_of}
 use Rattle.texts.specs.Parts.{goes}
 use Rattle.edge_io.specs.declared.feed.Feed.{Feed}
 use Rattle.edge_io.specs.Feeds.{feed_left}
 use Rattle.edge_io.proofs.EndedLines.{short_step, goes_on}
 use Rattle.edge_io.proofs.Standing.{Standing}
-use Rattle.run_certificates.specs.Items.{Item, item_of}
+use Rattle.run_certificates.specs.Items.{item_of}
 use Rattle.run_certificates.specs.Checking.{Stage, Onward, step_by, line_step}
 use Rattle.run_checker.specs.NextLies.{IsNextRead}
 

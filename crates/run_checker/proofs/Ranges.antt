@@ -72,6 +72,14 @@ module _ (faulty : List ℕ) where
       → length (correct_nodes (v + 1) faulty) ≡ length (correct_nodes v faulty)
   count_faulty v is = ap (λ (l : List ℕ). length l) (one_faulty v is)
 
+  pub count_more : (v : ℕ) → length (correct_nodes v faulty) + cond (is_in faulty v) 0 1
+      ≡ length (correct_nodes (v + 1) faulty)
+  count_more v = by (is_in faulty v) refl where
+    by : (b : Bool) → is_in faulty v ≡ b → length (correct_nodes v faulty) + cond b 0 1
+        ≡ length (correct_nodes (v + 1) faulty)
+    by true e = let same = count_faulty v e in omega (arith, same)
+    by false e = let one = count_one v e in omega (arith, one)
+
   -- there are no more of them than nodes
   pub few_correct : (v : ℕ) → length (correct_nodes v faulty) ≤ v
   few_correct v =

@@ -1,9 +1,9 @@
 -- The states of the digits that were told.
-use Rattle.std.proofs.Common.{◌≡◌, ℕ, zero, suc, ◌+◌, ◌*◌, ◌<◌, ◌≤◌, inl, inr, Bool, true, false, ◌&&◌, eqb, List, [], ◌∷◌, ◌++◌, length, set, get_or, take, All, refl, sym, ap, ap₂, ◌∙◌, subst, arith}
+use Rattle.std.proofs.Common.{◌≡◌, ℕ, zero, suc, ◌+◌, ◌*◌, ◌<◌, ◌≤◌, inl, inr, true, false, ◌&&◌, eqb, List, [], ◌∷◌, ◌++◌, length, set, get_or, take, refl, sym, ap, ap₂, ◌∙◌, subst, arith}
 use Rattle.std.specs.List.{list_all}
-use Rattle.std.proofs.lemmas.Bool.{cases_eq, eq-eqb, eqb-true, and_parts}
-use Rattle.std.proofs.lemmas.List.{length-set, length-take-le, get_or-set_other, get_or-take, get_or_default}
-use Rattle.std.proofs.lemmas.List.Elements.{All-nil, All-push}
+use Rattle.std.proofs.lemmas.Bool.{cases_eq, eqb-true, and_parts}
+use Rattle.std.proofs.lemmas.List.{length-set, length-take-le, get_or-set_other, get_or-take, get_or_default, set-get_or}
+use Rattle.std.proofs.lemmas.List.Elements.{All-nil}
 use Rattle.std.proofs.lemmas.Grind.{get_or-set_at, take-set_at}
 use Rattle.sync_types.specs.States.{State}
 use Rattle.construction.specs.Steps.{state_of}
@@ -71,7 +71,6 @@ module _ (shape : Shape) where
     senders = All-nil (λ pair. pair.0 < length shape.lows);
     short = short;
     rooms = λ k lt. absurd (omega (arith, lt));
-    lower = All-nil (λ text. list_all is_lower_digit text ≡ true);
   }
 
   module _ (pairs : List (ℕ × ℕ)) (texts : List (List ℕ)) (count : ℕ) {capacity : ℕ}
@@ -87,18 +86,6 @@ module _ (shape : Shape) where
         ≡ (eqb (length text) (length (get_or texts k [])) && list_all is_lower_digit text)
     fits_is k text lt =
         ap (λ (n : ℕ). eqb (length text) n && list_all is_lower_digit text) (sym (h.rooms k lt))
-
-    pub told_is_state : (k : ℕ) → k < count
-        → is_state_text (fields_at shape (get_or pairs k (0, 0)).0) (get_or texts k []) ≡ true
-    told_is_state k lt =
-        let place : k < length (take count texts) =
-        omega (arith, length-take-le count texts (omega (arith, h.many, h.fits)), lt) in
-        let lower : list_all is_lower_digit (get_or texts k []) ≡ true =
-        ap (list_all is_lower_digit) (sym (get_or-take count texts k [] lt)) ∙ h.lower k [] place in
-        fits_is k (get_or texts k []) (omega (arith, lt, h.fits))
-        ∙ ap (λ (b : Bool). b && list_all is_lower_digit (get_or texts k []))
-        (eq-eqb (length (get_or texts k [])) (length (get_or texts k [])) refl)
-        ∙ lower
 
     pub told_at : (k : ℕ) → k < count → state_of (states_read shape pairs (take count texts)) k
         ≡ read_text (fields_at shape (get_or pairs k (0, 0)).0) (get_or texts k [])
@@ -119,18 +106,11 @@ module _ (shape : Shape) where
           same ∙ room_of_pair
           ∙ get_or_default texts k room [] (omega (arith, lt, h.fits, h.many))
 
-      pub is_read : is_state_text (fields_at shape pair.0) text ≡ true
-      is_read =
-          ap₂ (λ (p : ℕ × ℕ) (t : List ℕ). is_state_text (fields_at shape p.0) t) pair_is text_is
-          ∙ told_is_state k lt
-
-      -- it is of as many digits as the state has, and of no others
-      pub is_of_digits : (length text ≡ 2 * bytes_in (fields_at shape pair.0))
-          × (list_all is_lower_digit text ≡ true)
-      is_of_digits =
-          let count : ℕ = 2 * bytes_in (fields_at shape pair.0) in
-          let parts = and_parts (eqb (length text) count) (list_all is_lower_digit text) is_read in
-          (eqb-true (length text) count parts.0, parts.1)
+      -- it is of as many digits as the state has
+      pub digits_of : length text ≡ 2 * bytes_in (fields_at shape pair.0)
+      digits_of =
+          ap (λ (t : List ℕ). length t) text_is ∙ h.rooms k (omega (arith, lt, h.fits))
+          ∙ ap (room_of shape) (sym pair_is)
 
       pub read_is : read_text (fields_at shape pair.0) text
           ≡ state_of (states_read shape pairs (take count texts)) k
@@ -146,8 +126,7 @@ module _ (shape : Shape) where
 
     -- one more
     module _ (text : List ℕ) (more : count < length pairs)
-        (size : length text ≡ length (get_or texts count []))
-        (digits : list_all is_lower_digit text ≡ true) where
+        (size : length text ≡ length (get_or texts count [])) where
       one_put : take (count + 1) (set texts count text) ≡ take count texts ++ text ∷ []
       one_put = take-set_at texts count (count + 1) text refl (omega (arith, more, h.many))
 
@@ -171,9 +150,6 @@ module _ (shape : Shape) where
             senders = h.senders;
             short = h.short;
             rooms = room_put;
-            lower = subst (All (λ t. list_all is_lower_digit t ≡ true)) (sym one_put)
-                (All-push (λ t. list_all is_lower_digit t ≡ true) (take count texts) text h.lower
-                digits);
           }
 
       pub told_more : states_read shape pairs (take (count + 1) (set texts count text))
@@ -219,11 +195,8 @@ module _ (shape : Shape) where
             eqb-true (length text) (length room)
             (and_parts (eqb (length text) (length room)) (list_all is_lower_digit text) fit).0
 
-        lower_text : list_all is_lower_digit text ≡ true
-        lower_text = (and_parts (eqb (length text) (length room)) (list_all is_lower_digit text) fit).1
-
         pub adds_kept : IsTelling shape pairs (set texts count text) (count + 1) capacity
-        adds_kept = kept_more text more (fit_long ∙ ap (λ (r : List ℕ). length r) room_is) lower_text
+        adds_kept = kept_more text more (fit_long ∙ ap (λ (r : List ℕ). length r) room_is)
 
         pub adds_one : AddsState text told_view (record told_view {
           states = states_read shape pairs (take (count + 1) (set texts count text));
@@ -231,29 +204,25 @@ module _ (shape : Shape) where
         adds_one = (
           next_is ∙ fit,
           ap (λ (states : List State). let t : Telling = record told_view { states = states } in t)
-              (told_more text more (fit_long ∙ ap (λ (r : List ℕ). length r) room_is) lower_text),
+              (told_more text more (fit_long ∙ ap (λ (r : List ℕ). length r) room_is)),
         )
 
     -- the same of what is there behind it
     module _ (text room : List ℕ) (more : count < length pairs)
         (at : room ≡ get_or texts count room) (old : Telling) (is : told_view ≡ old) where
       pub adds_none_at : (eqb (length text) (length room) && list_all is_lower_digit text) ≡ false
-          → AddsState text old old false
-      adds_none_at e = (
-        subst (λ (o : Telling). is_state_text (next_fields o) text ≡ false) is
-            (adds_none text room more at e),
-        refl,
-      )
+          → is_state_text (next_fields old) text ≡ false
+      adds_none_at e =
+          subst (λ (o : Telling). is_state_text (next_fields o) text ≡ false) is
+          (adds_none text room more at e)
+
+      -- what was not put changes nothing
+      pub same_texts : (put : List ℕ) → put ≡ room → set texts count put ≡ texts
+      same_texts put same =
+          ap (λ (t : List ℕ). set texts count t) (same ∙ at) ∙ set-get_or texts count room
 
       module _ (fit : (eqb (length text) (length room) && list_all is_lower_digit text) ≡ true)
         where
-          pub fit_room : (other : List ℕ) → other ≡ get_or texts count other
-              → length text ≡ length other
-          fit_room other other_at =
-              fit_long text room more at fit
-              ∙ ap (λ (r : List ℕ). length r) (room_is text room more at
-              ∙ sym (room_is text other more other_at))
-
           pub adds_kept_at : (put : List ℕ) → put ≡ text
               → IsTelling shape pairs (set texts count put) (count + 1) capacity
           adds_kept_at put same =

@@ -1,5 +1,5 @@
 -- What is told in a round, by the order of the pairs, and the steps of all nodes from it.
-use Rattle.std.specs.Prelude.{◌≡◌, ℕ, ◌<◌, ◌&&◌, ◌==◌, List, [], ◌∷◌, length, map, All, if◌then◌else◌}
+use Rattle.std.specs.Prelude.{◌≡◌, ℕ, ◌&&◌, ◌==◌, List, [], ◌∷◌, length, map, All, if◌then◌else◌}
 use Rattle.std.specs.List.{range_with_len}
 use Rattle.sync_types.specs.States.{State, zero_state}
 use Rattle.sync_types.specs.FaultSets.{FaultIds, is_in}
@@ -9,7 +9,6 @@ use Rattle.construction.specs.Runs.{heard_by}
 use Rattle.state_codec.specs.Shapes.{shape_of}
 use Rattle.state_codec.specs.Packs.{Pack}
 use Rattle.shared_board.specs.Sharing.{stands_for}
-use Rattle.round_runner.specs.Locks.{correct_nodes}
 use Rattle.run_certificates.specs.Grammar.{pairs_of}
 use Rattle.plan_laws.specs.PlanMeaning.{IsInRange}
 use Rattle.run_checker.specs.declared.rounds.Room.{Room}
@@ -80,8 +79,3 @@ pub record IsGathered (plan : Plan) (faulty : List ℕ) (told : List State) (con
   pub is : IsConfig plan config
   pub ready : IsReady plan room
   pub stands : room.shared ≡ stands_for plan config.current faulty
-
--- node v is one of the plan, and so many correct nodes stand before it
-pub record IsNext (plan : Plan) (faulty : List ℕ) (v before : ℕ) : Type 0 where
-  pub node : v < plan_nodes plan
-  pub correct : before ≡ length (correct_nodes v faulty)

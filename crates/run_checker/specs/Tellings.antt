@@ -1,10 +1,9 @@
 -- The pairs of a round, and what was told for the first of them. There is room for so many pairs.
-use Rattle.std.specs.Prelude.{◌≡◌, ℕ, ◌-◌, ◌≤◌, ◌<◌, ◌*◌, List, [], ◌∷◌, ◌++◌, length, take, All, Bool, true, false, slice_index_or}
-use Rattle.std.specs.List.{list_all}
+use Rattle.std.specs.Prelude.{◌≡◌, ℕ, ◌-◌, ◌≤◌, ◌<◌, ◌*◌, List, [], ◌∷◌, ◌++◌, length, All, Bool, true, false, slice_index_or}
 use Rattle.sync_types.specs.States.{State}
 use Rattle.construction.specs.Plans.{Plan, plan_nodes, plan_faults}
 use Rattle.state_codec.specs.Shapes.{Fields, Shape, fields_at, bytes_in}
-use Rattle.state_codec.specs.Texts.{is_lower_digit, is_state_text, read_text}
+use Rattle.state_codec.specs.Texts.{is_state_text, read_text}
 
 pub record Telling : Type 0 where
   pub pairs : List (ℕ × ℕ)
@@ -27,8 +26,7 @@ states_read shape (pair ∷ pairs) [] = []
 states_read shape (pair ∷ pairs) (text ∷ texts) =
     read_text (fields_at shape pair.0) text ∷ states_read shape pairs texts
 
--- what it keeps: there is room for what each pair tells, whichever pairs there are, and what was
--- told is of digits
+-- what it keeps: there is room for what each pair tells, whichever pairs there are
 pub record IsTelling (shape : Shape) (pairs : List (ℕ × ℕ)) (texts : List (List ℕ))
     (count capacity : ℕ) : Type 0 where
   pub fits : count ≤ length pairs
@@ -38,7 +36,6 @@ pub record IsTelling (shape : Shape) (pairs : List (ℕ × ℕ)) (texts : List (
   pub short : (v : ℕ) → bytes_in (fields_at shape v) ≤ 32
   pub rooms : (k : ℕ) → k < length pairs
       → length (slice_index_or texts k []) ≡ room_of shape (slice_index_or pairs k (0, 0))
-  pub lower : All (λ text. list_all is_lower_digit text ≡ true) (take count texts)
 
 -- the fields of the sender of the next pair
 abbrev pub next_fields : Telling → Fields

@@ -119,11 +119,14 @@ impl Body {
         requires few { length faulty.ids ≤ plan_faults plan.now }
         ensures { IfOk result (λ body. body ≡ first_body version plan.now faulty.ids) }
     {
+        plan.tell();
+        faulty.tell();
         let tower = build(alloc, plan)?;
         let shape = StateShape::of(alloc, plan)?;
         let unknown = all_nodes(alloc, plan.nodes())?;
         let config = Packed::new(alloc, shape, plan.nodes())?;
-        let tellings = Tellings::of(alloc, plan, &faulty)?;
+        let mut tellings = Tellings::of(alloc, plan)?;
+        tellings.begin(&faulty);
         let room = room_for(alloc, &tower)?;
         let sets = empty_sets(alloc, plan.nodes(), most_eras(version))?;
         Ok(Body {

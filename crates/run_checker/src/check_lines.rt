@@ -1,16 +1,16 @@
-ghost use Rattle.std.specs.Prelude.{◌≡◌, true};
+ghost use Rattle.std.specs.Prelude.{◌≡◌};
 ghost use Rattle.edge_io.specs.Taking.{Takes};
 ghost use Rattle.adversary_script.specs.WordTests.{numbers_in};
 ghost use Rattle.std.specs.Option.{option_map};
-ghost use Rattle.run_certificates.specs.Grammar.{plan_version};
 ghost use Rattle.run_certificates.specs.Items.{run_item, faulty_item};
 ghost use Rattle.run_certificates.specs.Checking.{unread, planned, step, step_by, base_step, level_step};
 ghost use Rattle.run_checker.specs.SaidLines.{item_seen};
 ghost use Rattle.run_checker.specs.Bodies.{stage_of};
-ghost use Rattle.run_checker.specs.Phases.{phase_seen, HasVersion, is_head, Enters};
+ghost use Rattle.run_checker.specs.Phases.{head_seen, planned_seen, Enters};
 
 use crate::bodies::Body;
 use crate::id_lists::read_ids;
+use crate::planned::Planned;
 use crate::said_lines::{Said, read_said};
 use crate::versions::Version;
 use edge_io::{LineReader, TakeError, Words};
@@ -21,17 +21,33 @@ use std::marker::Model;
 use std::mem;
 use sync_types::{FaultSet, NoMemory};
 
-/// How far a certificate was read.
+/// How much of the head of a certificate was read.
 #[derive(Drop)]
-pub enum Phase {
+pub enum Head {
     /// No line of it.
     Unread,
     /// Its first line, which says its version.
     Begun(Version),
     /// Its base line, and as many lines of levels as the plan has levels.
-    Planned(Version, Plan),
+    Planned(Planned),
+}
+
+/// How far a certificate was read.
+pub enum Phase {
+    /// Its head, or lines of that.
+    Head(Head),
     /// Its head, and lines behind it.
     Inside(Body),
+}
+
+// Written out, so that what lets go of one calls this, and no more.
+impl Drop for Phase {
+    fn drop(self) {
+        match self {
+            Phase::Head(head) => drop(head),
+            Phase::Inside(body) => drop(body),
+        }
+    }
 }
 
 /// Reads the lines of a certificate.
@@ -51,13 +67,11 @@ impl Drop for CheckLines {
 
 impl Model for CheckLines {
     ghost use Rattle.run_certificates.specs.Checking.{Stage};
-    ghost use Rattle.run_checker.specs.Phases.{phase_seen, HasVersion};
+    ghost use Rattle.run_checker.specs.Phases.{phase_seen};
 
     ghost Value = { Stage };
 
     ghost view = { λ l. phase_seen l.phase };
-
-    ghost invariant = { λ l. HasVersion l.phase };
 }
 
 /// What stands behind the first line.
@@ -68,7 +82,7 @@ fn behind_run(version: u64) -> Result<Phase, TakeError<()>>
         return Err(TakeError::Refused(()));
     }
     let number = version as u32;
-    Ok(Phase::Begun(Version { number }))
+    Ok(Phase::Head(Head::Begun(Version { number })))
 }
 
 /// What stands behind the base line.
@@ -77,7 +91,7 @@ fn behind_base(alloc: Global, version: Version, base: u64) -> Result<Phase, Take
 {
     let plan_version = if version.number == 3 { 2 } else { 1 };
     match Plan::base_of(alloc, plan_version, base) {
-        Ok(plan) => Ok(Phase::Planned(version, plan)),
+        Ok(plan) => Ok(Phase::Head(Head::Planned(Planned { version, plan }))),
         Err(PremiseError::Refused(_)) => Err(TakeError::Refused(())),
         Err(PremiseError::NoMemory) => Err(TakeError::NoMemory),
     }
@@ -85,60 +99,52 @@ fn behind_base(alloc: Global, version: Version, base: u64) -> Result<Phase, Take
 
 /// What stands behind the line of a level.
 fn behind_level(
-    version: Version,
-    mut plan: Plan,
+    planned: Planned,
     blocks: u64,
     faults: u64,
     modulus: u64,
     spares: Option<u64>,
 ) -> Result<Phase, TakeError<()>>
-    requires { plan.version ≡ plan_version version.number }
-    ensures { Enters (level_step version.number plan blocks faults modulus spares) result }
+    ensures { Enters (level_step planned.version.number planned.plan blocks faults modulus spares)
+        result }
 {
+    let Planned { version, mut plan } = planned;
     if spares.is_some() != (version.number == 3) {
         return Err(TakeError::Refused(()));
     }
     match plan.push_with(blocks, faults, modulus, spares.unwrap_or(0)) {
-        Ok(()) => Ok(Phase::Planned(version, plan)),
+        Ok(()) => Ok(Phase::Head(Head::Planned(Planned { version, plan }))),
         Err(_) => Err(TakeError::Refused(())),
     }
 }
 
 /// What stands behind the line of the nodes that are faulty at first.
-fn behind_faulty(
-    alloc: Global,
-    version: Version,
-    plan: &Plan,
-    words: Words<'_>,
-) -> Result<Phase, TakeError<()>>
-    ensures { Enters (step_by (planned version.number plan.now)
-        (option_map faulty_item (numbers_in words.entry))) result }
+fn behind_faulty(alloc: Global, planned: &Planned, words: Words<'_>) -> Result<Phase, TakeError<()>>
+    ensures { Enters (step_by (planned_seen planned.now) (option_map faulty_item
+        (numbers_in words.entry))) result }
 {
+    let plan = &planned.plan;
     let mut faulty = FaultSet::new(alloc, plan.nodes()).map_err(|_| TakeError::NoMemory)?;
     if !read_ids(words, plan.faults(), &mut faulty) {
         return Err(TakeError::Refused(()));
     }
-    match Body::new(alloc, version.number, plan, faulty) {
+    match Body::new(alloc, planned.version.number, plan, faulty) {
         Ok(body) => Ok(Phase::Inside(body)),
         Err(NoMemory) => Err(TakeError::NoMemory),
     }
 }
 
 /// What stands behind a line, where the head was not read before it.
-fn behind_head(alloc: Global, phase: Phase, said: Said<'_>) -> Result<Phase, TakeError<()>>
-    requires version { HasVersion phase }
-    requires head { is_head phase ≡ true }
-    ensures { Enters (step_by (phase_seen phase) (item_seen said.entry)) result }
+fn behind_head(alloc: Global, head: Head, said: Said<'_>) -> Result<Phase, TakeError<()>>
+    ensures { Enters (step_by (head_seen head) (item_seen said.entry)) result }
 {
-    match (phase, said) {
-        (Phase::Unread, Said::Run(version)) => behind_run(version),
-        (Phase::Begun(version), Said::Base(base)) => behind_base(alloc, version, base),
-        (Phase::Planned(version, plan), Said::Level(blocks, faults, modulus, spares)) => {
-            behind_level(version, plan, blocks, faults, modulus, spares)
+    match (head, said) {
+        (Head::Unread, Said::Run(version)) => behind_run(version),
+        (Head::Begun(version), Said::Base(base)) => behind_base(alloc, version, base),
+        (Head::Planned(planned), Said::Level(blocks, faults, modulus, spares)) => {
+            behind_level(planned, blocks, faults, modulus, spares)
         }
-        (Phase::Planned(version, plan), Said::Faulty(words)) => {
-            behind_faulty(alloc, version, &plan, words)
-        }
+        (Head::Planned(planned), Said::Faulty(words)) => behind_faulty(alloc, &planned, words),
         _ => Err(TakeError::Refused(())),
     }
 }
@@ -168,7 +174,7 @@ impl CheckLines {
     {
         CheckLines {
             alloc,
-            phase: Phase::Unread,
+            phase: Phase::Head(Head::Unread),
         }
     }
 
@@ -195,12 +201,14 @@ impl CheckLines {
     fn take_said(&mut self, said: Said<'_>) -> Result<Option<Verdict>, TakeError<()>>
         ensures { Takes (step_by self.old (item_seen said.entry)) self.new result }
     {
-        if let Phase::Inside(body) = &mut self.phase {
-            return take_inside(body, said);
+        match &mut self.phase {
+            Phase::Inside(body) => take_inside(body, said),
+            Phase::Head(head) => {
+                let head = mem::replace(head, Head::Unread);
+                self.phase = behind_head(self.alloc, head, said)?;
+                Ok(None)
+            }
         }
-        let phase = mem::replace(&mut self.phase, Phase::Unread);
-        self.phase = behind_head(self.alloc, phase, said)?;
-        Ok(None)
     }
 }
 

@@ -1,4 +1,4 @@
-ghost use Rattle.std.specs.Prelude.{◌≡◌, ◌≤◌, ◌<◌, ◌*◌, ◌==◌, ◌&&◌, [], true, Some, length, take};
+ghost use Rattle.std.specs.Prelude.{◌≡◌, ◌≤◌, ◌<◌, ◌*◌, ◌==◌, ◌&&◌, ℕ, true, Some, length, take, if◌then◌else◌};
 ghost use Rattle.std.specs.List.{list_all};
 ghost use Rattle.hex.specs.Hex.{hex_digit_value};
 ghost use Rattle.state_codec.specs.Texts.{is_lower_digit, decoded};
@@ -8,22 +8,25 @@ use std::marker::Model;
 /// No state of a plan has more digits.
 const MOST_DIGITS: usize = 64;
 
-/// The digits of a state, of which there is a number that is set first. There is room for those of
-/// each state of a plan.
+/// The digits of a state, two for each of its bytes, whose number is set first. They are of
+/// `0-9a-f`. There is room for those of each state of a plan.
 #[derive(Drop)]
 pub struct Digits {
     text: [u8; MOST_DIGITS],
-    len: usize,
+    bytes: usize,
 }
 
 impl Model for Digits {
-    ghost use Rattle.std.specs.Prelude.{ℕ, ◌≤◌, List, take};
+    ghost use Rattle.std.specs.Prelude.{ℕ, ◌≡◌, ◌≤◌, ◌*◌, List, true, take};
+    ghost use Rattle.std.specs.List.{list_all};
+    ghost use Rattle.state_codec.specs.Texts.{is_lower_digit};
 
     ghost Value = { List ℕ };
 
-    ghost view = { λ d. take d.len d.text };
+    ghost view = { λ d. take (2 * d.bytes) d.text };
 
-    ghost invariant = { λ d. d.len ≤ 64 };
+    ghost invariant = { λ d. (d.bytes ≤ 32)
+        × (list_all is_lower_digit (take (2 * d.bytes) d.text) ≡ true) };
 }
 
 /// Whether it is a digit of `0-9a-f`.
@@ -54,36 +57,16 @@ fn value_of(digit: u8) -> u8
     digit - zero
 }
 
-/// Puts the bytes that digits stand for at the front of these.
-fn decode(digits: &[u8], count: usize, bytes: &mut [u8])
-    requires twice { length digits.now ≡ 2 * count }
-    requires lower { list_all is_lower_digit digits.now ≡ true }
-    requires room { count ≤ length bytes.old }
-    ensures size { length bytes.new ≡ length bytes.old }
-    ensures value { take count bytes.new ≡ decoded digits.now }
-{
-    for i in 0..count {
-        bytes[i] = value_of(digits[2 * i]) * 16 + value_of(digits[2 * i + 1]);
-    }
-}
-
 impl Digits {
-    /// No digits.
-    pub fn none() -> Digits
-        ensures { result ≡ [] }
+    /// The digits of so many bytes, at most 32, that are all 0.
+    pub fn zeros(bytes: usize) -> Digits
+        requires { bytes ≤ 32 }
+        ensures { length result ≡ 2 * bytes }
     {
         Digits {
-            text: [0; MOST_DIGITS],
-            len: 0,
+            text: [b'0'; MOST_DIGITS],
+            bytes,
         }
-    }
-
-    /// Sets how many there are, at most 64. They may be any digits then.
-    pub fn set_count(&mut self, count: usize)
-        requires { count ≤ 64 }
-        ensures { length self.new ≡ count }
-    {
-        self.len = count;
     }
 
     /// How many there are.
@@ -91,33 +74,30 @@ impl Digits {
         ensures value { result ≡ length self.now }
         ensures most { result ≤ 64 }
     {
-        self.len
+        2 * self.bytes
     }
 
-    /// Whether a text is of digits of `0-9a-f`, and of as many.
-    pub fn fit(&self, text: &[u8]) -> bool
-        ensures { result ≡ (length text.now == length self.now
+    /// Takes a text of as many digits of `0-9a-f`. Any other is refused, and changes nothing.
+    pub fn take(&mut self, text: &[u8]) -> bool
+        ensures fits { result ≡ (length text.now == length self.old
             && list_all is_lower_digit text.now) }
+        ensures taken { self.new ≡ (if result then text.now else self.old) }
     {
-        text.len() == self.len && are_lower(text)
+        if text.len() != self.count() || !are_lower(text) {
+            return false;
+        }
+        self.text[..2 * self.bytes].copy_from_slice(text);
+        true
     }
 
-    /// Takes a text of as many digits.
-    pub fn copy_from(&mut self, text: &[u8])
-        requires { length text.now ≡ length self.old }
-        ensures { self.new ≡ text.now }
+    /// Puts the bytes that they stand for at the front of these.
+    pub fn decode(&self, bytes: &mut [u8; 40])
+        ensures { (count : ℕ) → length self.now ≡ 2 * count
+            → take count bytes.new ≡ decoded self.now }
     {
-        self.text[..self.len].copy_from_slice(text);
-    }
-
-    /// Puts the bytes that they stand for, of which there are so many, at the front of these.
-    pub fn decode(&self, count: usize, bytes: &mut [u8])
-        requires twice { length self.now ≡ 2 * count }
-        requires lower { list_all is_lower_digit self.now ≡ true }
-        requires room { count ≤ length bytes.old }
-        ensures size { length bytes.new ≡ length bytes.old }
-        ensures value { take count bytes.new ≡ decoded self.now }
-    {
-        decode(&self.text[..self.len], count, bytes);
+        let digits = &self.text[..2 * self.bytes];
+        for i in 0..self.bytes {
+            bytes[i] = value_of(digits[2 * i]) * 16 + value_of(digits[2 * i + 1]);
+        }
     }
 }

@@ -5,7 +5,7 @@ ghost use Rattle.std.specs.Prelude.{◌≡◌};
 use crate::bodies::Body;
 use crate::firsts::first_of;
 use crate::id_lists::needs_state;
-use crate::rows::compare_row;
+use crate::rows::Showing;
 use counter_core::Counter;
 use edge_io::{TakeError, Words};
 use round_runner::is_locked;
@@ -30,7 +30,12 @@ impl Body {
     fn mark_row(&mut self, words: Words<'_>) -> bool
         ensures { Marks (values_said words.entry) self.old self.new result }
     {
-        let Some(same) = compare_row(words, &self.faulty, self.tower.depth(), &self.config) else {
+        let showing = Showing {
+            faulty: &self.faulty,
+            depth: self.tower.depth(),
+            config: &self.config,
+        };
+        let Some(same) = showing.compare_row(words) else {
             return false;
         };
         let locked = is_locked(&self.tower, &self.faulty, &self.config);

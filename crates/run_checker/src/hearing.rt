@@ -2,8 +2,9 @@ ghost use Rattle.std.specs.Prelude.{◌≡◌, ◌<◌, ◌≤◌, ◌+◌, ◌*
 ghost use Rattle.construction.specs.Steps.{state_of};
 ghost use Rattle.run_checker.specs.Hearing.{Lays};
 
-use crate::rounds::{Room, Round};
+use crate::rounds::Room;
 use crate::tellings::Tellings;
+use crate::turns::Turn;
 use counter_core::Counter;
 use round_runner::place_of;
 use state_codec::Packed;
@@ -42,62 +43,58 @@ fn lay_told(
     }
 }
 
-impl Round<'_> {
+impl Turn<'_> {
     ghost use Rattle.std.specs.Prelude.{take};
     ghost use Rattle.construction.specs.Plans.{plan_nodes};
     ghost use Rattle.construction.specs.Steps.{step_of};
     ghost use Rattle.shared_board.specs.Sharing.{Tells, heard_with};
     ghost use Rattle.run_certificates.specs.Grammar.{pairs_of};
     ghost use Rattle.run_checker.specs.Hearing.{LaysHeard};
-    ghost use Rattle.run_checker.specs.Rounds.{stepped_at, IsNext, IsGathered};
+    ghost use Rattle.run_checker.specs.Rounds.{stepped_at, IsGathered};
 
-    /// Lays what node `v` hears of the faulty nodes of a stretch of places into these: what they
+    /// Lays what the node hears of the faulty nodes of a stretch of places into these: what they
     /// tell it, or where it is faulty itself the zero state, and its own state in its place.
-    fn lay_heard(
-        &self,
-        config: &Packed,
-        v: u32,
-        before: usize,
-        stretch: (usize, usize),
-        room: &mut Room,
-    )
-        requires next { IsNext self.now.tower.now self.now.faulty.now.ids v before }
-        requires room { IsGathered self.now.tower.now self.now.faulty.now.ids
-            self.now.told.now.states config.now room.old }
-        requires stretch { (stretch.0 ≤ stretch.1) × (stretch.1 ≤ length self.now.faulty.now.ids) }
-        ensures laid { LaysHeard self.now.tower.now self.now.faulty.now.ids
-            self.now.told.now.states config.now.current v stretch.0 stretch.1
+    fn lay_heard(&self, config: &Packed, stretch: (usize, usize), room: &mut Room)
+        requires room { IsGathered self.now.round.now.tower.now self.now.round.now.faulty.now.ids
+            self.now.round.now.told.now.states config.now room.old }
+        requires stretch { (stretch.0 ≤ stretch.1)
+            × (stretch.1 ≤ length self.now.round.now.faulty.now.ids) }
+        ensures laid { LaysHeard self.now.round.now.tower.now self.now.round.now.faulty.now.ids
+            self.now.round.now.told.now.states config.now.current self.now.v stretch.0 stretch.1
             room.old.lies.items room.new.lies.items }
         ensures same { room.new ≡ record room.old { lies = room.new.lies } }
     {
-        self.tower.tell();
+        let round = self.round;
+        round.tower.tell();
         config.tell();
-        if self.faulty.contains(v) {
+        if round.faulty.contains(self.v) {
             lay_zeros(stretch, &room.zero, &mut room.lies);
-            let own = place_of(self.faulty, v);
-            config.old(v, &mut room.lies[own]);
+            let own = place_of(round.faulty, self.v);
+            config.old(self.v, &mut room.lies[own]);
         } else {
-            lay_told(self.told, self.correct, before, stretch, &mut room.lies);
+            let lies = &mut room.lies;
+            lay_told(round.told, round.correct, self.before, stretch, lies);
         }
     }
 
-    /// Lays as much of what node `v` hears of the faulty nodes as its step hangs on into the first
-    /// of `room.lies`. So many correct nodes stand before it.
-    pub fn hear(&self, config: &Packed, v: u32, before: usize, room: &mut Room)
-        requires next { IsNext self.now.tower.now self.now.faulty.now.ids v before }
-        requires room { IsGathered self.now.tower.now self.now.faulty.now.ids
-            self.now.told.now.states config.now room.old }
-        ensures room { IsGathered self.now.tower.now self.now.faulty.now.ids
-            self.now.told.now.states config.now room.new }
-        ensures tells { Tells room.new.shared v
-            (take (length self.now.faulty.now.ids) room.new.lies.items) }
-        ensures step { step_of self.now.tower.now v (heard_with self.now.faulty.now.ids
-            (take (length self.now.faulty.now.ids) room.new.lies.items) config.now.current)
-            ≡ stepped_at self.now.tower.now self.now.faulty.now.ids config.now.current
-            (pairs_of (plan_nodes self.now.tower.now) self.now.faulty.now.ids)
-            self.now.told.now.states v }
+    /// Lays as much of what the node hears of the faulty nodes as its step hangs on into the first
+    /// of `room.lies`.
+    pub fn hear(&self, config: &Packed, room: &mut Room)
+        requires room { IsGathered self.now.round.now.tower.now self.now.round.now.faulty.now.ids
+            self.now.round.now.told.now.states config.now room.old }
+        ensures room { IsGathered self.now.round.now.tower.now self.now.round.now.faulty.now.ids
+            self.now.round.now.told.now.states config.now room.new }
+        ensures tells { Tells room.new.shared self.now.v
+            (take (length self.now.round.now.faulty.now.ids) room.new.lies.items) }
+        ensures step { step_of self.now.round.now.tower.now self.now.v
+            (heard_with self.now.round.now.faulty.now.ids
+            (take (length self.now.round.now.faulty.now.ids) room.new.lies.items)
+            config.now.current)
+            ≡ stepped_at self.now.round.now.tower.now self.now.round.now.faulty.now.ids
+            config.now.current (pairs_of (plan_nodes self.now.round.now.tower.now)
+            self.now.round.now.faulty.now.ids) self.now.round.now.told.now.states self.now.v }
     {
-        let stretch = self.tower.heeded(v, &room.shared);
-        self.lay_heard(config, v, before, stretch, room);
+        let stretch = self.round.tower.heeded(self.v, &room.shared);
+        self.lay_heard(config, stretch, room);
     }
 }

@@ -19,6 +19,7 @@ pub mod laws;
 mod lie_lines;
 mod line_reading;
 mod pairs;
+mod planned;
 mod records;
 mod rounds;
 mod row_lines;
@@ -26,6 +27,7 @@ mod rows;
 mod said_lines;
 mod start_lines;
 mod tellings;
+mod turns;
 mod versions;
 
 pub use checks::{CertRefusal, CheckError, check_run};

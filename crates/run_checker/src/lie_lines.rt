@@ -1,7 +1,7 @@
-ghost use Rattle.std.specs.Prelude.{◌≡◌, ◌≢◌, ◌<◌, length};
+ghost use Rattle.std.specs.Prelude.{◌≡◌, ◌≢◌, ◌<◌};
 ghost use Rattle.texts.specs.Growth.{Puts};
 ghost use Rattle.construction.specs.Plans.{plan_nodes};
-ghost use Rattle.run_checker.specs.Playing.{HasLiar};
+ghost use Rattle.run_checker.specs.Playing.{HasLiar, IsToRecord};
 ghost use Rattle.run_checker.specs.RunLines.{lie_text, lie_if, lies_from, lies_text};
 
 use counter_core::NoOverlay;
@@ -82,8 +82,7 @@ fn put_lies_from<K: Sink>(
 /// Writes what the faulty nodes tell in the coming round.
 pub fn put_lies<K: Sink>(sink: &mut K, runner: &mut Runner<NoOverlay>) -> Result<(), WriteFault>
     requires round { runner.old.at < runner.old.script.rounds }
-    requires nodes { runner.old.script.nodes ≡ plan_nodes runner.old.plan }
-    requires lows { length runner.old.script.shape.lows ≡ plan_nodes runner.old.plan }
+    requires plays { IsToRecord runner.old }
     ensures text { Puts result
         (lies_text runner.old.script (plan_nodes runner.old.plan) runner.old.at runner.old.states)
         (K.told sink.old) (K.told sink.new) }

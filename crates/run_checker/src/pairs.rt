@@ -26,7 +26,8 @@ impl Model for Pair {
 
     ghost view = { λ p. (p.sender, p.receiver) };
 
-    ghost invariant = { λ p. (p.len ≤ 26) × (take p.len p.text ≡ lie_front (p.sender, p.receiver)) };
+    ghost invariant = { λ p. (p.len ≤ 26)
+        × (take p.len p.text ≡ lie_front (p.sender, p.receiver)) };
 }
 
 /// Puts bytes behind the first `len` of a text, and answers how many there are then.
@@ -54,9 +55,11 @@ fn put_number(text: &mut [u8], len: usize, value: u32) -> usize
 
 /// Whether a line begins with these bytes. All are looked at: most lines do.
 fn begins_with(line: &[u8], front: &[u8]) -> bool
-    requires { length front.now ≤ length line.now }
     ensures { result ≡ true → take (length front.now) line.now ≡ front.now }
 {
+    if line.len() < front.len() {
+        return false;
+    }
     let mut same = true;
     for i in 0..front.len() {
         same &= line[i] == front[i];
@@ -107,7 +110,7 @@ impl Pair {
     pub fn digits_in<'a>(&self, line: &'a [u8]) -> Option<&'a [u8]>
         ensures { IfSome result (λ digits. line.now ≡ lie_front self.now ++ digits.now) }
     {
-        if line.len() < self.len || !begins_with(line, &self.text[..self.len]) {
+        if !begins_with(line, &self.text[..self.len]) {
             return None;
         }
         Some(&line[self.len..])

@@ -1,7 +1,5 @@
-ghost use Rattle.std.specs.Prelude.{◌≡◌, ◌<◌, ◌+◌, length, OnOk, OnErr};
+ghost use Rattle.std.specs.Prelude.{◌≡◌, ◌<◌, ◌+◌, OnOk, OnErr};
 ghost use Rattle.texts.specs.Growth.{Puts};
-ghost use Rattle.construction.specs.Plans.{plan_nodes};
-ghost use Rattle.adversary_script.specs.Scripts.{IsScript};
 ghost use Rattle.run_certificates.specs.Certificates.{certificate_text};
 ghost use Rattle.run_certificates.specs.Recorded.{certificate_of, era_at};
 ghost use Rattle.run_checker.specs.RunLines.{era_lines, turn_text, turns_text, record_text};
@@ -22,9 +20,8 @@ fn put_era_lines<K: Sink>(
     runner: &mut Runner<NoOverlay>,
     t: u64,
 ) -> Result<(), WriteFault>
-    requires script { IsScript runner.old.script }
     requires small { t < 1000000 }
-    requires lows { length runner.old.script.shape.lows ≡ plan_nodes runner.old.plan }
+    requires plays { IsToRecord runner.old }
     ensures text { Puts result (era_lines runner.old.plan runner.old.script t runner.old.states
         (era_at runner.old.plan runner.old.script (t + 1)))
         (K.told sink.old) (K.told sink.new) }

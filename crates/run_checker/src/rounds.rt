@@ -1,12 +1,14 @@
-ghost use Rattle.std.specs.Prelude.{◌≡◌, ◌≤◌, ◌+◌, length, IfOk};
-ghost use Rattle.sync_types.specs.FaultSets.{AreFaulty};
+ghost use Rattle.std.specs.Prelude.{◌≡◌, ◌≤◌, length, if◌then◌else◌, IfOk};
+ghost use Rattle.sync_types.specs.FaultSets.{AreFaulty, is_in};
 ghost use Rattle.construction.specs.Plans.{plan_nodes};
 ghost use Rattle.state_codec.specs.Shapes.{shape_of};
 ghost use Rattle.round_runner.specs.Locks.{correct_nodes};
+ghost use Rattle.round_runner.specs.Ledgers.{IsBlankOf};
 ghost use Rattle.run_certificates.specs.Grammar.{pairs_of};
 ghost use Rattle.run_checker.specs.Rounds.{stepped_all, AreStates, IsReady, IsTold, IsConfig};
 
 use crate::tellings::Tellings;
+use crate::turns::Turn;
 use counter_core::Counter;
 use majority_votes::Steps;
 use state_codec::Packed;
@@ -17,7 +19,6 @@ use sync_types::{FaultSet, NoMemory, NodeState};
 use tower::{Shared, Tower};
 
 /// What rounds need beside the configurations, made once.
-#[derive(Drop)]
 pub struct Room {
     /// What the faulty nodes tell a node, in the order of their ids.
     pub lies: Vec<NodeState>,
@@ -27,6 +28,22 @@ pub struct Room {
     pub shared: Shared,
     /// The new state of a node.
     pub out: NodeState,
+}
+
+// Written out, so that what lets go of one calls this, and no more.
+impl Drop for Room {
+    fn drop(self) {
+        let Room {
+            lies,
+            zero,
+            shared,
+            out,
+        } = self;
+        drop(lies);
+        drop(zero);
+        drop(shared);
+        drop(out);
+    }
 }
 
 /// The room that rounds of a plan need.
@@ -42,16 +59,12 @@ pub fn room_for(alloc: Global, tower: &Tower) -> Result<Room, NoMemory>
     })
 }
 
-/// How many correct nodes there are up to node `v`, of which so many stand before it.
-fn one_more(faulty: &FaultSet, v: u32, before: usize) -> usize
-    requires { before ≡ length (correct_nodes v faulty.now.ids) }
-    ensures { result ≡ length (correct_nodes (v + 1) faulty.now.ids) }
+/// How many correct nodes node `v` is: one, or none where it is faulty.
+fn correct_at(faulty: &FaultSet, v: u32) -> usize
+    ensures value { result ≡ (if is_in faulty.now.ids v then 0 else 1) }
+    ensures most { result ≤ 1 }
 {
-    if faulty.contains(v) {
-        before
-    } else {
-        before + 1
-    }
+    if faulty.contains(v) { 0 } else { 1 }
 }
 
 /// How many correct nodes there are.
@@ -60,7 +73,7 @@ fn count_correct(faulty: &FaultSet) -> usize
 {
     let mut count = 0;
     for v in 0..faulty.nodes() {
-        count = one_more(faulty, v, count);
+        count += correct_at(faulty, v);
     }
     count
 }
@@ -87,65 +100,6 @@ pub struct Round<'a> {
 }
 
 impl<'a> Round<'a> {
-    ghost use Rattle.std.specs.Prelude.{◌<◌, slice_set};
-    ghost use Rattle.run_checker.specs.Rounds.{stepped_at, state_next, IsNext, IsGathered};
-
-    /// Makes the step of node `v` into `room.out`. So many correct nodes stand before it.
-    fn step<G: Ledger>(
-        &self,
-        config: &Packed,
-        v: u32,
-        before: usize,
-        room: &mut Room,
-        steps: &mut Steps<G>,
-    )
-        requires next { IsNext self.now.tower.now self.now.faulty.now.ids v before }
-        requires room { IsGathered self.now.tower.now self.now.faulty.now.ids
-            self.now.told.now.states config.now room.old }
-        ensures out { room.new.out ≡ stepped_at self.now.tower.now self.now.faulty.now.ids
-            config.now.current (pairs_of (plan_nodes self.now.tower.now) self.now.faulty.now.ids)
-            self.now.told.now.states v }
-        ensures room { IsGathered self.now.tower.now self.now.faulty.now.ids
-            self.now.told.now.states config.now room.new }
-    {
-        self.tower.tell();
-        let liars = self.faulty.len();
-        self.hear(config, v, before, room);
-        let lies = &room.lies[..liars];
-        self.tower
-            .advance_shared(v, config, lies, &mut room.shared, &mut room.out, steps);
-    }
-
-    /// Makes the next state of node `v`: its step, or the zero state where it is faulty then.
-    fn step_one<G: Ledger>(
-        &self,
-        new_faulty: &FaultSet,
-        config: &mut Packed,
-        v: u32,
-        before: usize,
-        room: &mut Room,
-        steps: &mut Steps<G>,
-    )
-        requires next { IsNext self.now.tower.now self.now.faulty.now.ids v before }
-        requires room { IsGathered self.now.tower.now self.now.faulty.now.ids
-            self.now.told.now.states config.old room.old }
-        ensures config { config.new ≡ record config.old {
-          next = slice_set config.old.next v (state_next self.now.tower.now self.now.faulty.now.ids
-              new_faulty.now.ids config.old.current self.now.told.now.states v);
-        } }
-        ensures room { IsGathered self.now.tower.now self.now.faulty.now.ids
-            self.now.told.now.states config.old room.new }
-    {
-        self.tower.tell();
-        config.tell();
-        if new_faulty.contains(v) {
-            config.put(v, &room.zero);
-        } else {
-            self.step(config, v, before, room, steps);
-            config.put(v, &room.out);
-        }
-    }
-
     /// Makes the next configuration: the steps of all nodes that are correct in it, and the zero
     /// state for each that is faulty.
     fn step_all<G: Ledger>(
@@ -172,8 +126,13 @@ impl<'a> Round<'a> {
             .gather(config, self.faulty, &mut room.shared, steps);
         let mut before = 0;
         for v in 0..self.tower.nodes() {
-            self.step_one(new_faulty, config, v, before, room, steps);
-            before = one_more(self.faulty, v, before);
+            let turn = Turn {
+                round: &*self,
+                v,
+                before,
+            };
+            turn.step_one(new_faulty, config, room, steps);
+            before += correct_at(self.faulty, v);
         }
     }
 
@@ -185,9 +144,7 @@ impl<'a> Round<'a> {
         room: &mut Room,
         blank: Blank,
     )
-        requires name { blank.name ≡ G.name }
-        requires parts { blank.parts ≡ G.parts }
-        requires some { 0 < blank.parts }
+        requires blank { IsBlankOf G.name G.parts blank.name blank.parts }
         requires said { AreStates self.now.tower.now self.now.told.now.states }
         requires config { IsConfig self.now.tower.now config.old }
         requires room { IsReady self.now.tower.now room.old }

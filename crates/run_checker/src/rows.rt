@@ -17,18 +17,6 @@ fn read_value(word: &[u8]) -> Option<Option<u64>>
     Some(Some(value))
 }
 
-/// What a node's word in a row has to be.
-fn shown_at(faulty: &FaultSet, depth: usize, config: &Packed, v: u32) -> Option<u64>
-    requires size { v < length config.now.current }
-    requires deep { depth ≤ length config.now.shape.moduli }
-    ensures { result ≡ shown_at depth faulty.now.ids config.now.current v }
-{
-    if faulty.contains(v) {
-        return None;
-    }
-    Some(round_runner::shown_at(config, v, depth))
-}
-
 /// Whether a word says what its node shows; None where just one of both has a number.
 fn compare_value(said: Option<u64>, shown: Option<u64>) -> Option<bool>
     ensures { result ≡ value_compared said shown }
@@ -48,33 +36,52 @@ fn both(a: bool, b: bool) -> bool
     a && b
 }
 
-/// Reads a row. None where a word is no number or star, where there is not one for each node, or
-/// where a star does not stand just for each faulty node; else whether each number is what its node
-/// shows.
-pub fn compare_row(
-    words: Words<'_>,
-    faulty: &FaultSet,
-    depth: usize,
-    config: &Packed,
-) -> Option<bool>
-    requires size { length config.now.current ≡ faulty.now.nodes }
-    requires deep { depth ≤ length config.now.shape.moduli }
-    ensures { result ≡ row_compared depth faulty.now.ids config.now.current faulty.now.nodes
-        (values_said words.entry) }
-{
-    let mut v: u32 = 0;
-    let mut same = true;
-    for word in words {
-        if v >= faulty.nodes() {
+/// A configuration whose correct nodes show something.
+#[derive(Clone, Copy, Drop)]
+pub struct Showing<'a> {
+    /// The faulty nodes.
+    pub faulty: &'a FaultSet,
+    /// How many levels the plan has.
+    pub depth: usize,
+    /// The configuration.
+    pub config: &'a Packed,
+    ghost size: { length config.now.current ≡ faulty.now.nodes },
+    ghost deep: { depth ≤ length config.now.shape.moduli },
+}
+
+impl Showing<'_> {
+    /// What the word of node `v` in a row has to be; nothing behind the last node.
+    fn at(&self, v: u32) -> Option<u64>
+        ensures { v < self.now.faulty.now.nodes → result
+            ≡ shown_at self.now.depth self.now.faulty.now.ids self.now.config.now.current v }
+    {
+        if v >= self.faulty.nodes() || self.faulty.contains(v) {
             return None;
         }
-        let said = read_value(word)?;
-        let matches = compare_value(said, shown_at(faulty, depth, config, v))?;
-        same = both(same, matches);
-        v += 1;
+        Some(round_runner::shown_at(self.config, v, self.depth))
     }
-    if v < faulty.nodes() {
-        return None;
+
+    /// Reads a row. None where a word is no number or star, where there is not one for each node,
+    /// or where a star does not stand just for each faulty node; else whether each number is what
+    /// its node shows.
+    pub fn compare_row(&self, words: Words<'_>) -> Option<bool>
+        ensures { result ≡ row_compared self.now.depth self.now.faulty.now.ids
+            self.now.config.now.current self.now.faulty.now.nodes (values_said words.entry) }
+    {
+        let mut v: u32 = 0;
+        let mut same = true;
+        for word in words {
+            if v >= self.faulty.nodes() {
+                return None;
+            }
+            let said = read_value(word)?;
+            let matches = compare_value(said, self.at(v))?;
+            same = both(same, matches);
+            v += 1;
+        }
+        if v < self.faulty.nodes() {
+            return None;
+        }
+        Some(same)
     }
-    Some(same)
 }

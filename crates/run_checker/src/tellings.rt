@@ -20,18 +20,6 @@ use sync_types::{FaultSet, NoMemory, NodeState};
 /// No state of a plan has more bytes than 32, and eight bytes more are read with one.
 const ROOM: usize = 40;
 
-/// Adds the pair of a faulty node and a node, where that is correct.
-fn add_pair(sender: u32, v: u32, faulty: &FaultSet, pairs: &mut Vec<Pair>)
-    requires { is_in faulty.now.ids v ≡ false → length pairs.old.items < vec_capacity pairs.old }
-    ensures pairs { pairs.new.items
-        ≡ pairs.old.items ++ (if is_in faulty.now.ids v then [] else (sender, v) ∷ []) }
-    ensures room { vec_capacity pairs.old ≤ vec_capacity pairs.new }
-{
-    if !faulty.contains(v) {
-        pairs.push(Pair::new(sender, v)).unwrap();
-    }
-}
-
 /// Adds the pairs of one faulty node with each correct one.
 fn add_pairs(sender: u32, faulty: &FaultSet, pairs: &mut Vec<Pair>)
     requires { length pairs.old.items + length (correct_nodes faulty.now.nodes faulty.now.ids)
@@ -41,7 +29,9 @@ fn add_pairs(sender: u32, faulty: &FaultSet, pairs: &mut Vec<Pair>)
     ensures room { vec_capacity pairs.old ≤ vec_capacity pairs.new }
 {
     for v in 0..faulty.nodes() {
-        add_pair(sender, v, faulty, pairs);
+        if !faulty.contains(v) {
+            pairs.push(Pair::new(sender, v)).unwrap();
+        }
     }
 }
 
@@ -66,23 +56,9 @@ fn rooms(alloc: Global, count: usize) -> Result<Vec<Digits>, NoMemory>
 {
     let mut rooms = Vec::with_capacity(alloc, count)?;
     for _ in 0..count {
-        rooms.push(Digits::none()).map_err(|_| NoMemory)?;
+        rooms.push(Digits::zeros(0)).map_err(|_| NoMemory)?;
     }
     Ok(rooms)
-}
-
-/// Sets how many digits the sender of each pair tells.
-fn set_counts(shape: &StateShape, pairs: &[Pair], digits: &mut Vec<Digits>)
-    requires senders { All (λ pair. pair.0 < length shape.now.lows) pairs.now }
-    requires short { (v : ℕ) → bytes_in (fields_at shape.now v) ≤ 32 }
-    requires many { length pairs.now ≤ length digits.old.items }
-    ensures size { length digits.new.items ≡ length digits.old.items }
-    ensures rooms { (k : ℕ) → k < length pairs.now → length (slice_index_or digits.new.items k [])
-        ≡ room_of shape.now (slice_index_or pairs.now k (0, 0)) }
-{
-    for k in 0..pairs.len() {
-        digits[k].set_count(2 * shape.bytes_of(pairs[k].sender()));
-    }
 }
 
 /// Whether pair `k` is that of these two.
@@ -147,16 +123,20 @@ impl Model for Tellings {
 }
 
 impl Tellings {
-    /// No pair, and room for `most` of them. It takes all the memory that is ever needed.
-    fn new(alloc: Global, shape: StateShape, most: usize) -> Result<Tellings, NoMemory>
-        requires { (v : ℕ) → bytes_in (fields_at shape v) ≤ 32 }
+    /// No pair. It takes all the memory that is needed for what the faulty nodes of any era of a
+    /// plan tell in one round.
+    pub fn of(alloc: Global, plan: &Plan) -> Result<Tellings, NoMemory>
         ensures { IfOk result (λ told. told ≡ record {
           pairs = [];
-          shape = shape;
+          shape = shape_of plan.now;
           states = [];
-          room = most;
+          room = most_pairs plan.now;
         }) }
     {
+        plan.tell();
+        let shape = StateShape::of(alloc, plan)?;
+        let faults = plan.faults() as usize;
+        let most = faults * (plan.nodes() as usize - faults);
         let pairs = Vec::with_capacity(alloc, most)?;
         let digits = rooms(alloc, most)?;
         Ok(Tellings {
@@ -165,30 +145,6 @@ impl Tellings {
             digits,
             count: 0,
         })
-    }
-
-    /// Nothing was told by these faulty nodes of a plan. It takes all the memory that is needed for
-    /// what those of any era tell in one round.
-    pub fn of(alloc: Global, plan: &Plan, faulty: &FaultSet) -> Result<Tellings, NoMemory>
-        requires nodes { faulty.now.nodes ≡ plan_nodes plan.now }
-        requires few { length faulty.now.ids ≤ plan_faults plan.now }
-        ensures value { IfOk result (λ told. told ≡ record {
-          pairs = pairs_of (plan_nodes plan.now) faulty.now.ids;
-          shape = shape_of plan.now;
-          states = [];
-          room = most_pairs plan.now;
-        }) }
-        ensures senders { IfOk result (λ told.
-            All (λ pair. pair.0 < plan_nodes plan.now) told.pairs) }
-    {
-        plan.tell();
-        faulty.tell();
-        let shape = StateShape::of(alloc, plan)?;
-        let faults = plan.faults() as usize;
-        let most = faults * (plan.nodes() as usize - faults);
-        let mut tellings = Tellings::new(alloc, shape, most)?;
-        tellings.begin(faulty);
-        Ok(tellings)
     }
 
     /// Forgets what was told.
@@ -210,7 +166,10 @@ impl Tellings {
     {
         self.count = 0;
         take_pairs(faulty, &mut self.pairs);
-        set_counts(&self.shape, &self.pairs, &mut self.digits);
+        for k in 0..self.pairs.len() {
+            let bytes = self.shape.bytes_of(self.pairs[k].sender());
+            self.digits[k] = Digits::zeros(bytes);
+        }
     }
 
     /// Whether the next pair is that of these two.
@@ -266,10 +225,9 @@ impl Tellings {
         requires { length self.old.states < length self.old.pairs }
         ensures { AddsState digits.now self.old self.new result }
     {
-        if !self.digits[self.count].fit(digits) {
+        if !self.digits[self.count].take(digits) {
             return false;
         }
-        self.digits[self.count].copy_from(digits);
         self.count += 1;
         true
     }
@@ -282,7 +240,7 @@ impl Tellings {
     {
         let sender = self.pairs[k].sender();
         let mut bytes = [0; ROOM];
-        self.digits[k].decode(self.shape.bytes_of(sender), &mut bytes);
+        self.digits[k].decode(&mut bytes);
         self.shape.read_front(sender, &bytes, out);
     }
 }

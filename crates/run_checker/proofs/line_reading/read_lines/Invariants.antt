@@ -1,4 +1,4 @@
-use Rattle.std.proofs.Common.{◌≡◌, ℕ, ◌-◌}
+use Rattle.std.proofs.Common.{◌≡◌, ◌-◌}
 use Rattle.edge_io.specs.Feeds.{feed_left}
 use Rattle.run_checker.proofs.LinesRead.{Reads}
 use Rattle.run_checker.proofs.line_reading.read_lines.Given as goal

@@ -1,11 +1,8 @@
 use Rattle.std.proofs.Common.{[], ◌≤◌, refl, arith}
 use Rattle.texts.proofs.Growth.{puts_exit}
 use Rattle.run_checker.proofs.Recording.{still_records, stops_here, stops_behind, on_err}
-use Rattle.run_checker.proofs.RunnerTexts.{lows_of_nodes, has_played_one, told_is, era_is, row_behind_is, wrote_as, cut_as, puts_as, cut_in_lies, cut_in_era, puts_turn}
+use Rattle.run_checker.proofs.RunnerTexts.{has_played_one, told_is, era_is, row_behind_is, wrote_as, cut_as, puts_as, cut_in_lies, cut_in_era, puts_turn}
 use Rattle.run_checker.proofs.records.put_turn.Goals as goal
-
-pub put_lies-requires-clause-lows : goal.put_lies-requires-clause-lows
-put_lies-requires-clause-lows g c = lows_of_nodes c.args.runner.now c.requires.plays
 
 pub returns-in_err-put_lies-clause-text : goal.returns-in_err-put_lies-clause-text
 returns-in_err-put_lies-clause-text g c =
@@ -13,12 +10,12 @@ returns-in_err-put_lies-clause-text g c =
     puts_exit _ _ _ _ _ c.from_residual.ensures.1
     (cut_in_lies r.plan r.script r.at _ _ (cut_as _ _ _ _ (told_is r c.requires.plays) c.in_err-put_lies.ensures.text))
 
-pub put_era_lines-requires-clause-lows : goal.put_era_lines-requires-clause-lows
-put_era_lines-requires-clause-lows g c =
+pub put_era_lines-requires-clause-plays : goal.put_era_lines-requires-clause-plays
+put_era_lines-requires-clause-plays g c =
     let r = c.args.runner.now in
     let one = has_played_one r c.put_lies.new.runner c.round.new.self c.in_ok-put_lies.ensures.same c.requires.plays
     c.round.ensures.advances (c.round.ensures.played []) in
-    lows_of_nodes c.round.new.self (still_records r c.round.new.self c.requires.plays one)
+    still_records r c.round.new.self c.requires.plays one
 
 pub returns-in_err-put_era_lines-clause-text : goal.returns-in_err-put_era_lines-clause-text
 returns-in_err-put_era_lines-clause-text g c =

@@ -4,8 +4,8 @@ use Rattle.run_checker.proofs.BodySteps.{row_marks}
 use Rattle.run_checker.proofs.BodyKept.{shape_depth}
 use Rattle.run_checker.proofs.bodies.Body.mark_row.Goals as goal
 
-pub compare_row-requires-clause-deep : goal.compare_row-requires-clause-deep
-compare_row-requires-clause-deep c =
+pub invariant_of-showing-clause-deep : goal.invariant_of-showing-clause-deep
+invariant_of-showing-clause-deep c =
     let deep = shape_depth c.self.inside.tower c.self.inside.config.shape c.self.invariant.shape in
     omega (arith, deep, c.depth.ensures)
 

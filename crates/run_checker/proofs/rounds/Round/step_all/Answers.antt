@@ -3,6 +3,7 @@ use Rattle.construction.specs.Plans.{plan_nodes}
 use Rattle.sync_types.specs.States.{State}
 use Rattle.shared_board.specs.Sharing.{Shares}
 use Rattle.state_codec.specs.Packs.{Pack}
+use Rattle.run_checker.proofs.Ranges.{few_correct, count_more}
 use Rattle.run_checker.proofs.RoundSteps.{pack_deep, pack_states, gathered_in, gathered_out, none_stepped, one_stepped, all_stepped}
 use Rattle.run_checker.proofs.rounds.Round.step_all.Goals as goal
 
@@ -50,16 +51,17 @@ loop-v-init g c =
       };
     }
 
-pub step_one-requires-clause-next : goal.step_one-requires-clause-next
-step_one-requires-clause-next g c =
-    let lt : c.loop-v.v < plan_nodes c.args.self.now.tower.now =
-    omega (arith, c.loop-v-test.true, c.nodes-v-end.ensures) in
-    record { node = lt; correct = c.loop-v.invariant.before }
+pub step_one-requires : goal.step_one-requires
+step_one-requires g c = record {
+  room = gathered_in c.args.self.now.tower.now c.args.self.now.faulty.now.ids
+      c.args.self.now.told.now.states c.args.config.now c.loop-v.config.next
+      c.loop-v.config c.loop-v.room c.loop-v.invariant.fixed c.loop-v.invariant.room;
+}
 
-pub step_one-requires-clause-room : goal.step_one-requires-clause-room
-step_one-requires-clause-room g c =
-    gathered_in c.args.self.now.tower.now c.args.self.now.faulty.now.ids c.args.self.now.told.now.states c.args.config.now c.loop-v.config.next
-    c.loop-v.config c.loop-v.room c.loop-v.invariant.fixed c.loop-v.invariant.room
+pub overflow_add-before : goal.overflow_add-before
+overflow_add-before g c =
+    let few = few_correct c.args.self.now.faulty.now.ids c.loop-v.v in
+    omega (arith, few, c.loop-v.invariant.before, c.correct_at-before.ensures.most)
 
 pub loop-v-preserved : goal.loop-v-preserved
 loop-v-preserved g c =
@@ -67,12 +69,13 @@ loop-v-preserved g c =
     let fixed = h.fixed in
     let lt : c.loop-v.v < plan_nodes c.args.self.now.tower.now =
     omega (arith, c.loop-v-test.true, c.nodes-v-end.ensures) in
+    let more = count_more c.args.self.now.faulty.now.ids c.loop-v.v in
     record {
       stepped = rw (c.step_one.ensures.config, fixed)
           (one_stepped c.args.self.now.tower.now c.args.self.now.faulty.now.ids c.args.new_faulty.now.ids
           c.args.config.now.current c.args.self.now.told.now.states c.loop-v.v c.loop-v.config.next lt h.stepped);
       fixed = rw (c.step_one.ensures.config, fixed) refl;
-      before = c.one_more-before.ensures;
+      before = omega (arith, more, h.before, c.correct_at-before.ensures.value);
       room = gathered_out c.args.self.now.tower.now c.args.self.now.faulty.now.ids c.args.self.now.told.now.states c.args.config.now c.loop-v.config.next
           c.loop-v.config c.step_one.new.room fixed c.step_one.ensures.room;
     }

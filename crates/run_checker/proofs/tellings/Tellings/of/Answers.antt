@@ -1,20 +1,31 @@
-use Rattle.std.proofs.Common.{◌*◌, ◌-◌, ℕ, length, sym, ap, ap₂, ◌∙◌, arith}
-use Rattle.run_checker.specs.Tellings.{Telling}
-use Rattle.run_checker.proofs.Rooms.{few_bytes, pairs_few}
+use Rattle.std.proofs.Common.{ℕ, List, ◌*◌, ◌-◌, [], ap, ap₂, sym, ◌∙◌, subst, arith, vec_capacity}
+use Rattle.state_codec.specs.Shapes.{Shape}
+use Rattle.run_checker.specs.Tellings.{Telling, IsTelling, states_read, most_pairs}
+use Rattle.run_checker.proofs.Rooms.{few_bytes}
+use Rattle.run_checker.proofs.StatesRead.{none_told}
 use Rattle.run_checker.proofs.tellings.Tellings.of.Goals as goal
 
-pub new-requires : goal.new-requires
-new-requires c = few_bytes c.args.plan.now c.tell.ensures.accepted c.in_ok-shape.shape c.in_ok-shape.ensures.shape
+pub invariant_of-result : goal.invariant_of-result
+invariant_of-result c =
+    let shape = c.in_ok-shape.shape in
+    let digits = c.in_ok-digits.digits.items in
+    let room = vec_capacity c.in_ok-pairs.pairs in
+    subst (λ (l : List (ℕ × ℕ)). IsTelling shape l digits 0 room)
+    (sym c.in_ok-pairs.ensures.items)
+    (none_told shape digits room
+    (omega (arith, c.in_ok-pairs.ensures.capacity, c.in_ok-digits.ensures))
+    (few_bytes c.args.plan.now c.tell.ensures.accepted shape c.in_ok-shape.ensures.shape))
 
-pub begin-requires-clause-nodes : goal.begin-requires-clause-nodes
-begin-requires-clause-nodes c =
-    c.requires.nodes ∙ sym c.in_ok-shape.ensures.nodes
-    ∙ ap (λ (t : Telling). length t.shape.lows) (sym c.in_ok-tellings.ensures)
-
-pub begin-requires-clause-room : goal.begin-requires-clause-room
-begin-requires-clause-room c =
-    let few = pairs_few c.args.plan.now c.tell.ensures.accepted c.args.faulty.now c.requires.nodes
-    c.tell-2.ensures c.requires.few in
-    let room = ap (λ (t : Telling). t.room) c.in_ok-tellings.ensures
+pub returns : goal.returns
+returns c =
+    let view : Shape → List (ℕ × ℕ) → (room : ℕ) → Telling = λ shape pairs room. record {
+      pairs = pairs;
+      shape = shape;
+      states = states_read shape pairs [];
+      room = room;
+    } in
+    let most = c.in_ok-digits.ensures
     ∙ ap₂ (λ (f n : ℕ). f * (n - f)) c.faults-faults.ensures c.nodes.ensures in
-    omega (arith, few, room)
+    ap₂ (view c.in_ok-shape.shape) c.in_ok-pairs.ensures.items most
+    ∙ ap (λ (shape : Shape). view shape [] (most_pairs c.args.plan.now))
+    c.in_ok-shape.ensures.shape
