@@ -1,21 +1,12 @@
--- Where a node and a group stand among the nodes of a configuration.
+-- Where a node stands among the nodes of a configuration.
 use Rattle.std.specs.Prelude.{ℕ, ◌+◌, ◌-◌, ◌<◌, ◌≤◌, List, length, All}
 use Rattle.construction.specs.Plans.{nodes_of}
 use Rattle.plan_numbers.specs.declared.numbers.LevelNums.{LevelNums}
 use Rattle.plan_numbers.specs.Numbers.{levels_in}
-use Rattle.traces.specs.declared.places.Place.{Place}
 use Rattle.traces.specs.declared.views.View.{View}
-
--- the group is one of its nodes, whose states have a register of the level
-pub record IsAmong (view : View) (place : Place) : Type 0 where
-  pub node : view.heading.node < length view.config.now
-  pub within : place.first + place.nums.now.nodes ≤ length view.config.now
-  pub few : length view.config.now ≤ 256
-  pub deep : All (λ s. place.below < length s.registers) view.config.now
 
 -- the node stands at that place of a group of these levels, the lowest of which stands first
 pub record StandsIn (view : View) (levels : List LevelNums) (place : ℕ) : Type 0 where
-  pub node : view.heading.node < length view.config.now
   pub before : place ≤ view.heading.node
   pub inside : place < nodes_of (levels_in levels)
   pub within : view.heading.node - place + nodes_of (levels_in levels) ≤ length view.config.now

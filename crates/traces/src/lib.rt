@@ -1,8 +1,8 @@
 //! The text of a trace: what a node holds in a configuration of a run, and what it makes of what it
 //! hears in the round that follows.
 //!
-//! [`put_trace`] plays a script and writes the lines of its wanted configurations and nodes. The text
-//! is defined in specs/, by the construction's own votes, lead, position and counts.
+//! [`put_trace`] plays a script and writes the lines of its wanted configurations and nodes. The
+//! text is defined in specs/, by the construction's own votes, lead, position and counts.
 #![tactic(auto)]
 
 mod desks;
@@ -11,14 +11,12 @@ mod level_lines;
 mod level_parts;
 mod node_lines;
 mod places;
-mod tallies;
 mod tracing;
 mod views;
 mod wants;
 
 pub use desks::Desk;
 pub use headings::Heading;
-pub use places::Place;
 pub use tracing::put_trace;
 pub use views::View;
 pub use wants::Want;

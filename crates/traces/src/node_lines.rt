@@ -49,10 +49,10 @@ fn put_state<K: TextSink>(
     view: &View<'_>,
 ) -> Result<(), WriteFault>
     requires levels { AreSomeLevels levels.now }
-    requires node { view.now.heading.node < length view.now.config.now }
     requires deep { All (λ s. length levels.now ≤ length s.registers) view.now.config.now }
     ensures { Puts result (state_line view.now.heading (levels_in levels.now)
-        (state_of view.now.config.now view.now.heading.node)) (K.Sink.told sink.old) (K.Sink.told sink.new) }
+        (state_of view.now.config.now view.now.heading.node))
+        (K.Sink.told sink.old) (K.Sink.told sink.new) }
 {
     let state = &view.config[view.heading.node as usize];
     let number = number_of_node(levels, view.heading.node, state);
@@ -88,8 +88,8 @@ pub fn put_node<K: TextSink>(
     requires heard { length heard.now ≡ nodes_of (levels_in levels.now) }
     requires deep { All (λ s. length levels.now ≤ length s.registers) heard.now }
     requires work { IsFor (length heard.now) work.old }
-    ensures lines { Puts result (view_text view.now.heading view.now.faulty.now.ids view.now.config.now
-        view.now.hears (levels_in levels.now) heard.now)
+    ensures lines { Puts result (view_text view.now.heading view.now.faulty.now.ids
+        view.now.config.now view.now.hears (levels_in levels.now) heard.now)
         (K.Sink.told sink.old) (K.Sink.told sink.new) }
     ensures work { IsAsRoomy work.old work.new }
 {

@@ -1,12 +1,35 @@
+use crate::views::View;
+use counter_core::Heard;
 use plan_numbers::LevelNums;
+use std::marker::Model;
 
-/// A group of a level among the nodes of a plan.
-#[derive(Clone, Copy)]
+/// The group of a level in which a node takes part, with what the node hears of it.
+#[derive(Drop)]
 pub struct Place<'a> {
+    /// What the lines of the node are written of.
+    pub(crate) view: &'a View<'a>,
     /// The level's numbers.
-    pub nums: &'a LevelNums,
+    pub(crate) nums: &'a LevelNums,
     /// How many levels stand below it.
-    pub below: usize,
+    pub(crate) below: usize,
     /// The id of the first node of the group.
-    pub first: u32,
+    pub(crate) first: u32,
+    /// What the node hears of the group.
+    pub(crate) group: &'a Heard<'a>,
+}
+
+impl<'a> Model for Place<'a> {
+    ghost use Rattle.traces.specs.Places.{Placed, IsPlace};
+
+    ghost Value = { Placed };
+
+    ghost view = { λ p. record {
+      view = p.view.now;
+      nums = p.nums.now;
+      below = p.below;
+      first = p.first;
+      group = p.group.now;
+    } };
+
+    ghost invariant = { λ p. IsPlace p.view.now p.nums.now p.below p.first p.group.now };
 }

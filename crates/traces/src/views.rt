@@ -1,3 +1,5 @@
+ghost use Rattle.std.specs.Prelude.{◌<◌, length};
+
 use crate::headings::Heading;
 use sync_types::{FaultSet, NodeState};
 
@@ -12,4 +14,5 @@ pub struct View<'a> {
     pub config: &'a [NodeState],
     /// Whether a round follows, in which nodes hear one another.
     pub hears: bool,
+    ghost node: { heading.node < length config.now },
 }

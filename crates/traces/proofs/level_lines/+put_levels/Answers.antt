@@ -24,9 +24,27 @@ returns-in_default-clause-lines g t c =
 pub block_nodes-n-requires : goal.block_nodes-n-requires
 block_nodes-n-requires g t c = top_sized _ _ _ _ c.in-Some.ensures.cases.0 c.requires.levels.1
 
-pub put_level_line-requires-clause-numbers : goal.put_level_line-requires-clause-numbers
-put_level_line-requires-clause-numbers g t c =
-    top_numbers _ _ _ _ c.in-Some.ensures.cases.0 c.requires.levels.1
+pub invariant_of-at : goal.invariant_of-at
+invariant_of-at g t c =
+    let e = c.in-Some.ensures.cases.0 in
+    let are = c.requires.levels.1 in
+    let st = c.requires.stands in
+    let below = c.in-Some.below.now in
+    let group = c.args.group.now in
+    let config = c.args.view.now.config.now in
+    let count = c.in-Some.ensures.cases.1 in
+    let whole = group_nodes _ _ _ _ e are in
+    let HasAll : State → Type 0 = λ s. length c.args.levels.now ≤ length s.registers in
+    let HasTop : State → Type 0 = λ s. length below < length s.registers in
+    record {
+      numbers = top_numbers _ _ _ _ e are;
+      shallow = omega (arith, st.shallow, count);
+      within = omega (arith, st.within, st.before, whole);
+      few = st.few;
+      deep = All-weaker HasAll HasTop (λ s h. omega (arith, h, count)) config st.deep;
+      size = c.requires.group ∙ whole;
+      heard = All-weaker HasAll HasTop (λ s h. omega (arith, h, count)) group c.requires.deep;
+    }
 
 -- that the list falls, and the clauses in their order
 pub put_levels-written-requires : goal.put_levels-written-requires
@@ -66,7 +84,6 @@ put_levels-written-requires g t c κs within =
     let falls : length below < t = omega (arith, c.decreases, c.in-Some.ensures.cases.1) in
     let stays : AreSomeLevels below = (c.requires.levels.0, below_levels _ _ _ _ e are) in
     let stands : StandsIn c.args.view.now below (place % n) = record {
-      node = st.node;
       before = place_before _ _ _ _ e are place n node lt st.before;
       inside = place_below _ _ _ _ e are place n group same lt;
       within = block_within _ _ _ _ e are place n node _ same lt st.before st.within;

@@ -7,42 +7,43 @@ use Rattle.round_runner.specs.Locks.{is_locked_at}
 use Rattle.traces.specs.LevelTexts.{all_have}
 use Rattle.traces.proofs.GroupRegisters.{one_fails, one_passes}
 use Rattle.traces.proofs.Reading.{within}
-use Rattle.traces.proofs.level_lines.all_have.Goals as goal
-use Rattle.traces.proofs.level_lines.all_have.Goals.{else-not-contains-via-then-not-contains+else-not-is_locked_at, else-not-contains-via-else-not-contains}
+use Rattle.traces.proofs.places.Place.all_have.Goals as goal
+use Rattle.traces.proofs.places.Place.all_have.Goals.{else-not-contains-via-then-not-contains+else-not-is_locked_at, else-not-contains-via-else-not-contains}
 
 pub returns-then-not-is_locked_at : goal.returns-then-not-is_locked_at
 returns-then-not-is_locked_at c =
-    let place = c.args.place.now in
-    let view = c.args.view.now in
+    let place = c.self.inside in
+    let view = c.self.inside.view.now in
     let l : ℕ = place.below in
     let ids = view.faulty.now.ids in
     let config = view.config.now in
     let a = c.in-Some.a in
     let u = c.loop-u.u in
     let p : ℕ → Bool = λ w. is_in ids w || is_locked_at a (register_at l (state_of config w)) in
-    let lt : u < length config = omega (arith, c.loop-u-test.true, c.requires.within) in
+    let lt : u < length config = omega (arith, c.loop-u-test.true, c.self.invariant.within) in
     let reg = c.reg-register.ensures
-    ∙ ap (register_at l) (within config u c.index-view-u.result (zero_state 0) lt) in
+    ∙ ap (register_at l) (within config u c.index-self-u.result (zero_state 0) lt) in
     let no : p u ≡ false =
     ap₂ (λ x y. x || y) (sym c.contains.ensures ∙ c.if-not-contains.true)
     (ap (is_locked_at a) (sym reg) ∙ (sym c.is_locked_at.ensures ∙ c.if-not-is_locked_at.true)) in
-    sym (ap (all_have l place.first place.nums.now.nodes ids config) c.in-Some.is
+    rw (← c.self.view_is)
+    (sym (ap (all_have l place.first place.nums.now.nodes ids config) c.in-Some.is
     ∙ one_fails p place.first place.nums.now.nodes u (omega (arith, c.loop-u.auto.u))
-    (omega (arith, c.loop-u-test.true)) no)
+    (omega (arith, c.loop-u-test.true)) no))
 
 pub loop-u-preserved : goal.loop-u-preserved
 loop-u-preserved c =
-    let place = c.args.place.now in
-    let view = c.args.view.now in
+    let place = c.self.inside in
+    let view = c.self.inside.view.now in
     let l : ℕ = place.below in
     let ids = view.faulty.now.ids in
     let config = view.config.now in
     let a = c.in-Some.a in
     let u = c.loop-u.u in
     let p : ℕ → Bool = λ w. is_in ids w || is_locked_at a (register_at l (state_of config w)) in
-    let lt : u < length config = omega (arith, c.loop-u-test.true, c.requires.within) in
+    let lt : u < length config = omega (arith, c.loop-u-test.true, c.self.invariant.within) in
     let reg = c.reg-register.ensures
-    ∙ ap (register_at l) (within config u c.index-view-u.result (zero_state 0) lt) in
+    ∙ ap (register_at l) (within config u c.index-self-u.result (zero_state 0) lt) in
     let here : Bool = is_locked_at a (register_at l (state_of config u)) in
     let yes : p u ≡ true = elim c.else-not-contains.branch [
       | else-not-contains-via-then-not-contains+else-not-is_locked_at w ↦

@@ -1,5 +1,5 @@
 use Rattle.texts.proofs.Growth.{puts_exit, puts_then, cut_more}
-use Rattle.traces.proofs.level_parts.put_votes.Goals as goal
+use Rattle.traces.proofs.places.Place.put_votes.Goals as goal
 
 pub returns-in_err-text-clause-part : goal.returns-in_err-text-clause-part
 returns-in_err-text-clause-part g c =

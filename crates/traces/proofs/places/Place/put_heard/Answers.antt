@@ -7,8 +7,9 @@ use Rattle.plan_numbers.specs.Sizes.{block_nodes}
 use Rattle.boost_step.specs.Numbers.{in_blocks}
 use Rattle.boost_step.proofs.Numbers.{related}
 use Rattle.traces.specs.LevelTexts.{votes_part, turn_part}
+use Rattle.traces.specs.Places.{Placed}
 use Rattle.traces.proofs.LineParts.{wrote_as, cut_as}
-use Rattle.traces.proofs.level_parts.put_heard.Goals as goal
+use Rattle.traces.proofs.places.Place.put_heard.Goals as goal
 
 -- what is laid out is what the nodes of the blocks show
 laid_is : (l blocks n size : ℕ) (items : List ℕ) (group : List State) → n ≡ size
@@ -18,23 +19,27 @@ laid_is l blocks n size items group same is =
     subst (λ (n : ℕ). take (blocks * n) items ≡ map (shown l) (take (blocks * n) group)) same is
 
 pub block_nodes-requires : goal.block_nodes-requires
-block_nodes-requires g c = (related c.args.place.now.nums.now c.requires.numbers).sized
+block_nodes-requires g c = (related c.self.inside.nums.now c.self.invariant.numbers).sized
 
 pub returns-in_err-put_votes-clause-part : goal.returns-in_err-put_votes-clause-part
 returns-in_err-put_votes-clause-part g c =
-    let nums = c.args.place.now.nums.now in
-    let laid = laid_is c.args.place.now.below nums.blocks _ _ _ c.args.group.now
-    c.block_nodes.ensures c.set_outputs.ensures.outputs in
+    let nums = c.args.self.now.nums in
+    let laid = subst (λ (p : Placed). take (in_blocks p.nums) c.set_outputs.new.work.outputs.items
+    ≡ map (shown p.below) (take (in_blocks p.nums) p.group)) c.self.view_is
+    (laid_is c.self.inside.below c.self.inside.nums.now.blocks _ _ _ c.self.inside.group.now
+    c.block_nodes.ensures c.set_outputs.ensures.outputs) in
     puts_exit _ _ _ _ _ c.from_residual.ensures.1
     (cut_more _ _ _ _ (cut_as _ _ _ _ (ap (votes_part (block_nodes nums) (level_of nums)) laid)
     c.in_err-put_votes.ensures.part))
 
 pub returns-in_err-put_turn-clause-part : goal.returns-in_err-put_turn-clause-part
 returns-in_err-put_turn-clause-part g c =
-    let nums = c.args.place.now.nums.now in
-    let first = c.args.place.now.first in
-    let laid = laid_is c.args.place.now.below nums.blocks _ _ _ c.args.group.now
-    c.block_nodes.ensures c.set_outputs.ensures.outputs in
+    let nums = c.args.self.now.nums in
+    let first = c.args.self.now.first in
+    let laid = subst (λ (p : Placed). take (in_blocks p.nums) c.set_outputs.new.work.outputs.items
+    ≡ map (shown p.below) (take (in_blocks p.nums) p.group)) c.self.view_is
+    (laid_is c.self.inside.below c.self.inside.nums.now.blocks _ _ _ c.self.inside.group.now
+    c.block_nodes.ensures c.set_outputs.ensures.outputs) in
     let still = ap (λ o. take (in_blocks nums) o.items) c.put_votes.ensures.work.outputs ∙ laid in
     puts_exit _ _ _ _ _ c.from_residual-in_err-put_turn.ensures.1
     (cut_then _ _ _ _ _
@@ -46,10 +51,12 @@ returns-in_err-put_turn-clause-part g c =
 
 pub returns-clause-part : goal.returns-clause-part
 returns-clause-part g c =
-    let nums = c.args.place.now.nums.now in
-    let first = c.args.place.now.first in
-    let laid = laid_is c.args.place.now.below nums.blocks _ _ _ c.args.group.now
-    c.block_nodes.ensures c.set_outputs.ensures.outputs in
+    let nums = c.args.self.now.nums in
+    let first = c.args.self.now.first in
+    let laid = subst (λ (p : Placed). take (in_blocks p.nums) c.set_outputs.new.work.outputs.items
+    ≡ map (shown p.below) (take (in_blocks p.nums) p.group)) c.self.view_is
+    (laid_is c.self.inside.below c.self.inside.nums.now.blocks _ _ _ c.self.inside.group.now
+    c.block_nodes.ensures c.set_outputs.ensures.outputs) in
     let still = ap (λ o. take (in_blocks nums) o.items) c.put_votes.ensures.work.outputs ∙ laid in
     puts_then _ _ _ _ _ _
     (wrote_as _ _ _ _ (ap (votes_part (block_nodes nums) (level_of nums)) laid)

@@ -6,12 +6,12 @@ use Rattle.boost_step.specs.Kept.{KeepsOutputs}
 use Rattle.boost_step.specs.Numbers.{in_blocks}
 use Rattle.traces.specs.LevelTexts.{vote_word}
 use Rattle.traces.proofs.WordsSoFar.{words_before}
-use Rattle.traces.proofs.level_parts.put_each_vote.Given as goal
+use Rattle.traces.proofs.places.Place.put_each_vote.Given as goal
 
 abbrev pub invariant-loop-i : goal.invariant-loop-i
 invariant-loop-i g l = record {
-  wrote : Wrote (words_before (vote_word (block_nodes l.nums) (level_of l.nums)
-      (take (in_blocks l.nums) l.fn.work.outputs.items)) l.nums.blocks l.i)
+  wrote : Wrote (words_before (vote_word (block_nodes l.self.nums) (level_of l.self.nums)
+      (take (in_blocks l.self.nums) l.fn.work.outputs.items)) l.self.nums.blocks l.i)
       (g.K.Sink.told l.fn.sink) (g.K.Sink.told l.sink);
   work : KeepsOutputs l.fn.work l.work;
 }

@@ -7,8 +7,9 @@ use Rattle.plan_numbers.specs.Numbers.{level_of}
 use Rattle.plan_numbers.specs.Sizes.{block_nodes}
 use Rattle.boost_step.specs.Numbers.{in_blocks}
 use Rattle.traces.specs.LevelTexts.{vote_word}
+use Rattle.traces.specs.Places.{Placed}
 use Rattle.traces.proofs.WordsSoFar.{words_more, words_cut, words_all}
-use Rattle.traces.proofs.level_parts.put_each_vote.Goals as goal
+use Rattle.traces.proofs.places.Place.put_each_vote.Goals as goal
 
 word_wrote : (v w : ℕ) (s t : Told) → v ≡ w → Wrote (codes " " ++ decimal v) s t
     → Wrote (codes " " ++ decimal w) s t
@@ -26,26 +27,32 @@ loop-i-init g c = record {
 
 pub returns-in-Err-clause-words : goal.returns-in-Err-clause-words
 returns-in-Err-clause-words g c =
-    let nums = c.args.nums.now in
+    let nums = c.args.self.now.nums in
     let i = c.loop-i.i in
     let is = c.vote.ensures.vote
+    ∙ ap (λ (p : Placed). vote (level_of p.nums) (block_nodes p.nums)
+    (take (in_blocks p.nums) c.loop-i.work.outputs.items) i) c.self.view_is
     ∙ ap (λ o. vote (level_of nums) (block_nodes nums) (take (in_blocks nums) o.items) i)
     c.loop-i.invariant.work.outputs in
+    let blocks = ap (λ (p : Placed). p.nums.blocks) c.self.view_is in
     words_cut (vote_word (block_nodes nums) (level_of nums)
-    (take (in_blocks nums) c.args.work.now.outputs.items)) nums.blocks i _ _ _ c.loop-i-test.true
+    (take (in_blocks nums) c.args.work.now.outputs.items)) nums.blocks i _ _ _ (omega (arith, c.loop-i-test.true, blocks))
     c.loop-i.invariant.wrote (word_cut _ _ _ _ is c.in-Err.ensures)
 
 pub loop-i-preserved : goal.loop-i-preserved
 loop-i-preserved g c =
-    let nums = c.args.nums.now in
+    let nums = c.args.self.now.nums in
     let i = c.loop-i.i in
     let is = c.vote.ensures.vote
+    ∙ ap (λ (p : Placed). vote (level_of p.nums) (block_nodes p.nums)
+    (take (in_blocks p.nums) c.loop-i.work.outputs.items) i) c.self.view_is
     ∙ ap (λ o. vote (level_of nums) (block_nodes nums) (take (in_blocks nums) o.items) i)
     c.loop-i.invariant.work.outputs in
+    let blocks = ap (λ (p : Placed). p.nums.blocks) c.self.view_is in
     record {
       wrote = words_more (vote_word (block_nodes nums) (level_of nums)
           (take (in_blocks nums) c.args.work.now.outputs.items)) nums.blocks i _ _ _
-          c.loop-i-test.true c.loop-i.invariant.wrote (word_wrote _ _ _ _ is c.in-Ok.ensures);
+          (omega (arith, c.loop-i-test.true, blocks)) c.loop-i.invariant.wrote (word_wrote _ _ _ _ is c.in-Ok.ensures);
       work = record {
         outputs = c.vote.ensures.work.outputs ∙ c.loop-i.invariant.work.outputs;
         values = c.vote.ensures.work.values ∙ c.loop-i.invariant.work.values;
@@ -55,7 +62,8 @@ loop-i-preserved g c =
 
 pub returns-clause-words : goal.returns-clause-words
 returns-clause-words g c =
-    let nums = c.args.nums.now in
+    let nums = c.args.self.now.nums in
     words_all (vote_word (block_nodes nums) (level_of nums)
     (take (in_blocks nums) c.args.work.now.outputs.items)) nums.blocks c.loop-i.i _ _
-    (omega (arith, c.loop-i-test.false)) c.loop-i.invariant.wrote
+    (omega (arith, c.loop-i-test.false, ap (λ (p : Placed). p.nums.blocks) c.self.view_is))
+    c.loop-i.invariant.wrote
