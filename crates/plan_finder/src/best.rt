@@ -1,5 +1,4 @@
-ghost use Rattle.std.specs.Prelude.{◌≡◌, ◌+◌, ◌*◌, ◌<◌, ◌≤◌, ◌^◌, [], ◌∷◌, ◌++◌, length, take};
-ghost use Rattle.std.specs.Prelude.{IfSome};
+ghost use Rattle.std.specs.Prelude.{◌≡◌, ◌+◌, ◌*◌, ◌<◌, ◌^◌, [], length};
 ghost use Rattle.std.specs.Bool.{Decides};
 ghost use Rattle.plan_finder.specs.Orders.{IsLess};
 ghost use Rattle.plan_finder.specs.Best.{numbers_by, steps_in, rank_in, IsKept, IsLesser, IsWith};
@@ -61,10 +60,15 @@ impl Best {
         }
     }
 
+    /// The levels, the lowest first.
+    fn levels(&self) -> &[Step]
+        ensures { result.now ≡ steps_in self.now }
+    {
+        &self.steps[..self.depth.min(self.steps.len())]
+    }
+
     /// Whether these levels come before others.
     pub fn is_before(&self, other: &Best) -> bool
-        requires own { IsKept self.now }
-        requires others { IsKept other.now }
         ensures { Decides result (IsLess (rank_in self.now) (rank_in other.now)) }
     {
         if self.value != other.value {
@@ -76,12 +80,11 @@ impl Best {
         if self.depth != other.depth {
             return self.depth < other.depth;
         }
-        are_less(&self.steps[..self.depth], &other.steps[..other.depth])
+        are_less(self.levels(), other.levels())
     }
 
     /// These levels with one more on top.
     pub fn with(&self, step: Step, cost: u64) -> Best
-        requires kept { IsKept self.now }
         requires room { self.now.depth < 5 }
         requires value { self.now.value + cost < 2 ^ 64 }
         requires nodes { step.blocks * self.now.nodes < 2 ^ 64 }
@@ -101,8 +104,6 @@ impl Best {
 /// The levels of two that come first, where there are any; the first ones where neither is before
 /// the other.
 pub fn lesser(known: Option<Best>, other: Option<Best>) -> Option<Best>
-    requires known { IfSome known IsKept }
-    requires other { IfSome other IsKept }
     ensures { IsLesser known other result }
 {
     let Some(more) = other else {

@@ -1,4 +1,4 @@
-ghost use Rattle.std.specs.Prelude.{◌≡◌, ◌+◌, ◌*◌, ◌<◌, ◌≤◌, ◌^◌, length};
+ghost use Rattle.std.specs.Prelude.{◌+◌, ◌*◌, ◌<◌, ◌≤◌, length};
 ghost use Rattle.plan_finder.specs.Costs.{Reaches};
 ghost use Rattle.plan_finder.specs.Best.{AreBest, AreOver, IsBestOf, IsTried};
 
