@@ -10,6 +10,6 @@ BeginsAt script t (Some j) = (1 ≤ j) × (j ≤ length script.eras) × (first_o
 BeginsAt script t None = (j : ℕ) → 1 ≤ j → j ≤ length script.eras → first_of_era script j ≡ t → ⊥
 
 -- it has one proof at most
-pub begins_once : (script : Script) (t : ℕ) (begins : Option ℕ) → IsProp (BeginsAt script t begins)
-begins_once script t (Some j) = Prim.hlevel props
-begins_once script t None = Prim.hlevel props
+pub is_prop : (script : Script) (t : ℕ) (begins : Option ℕ) → IsProp (BeginsAt script t begins)
+is_prop script t (Some j) = Prim.hlevel props
+is_prop script t None = Prim.hlevel props

@@ -1,11 +1,15 @@
 -- A shape of states fits a counter with a layer above.
-use Rattle.std.specs.Prelude.{◌≡◌, ℕ, ◌+◌, ◌<◌, List, ◌++◌, length}
-use Rattle.sync_types.specs.States.{State}
+use Rattle.std.specs.Prelude.{◌≡◌, ℕ, ◌+◌, ◌<◌, ◌≤◌, List, [], ◌∷◌, ◌++◌, length, Option, Some, None, IfSome}
+use Rattle.std.proofs.Props.{props}
+use Rattle.sync_types.specs.States.{State, register_at}
 use Rattle.sync_types.specs.declared.states.Reg.{Reg}
+use Rattle.construction.specs.Plans.{Level, Plan, plan_depth}
+use Rattle.plan_laws.specs.PlanMeaning.{InRange as IsCounted, IsInRange}
 use Rattle.state_codec.specs.Shapes.{Shape, fields_at}
 use Rattle.state_codec.specs.Ranges.{InRange}
 use Rattle.counter_core.specs.Meanings.{Meaning}
 use Rattle.counter_core.specs.Overlays.{Layer, HasValues, AreBelow}
+use Rattle.adversary_script.specs.Scripts.{Script}
 
 -- A state of a node of the shape is one that the counter and the layer take, and a step of the
 -- node with registers of the layer behind gives a state of it.
@@ -23,3 +27,24 @@ pub record Fits {Kept : Type 0} (shape : Shape) (counter : Meaning) (in_range : 
         x = (counter.next v heard).x;
         registers = (counter.next v heard).registers ++ registers;
       })
+
+-- the counter of a plan takes the states of a script
+pub record TakesStates (plan : Plan) (script : Script) : Type 0 where
+  pub deep : plan_depth plan ≤ length script.shape.moduli
+  pub counts : (v : ℕ) → v < script.nodes → (s : State)
+      → InRange (fields_at script.shape v) s → IsInRange plan s
+
+below_prop : (modulus : ℕ) (value : Option ℕ) → IsProp (IfSome value (λ a. a < modulus))
+below_prop modulus None = Prim.hlevel props
+below_prop modulus (Some a) = Prim.hlevel props
+
+range_prop : (levels : List Level) (state : State) → IsProp (IsCounted levels state)
+range_prop [] state = Prim.hlevel props
+range_prop (level ∷ below) state =
+    let lower = range_prop below state in
+    let value = below_prop level.modulus (register_at (length below) state).a in
+    Prim.hlevel (props, lower, value)
+
+-- it has one proof at most
+pub takes_prop : (plan : Plan) (script : Script) → IsProp (TakesStates plan script)
+takes_prop plan script = Prim.hlevel (props, range_prop)

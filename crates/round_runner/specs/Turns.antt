@@ -41,12 +41,6 @@ pub record IsConfiguration (script : Script) (states : Pack) : Type 0 where
   pub shape : states.shape ≡ script.shape
   pub size : length states.current ≡ script.nodes
 
--- the counter takes states of the script's shape
-pub record TakesStates (round : Round) : Type 0 where
-  pub deep : plan_depth round.tower.now ≤ length round.script.now.shape.moduli
-  pub counts : (u : ℕ) → u < round.script.now.nodes → (s : State)
-      → InRange (fields_at round.script.now.shape u) s → IsInRange round.tower.now s
-
 -- the layer, the configuration and the room are those of the round
 pub record IsSet {Kept : Type 0} (round : Round) (layer : Layer Kept) (states : Pack)
     (room : Room) : Type 0 where

@@ -18,19 +18,27 @@ pub struct Play<'a> {
     ghost deep: { plan_depth tower.now ≤ length script.now.shape.moduli },
 }
 
-impl Play<'_> {
-    ghost use Rattle.round_runner.specs.Turns.{IsConfiguration};
+/// What is played, and the configuration with which it begins.
+#[derive(Clone, Copy, Drop)]
+pub struct Beginning<'a> {
+    /// What is played.
+    pub play: &'a Play<'a>,
+    /// The configuration.
+    pub config: &'a Packed,
+    ghost shape: { config.now.shape ≡ play.now.script.now.shape },
+    ghost size: { length config.now.current ≡ play.now.script.now.nodes },
+}
 
-    /// The number of the first configuration, if it is locked.
-    pub fn begun_lock(&self, config: &Packed) -> Option<u64>
-        requires { IsConfiguration self.now.script.now config.now }
-        ensures { result ≡ first_of None
-            (is_locked self.now.tower.now self.now.script.now.faulty config.now.current) 0 }
+impl Beginning<'_> {
+    /// The number of the configuration, if it is locked.
+    pub fn lock(&self) -> Option<u64>
+        ensures { result ≡ first_of None (is_locked self.now.play.now.tower.now
+            self.now.play.now.script.now.faulty self.now.config.now.current) 0 }
     {
         let snapshot = Snapshot {
-            tower: self.tower,
-            faulty: self.script.faulty(),
-            config: &*config,
+            tower: self.play.tower,
+            faulty: self.play.script.faulty(),
+            config: self.config,
         };
         snapshot.lock(0)
     }

@@ -4,7 +4,7 @@ ghost use Rattle.round_runner.specs.Rooms.{CanWrite};
 ghost use Rattle.round_runner.specs.Runners.{begun_locks};
 ghost use Rattle.round_runner.specs.Turns.{IsConfiguration};
 
-use crate::plays::Play;
+use crate::plays::{Beginning, Play};
 use crate::runners::Runner;
 use crate::stepping::Room;
 use adversary_script::Script;
@@ -29,14 +29,13 @@ pub fn start_all(script: &Script, room: &mut Room, states: &mut Packed)
 }
 
 /// Notes of each era the first locked configuration so far, where configuration 0 is that one.
-fn begin_locks(play: &Play<'_>, config: &Packed, locks: &mut Vec<Option<u64>>)
-    requires config { IsConfiguration play.now.script.now config.now }
-    requires eras { length locks.old.items ≡ length play.now.script.now.eras + 1 }
-    ensures { locks.new.items
-        ≡ begun_locks play.now.tower.now play.now.script.now config.now.current }
+fn begin_locks(begun: &Beginning<'_>, locks: &mut Vec<Option<u64>>)
+    requires { length locks.old.items ≡ length begun.now.play.now.script.now.eras + 1 }
+    ensures { locks.new.items ≡ begun_locks begun.now.play.now.tower.now
+        begun.now.play.now.script.now begun.now.config.now.current }
 {
     locks.fill(None);
-    locks[0] = play.begun_lock(config);
+    locks[0] = begun.lock();
 }
 
 impl<O: Overlay> Runner<O> {
@@ -59,6 +58,10 @@ impl<O: Overlay> Runner<O> {
             tower: &self.tower,
             script: &self.script,
         };
-        begin_locks(&play, &self.states, &mut self.locks);
+        let begun = Beginning {
+            play: &play,
+            config: &self.states,
+        };
+        begin_locks(&begun, &mut self.locks);
     }
 }

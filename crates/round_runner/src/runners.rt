@@ -2,10 +2,9 @@ ghost use Rattle.std.specs.Prelude.{◌≡◌, ◌<◌, ◌≤◌, length, IfOk}
 ghost use Rattle.round_runner.specs.Hearing.{AreOfNodes};
 ghost use Rattle.round_runner.specs.Rooms.{IsReady};
 ghost use Rattle.round_runner.specs.Runners.{begun_locks};
-ghost use Rattle.round_runner.specs.Turns.{IsConfiguration};
 
 use crate::locks::Snapshot;
-use crate::plays::Play;
+use crate::plays::{Beginning, Play};
 use crate::restarting::start_all;
 use crate::rounds::{beginning_in, step_all};
 use crate::stepping::{Room, shown_at};
@@ -78,17 +77,12 @@ impl<O: Overlay> Model for Runner<O> {
 }
 
 /// Of each era the first locked configuration so far, where configuration 0 is that one.
-fn first_locks(
-    alloc: Global,
-    play: &Play<'_>,
-    config: &Packed,
-) -> Result<Vec<Option<u64>>, NoMemory>
-    requires { IsConfiguration play.now.script.now config.now }
-    ensures { IfOk result (λ locks. locks.items
-        ≡ begun_locks play.now.tower.now play.now.script.now config.now.current) }
+fn first_locks(alloc: Global, begun: &Beginning<'_>) -> Result<Vec<Option<u64>>, NoMemory>
+    ensures { IfOk result (λ locks. locks.items ≡ begun_locks begun.now.play.now.tower.now
+        begun.now.play.now.script.now begun.now.config.now.current) }
 {
-    let mut locks = vec![in alloc; None; play.script.eras()]?;
-    locks[0] = play.begun_lock(config);
+    let mut locks = vec![in alloc; None; begun.play.script.eras()]?;
+    locks[0] = begun.lock();
     Ok(locks)
 }
 
@@ -159,7 +153,11 @@ impl<O: Overlay> Runner<O> {
         let mut room = room_for(alloc, &play, &shape)?;
         let mut states = Packed::new(alloc, shape, script.faulty().nodes())?;
         start_all(&script, &mut room, &mut states);
-        let locks = first_locks(alloc, &play, &states)?;
+        let begun = Beginning {
+            play: &play,
+            config: &states,
+        };
+        let locks = first_locks(alloc, &begun)?;
         Ok(Runner {
             tower,
             script,

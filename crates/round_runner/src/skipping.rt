@@ -1,26 +1,9 @@
-ghost use Rattle.std.specs.Prelude.{◌≡◌, ◌≤◌, length};
-ghost use Rattle.adversary_script.specs.Eras.{end_of_era};
-
 use crate::growing::grow;
 use crate::runners::Runner;
-use adversary_script::Script;
 use counter_core::{NoOverlay, Overlay};
 use majority_votes::Steps;
 use std::marker::Brand;
 use std::sync::ledger::{Blank, Ledger};
-
-/// The first configuration behind an era.
-fn end_of(script: &Script, era: usize) -> u64
-    requires { era ≤ length script.now.eras }
-    ensures { result ≡ end_of_era script.now era }
-{
-    let eras = script.eras();
-    if era + 1 < eras {
-        script.era_start(era + 1)
-    } else {
-        script.rounds() + 1
-    }
-}
 
 impl<O: Overlay> Runner<O> {
     ghost use Rattle.std.specs.Prelude.{◌≡◌, ◌<◌};
@@ -31,7 +14,12 @@ impl<O: Overlay> Runner<O> {
         ensures value { result ≡ end_of_era self.now.script (era_of self.now.script self.now.at) }
         ensures behind { self.now.at < result }
     {
-        end_of(&self.script, self.era)
+        let behind = self.era + 1;
+        if behind < self.script.eras() {
+            self.script.era_start(behind)
+        } else {
+            self.script.rounds() + 1
+        }
     }
 }
 
@@ -40,14 +28,13 @@ impl Runner<NoOverlay> {
     ghost use Rattle.counter_core.specs.NoLayers.{no_layer};
     ghost use Rattle.tower.specs.Settled.{IsSettled};
     ghost use Rattle.adversary_script.specs.Eras.{era_of, faulty_at, end_of_era};
+    ghost use Rattle.round_runner.specs.Ledgers.{IsBlankOf};
     ghost use Rattle.round_runner.specs.Runners.{IsPlaying};
     ghost use Rattle.round_runner.specs.Skipping.{IsSkipped};
 
     /// Counts the correct nodes of the configuration, and says whether it is settled.
     fn gather<G: Ledger>(&mut self, blank: Blank) -> bool
-        requires name { blank.name ≡ G.name }
-        requires parts { blank.parts ≡ G.parts }
-        requires some { 0 < blank.parts }
+        requires { IsBlankOf G.name G.parts blank.name blank.parts }
         ensures same { self.new ≡ self.old }
         ensures settled { result ≡ true → IsSettled self.old.plan
             (faulty_at self.old.script self.old.at) self.old.states }
@@ -75,27 +62,9 @@ impl Runner<NoOverlay> {
         self.gather::<Brand>(Blank::new(1))
     }
 
-    /// Goes on to a configuration of the same era without a round: each field grows by the rounds
-    /// between.
-    fn jump(&mut self, to: u64)
-        requires from { self.old.at ≤ to }
-        requires to { to < end_of_era self.old.script (era_of self.old.script self.old.at) }
-        requires settled { IsSettled self.old.plan
-            (faulty_at self.old.script self.old.at) self.old.states }
-        requires known { is_some (slice_index_or self.old.locks
-            (era_of self.old.script self.old.at) None) ≡ true }
-        ensures skipped { IsSkipped self.old to self.new }
-        ensures played { (began : List (Unit {0})) → IsPlaying (λ o. no_layer) (λ o. []) began
-            self.old → IsPlaying (λ o. no_layer) (λ o. []) began self.new }
-    {
-        self.states.tell();
-        grow(to - self.at, &mut self.room.out, &mut self.states);
-        self.states.flip();
-        self.at = to;
-    }
-
     /// Goes on towards configuration `end`, at least one round and not past it. Where the
-    /// configuration is settled, the rounds of its era cost no more than one.
+    /// configuration is settled, the rounds of its era cost no more than one: each field grows by
+    /// the rounds between.
     pub fn skip(&mut self, end: u64)
         requires from { self.old.at < end }
         requires within { end ≤ self.old.script.rounds }
@@ -107,7 +76,10 @@ impl Runner<NoOverlay> {
     {
         let to = end.min(self.era_end() - 1);
         if self.at() < to && self.is_settled() {
-            self.jump(to);
+            self.states.tell();
+            grow(to - self.at, &mut self.room.out, &mut self.states);
+            self.states.flip();
+            self.at = to;
         } else {
             self.round();
         }

@@ -6,7 +6,7 @@ ghost use Rattle.construction.specs.Steps.{state_of, step_of};
 ghost use Rattle.plan_laws.specs.PlanMeaning.{plan_meaning};
 ghost use Rattle.state_codec.specs.Shapes.{fields_at};
 ghost use Rattle.state_codec.specs.Ranges.{InRange};
-ghost use Rattle.shared_board.specs.Sharing.{heard_with, stands_for, Tells};
+ghost use Rattle.shared_board.specs.Sharing.{stands_for};
 ghost use Rattle.counter_core.specs.Meanings.{written};
 ghost use Rattle.counter_core.specs.Heeding.{HeedsOnly};
 ghost use Rattle.counter_core.specs.Overlays.{after, layered};
@@ -16,7 +16,7 @@ ghost use Rattle.round_runner.specs.Hearing.{heard_from, HasRoom, AreLies};
 ghost use Rattle.round_runner.specs.Laying.{IsEnough, IsLaid, IsLaidFor, IsSameOrTold};
 ghost use Rattle.round_runner.specs.Rooms.{IsReady};
 ghost use Rattle.round_runner.specs.Scenes.{layer_step, new_state};
-ghost use Rattle.round_runner.specs.Turns.{heard_in, IsGathered, IsSet, TakesStates};
+ghost use Rattle.round_runner.specs.Turns.{heard_in, IsGathered, IsSet};
 
 use crate::telling::{liars_in, tell};
 use crate::turns::{Round, Turn};
@@ -73,26 +73,6 @@ fn hull(one: (usize, usize), other: (usize, usize)) -> (usize, usize)
     (one.0.min(other.0), one.1.max(other.1))
 }
 
-/// The faulty nodes on whose lies the counter's step of a turn hangs, with those that its layer's
-/// step hangs on, as a stretch of their places.
-fn stretch_for(turn: &Turn<'_>, layers: (usize, usize), shared: &Shared) -> (usize, usize)
-    requires layers { layers.1
-        ≤ length (faulty_at turn.now.round.now.script.now turn.now.round.now.t) }
-    requires stands { shared.now ≡ stands_for turn.now.round.now.tower.now
-        turn.now.states.now.current (faulty_at turn.now.round.now.script.now turn.now.round.now.t) }
-    ensures within { result.1 ≤ length shared.now.faulty }
-    ensures layers { (j : ℕ) → layers.0 ≤ j → j < layers.1 → (result.0 ≤ j) × (j < result.1) }
-    ensures enough { (lies told : List State) → Tells shared.now turn.now.v lies
-        → Tells shared.now turn.now.v told
-        → ((j : ℕ) → result.0 ≤ j → j < result.1 → state_of lies j ≡ state_of told j)
-        → step_of turn.now.round.now.tower.now turn.now.v
-        (heard_with shared.now.faulty lies shared.now.states)
-        ≡ step_of turn.now.round.now.tower.now turn.now.v
-        (heard_with shared.now.faulty told shared.now.states) }
-{
-    hull(turn.round.tower.heeded(turn.v, shared), layers)
-}
-
 /// The counter's step of a turn, by what is shared and what the faulty nodes tell it: those that it
 /// heeds, and those of a stretch that its layer heeds.
 fn step_shared<G: Ledger>(
@@ -103,7 +83,6 @@ fn step_shared<G: Ledger>(
 )
     requires layers { layers.1
         ≤ length (faulty_at turn.now.round.now.script.now turn.now.round.now.t) }
-    requires takes { TakesStates turn.now.round.now }
     requires ready { IsReady turn.now.round.now.tower.now turn.now.round.now.script.now room.old }
     requires stands { room.old.shared ≡ stands_for turn.now.round.now.tower.now
         turn.now.states.now.current (faulty_at turn.now.round.now.script.now turn.now.round.now.t) }
@@ -120,7 +99,7 @@ fn step_shared<G: Ledger>(
 {
     let tower = turn.round.tower;
     let liars = turn.round.faulty.len();
-    let stretch = stretch_for(turn, layers, &room.shared);
+    let stretch = hull(tower.heeded(turn.v, &room.shared), layers);
     tell(turn, stretch, &mut room.noise, &mut room.lies);
     let lies = &room.lies[..liars];
     tower.advance_shared(
@@ -135,14 +114,13 @@ fn step_shared<G: Ledger>(
 
 /// The counter's step of a turn where states are numbers alone.
 fn step_number(turn: &Turn<'_>, out: &mut NodeState)
-    requires below { (state_of turn.now.states.now.current turn.now.v).x
-        < turn.now.round.now.tower.now.base }
-    requires alone { plan_depth turn.now.round.now.tower.now ≡ 0 }
+    requires { plan_depth turn.now.round.now.tower.now ≡ 0 }
     ensures { (heard : List State)
         → state_of heard turn.now.v ≡ state_of turn.now.states.now.current turn.now.v
         → out.new ≡ written (plan_depth turn.now.round.now.tower.now)
         (step_of turn.now.round.now.tower.now turn.now.v heard) out.old }
 {
+    turn.states.tell();
     out.set_x(turn.round.tower.next_number(turn.states.x(turn.v)));
 }
 

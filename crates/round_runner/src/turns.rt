@@ -2,7 +2,8 @@ ghost use Rattle.std.specs.Prelude.{◌≡◌, ◌+◌, ◌<◌, length};
 ghost use Rattle.construction.specs.Plans.{plan_nodes};
 ghost use Rattle.construction.specs.Runs.{IsBorne};
 ghost use Rattle.adversary_script.specs.Eras.{faulty_at};
-ghost use Rattle.round_runner.specs.Beginnings.{BeginsAt, begins_once};
+ghost use Rattle.round_runner.specs.Beginnings.{BeginsAt, is_prop};
+ghost use Rattle.round_runner.specs.Fits.{TakesStates, takes_prop};
 
 use adversary_script::Script;
 use counter_core::Counter;
@@ -28,7 +29,8 @@ pub struct Round<'a> {
     ghost liars: { faulty.now
         ≡ record { nodes = script.now.nodes; ids = faulty_at script.now t } },
     ghost left: { t < script.now.rounds },
-    ghost behind: { BeginsAt script.now (t + 1) begins } by { begins_once script.now (t + 1) begins },
+    ghost takes: { TakesStates tower.now script.now } by { takes_prop tower.now script.now },
+    ghost behind: { BeginsAt script.now (t + 1) begins } by { is_prop script.now (t + 1) begins },
 }
 
 impl Round<'_> {

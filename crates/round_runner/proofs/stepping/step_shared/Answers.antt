@@ -1,24 +1,35 @@
 use Rattle.std.proofs.Common.{◌≡◌, ◌≤◌, ℕ, List, length, sym, ap, ◌∙◌, subst, arith}
 use Rattle.std.specs.Prelude.{slice_index}
 use Rattle.std.specs.List.Sorted.{IsStrictlyIncreasing}
-use Rattle.std.proofs.lemmas.List.{with_items_is}
+use Rattle.std.proofs.lemmas.List.{length-map, with_items_is}
 use Rattle.sync_types.specs.FaultSets.{FaultIds}
 use Rattle.sync_types.specs.States.{State}
 use Rattle.construction.specs.Plans.{plan_depth}
 use Rattle.construction.specs.Steps.{state_of}
-use Rattle.counter_core.specs.Meanings.{written}
+use Rattle.counter_core.specs.Meanings.{cut, written}
 use Rattle.shared_board.specs.Sharing.{Shares, place_among}
 use Rattle.round_runner.specs.Hearing.{heard_from, AreOfNodes}
 use Rattle.round_runner.proofs.Counted.{tells_taken, step_taken}
 use Rattle.round_runner.proofs.Liars.{taken_counts, taken_deep}
 use Rattle.round_runner.proofs.stepping.step_shared.Goals as goal
 
+pub heeded-requires-clause-plan : goal.heeded-requires-clause-plan
+heeded-requires-clause-plan g c = ap (λ (s : Shares). s.plan) c.requires.stands
+
+pub heeded-requires-clause-size : goal.heeded-requires-clause-size
+heeded-requires-clause-size g c =
+    let turn = c.args.turn.now in
+    ap (λ (s : Shares). length s.states) c.requires.stands
+    ∙ length-map turn.states.now.current (cut (plan_depth turn.round.now.tower.now))
+    ∙ turn.size ∙ turn.round.now.nodes
+
 pub tell-requires-clause-stretch : goal.tell-requires-clause-stretch
 tell-requires-clause-stretch g c =
-    let within = c.stretch_for-stretch.ensures.within in
-    let same = ap (λ (s : Shares). length s.faulty) c.requires.stands in
-    let ids = ap (λ (s : FaultIds). length s.ids) c.args.turn.now.round.now.liars in
-    omega (arith, within, same, ids)
+    let shared = ap (λ (s : Shares). length s.faulty) c.requires.stands in
+    let many = ap (λ (s : FaultIds). length s.ids) c.args.turn.now.round.now.liars in
+    let heeded = c.heeded.ensures.range.1 in
+    c.hull-stretch.ensures.within (length c.args.turn.now.round.now.faulty.now.ids)
+    (omega (arith, heeded, shared, many)) (omega (arith, c.requires.layers, many))
 
 pub tell-requires-clause-lies : goal.tell-requires-clause-lies
 tell-requires-clause-lies g c = record {
@@ -70,7 +81,7 @@ advance_shared-requires-clause-range g c =
     c.len-liars.ensures.within c.requires.ready.told
     (ap (λ (xs : List State). length xs) is ∙ c.tell.auto.lies
     ∙ ap (λ (xs : List State). length xs) c.deref_mut.ensures.value))
-    c.args.turn.now.round.now.tower.now c.requires.takes.counts
+    c.args.turn.now.round.now.tower.now c.args.turn.now.round.now.takes.counts
 
 pub advance_shared-requires-clause-deep : goal.advance_shared-requires-clause-deep
 advance_shared-requires-clause-deep g c =
@@ -86,16 +97,18 @@ advance_shared-requires-clause-deep g c =
     c.len-liars.ensures.within c.requires.ready.told
     (ap (λ (xs : List State). length xs) is ∙ c.tell.auto.lies
     ∙ ap (λ (xs : List State). length xs) c.deref_mut.ensures.value))
-    (plan_depth c.args.turn.now.round.now.tower.now) c.requires.takes.deep
+    (plan_depth c.args.turn.now.round.now.tower.now) c.args.turn.now.round.now.takes.deep
 
 pub returns-clause-out : goal.returns-clause-out
 returns-clause-out g c =
     let script = c.args.turn.now.round.now.script.now in
     let ids = c.args.turn.now.round.now.faulty.now.ids in
     let same = ap (λ (s : FaultIds). s.ids) c.args.turn.now.round.now.liars in
-    let within = c.stretch_for-stretch.ensures.within in
     let shared = ap (λ (s : Shares). length s.faulty) c.requires.stands in
     let many = ap (λ (s : FaultIds). length s.ids) c.args.turn.now.round.now.liars in
+    let heeded = c.heeded.ensures.range.1 in
+    let within = c.hull-stretch.ensures.within (length c.args.turn.now.round.now.faulty.now.ids)
+    (omega (arith, heeded, shared, many)) (omega (arith, c.requires.layers, many)) in
     let long = c.tell.auto.lies ∙ c.deref_mut.ensures.len in
     let is : c.deref.result.now ≡ c.tell.new.lies = c.deref.ensures.value
     ∙ with_items_is c.args.room.now.lies c.tell.new.lies long in
@@ -117,13 +130,15 @@ returns-clause-out g c =
     ∙ ap (λ (xs : List State). length xs) c.deref_mut.ensures.value))
     (λ yes. ap (λ (xs : List State). state_of xs (place_among ids c.args.turn.now.v)) is
     ∙ c.tell.ensures.own yes) c.args.room.now.shared c.requires.stands
-    c.stretch_for-stretch.result.0 c.stretch_for-stretch.result.1
-    (omega (arith, within, shared, many)) c.stretch_for-stretch.ensures.enough
+    c.hull-stretch.result.0 c.hull-stretch.result.1
+    within
+    (λ lies told first second same. c.heeded.ensures.enough lies told first second
+    (λ j low high. let both = c.hull-stretch.ensures.one j low high in same j both.0 both.1))
     (λ j low high. ap (λ (xs : List State). state_of xs j) is ∙ c.tell.ensures.told j low high))
 
 pub returns-clause-told : goal.returns-clause-told
 returns-clause-told g c = λ j low high.
-    let told = c.stretch_for-stretch.ensures.layers j low high in
+    let told = c.hull-stretch.ensures.other j low high in
     let ids = ap (λ (s : FaultIds). s.ids) c.args.turn.now.round.now.liars in
     ap (λ (xs : List State). state_of xs j) (with_items_is c.args.room.now.lies c.tell.new.lies
     (c.tell.auto.lies ∙ c.deref_mut.ensures.len))

@@ -15,18 +15,6 @@ use Rattle.round_runner.proofs.Laying.{enough, still_laid}
 use Rattle.round_runner.proofs.LayerSteps.{range_of, counted_room, new_in_range, out_is}
 use Rattle.round_runner.proofs.stepping.step_with.Goals as goal
 
-pub step_shared-requires-clause-takes : goal.step_shared-requires-clause-takes
-step_shared-requires-clause-takes g c =
-    let deep = c.requires.set.fits.depth in
-    record {
-      deep = omega (arith, deep);
-      counts = λ u lt. c.requires.set.fits.counts u (omega (
-        arith,
-        lt,
-        c.args.turn.now.round.now.nodes,
-      ));
-    }
-
 pub step_shared-requires-clause-ready : goal.step_shared-requires-clause-ready
 step_shared-requires-clause-ready g c =
     let script = c.args.turn.now.round.now.script.now in

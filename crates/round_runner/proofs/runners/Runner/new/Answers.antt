@@ -36,8 +36,8 @@ start_all-requires-clause-room g c = record {
   out = c.in_ok-room.ensures.out;
 }
 
-pub first_locks-requires : goal.first_locks-requires
-first_locks-requires g c = record {
+pub invariant_of-begun : goal.invariant_of-begun
+invariant_of-begun g c = record {
   shape = c.start_all.ensures.shape
       ∙ (ap (λ (p : Pack). p.shape) c.in_ok-states.ensures ∙ sym c.requires.shape);
   size = ap (λ (states : List State). length states) c.start_all.ensures.states
