@@ -3,7 +3,8 @@
 ghost use Rattle.std.specs.Prelude.{◌≡◌, ◌≤◌, ◌<◌, ◌+◌, [], length, IfSome};
 ghost use Rattle.counter_core.specs.NoLayers.{no_layer};
 ghost use Rattle.adversary_script.specs.Eras.{first_of_era, end_of_era};
-ghost use Rattle.round_runner.specs.Known.{KnowsLocks};
+ghost use Rattle.round_runner.specs.Known.{KnowsLocks, known_from};
+ghost use Rattle.round_runner.specs.Played.{played_at};
 ghost use Rattle.round_runner.specs.Runners.{IsPlaying};
 ghost use Rattle.sweeps.specs.Keys.{keyed};
 ghost use Rattle.sweeps.specs.Sweeps.{lock_of};
@@ -12,12 +13,15 @@ use crate::keys::key_of;
 use counter_core::NoOverlay;
 use round_runner::Runner;
 
-/// Plays the script with the key of this number, until its first locked configurations are known.
+/// Plays the script with the key of this number, until its first locked configurations are known
+/// and no further.
 pub fn play(runner: &mut Runner<NoOverlay>, seed: u64)
     ensures plan { runner.new.plan ≡ runner.old.plan }
     ensures script { runner.new.script ≡ keyed runner.old.script seed }
     ensures plays { IsPlaying (λ o. no_layer) (λ o. []) [] runner.new }
     ensures known { KnowsLocks runner.new }
+    ensures stops { runner.new.at ≡ known_from runner.new.plan runner.new.script
+        (played_at runner.new.plan runner.new.script) }
 {
     runner.restart(key_of(seed));
     runner.play_until_known();

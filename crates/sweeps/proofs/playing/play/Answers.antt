@@ -1,6 +1,7 @@
 use Rattle.std.proofs.Common.{List, [], ℕ, ap, ◌∙◌}
 use Rattle.adversary_script.specs.Scripts.{Script}
 use Rattle.round_runner.specs.Runners.{Running}
+use Rattle.sweeps.proofs.FirstLocked.{stops_at}
 use Rattle.sweeps.proofs.playing.play.Goals as goal
 
 pub returns-clause-plan : goal.returns-clause-plan
@@ -17,3 +18,9 @@ returns-clause-script c =
 
 pub returns-clause-plays : goal.returns-clause-plays
 returns-clause-plays c = c.play_until_known.ensures.played [] c.restart.ensures.played
+
+pub returns-clause-stops : goal.returns-clause-stops
+returns-clause-stops c =
+    stops_at c.restart.new.self c.play_until_known.new.self
+    (ap (λ (r : Running _). r.at) c.restart.ensures.begun) c.play_until_known.ensures.skipped
+    (c.play_until_known.ensures.stops [] c.restart.ensures.played)
