@@ -1,9 +1,6 @@
 //! What a node hears in the round that is to be played.
 
 ghost use Rattle.std.specs.Prelude.{◌≡◌, ◌<◌, length};
-ghost use Rattle.construction.specs.Steps.{state_of};
-ghost use Rattle.state_codec.specs.Shapes.{fields_at};
-ghost use Rattle.state_codec.specs.Ranges.{InRange};
 ghost use Rattle.round_runner.specs.Hearing.{HasRoom};
 ghost use Rattle.round_runner.specs.Played.{heard_at};
 
@@ -30,29 +27,8 @@ struct Receiver<'a> {
 }
 
 impl Receiver<'_> {
-    /// Puts what it hears of node `u` into `out`: the lie of another node that is faulty in the
-    /// round, and else the true state.
-    fn hear_of(&self, u: u32, noise: &mut Noise, out: &mut NodeState)
-        requires sender { u < self.now.script.now.nodes }
-        requires noise { noise.old ≡ self.now.script.now.key }
-        requires depth { length out.old.registers ≡ length self.now.script.now.shape.moduli }
-        ensures heard { out.new ≡ state_of (heard_at self.now.script.now self.now.t
-            self.now.states.now.current self.now.v) u }
-        ensures range { InRange (fields_at self.now.script.now.shape u) out.new }
-        ensures noise { noise.new ≡ noise.old }
-    {
-        self.states.tell();
-        if u == self.v {
-            self.states.old(u, out);
-        } else if self.script.faulty_at(self.t).contains(u) {
-            self.script
-                .lie_into(noise, self.t, u, self.v, self.states, out);
-        } else {
-            self.states.old(u, out);
-        }
-    }
-
-    /// Lays what it hears of each node into its place.
+    /// Lays what it hears of each node into its place: the lie of another node that is faulty in
+    /// the round, and else the true state.
     fn hear_all(&self, noise: &mut Noise, heard: &mut [NodeState])
         requires noise { noise.old ≡ self.now.script.now.key }
         requires room { HasRoom self.now.script.now heard.old }
@@ -61,8 +37,16 @@ impl Receiver<'_> {
         ensures room { HasRoom self.now.script.now heard.new }
         ensures noise { noise.new ≡ noise.old }
     {
+        self.states.tell();
+        let faulty = self.script.faulty_at(self.t);
         for u in 0..self.states.nodes() {
-            self.hear_of(u, noise, &mut heard[u as usize]);
+            let out = &mut heard[u as usize];
+            if u != self.v && faulty.contains(u) {
+                self.script
+                    .lie_into(noise, self.t, u, self.v, self.states, out);
+            } else {
+                self.states.old(u, out);
+            }
         }
     }
 }
