@@ -1,6 +1,7 @@
 -- The best levels that a search knows, as the code keeps them.
 use Rattle.std.specs.Prelude.{◌≡◌, ℕ, ◌+◌, ◌*◌, ◌<◌, ◌≤◌, List, [], ◌∷◌, ◌++◌, length, map, reverse}
 use Rattle.std.specs.Prelude.{take, Option, Some, None, ◌⊎◌, slice_index_or}
+use Rattle.std.proofs.Props.{props}
 use Rattle.construction.specs.Plans.{Level, nodes_of, faults_of, bound_of}
 use Rattle.plan_numbers.specs.Numbers.{line}
 use Rattle.plan_finder.specs.declared.best.Step.{Step}
@@ -107,3 +108,15 @@ pub record AreCostsBefore (most n f : ℕ) (pots : List Pot) : Type 0 where
       → IsPairBefore n f (nodes_of levels) (faults_of levels)
       → (value : ℕ)
       × Contains pots (record { nodes = nodes_of levels; faults = faults_of levels; value = value })
+
+path_prop : (most : ℕ) (levels : List Level) → IsProp (IsPath most levels)
+path_prop most [] = Prim.hlevel props
+path_prop most (level ∷ below) = let lower = path_prop most below in Prim.hlevel (props, lower)
+
+cell_prop : (most n f : ℕ) (best : Option Best) → IsProp (IsBestOf (Reaches most n f) best)
+cell_prop most n f None = Prim.hlevel props
+cell_prop most n f (Some best) = Prim.hlevel (props, path_prop)
+
+-- that cells are the best ones has one proof at most
+pub best_prop : (most width : ℕ) (cells : List (Option Best)) → IsProp (AreBest most width cells)
+best_prop most width cells = Prim.hlevel (props, cell_prop)

@@ -1,7 +1,7 @@
 ghost use Rattle.std.specs.Prelude.{◌≡◌, ◌+◌, ◌*◌, ◌≤◌, length, IfOk};
 ghost use Rattle.plan_finder.specs.Costs.{AreLeastCosts};
 ghost use Rattle.plan_finder.specs.Least.{costs_within};
-ghost use Rattle.plan_finder.specs.Best.{AreBest, IsBestOf, HasFaults};
+ghost use Rattle.plan_finder.specs.Best.{IsBestOf, HasFaults};
 
 use crate::best::{Best, lesser};
 use crate::pots::Pot;
@@ -11,7 +11,6 @@ use sync_types::NoMemory;
 
 /// The best levels with `f` faults, from those of each pair.
 pub fn best_with(rows: &Rows<'_>, f: u64) -> Option<Best>
-    requires cells { AreBest rows.now.most rows.now.width rows.now.cells.now }
     requires size { length rows.now.cells.now ≡ (rows.now.most + 1) * rows.now.width }
     ensures { IsBestOf (HasFaults rows.now.most f (rows.now.most + 1)) result }
 {
@@ -27,7 +26,6 @@ pub fn best_with(rows: &Rows<'_>, f: u64) -> Option<Best>
 
 /// The pairs that are reached, with their least costs, in rising order.
 pub fn least_costs(alloc: Global, rows: &Rows<'_>) -> Result<Vec<Pot>, NoMemory>
-    requires cells { AreBest rows.now.most rows.now.width rows.now.cells.now }
     requires size { length rows.now.cells.now ≡ (rows.now.most + 1) * rows.now.width }
     requires some { 1 ≤ rows.now.most }
     ensures costs { IfOk result (λ pots. AreLeastCosts rows.now.most pots.items) }

@@ -1,4 +1,5 @@
 ghost use Rattle.std.specs.Prelude.{◌*◌, ◌<◌, ◌≤◌};
+ghost use Rattle.plan_finder.specs.Best.{AreBest, best_prop};
 
 use crate::best::Best;
 
@@ -10,4 +11,5 @@ pub struct Rows<'a> {
     pub most: u64,
     pub width: usize,
     ghost sizes: { (most ≤ 256) × (most < 3 * width) × (width ≤ 86) },
+    ghost best: { AreBest most width cells.now } by { best_prop most width cells.now },
 }

@@ -1,6 +1,6 @@
 ghost use Rattle.std.specs.Prelude.{◌+◌, ◌*◌, ◌<◌, ◌≤◌, length};
 ghost use Rattle.plan_finder.specs.Costs.{Reaches};
-ghost use Rattle.plan_finder.specs.Best.{AreBest, AreOver, IsBestOf, IsTried};
+ghost use Rattle.plan_finder.specs.Best.{AreOver, IsBestOf, IsTried};
 
 use crate::best::{Best, Step, lesser};
 use crate::costed::CostedStep;
@@ -28,7 +28,6 @@ fn stepped(front: Option<Best>, most: u64, n: u64, f: u64, last: CostedStep) -> 
 fn best_by(rows: &Rows<'_>, n: u64, last: CostedStep, known: Option<Best>) -> Option<Best>
     requires nodes { (1 ≤ n) × (last.step.blocks * n ≤ rows.now.most) }
     requires faults { 3 * last.step.faults < last.step.blocks * n }
-    requires cells { AreBest rows.now.most rows.now.width rows.now.cells.now }
     requires there { (n + 1) * rows.now.width ≤ length rows.now.cells.now }
     requires known { IsBestOf
         (IsTried rows.now.most (last.step.blocks * n) last.step.faults last.step.blocks 0) known }
@@ -48,7 +47,6 @@ fn best_by(rows: &Rows<'_>, n: u64, last: CostedStep, known: Option<Best>) -> Op
 pub fn best_at(rows: &Rows<'_>, n: u64, g: u64) -> Option<Best>
     requires nodes { n ≤ rows.now.most }
     requires faults { g ≤ 85 }
-    requires cells { AreBest rows.now.most rows.now.width rows.now.cells.now }
     requires there { n * rows.now.width ≤ length rows.now.cells.now }
     ensures { IsBestOf (Reaches rows.now.most n g) result }
 {

@@ -19,7 +19,7 @@ loop-f-preserved c =
     let before = c.loop-f.invariant.costs in
     let inside : n * c.args.rows.now.width + f < length c.args.rows.now.cells.now =
     omega (arith, in_rows n f c.args.rows.now.width (most + 1) c.loop-f-test.true c.loop-n-test.true, c.requires.size) in
-    let cell = c.requires.cells.best n f c.loop-f-test.true inside in
+    let cell = c.args.rows.now.best.best n f c.loop-f-test.true inside in
     elim c.match-rows-n.branch [
       | in-None w ↦
           let items : c.match-rows-n.pots.items ≡ c.loop-f.pots.items = search rules in
