@@ -1,6 +1,6 @@
 //! Agreement on the values that nodes have as inputs.
 
-use crate::layers::{Layer, MOST_VALUES, answer, loaded, output_of, turned};
+use crate::layers::{Layer, answer, loaded, output_of, read_values, turned};
 use crate::lines::Lines;
 use crate::plan_texts::read_plan;
 use crate::plans::{Plan, remainder};
@@ -20,6 +20,23 @@ pub struct Agreement {
     decisions: Vec<u64>,
 }
 
+/// Takes the line of the inputs, which are below `values`, and the end.
+fn read_inputs(
+    alloc: Global,
+    plan: &Plan,
+    lines: &mut Lines,
+    values: u64,
+) -> Result<Vec<u64>, AllocError> {
+    lines.take(PART);
+    let is_named = lines.is(0, "inputs");
+    lines.want(is_named, "form");
+    let inputs = lines.numbers(alloc, 1)?;
+    lines.want(inputs.len() as u64 == plan.nodes(), "form");
+    lines.want(inputs.iter().all(|input| *input < values), "range");
+    lines.take_end(PART);
+    Ok(inputs)
+}
+
 impl Agreement {
     /// Agreement on values with these inputs, of nodes that have decided nothing.
     pub fn new(alloc: Global, values: u64, inputs: Vec<u64>) -> Result<Agreement, AllocError> {
@@ -35,21 +52,12 @@ impl Agreement {
     }
 
     /// Takes the lines of an agreement.
-    fn read(alloc: Global, plan: &Plan, lines: &mut Lines) -> Result<Agreement, Stop> {
-        let line = lines.take(PART)?;
-        line.want(line.only(PART)? == 1, "form")?;
-        line.want(remainder(plan.modulus(), plan.slot()) == 0, "slot")?;
-        let line = lines.take(PART)?;
-        let values = line.only("values")?;
-        line.want(values <= MOST_VALUES, "limit")?;
-        line.want(values >= 2, "range")?;
-        let line = lines.take(PART)?;
-        line.want(line.is(0, "inputs"), "form")?;
-        let inputs = line.numbers(alloc, 1)?;
-        line.want(inputs.len() as u64 == plan.nodes(), "form")?;
-        line.want(inputs.iter().all(|input| *input < values), "range")?;
-        lines.take_end(PART)?;
-        Ok(Agreement::new(alloc, values, inputs)?)
+    fn read(alloc: Global, plan: &Plan, lines: &mut Lines) -> Result<Agreement, AllocError> {
+        lines.take_first(PART);
+        lines.want(remainder(plan.modulus(), plan.slot()) == 0, "slot");
+        let values = read_values(lines, PART);
+        let inputs = read_inputs(alloc, plan, lines, values)?;
+        Agreement::new(alloc, values, inputs)
     }
 }
 
@@ -99,6 +107,7 @@ impl Layer for Agreement {
 pub fn consensus(alloc: Global, lines: &mut Lines) -> Result<String, Stop> {
     let mut plan = read_plan(alloc, lines)?;
     let mut agreement = Agreement::read(alloc, &plan, lines)?;
+    lines.result()?;
     plan.set_layer(1, agreement.values);
     let script = read_script(alloc, &plan, lines)?;
     Ok(answer(alloc, &plan, &mut agreement, &script)?)

@@ -1,40 +1,28 @@
 //! The lines of a certificate, read one by one.
 
 use crate::plans::Plan;
-use crate::states::{State, read};
+use crate::states::{State, read, zero};
 use std::alloc::{AllocError, Global};
 
-/// Why reading stops: a line is refused, or there is no memory.
-#[derive(Debug, Drop)]
-pub enum Stop {
-    Refused,
-    NoMemory(AllocError),
-}
-
-impl From<AllocError> for Stop {
-    fn from(error: AllocError) -> Stop {
-        Stop::NoMemory(error)
-    }
-}
-
-/// Puts a value at the end of a list.
-pub fn put<T: Drop>(list: &mut Vec<T>, value: T) -> Result<(), AllocError> {
-    list.push(value)?;
-    Ok(())
-}
-
-/// The words of a line.
-#[derive(Clone, Drop)]
-pub struct Words {
-    words: Vec<Vec<u8>>,
-}
-
-/// Lines, each with its words, or None where it is too long or lacks its newline; and how many of
-/// them were taken.
-#[derive(Drop)]
+/// Lines, each with its words, or none where it is too long or lacks its newline; how many of them
+/// were taken, and the number of the line that is refused first. A line that may be taken has a
+/// word, at least an empty one. The line is the last one that was taken.
 pub struct Lines {
-    lines: Vec<Option<Words>>,
-    pub taken: u64,
+    lines: Vec<Vec<Vec<u8>>>,
+    taken: u64,
+    refused: Option<u64>,
+}
+
+// Written out, so that what lets go of one calls this, and no more.
+impl Drop for Lines {
+    fn drop(self) {
+        let Lines {
+            lines,
+            taken: _,
+            refused: _,
+        } = self;
+        drop(lines);
+    }
 }
 
 /// The number that a word is, of at most fifteen digits and without a zero in front.
@@ -81,86 +69,20 @@ fn bytes_of(alloc: Global, word: &[u8]) -> Result<Option<Vec<u8>>, AllocError> {
     Ok(if high.is_none() { Some(bytes) } else { None })
 }
 
-impl Words {
-    /// The words of a line, which are parted by single spaces.
-    fn of(alloc: Global, line: &[u8]) -> Result<Words, AllocError> {
-        let mut words = Vec::new(alloc);
-        let mut word = Vec::new(alloc);
-        for byte in line {
-            if *byte == 32 {
-                words.push(word)?;
-                word = Vec::new(alloc);
-            } else {
-                word.push(*byte)?;
-            }
-        }
-        words.push(word)?;
-        Ok(Words { words })
-    }
-
-    /// How many there are.
-    pub fn len(&self) -> usize {
-        self.words.len()
-    }
-
-    /// Whether a word is there, and which.
-    pub fn is(&self, place: usize, wanted: &str) -> bool {
-        let word = self.words.get(place);
-        word.is_some_and(|word| word.as_slice() == wanted.as_bytes())
-    }
-
-    /// A word that has to be there.
-    pub fn want(&self, place: usize, wanted: &str) -> Result<(), Stop> {
-        if self.is(place, wanted) {
-            Ok(())
+/// The words of a line, which are parted by single spaces.
+fn words_of(alloc: Global, line: &[u8]) -> Result<Vec<Vec<u8>>, AllocError> {
+    let mut words = Vec::new(alloc);
+    let mut word = Vec::new(alloc);
+    for byte in line {
+        if *byte == 32 {
+            words.push(word)?;
+            word = Vec::new(alloc);
         } else {
-            Err(Stop::Refused)
+            word.push(*byte)?;
         }
     }
-
-    /// The number that has to stand at a place.
-    pub fn number(&self, place: usize) -> Result<u64, Stop> {
-        let word = self.words.get(place);
-        word.and_then(|word| number_of(word)).ok_or(Stop::Refused)
-    }
-
-    /// The id of a node that has to stand at a place.
-    pub fn id(&self, place: usize, plan: &Plan) -> Result<u64, Stop> {
-        let id = self.number(place)?;
-        if id < plan.nodes() {
-            Ok(id)
-        } else {
-            Err(Stop::Refused)
-        }
-    }
-
-    /// The state of a node whose digits have to stand at a place.
-    pub fn state(
-        &self,
-        alloc: Global,
-        plan: &Plan,
-        node: u64,
-        place: usize,
-    ) -> Result<State, Stop> {
-        let Some(word) = self.words.get(place) else {
-            return Err(Stop::Refused);
-        };
-        match bytes_of(alloc, word)? {
-            Some(bytes) if bytes.len() as u64 == plan.bytes(node) => {
-                Ok(read(alloc, plan, node, &bytes)?)
-            }
-            _ => Err(Stop::Refused),
-        }
-    }
-
-    /// The end of the line.
-    pub fn want_length(&self, length: usize) -> Result<(), Stop> {
-        if self.len() == length {
-            Ok(())
-        } else {
-            Err(Stop::Refused)
-        }
-    }
+    words.push(word)?;
+    Ok(words)
 }
 
 impl Lines {
@@ -172,31 +94,121 @@ impl Lines {
             if *byte != 10 {
                 line.push(*byte)?;
             } else if line.len() > 4096 {
-                lines.push(None)?;
-                line = Vec::new(alloc);
+                lines.push(Vec::new(alloc))?;
+                line.clear();
             } else {
-                lines.push(Some(Words::of(alloc, &line)?))?;
-                line = Vec::new(alloc);
+                lines.push(words_of(alloc, &line)?)?;
+                line.clear();
             }
         }
         if !line.is_empty() {
-            lines.push(None)?;
+            lines.push(Vec::new(alloc))?;
         }
-        Ok(Lines { lines, taken: 0 })
+        Ok(Lines {
+            lines,
+            taken: 0,
+            refused: None,
+        })
     }
 
-    /// The words of the next line, which has to be there.
-    pub fn take(&mut self) -> Result<Words, Stop> {
-        let place = self.taken as usize;
-        self.taken = self.taken.wrapping_add(1);
-        match self.lines.get(place) {
-            Some(Some(words)) => Ok(words.clone()?),
-            _ => Err(Stop::Refused),
+    /// The number of the line that is refused first, if one is.
+    pub fn refused(&self) -> Option<u64> {
+        self.refused
+    }
+
+    /// Refuses the line, unless something holds.
+    pub fn want(&mut self, holds: bool) {
+        if !holds && self.refused.is_none() {
+            self.refused = Some(self.taken);
         }
+    }
+
+    /// Takes the next line, which has to be there.
+    pub fn take(&mut self) {
+        self.taken = self.taken.wrapping_add(1);
+        let is_there = !self.line().is_empty();
+        self.want(is_there);
+    }
+
+    /// The words of the line that was taken last.
+    fn line(&self) -> &[Vec<u8>] {
+        let line = self.lines.get(self.taken.wrapping_sub(1) as usize);
+        line.map_or(&[], |line| line.as_slice())
     }
 
     /// Whether another line is there.
     pub fn is_left(&self) -> bool {
         self.taken < self.lines.len() as u64
+    }
+
+    /// How many words the line has.
+    pub fn words(&self) -> usize {
+        self.line().len()
+    }
+
+    /// The word of the line at a place.
+    fn word(&self, place: usize) -> &[u8] {
+        let word = self.line().get(place);
+        word.map_or(&[], |word| word.as_slice())
+    }
+
+    /// Whether a word is there, and which.
+    pub fn is(&self, place: usize, wanted: &str) -> bool {
+        place < self.words() && self.word(place) == wanted.as_bytes()
+    }
+
+    /// Whether a line begins with that word, and nothing is refused.
+    pub fn begins(&self, word: &str) -> bool {
+        self.refused.is_none() && self.is(0, word)
+    }
+
+    /// A word that has to be there.
+    pub fn want_word(&mut self, place: usize, wanted: &str) {
+        let is_there = self.is(place, wanted);
+        self.want(is_there);
+    }
+
+    /// The number that has to stand at a place of the line.
+    pub fn number(&mut self, place: usize) -> u64 {
+        match number_of(self.word(place)) {
+            Some(number) => number,
+            None => {
+                self.want(false);
+                0
+            }
+        }
+    }
+
+    /// The id of a node that has to stand at a place of the line.
+    pub fn id(&mut self, place: usize, plan: &Plan) -> u64 {
+        let id = self.number(place);
+        let is_node = id < plan.nodes();
+        self.want(is_node);
+        if is_node { id } else { 0 }
+    }
+
+    /// The state of a node whose digits have to stand at a place of the line.
+    pub fn state(
+        &mut self,
+        alloc: Global,
+        plan: &Plan,
+        node: u64,
+        place: usize,
+    ) -> Result<State, AllocError> {
+        match bytes_of(alloc, self.word(place))? {
+            Some(bytes) if bytes.len() as u64 == plan.bytes(node) => {
+                read(alloc, plan, node, &bytes)
+            }
+            _ => {
+                self.want(false);
+                zero(alloc, plan)
+            }
+        }
+    }
+
+    /// The end of the line.
+    pub fn want_length(&mut self, length: usize) {
+        let has_length = self.words() == length;
+        self.want(has_length);
     }
 }

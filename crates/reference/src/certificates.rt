@@ -112,20 +112,52 @@ fn write_era(
     Ok(())
 }
 
+/// Writes the first states and the first row of a run.
+fn write_first(
+    alloc: Global,
+    text: &mut String,
+    plan: &Plan,
+    script: &Script,
+    run: &Run,
+) -> Result<(), AllocError> {
+    let correct = correct(alloc, plan, script)?;
+    write_starts(alloc, text, plan, run, &correct)?;
+    run.write_row(text, plan, script)
+}
+
+/// Writes the coming round of a run, which is played.
+fn write_round(
+    alloc: Global,
+    text: &mut String,
+    plan: &Plan,
+    script: &Script,
+    run: &mut Run,
+) -> Result<(), AllocError> {
+    write_lies(alloc, text, plan, script, run)?;
+    run.round(alloc, plan, script)?;
+    write_era(alloc, text, plan, script, run)?;
+    run.write_row(text, plan, script)
+}
+
+/// Writes what is behind the first lines.
+fn write_run(
+    alloc: Global,
+    text: &mut String,
+    plan: &Plan,
+    script: &Script,
+) -> Result<(), AllocError> {
+    let mut run = Run::new(alloc, plan, script)?;
+    write_first(alloc, text, plan, script, &run)?;
+    for _ in 0..script.rounds {
+        write_round(alloc, text, plan, script, &mut run)?;
+    }
+    writeln!(text, "end")
+}
+
 /// The certificate of a script's run.
 pub fn certificate(alloc: Global, plan: &Plan, script: &Script) -> Result<String, AllocError> {
     let mut text = String::new(alloc);
     write_head(&mut text, plan, script)?;
-    let mut run = Run::new(alloc, plan, script)?;
-    write_starts(alloc, &mut text, plan, &run, &correct(alloc, plan, script)?)?;
-    for at in 0..=script.rounds {
-        if at > 0 {
-            write_lies(alloc, &mut text, plan, script, &run)?;
-            run.round(alloc, plan, script)?;
-            write_era(alloc, &mut text, plan, script, &run)?;
-        }
-        run.write_row(&mut text, plan, script)?;
-    }
-    writeln!(text, "end")?;
+    write_run(alloc, &mut text, plan, script)?;
     Ok(text)
 }

@@ -147,39 +147,73 @@ impl Shown {
     }
 }
 
-/// What the nodes show below the top level, in each configuration of a script, if there is a level.
+/// What the nodes show at a depth in the configuration of a run.
+fn row_of(alloc: Global, run: &Run, depth: usize) -> Result<Vec<u64>, AllocError> {
+    let mut row = Vec::new(alloc);
+    for state in &run.config {
+        row.push(shown(state, depth))?;
+    }
+    Ok(row)
+}
+
+/// What the nodes show below the top level, in each configuration of a run, which is played.
+fn outputs_of(
+    alloc: Global,
+    plan: &Plan,
+    script: &Script,
+    run: &mut Run,
+) -> Result<Vec<Vec<u64>>, AllocError> {
+    let below = plan.levels.len().saturating_sub(1);
+    let mut outputs = Vec::new(alloc);
+    outputs.push(row_of(alloc, run, below)?)?;
+    for _ in 0..script.rounds {
+        run.round(alloc, plan, script)?;
+        outputs.push(row_of(alloc, run, below)?)?;
+    }
+    Ok(outputs)
+}
+
+/// A plan with a top level, and what its nodes show below that.
 fn shown_in(
     alloc: Global,
     plan: &Plan,
     script: &Script,
-) -> Result<(Option<Shown>, Run), AllocError> {
+    top: Level,
+    outputs: Vec<Vec<u64>>,
+) -> Result<Shown, AllocError> {
     let below = plan.levels.len().saturating_sub(1);
-    let mut outputs = Vec::new(alloc);
-    let mut run = Run::new(alloc, plan, script)?;
-    for at in 0..=script.rounds {
-        if at > 0 {
-            run.round(alloc, plan, script)?;
-        }
-        let mut row = Vec::new(alloc);
-        for state in &run.config {
-            row.push(shown(state, below))?;
-        }
-        outputs.push(row)?;
-    }
-    let Some(top) = plan.levels.last().copied() else {
-        return Ok((None, run));
-    };
     let under = below
         .checked_sub(1)
         .and_then(|place| plan.levels.get(place));
-    let shown = Shown {
+    Ok(Shown {
         top,
         nodes: plan.group(below),
         faults: under.map_or(0, |under| under.faults),
         outputs,
         faulty: Vec::from_slice(alloc, script.faulty_at(script.rounds))?,
-    };
-    Ok((Some(shown), run))
+    })
+}
+
+/// Writes an explanation, if there is one.
+fn write_explanation(
+    text: &mut String,
+    explanation: Option<Explanation>,
+) -> Result<(), AllocError> {
+    match explanation {
+        None => writeln!(text, "explain none"),
+        Some(explanation) => {
+            let Explanation {
+                window,
+                leader,
+                phase,
+                king,
+            } = explanation;
+            writeln!(
+                text,
+                "window {window} leader {leader}\nphase {phase} king {king}"
+            )
+        }
+    }
 }
 
 /// What `explain` writes of a plan and a script.
@@ -187,23 +221,15 @@ pub fn answer(alloc: Global, plan: &Plan, script: &Script) -> Result<String, All
     let mut text = String::new(alloc);
     let bound = plan.bound();
     writeln!(text, "bound {bound}")?;
-    let first = script.eras.last().map_or(0, |era| era.first);
-    let (shown, run) = shown_in(alloc, plan, script)?;
-    match shown {
+    let mut run = Run::new(alloc, plan, script)?;
+    let outputs = outputs_of(alloc, plan, script, &mut run)?;
+    match plan.levels.last().copied() {
         None => writeln!(text, "explain base")?,
-        Some(shown) => match shown.explanation(first) {
-            None => writeln!(text, "explain none")?,
-            Some(explanation) => {
-                let Explanation {
-                    window,
-                    leader,
-                    phase,
-                    king,
-                } = explanation;
-                writeln!(text, "window {window} leader {leader}")?;
-                writeln!(text, "phase {phase} king {king}")?;
-            }
-        },
+        Some(top) => {
+            let shown = shown_in(alloc, plan, script, top, outputs)?;
+            let first = script.eras.last().map_or(0, |era| era.first);
+            write_explanation(&mut text, shown.explanation(first))?;
+        }
     }
     run.write_locks(&mut text, script)?;
     Ok(text)

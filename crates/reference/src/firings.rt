@@ -4,7 +4,7 @@ use crate::layers::{Layer, answer, loaded, output_of, turned};
 use crate::lines::Lines;
 use crate::plan_texts::{read_plan, want_none_broken};
 use crate::plans::{Plan, remainder};
-use crate::refusals::{Stop, put};
+use crate::refusals::Stop;
 use crate::script_texts::read_script;
 use crate::states::State;
 use std::alloc::{AllocError, Global};
@@ -108,34 +108,43 @@ pub fn broken_rule(plan: &Plan, request: &Request) -> Option<&'static str> {
     }
 }
 
+/// The request of the line.
+fn request_of(lines: &mut Lines) -> Request {
+    lines.want_form(4, "request");
+    Request {
+        node: lines.number(1),
+        first: lines.number(2),
+        last: lines.number(3),
+    }
+}
+
 /// Takes the lines of requests.
-fn read_requests(alloc: Global, plan: &Plan, lines: &mut Lines) -> Result<Vec<Request>, Stop> {
-    let line = lines.take(PART)?;
-    line.want(line.only(PART)? == 1, "form")?;
-    line.want(remainder(plan.modulus(), plan.slot()) == 0, "slot")?;
+fn read_requests(
+    alloc: Global,
+    plan: &Plan,
+    lines: &mut Lines,
+) -> Result<Vec<Request>, AllocError> {
+    lines.take_first(PART);
+    lines.want(remainder(plan.modulus(), plan.slot()) == 0, "slot");
     let mut requests: Vec<Request> = Vec::new(alloc);
     for _ in 0..=lines.len() {
-        let line = lines.take(PART)?;
-        if line.is_alone("end") {
-            return Ok(requests);
+        lines.take(PART);
+        if lines.is_over() {
+            break;
         }
-        line.want(line.len() == 4 && line.is(0, "request"), "form")?;
-        let request = Request {
-            node: line.number(1)?,
-            first: line.number(2)?,
-            last: line.number(3)?,
-        };
-        line.want(requests.len() < MOST_REQUESTS, "limit")?;
-        want_none_broken(&line, broken_rule(plan, &request))?;
-        put(&mut requests, request)?;
+        let request = request_of(lines);
+        lines.want(requests.len() < MOST_REQUESTS, "limit");
+        want_none_broken(lines, broken_rule(plan, &request));
+        requests.push(request)?;
     }
-    Err(lines.unended(PART))
+    Ok(requests)
 }
 
 /// What `fire` writes.
 pub fn fire(alloc: Global, lines: &mut Lines) -> Result<String, Stop> {
     let mut plan = read_plan(alloc, lines)?;
     let requests = read_requests(alloc, &plan, lines)?;
+    lines.result()?;
     plan.set_layer(1, 2);
     let script = read_script(alloc, &plan, lines)?;
     let mut firing = Firing::new(alloc, &plan, requests)?;

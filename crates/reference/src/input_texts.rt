@@ -99,8 +99,8 @@ fn write_starts(text: &mut String, starts: &[Start]) -> Result<(), AllocError> {
     Ok(())
 }
 
-/// Writes the lines of a script down to those of its eras.
-fn write_eras(text: &mut String, script: &Script) -> Result<(), AllocError> {
+/// Writes the first lines of a script.
+fn write_front(text: &mut String, script: &Script) -> Result<(), AllocError> {
     let version = script.version;
     write!(text, "script {version}\nfaulty")?;
     write_numbers(text, &script.faulty)?;
@@ -108,12 +108,12 @@ fn write_eras(text: &mut String, script: &Script) -> Result<(), AllocError> {
     if let Some(key) = script.key {
         write_key(text, key)?;
     }
-    if script.noisy {
-        writeln!(text, "start noise")?;
-    } else {
-        writeln!(text, "start zero")?;
-    }
-    write_starts(text, &script.starts)?;
+    let start = if script.noisy { "noise" } else { "zero" };
+    writeln!(text, "start {start}")
+}
+
+/// Writes the lines of the eras of a script.
+fn write_eras(text: &mut String, script: &Script) -> Result<(), AllocError> {
     for era in &script.eras {
         let first = era.first;
         write!(text, "era {first} faulty")?;
@@ -124,18 +124,32 @@ fn write_eras(text: &mut String, script: &Script) -> Result<(), AllocError> {
     Ok(())
 }
 
-/// Writes the lines of a script.
-pub fn write_script(text: &mut String, script: &Script) -> Result<(), AllocError> {
-    write_eras(text, script)?;
+/// Writes the lines of the groups of a script.
+fn write_groups(text: &mut String, script: &Script) -> Result<(), AllocError> {
     for (number, group) in script.groups.iter().enumerate() {
         let name = name_of(number);
         write!(text, "group {name}")?;
         write_numbers(text, group)?;
         writeln!(text)?;
     }
+    Ok(())
+}
+
+/// Writes the lines of the lies of a script.
+fn write_rules(text: &mut String, script: &Script) -> Result<(), AllocError> {
     for rule in &script.rules {
         write_rule(text, rule)?;
     }
+    Ok(())
+}
+
+/// Writes the lines of a script.
+pub fn write_script(text: &mut String, script: &Script) -> Result<(), AllocError> {
+    write_front(text, script)?;
+    write_starts(text, &script.starts)?;
+    write_eras(text, script)?;
+    write_groups(text, script)?;
+    write_rules(text, script)?;
     let rounds = script.rounds;
     let first = script.first;
     let last = script.last;

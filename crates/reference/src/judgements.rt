@@ -1,6 +1,6 @@
 //! What a certificate comes to: its lines are read in order, and the run that they state is played.
 
-use crate::certificate_lines::{Lines, Stop, Words, put};
+use crate::certificate_lines::Lines;
 use crate::plans::{Level, Plan};
 use crate::premises::{broken_base, broken_level};
 use crate::runs::is_locked;
@@ -12,152 +12,258 @@ use std::alloc::{AllocError, Global};
 const MOST_ROUNDS: u64 = 1000000;
 
 /// A certificate that is read: its version and plan, which nodes are faulty, and the configuration
-/// of the run that it states; its eras so far, the first row that differs, and the first locked
+/// of the run that it states; its eras and rows so far, the first row that differs, and the first locked
 /// configuration of the era.
-#[derive(Drop)]
 struct Certificate {
     version: u64,
     plan: Plan,
     faulty: Vec<u64>,
     config: Vec<State>,
     eras: u64,
+    rows: u64,
     differs: Option<u64>,
     locked: Option<u64>,
 }
 
-/// Refused, unless something holds.
-fn want(holds: bool) -> Result<(), Stop> {
-    if holds { Ok(()) } else { Err(Stop::Refused) }
+// Written out, so that what lets go of one calls this, and no more.
+impl Drop for Certificate {
+    fn drop(self) {
+        let Certificate {
+            version: _,
+            plan,
+            faulty,
+            config,
+            eras: _,
+            rows: _,
+            differs: _,
+            locked: _,
+        } = self;
+        drop(plan);
+        drop(faulty);
+        drop(config);
+    }
 }
 
-/// The version of a certificate.
-fn version(words: &Words) -> Result<u64, Stop> {
-    words.want(0, "run")?;
-    words.want_length(2)?;
-    let version = words.number(1)?;
-    want(1 <= version && version <= 3)?;
-    Ok(version)
+/// Takes the line of the version of a certificate.
+fn version(lines: &mut Lines) -> u64 {
+    lines.take();
+    lines.want_word(0, "run");
+    lines.want_length(2);
+    let version = lines.number(1);
+    lines.want(1 <= version && version <= 3);
+    version
 }
 
-/// The plan without levels.
-fn base(alloc: Global, version: u64, words: &Words) -> Result<Plan, Stop> {
-    words.want(0, "base")?;
-    words.want_length(2)?;
-    let base = words.number(1)?;
-    want(broken_base(base).is_none())?;
-    let plan_version = if version == 3 { 2 } else { 1 };
-    Ok(Plan::of(alloc, plan_version, base, &[])?)
+/// Takes the line of the base.
+fn base(lines: &mut Lines) -> u64 {
+    lines.take();
+    lines.want_word(0, "base");
+    lines.want_length(2);
+    let base = lines.number(1);
+    lines.want(broken_base(base).is_none());
+    base
 }
 
-/// Puts a level on a plan.
-fn put_level(plan: &mut Plan, words: &Words) -> Result<(), Stop> {
+/// The level of the line, in a plan of a version.
+fn level_of(lines: &mut Lines, version: u64) -> Level {
     let mut level = Level {
-        blocks: words.number(1)?,
-        faults: words.number(2)?,
-        modulus: words.number(3)?,
+        blocks: lines.number(1),
+        faults: lines.number(2),
+        modulus: lines.number(3),
         spares: 0,
     };
-    if plan.version == 2 {
-        words.want(4, "spare")?;
-        level.spares = words.number(5)?;
-        words.want_length(6)?;
+    if version == 2 {
+        lines.want_word(4, "spare");
+        level.spares = lines.number(5);
+        lines.want_length(6);
     } else {
-        words.want_length(4)?;
+        lines.want_length(4);
     }
-    let depth = plan.levels.len();
-    want(level.blocks <= 16 && level.spares <= 256)?;
-    put(&mut plan.levels, level)?;
-    want(broken_level(plan, depth, &level).is_none())
+    lines.want(level.blocks <= 16 && level.spares <= 256);
+    level
 }
 
-/// The faulty nodes of a line, from a place on.
-fn ids(alloc: Global, plan: &Plan, words: &Words, first: usize) -> Result<Vec<u64>, Stop> {
+/// Takes the lines of the levels, and the line behind them.
+fn levels(lines: &mut Lines, plan: &mut Plan) -> Result<(), AllocError> {
+    lines.take();
+    for _ in 0..6 {
+        if lines.begins("level") {
+            let level = level_of(lines, plan.version);
+            let depth = plan.levels.len();
+            plan.levels.push(level)?;
+            lines.want(broken_level(plan, depth, &level).is_none());
+            lines.take();
+        }
+    }
+    Ok(())
+}
+
+/// The faulty nodes of the line, from a place on.
+fn ids(
+    alloc: Global,
+    plan: &Plan,
+    lines: &mut Lines,
+    first: usize,
+) -> Result<Vec<u64>, AllocError> {
     let mut ids: Vec<u64> = Vec::new(alloc);
-    for place in first..words.len() {
-        let id = words.id(place, plan)?;
-        want(ids.last().is_none_or(|before| *before < id))?;
-        put(&mut ids, id)?;
-        want(ids.len() as u64 <= plan.faults())?;
+    for place in first..lines.words() {
+        let id = lines.id(place, plan);
+        lines.want(ids.last().is_none_or(|before| *before < id));
+        ids.push(id)?;
+        lines.want(ids.len() as u64 <= plan.faults());
     }
     Ok(ids)
 }
 
+/// All nodes.
+fn all_nodes(alloc: Global, plan: &Plan) -> Result<Vec<u64>, AllocError> {
+    let mut nodes = Vec::new(alloc);
+    for node in 0..plan.nodes() {
+        nodes.push(node)?;
+    }
+    Ok(nodes)
+}
+
+/// A certificate whose first two lines are read.
+fn front(alloc: Global, lines: &mut Lines) -> Result<Certificate, AllocError> {
+    let version = version(lines);
+    let base = base(lines);
+    let plan_version = if version == 3 { 2 } else { 1 };
+    Ok(Certificate {
+        version,
+        plan: Plan::of(alloc, plan_version, base, &[])?,
+        faulty: Vec::new(alloc),
+        config: Vec::new(alloc),
+        eras: 0,
+        rows: 0,
+        differs: None,
+        locked: None,
+    })
+}
+
 impl Certificate {
-    /// Takes the lines of states of correct nodes, of which each that is `unknown` has one; the
-    /// answer is the line behind them.
-    fn starts(&mut self, alloc: Global, lines: &mut Lines, unknown: &[u64]) -> Result<Words, Stop> {
-        let mut next = 0u64;
-        for _ in 0..=self.plan.nodes() {
-            let words = lines.take()?;
-            let is_start = words.is(0, "start");
-            let end = if is_start {
-                words.id(1, &self.plan)?
-            } else {
-                self.plan.nodes()
-            };
-            want(next <= end)?;
-            for node in next..end {
-                want(!unknown.contains(&node) || self.faulty.contains(&node))?;
-            }
-            if !is_start {
-                return Ok(words);
-            }
-            words.want_length(3)?;
-            want(!self.faulty.contains(&end))?;
-            let state = words.state(alloc, &self.plan, end, 2)?;
-            if let Some(old) = self.config.get_mut(end as usize) {
-                *old = state;
-            }
-            next = end.wrapping_add(1);
-        }
-        Err(Stop::Refused)
+    /// Takes the lines of the levels, and that of the faulty nodes.
+    fn read_plan(&mut self, alloc: Global, lines: &mut Lines) -> Result<(), AllocError> {
+        levels(lines, &mut self.plan)?;
+        lines.want_word(0, "faulty");
+        self.faulty = ids(alloc, &self.plan, lines, 1)?;
+        Ok(())
     }
 
-    /// Reads the row of configuration `at`.
-    fn row(&mut self, at: u64, words: &Words) -> Result<(), Stop> {
-        words.want(0, "row")?;
-        want(at <= MOST_ROUNDS && words.number(1)? == at)?;
-        words.want_length((self.plan.nodes() as usize).saturating_add(2))?;
+    /// Takes the lines of the states of correct nodes, and the first row.
+    fn read_config(&mut self, alloc: Global, lines: &mut Lines) -> Result<(), AllocError> {
+        for _ in 0..self.plan.nodes() {
+            self.config.push(zero(alloc, &self.plan)?)?;
+        }
+        let unknown = all_nodes(alloc, &self.plan)?;
+        self.starts(alloc, lines, &unknown)
+    }
+
+    /// The node whose state the line has, where it has one, else the number of nodes. The states of
+    /// the nodes from `next` to before that are known.
+    fn start_of(&self, lines: &mut Lines, next: u64, unknown: &[u64]) -> u64 {
+        let end = if lines.is(0, "start") {
+            lines.id(1, &self.plan)
+        } else {
+            self.plan.nodes()
+        };
+        lines.want(next <= end);
+        for node in next..end {
+            lines.want(!unknown.contains(&node) || self.faulty.contains(&node));
+        }
+        end
+    }
+
+    /// Reads the state of a node, which is correct.
+    fn start(&mut self, alloc: Global, lines: &mut Lines, node: u64) -> Result<(), AllocError> {
+        lines.want_length(3);
+        lines.want(!self.faulty.contains(&node));
+        let state = lines.state(alloc, &self.plan, node, 2)?;
+        if let Some(old) = self.config.get_mut(node as usize) {
+            *old = state;
+        }
+        Ok(())
+    }
+
+    /// Takes the lines of states of correct nodes, of which each that is `unknown` has one, and the
+    /// line behind them.
+    fn starts(
+        &mut self,
+        alloc: Global,
+        lines: &mut Lines,
+        unknown: &[u64],
+    ) -> Result<(), AllocError> {
+        let mut next = 0u64;
+        for _ in 0..=self.plan.nodes() {
+            lines.take();
+            let node = self.start_of(lines, next, unknown);
+            if !lines.begins("start") {
+                break;
+            }
+            self.start(alloc, lines, node)?;
+            next = node.wrapping_add(1);
+        }
+        Ok(())
+    }
+
+    /// Whether the outputs of the line are those of the configuration.
+    fn is_shown(&self, lines: &mut Lines) -> bool {
         let mut is_same = true;
         for (place, state) in self.config.iter().enumerate() {
             let word = place.saturating_add(2);
             if self.faulty.contains(&(place as u64)) {
-                words.want(word, "*")?;
-            } else if words.number(word)? != shown(state, self.plan.levels.len()) {
+                lines.want_word(word, "*");
+            } else if lines.number(word) != shown(state, self.plan.levels.len()) {
                 is_same = false;
             }
         }
+        is_same
+    }
+
+    /// Reads the row of configuration `at`.
+    fn row(&mut self, at: u64, lines: &mut Lines) {
+        lines.want_word(0, "row");
+        let is_next = at <= MOST_ROUNDS && lines.number(1) == at;
+        lines.want(is_next);
+        lines.want_length((self.plan.nodes() as usize).saturating_add(2));
+        let is_same = self.is_shown(lines);
         if !is_same && self.differs.is_none() {
             self.differs = Some(at);
         }
         if self.locked.is_none() && is_locked(&self.plan, &self.faulty, &self.config) {
             self.locked = Some(at);
         }
-        Ok(())
+        self.rows = at.wrapping_add(1);
     }
 
-    /// Takes the lies of a round, the first of which is given, if there is any: by sender, and then
-    /// by receiver. The answer has the line behind them.
-    fn lies(
+    /// The lie of the line, of a sender to a receiver.
+    fn lie(
         &self,
         alloc: Global,
         lines: &mut Lines,
-        first: Words,
-    ) -> Result<(Vec<State>, Words), Stop> {
-        let mut words = first;
+        sender: u64,
+        receiver: u64,
+    ) -> Result<State, AllocError> {
+        lines.want_word(0, "lie");
+        lines.want_length(4);
+        let is_next = lines.number(1) == sender && lines.number(2) == receiver;
+        lines.want(is_next);
+        lines.state(alloc, &self.plan, sender, 3)
+    }
+
+    /// Takes the lies of a round, the first of which is taken, if there is any: by sender, and then
+    /// by receiver; and the line behind them.
+    fn lies(&self, alloc: Global, lines: &mut Lines) -> Result<Vec<State>, AllocError> {
         let mut told = Vec::new(alloc);
         for sender in &self.faulty {
             for receiver in 0..self.plan.nodes() {
                 if !self.faulty.contains(&receiver) {
-                    words.want(0, "lie")?;
-                    words.want_length(4)?;
-                    want(words.number(1)? == *sender && words.number(2)? == receiver)?;
-                    put(&mut told, words.state(alloc, &self.plan, *sender, 3)?)?;
-                    words = lines.take()?;
+                    told.push(self.lie(alloc, lines, *sender, receiver)?)?;
+                    lines.take();
                 }
             }
         }
-        Ok((told, words))
+        Ok(told)
     }
 
     /// What the correct node hears before which so many others are correct.
@@ -201,26 +307,49 @@ impl Certificate {
         Ok(())
     }
 
-    /// Reads the lines of an era that begins with configuration `at`, the first of which is given;
-    /// the answer is the line behind them.
-    fn era(
-        &mut self,
-        alloc: Global,
-        lines: &mut Lines,
-        at: u64,
-        words: &Words,
-    ) -> Result<Words, Stop> {
+    /// Takes the lines of an era that begins with configuration `at`, the first of which is taken,
+    /// and the line behind them.
+    fn era(&mut self, alloc: Global, lines: &mut Lines, at: u64) -> Result<(), AllocError> {
         self.eras = self.eras.wrapping_add(1);
-        want(self.version > 1 && self.eras <= 16 && words.number(1)? == at)?;
+        let is_next = self.version > 1 && self.eras <= 16 && lines.number(1) == at;
+        lines.want(is_next);
         let unknown = self.faulty.clone()?;
-        self.faulty = ids(alloc, &self.plan, words, 2)?;
+        self.faulty = ids(alloc, &self.plan, lines, 2)?;
         self.locked = None;
         self.starts(alloc, lines, &unknown)
     }
 
-    /// The verdict, and the exit code, where there are so many rows.
-    fn verdict(&self, alloc: Global, rows: u64) -> Result<(String, u8), AllocError> {
+    /// Takes the lines of the round behind configuration `at`, and plays it.
+    fn play(&mut self, alloc: Global, lines: &mut Lines, at: u64) -> Result<(), AllocError> {
+        let told = self.lies(alloc, lines)?;
+        self.round(alloc, &told)?;
+        if lines.begins("era") {
+            self.era(alloc, lines, at.wrapping_add(1))?;
+        }
+        Ok(())
+    }
+
+    /// Takes the lines from the first row on to the end.
+    fn run(&mut self, alloc: Global, lines: &mut Lines) -> Result<(), AllocError> {
+        for at in 0..=MOST_ROUNDS {
+            if lines.refused().is_some() {
+                break;
+            }
+            self.row(at, lines);
+            lines.take();
+            if lines.is(0, "end") {
+                break;
+            }
+            lines.want(at < MOST_ROUNDS);
+            self.play(alloc, lines, at)?;
+        }
+        Ok(())
+    }
+
+    /// The verdict, and the exit code.
+    fn verdict(&self, alloc: Global) -> Result<(String, u8), AllocError> {
         let mut text = String::new(alloc);
+        let rows = self.rows;
         if let Some(at) = self.differs {
             writeln!(text, "false row {at}")?;
             return Ok((text, 5));
@@ -233,72 +362,35 @@ impl Certificate {
     }
 }
 
-/// Reads the lines down to the first row; the answer has that.
-fn head(alloc: Global, lines: &mut Lines) -> Result<(Certificate, Words), Stop> {
-    let version = version(&lines.take()?)?;
-    let mut plan = base(alloc, version, &lines.take()?)?;
-    let mut words = lines.take()?;
-    for _ in 0..6 {
-        if words.is(0, "level") {
-            put_level(&mut plan, &words)?;
-            words = lines.take()?;
-        }
+/// Wants no line behind the line, which is the last.
+fn want_end(lines: &mut Lines) {
+    lines.want_length(1);
+    if lines.is_left() {
+        lines.take();
+        lines.want(false);
     }
-    words.want(0, "faulty")?;
-    let faulty = ids(alloc, &plan, &words, 1)?;
-    let mut config = Vec::new(alloc);
-    let mut unknown = Vec::new(alloc);
-    for node in 0..plan.nodes() {
-        put(&mut config, zero(alloc, &plan)?)?;
-        put(&mut unknown, node)?;
-    }
-    let mut certificate = Certificate {
-        version,
-        plan,
-        faulty,
-        config,
-        eras: 0,
-        differs: None,
-        locked: None,
-    };
-    let words = certificate.starts(alloc, lines, &unknown)?;
-    Ok((certificate, words))
 }
 
-/// Reads all lines: the verdict, and the exit code.
-fn whole(alloc: Global, lines: &mut Lines) -> Result<(String, u8), Stop> {
-    let (mut certificate, mut words) = head(alloc, lines)?;
-    for at in 0..=MOST_ROUNDS {
-        certificate.row(at, &words)?;
-        words = lines.take()?;
-        if words.is(0, "end") {
-            words.want_length(1)?;
-            if lines.is_left() {
-                lines.take()?;
-                return Err(Stop::Refused);
-            }
-            return Ok(certificate.verdict(alloc, at.wrapping_add(1))?);
-        }
-        want(at < MOST_ROUNDS)?;
-        let (told, behind) = certificate.lies(alloc, lines, words)?;
-        words = behind;
-        certificate.round(alloc, &told)?;
-        if words.is(0, "era") {
-            words = certificate.era(alloc, lines, at.wrapping_add(1), &words)?;
-        }
+/// The certificate of some lines, as far as none is refused.
+fn read_all(alloc: Global, lines: &mut Lines) -> Result<Certificate, AllocError> {
+    let mut certificate = front(alloc, lines)?;
+    certificate.read_plan(alloc, lines)?;
+    if lines.refused().is_none() {
+        certificate.read_config(alloc, lines)?;
+        certificate.run(alloc, lines)?;
+        want_end(lines);
     }
-    Err(Stop::Refused)
+    Ok(certificate)
 }
 
 /// What is written of a text, and the exit code.
 pub fn judged(alloc: Global, text: &[u8]) -> Result<(String, u8), AllocError> {
     let mut lines = Lines::of(alloc, text)?;
-    match whole(alloc, &mut lines) {
-        Ok(verdict) => Ok(verdict),
-        Err(Stop::NoMemory(error)) => Err(error),
-        Err(Stop::Refused) => {
+    let certificate = read_all(alloc, &mut lines)?;
+    match lines.refused() {
+        None => certificate.verdict(alloc),
+        Some(line) => {
             let mut text = String::new(alloc);
-            let line = lines.taken;
             writeln!(text, "refused certificate line {line}")?;
             Ok((text, 4))
         }

@@ -1,6 +1,7 @@
 //! Layers above the counter: runs of scripts in which each node has registers of a layer behind
 //! those of its levels and keeps something beside, and the lines of the layer's slots.
 
+use crate::lines::Lines;
 use crate::plans::{Plan, quotient, remainder};
 use crate::runs::Run;
 use crate::scripts::Script;
@@ -9,7 +10,7 @@ use crate::steps::{agreed, register, shown, stepped};
 use std::alloc::{AllocError, Global};
 
 /// The most values that the registers of a layer may have.
-pub const MOST_VALUES: u64 = 65536;
+const MOST_VALUES: u64 = 65536;
 
 /// A layer, with what its nodes keep.
 pub trait Layer: Drop {
@@ -39,6 +40,15 @@ pub trait Layer: Drop {
 
     /// Writes the word of a correct node at the end of a slot.
     fn write_word(&self, text: &mut String, node: u64) -> Result<(), AllocError>;
+}
+
+/// Takes the line of a part that says below what the values are.
+pub fn read_values(lines: &mut Lines, part: &'static str) -> u64 {
+    lines.take(part);
+    let values = lines.only("values");
+    lines.want(values <= MOST_VALUES, "limit");
+    lines.want(values >= 2, "range");
+    values
 }
 
 /// A register that was loaded.
@@ -151,6 +161,29 @@ fn write_slot<L: Layer>(
     writeln!(text)
 }
 
+/// Writes the bound and the lines of all slots of a run, which is played.
+fn write_slots<L: Layer>(
+    alloc: Global,
+    text: &mut String,
+    plan: &Plan,
+    layer: &mut L,
+    script: &Script,
+    run: &mut Run,
+) -> Result<(), AllocError> {
+    let bound = plan.bound();
+    writeln!(text, "bound {bound}")?;
+    let mut outputs = Vec::new(alloc);
+    for at in 0..=script.rounds {
+        if at > 0 {
+            let config = next(alloc, plan, layer, script, &run.config, at - 1)?;
+            run.go_on(plan, script, config)?;
+        }
+        outputs.push(lowest(plan, script, run))?;
+        write_slot(text, plan, layer, script, at, &outputs)?;
+    }
+    Ok(())
+}
+
 /// What is written of a script that is played with a layer.
 pub fn answer<L: Layer>(
     alloc: Global,
@@ -159,18 +192,8 @@ pub fn answer<L: Layer>(
     script: &Script,
 ) -> Result<String, AllocError> {
     let mut text = String::new(alloc);
-    let bound = plan.bound();
-    writeln!(text, "bound {bound}")?;
-    let mut outputs = Vec::new(alloc);
     let mut run = Run::new(alloc, plan, script)?;
-    for at in 0..=script.rounds {
-        if at > 0 {
-            let config = next(alloc, plan, layer, script, &run.config, at - 1)?;
-            run.go_on(plan, script, config)?;
-        }
-        outputs.push(lowest(plan, script, &run))?;
-        write_slot(&mut text, plan, layer, script, at, &outputs)?;
-    }
+    write_slots(alloc, &mut text, plan, layer, script, &mut run)?;
     run.write_locks(&mut text, script)?;
     Ok(text)
 }

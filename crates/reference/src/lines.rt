@@ -1,28 +1,41 @@
 //! The lines of a text, and their words.
 
-use crate::refusals::{Refusal, Stop, put};
+use crate::refusals::{Refusal, Stop};
 use std::alloc::{AllocError, Global};
 
 /// How many bytes a line may have.
 const LONGEST_LINE: usize = 4096;
 
-/// A line of a part, its number, and where in the text the next one begins. It has no words where
-/// it is too long, or has an empty word or a carriage return.
-#[derive(Clone, Drop)]
-pub struct Line {
-    part: &'static str,
-    number: u64,
+/// A line of a text, and where in the text the next one begins. It has no words where it is too
+/// long, or has an empty word or a carriage return.
+#[derive(Drop)]
+struct Line {
     words: Vec<Vec<u8>>,
     is_skipped: bool,
-    pub is_ended: bool,
-    pub end: usize,
+    is_ended: bool,
+    end: usize,
 }
 
-/// The lines of a text, and how many of them were taken.
-#[derive(Drop)]
+/// The lines of a text, how many of them were taken, for which part the last one was, and what is
+/// refused first. The line is the last one that was taken.
 pub struct Lines {
     lines: Vec<Line>,
     taken: usize,
+    part: &'static str,
+    refusal: Option<Refusal>,
+}
+
+// Written out, so that what lets go of one calls this, and no more.
+impl Drop for Lines {
+    fn drop(self) {
+        let Lines {
+            lines,
+            taken: _,
+            part: _,
+            refusal: _,
+        } = self;
+        drop(lines);
+    }
 }
 
 /// The number that a word is, of at most fifteen digits and without a zero in front.
@@ -93,90 +106,15 @@ fn words_of(alloc: Global, line: &[u8]) -> Result<Vec<Vec<u8>>, AllocError> {
     Ok(words)
 }
 
-impl Line {
-    /// The line of these bytes, with its number and its end.
-    fn of(alloc: Global, bytes: &[u8], number: u64, end: usize) -> Result<Line, AllocError> {
-        let is_short = bytes.len() <= LONGEST_LINE;
-        Ok(Line {
-            part: "",
-            number,
-            words: words_of(alloc, bytes)?,
-            is_skipped: is_short && (bytes.is_empty() || bytes.first() == Some(&35)),
-            is_ended: true,
-            end,
-        })
-    }
-
-    /// The answer that a line is refused by a rule.
-    pub fn refused(&self, rule: &'static str) -> Stop {
-        Stop::Refused(Refusal {
-            part: self.part,
-            line: self.number,
-            rule,
-        })
-    }
-
-    /// Refuses the line by a rule, unless something holds.
-    pub fn want(&self, holds: bool, rule: &'static str) -> Result<(), Stop> {
-        if holds {
-            Ok(())
-        } else {
-            Err(self.refused(rule))
-        }
-    }
-
-    /// How many words it has.
-    pub fn len(&self) -> usize {
-        self.words.len()
-    }
-
-    /// The word at a place.
-    pub fn word(&self, place: usize) -> &[u8] {
-        self.words.get(place).map_or(&[], |word| word.as_slice())
-    }
-
-    /// Whether that word stands at a place.
-    pub fn is(&self, place: usize, word: &str) -> bool {
-        place < self.len() && self.word(place) == word.as_bytes()
-    }
-
-    /// Whether it is that word and nothing else.
-    pub fn is_alone(&self, word: &str) -> bool {
-        self.len() == 1 && self.is(0, word)
-    }
-
-    /// The number at a place, if one stands there.
-    pub fn is_number(&self, place: usize) -> Option<u64> {
-        number_of(self.word(place))
-    }
-
-    /// The number that has to stand at a place.
-    pub fn number(&self, place: usize) -> Result<u64, Stop> {
-        self.is_number(place).ok_or(self.refused("form"))
-    }
-
-    /// The numbers that have to be all words from a place on.
-    pub fn numbers(&self, alloc: Global, first: usize) -> Result<Vec<u64>, Stop> {
-        let mut numbers = Vec::new(alloc);
-        for place in first..self.len() {
-            put(&mut numbers, self.number(place)?)?;
-        }
-        Ok(numbers)
-    }
-
-    /// The number behind a word, which have to be the whole line.
-    pub fn only(&self, word: &str) -> Result<u64, Stop> {
-        self.want(self.len() == 2 && self.is(0, word), "form")?;
-        self.number(1)
-    }
-
-    /// The bytes whose hex digits have to stand at a place, so many.
-    pub fn bytes(&self, alloc: Global, place: usize, count: u64) -> Result<Vec<u8>, Stop> {
-        match bytes_of(alloc, self.word(place))? {
-            Some(bytes) if bytes.len() as u64 == count => Ok(bytes),
-            _ => Err(self.refused("hex")),
-        }
-    }
+/// The line of these bytes, with its end.
+fn line_of(alloc: Global, bytes: &[u8], end: usize) -> Result<Line, AllocError> {
+    let is_short = bytes.len() <= LONGEST_LINE;
+    Ok(Line {
+        words: words_of(alloc, bytes)?,
+        is_skipped: is_short && (bytes.is_empty() || bytes.first() == Some(&35)),
+        is_ended: true,
+        end,
+    })
 }
 
 impl Lines {
@@ -184,22 +122,25 @@ impl Lines {
     pub fn of(alloc: Global, text: &[u8]) -> Result<Lines, AllocError> {
         let mut lines = Vec::new(alloc);
         let mut line = Vec::new(alloc);
-        let mut number = 1u64;
         for (place, byte) in text.iter().enumerate() {
             if *byte == 10 {
-                lines.push(Line::of(alloc, &line, number, place.saturating_add(1))?)?;
+                lines.push(line_of(alloc, &line, place.saturating_add(1))?)?;
                 line.clear();
-                number = number.wrapping_add(1);
             } else {
                 line.push(*byte)?;
             }
         }
         if !line.is_empty() {
-            let mut open = Line::of(alloc, &line, number, text.len())?;
+            let mut open = line_of(alloc, &line, text.len())?;
             open.is_ended = false;
             lines.push(open)?;
         }
-        Ok(Lines { lines, taken: 0 })
+        Ok(Lines {
+            lines,
+            taken: 0,
+            part: "",
+            refusal: None,
+        })
     }
 
     /// How many lines there are.
@@ -207,57 +148,193 @@ impl Lines {
         self.lines.len()
     }
 
-    /// The answer that a part has no end: the line behind the last one is refused.
-    pub fn unended(&self, part: &'static str) -> Stop {
-        Stop::Refused(Refusal {
-            part,
-            line: (self.lines.len() as u64).wrapping_add(1),
-            rule: "form",
-        })
+    /// The line that was taken last.
+    fn line(&self) -> Option<&Line> {
+        self.lines.get(self.taken.wrapping_sub(1))
     }
 
-    /// Takes the next line, which may be one to be skipped, if there is one.
-    pub fn take_any(&mut self, part: &'static str) -> Result<Option<Line>, AllocError> {
-        let Some(line) = self.lines.get(self.taken) else {
-            return Ok(None);
-        };
-        let mut line = line.clone()?;
-        line.part = part;
-        self.taken = self.taken.saturating_add(1);
-        Ok(Some(line))
+    /// The words of the line.
+    fn line_words(&self) -> &[Vec<u8>] {
+        self.line().map_or(&[], |line| line.words.as_slice())
     }
 
-    /// Takes the next line that is not to be skipped, if there is one.
-    fn take_next(&mut self, part: &'static str) -> Result<Option<Line>, AllocError> {
-        for _ in 0..=self.lines.len() {
-            match self.take_any(part)? {
-                Some(line) if line.is_skipped => {}
-                other => return Ok(other),
+    /// Whether the line is one to be skipped.
+    fn is_skipped(&self) -> bool {
+        self.line().is_some_and(|line| line.is_skipped)
+    }
+
+    /// Whether a newline ends the line.
+    pub fn is_ended(&self) -> bool {
+        self.line().is_some_and(|line| line.is_ended)
+    }
+
+    /// Where in the text the line behind the line begins.
+    pub fn end(&self) -> usize {
+        self.line().map_or(0, |line| line.end)
+    }
+
+    /// What is refused first, if anything is.
+    pub fn result(&self) -> Result<(), Stop> {
+        match self.refusal {
+            Some(refusal) => Err(Stop::Refused(refusal)),
+            None => Ok(()),
+        }
+    }
+
+    /// Refuses a line by a rule, unless something is refused already.
+    fn refuse(&mut self, line: u64, rule: &'static str) {
+        if self.refusal.is_none() {
+            self.refusal = Some(Refusal {
+                part: self.part,
+                line,
+                rule,
+            });
+        }
+    }
+
+    /// Refuses the line by a rule, unless something holds.
+    pub fn want(&mut self, holds: bool, rule: &'static str) {
+        if !holds {
+            self.refuse(self.taken as u64, rule);
+        }
+    }
+
+    /// How many words the line has.
+    pub fn words(&self) -> usize {
+        self.line_words().len()
+    }
+
+    /// The word of the line at a place.
+    pub fn word(&self, place: usize) -> &[u8] {
+        let word = self.line_words().get(place);
+        word.map_or(&[], |word| word.as_slice())
+    }
+
+    /// Whether that word stands at a place of the line.
+    pub fn is(&self, place: usize, word: &str) -> bool {
+        place < self.words() && self.word(place) == word.as_bytes()
+    }
+
+    /// Whether the line has so many words, the first of which is that one.
+    pub fn has(&self, words: usize, first: &str) -> bool {
+        self.words() == words && self.is(0, first)
+    }
+
+    /// Whether a part ends: by its end, or since something is refused.
+    pub fn is_over(&self) -> bool {
+        self.refusal.is_some() || self.has(1, "end")
+    }
+
+    /// Whether a line begins with that word, and nothing is refused.
+    pub fn begins(&self, word: &str) -> bool {
+        self.refusal.is_none() && self.is(0, word)
+    }
+
+    /// Refuses the line by its form, unless it has so many words, the first of which is that one.
+    pub fn want_form(&mut self, words: usize, first: &str) {
+        let has_form = self.has(words, first);
+        self.want(has_form, "form");
+    }
+
+    /// The number at a place of the line, if one stands there.
+    pub fn is_number(&self, place: usize) -> Option<u64> {
+        number_of(self.word(place))
+    }
+
+    /// The number that has to stand at a place of the line.
+    pub fn number(&mut self, place: usize) -> u64 {
+        match self.is_number(place) {
+            Some(number) => number,
+            None => {
+                self.want(false, "form");
+                0
             }
         }
-        Ok(None)
+    }
+
+    /// The numbers that have to be all words of the line from a place on.
+    pub fn numbers(&mut self, alloc: Global, first: usize) -> Result<Vec<u64>, AllocError> {
+        let mut numbers = Vec::new(alloc);
+        for place in first..self.words() {
+            numbers.push(self.number(place))?;
+        }
+        Ok(numbers)
+    }
+
+    /// The number behind a word, which have to be the whole line.
+    pub fn only(&mut self, word: &str) -> u64 {
+        self.want_form(2, word);
+        self.number(1)
+    }
+
+    /// The bytes whose hex digits have to stand at a place of the line, so many.
+    pub fn bytes(
+        &mut self,
+        alloc: Global,
+        place: usize,
+        count: u64,
+    ) -> Result<Vec<u8>, AllocError> {
+        match bytes_of(alloc, self.word(place))? {
+            Some(bytes) if bytes.len() as u64 == count => Ok(bytes),
+            _ => {
+                self.want(false, "hex");
+                Ok(Vec::new(alloc))
+            }
+        }
+    }
+
+    /// Takes the next line, which may be one to be skipped. The answer is whether there is one.
+    pub fn take_any(&mut self, part: &'static str) -> bool {
+        self.part = part;
+        let is_there = self.taken < self.lines.len();
+        if is_there {
+            self.taken = self.taken.saturating_add(1);
+        }
+        is_there
+    }
+
+    /// Takes the next line that is not to be skipped. The answer is whether there is one.
+    fn take_next(&mut self, part: &'static str) -> bool {
+        for _ in 0..=self.lines.len() {
+            if !self.take_any(part) {
+                return false;
+            }
+            if !self.is_skipped() {
+                return true;
+            }
+        }
+        false
+    }
+
+    /// Refuses that a part has no end: the line behind the last one.
+    pub fn refuse_end(&mut self) {
+        let line = (self.lines.len() as u64).wrapping_add(1);
+        self.refuse(line, "form");
     }
 
     /// Takes the next line of a part.
-    pub fn take(&mut self, part: &'static str) -> Result<Line, Stop> {
-        match self.take_next(part)? {
-            Some(line) => Ok(line),
-            None => Err(self.unended(part)),
+    pub fn take(&mut self, part: &'static str) {
+        if !self.take_next(part) {
+            self.refuse_end();
         }
     }
 
     /// Takes the line that ends a part.
-    pub fn take_end(&mut self, part: &'static str) -> Result<Line, Stop> {
-        let line = self.take(part)?;
-        line.want(line.is_alone("end"), "form")?;
-        Ok(line)
+    pub fn take_end(&mut self, part: &'static str) {
+        self.take(part);
+        self.want_form(1, "end");
+    }
+
+    /// Takes the first line of a part of version 1.
+    pub fn take_first(&mut self, part: &'static str) {
+        self.take(part);
+        let version = self.only(part);
+        self.want(version == 1, "form");
     }
 
     /// Wants no line behind the last part.
-    pub fn want_none(&mut self, part: &'static str) -> Result<(), Stop> {
-        match self.take_next(part)? {
-            Some(line) => Err(line.refused("form")),
-            None => Ok(()),
-        }
+    pub fn want_none(&mut self, part: &'static str) {
+        let is_there = self.take_next(part);
+        self.want(!is_there, "form");
     }
 }

@@ -1,10 +1,10 @@
 //! A replicated log: the newest entries of the logs of all nodes, slot by slot.
 
-use crate::layers::{Layer, MOST_VALUES, answer, loaded, output_of, turned};
+use crate::layers::{Layer, answer, loaded, output_of, read_values, turned};
 use crate::lines::Lines;
 use crate::plan_texts::{read_plan, want_none_broken};
 use crate::plans::{Plan, quotient, remainder};
-use crate::refusals::{Stop, put};
+use crate::refusals::Stop;
 use crate::script_texts::read_script;
 use crate::states::{Register, State};
 use crate::steps::register;
@@ -153,48 +153,56 @@ pub fn broken_commands(lines: &Commands, own: &[u64]) -> Option<&'static str> {
     None
 }
 
+/// Refuses the line of a node's commands, where these break a rule or are another node's.
+fn want_commands(lines: &mut Lines, broken: Option<&'static str>, is_own: bool) {
+    lines.want(broken != Some("limit"), "limit");
+    lines.want(is_own, "node");
+    want_none_broken(lines, broken);
+}
+
 /// Takes the line of the commands of each node.
 fn read_commands(
     alloc: Global,
     plan: &Plan,
     lines: &mut Lines,
     log: &mut Commands,
-) -> Result<(), Stop> {
+) -> Result<(), AllocError> {
     for node in 0..plan.nodes() {
-        let line = lines.take(PART)?;
-        line.want(line.len() >= 3 && line.is(0, "commands"), "form")?;
-        let named = line.number(1)?;
-        let own = line.numbers(alloc, 2)?;
+        lines.take(PART);
+        let has_form = lines.words() >= 3 && lines.is(0, "commands");
+        lines.want(has_form, "form");
+        let named = lines.number(1);
+        let own = lines.numbers(alloc, 2)?;
         let broken = broken_commands(log, &own);
-        line.want(broken != Some("limit"), "limit")?;
-        line.want(named == node, "node")?;
-        want_none_broken(&line, broken)?;
-        put(&mut log.commands, own)?;
+        want_commands(lines, broken, named == node);
+        log.commands.push(own)?;
     }
     Ok(())
 }
 
+/// Takes the line that says how many entries are kept.
+fn read_keep(lines: &mut Lines) -> u64 {
+    lines.take(PART);
+    let keep = lines.only("keep");
+    lines.want(keep <= MOST_KEPT, "limit");
+    lines.want(keep >= 1, "range");
+    keep
+}
+
 /// Takes the lines of a log.
-fn read_log(alloc: Global, plan: &Plan, lines: &mut Lines) -> Result<Commands, Stop> {
-    let line = lines.take(PART)?;
-    line.want(line.only(PART)? == 1, "form")?;
+fn read_log(alloc: Global, plan: &Plan, lines: &mut Lines) -> Result<Commands, AllocError> {
+    lines.take_first(PART);
     let all = plan.nodes().wrapping_mul(length_of_entry(plan));
-    line.want(remainder(plan.modulus(), all) == 0, "slot")?;
-    let line = lines.take(PART)?;
-    let values = line.only("values")?;
-    line.want(values <= MOST_VALUES, "limit")?;
-    line.want(values >= 2, "range")?;
-    let line = lines.take(PART)?;
-    let keep = line.only("keep")?;
-    line.want(keep <= MOST_KEPT, "limit")?;
-    line.want(keep >= 1, "range")?;
+    lines.want(remainder(plan.modulus(), all) == 0, "slot");
+    let values = read_values(lines, PART);
+    let keep = read_keep(lines);
     let mut log = Commands {
         values,
         keep,
         commands: Vec::new(alloc),
     };
     read_commands(alloc, plan, lines, &mut log)?;
-    lines.take_end(PART)?;
+    lines.take_end(PART);
     Ok(log)
 }
 
@@ -202,6 +210,7 @@ fn read_log(alloc: Global, plan: &Plan, lines: &mut Lines) -> Result<Commands, S
 pub fn log(alloc: Global, lines: &mut Lines) -> Result<String, Stop> {
     let mut plan = read_plan(alloc, lines)?;
     let commands = read_log(alloc, &plan, lines)?;
+    lines.result()?;
     plan.set_layer(2, commands.values);
     let script = read_script(alloc, &plan, lines)?;
     let mut replica = Replica::new(alloc, &plan, commands)?;

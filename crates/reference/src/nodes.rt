@@ -106,18 +106,24 @@ pub fn answer(
     Ok((cells, if left.is_empty() { 0 } else { 8 }))
 }
 
+/// Takes the lines of a node.
+fn read_node(alloc: Global, plan: &Plan, lines: &mut Lines) -> Result<Node, AllocError> {
+    lines.take_first(PART);
+    lines.take(PART);
+    let id = lines.only("id");
+    lines.want(id < plan.nodes(), "node");
+    lines.take(PART);
+    lines.want_form(2, "state");
+    let start = lines.bytes(alloc, 1, plan.bytes(id))?;
+    lines.take_end(PART);
+    Ok(Node { id, start })
+}
+
 /// What `node` writes, and the exit code.
 pub fn cells(alloc: Global, lines: &mut Lines, input: &[u8]) -> Result<(Vec<u8>, u8), Stop> {
     let plan = read_plan(alloc, lines)?;
-    let line = lines.take(PART)?;
-    line.want(line.only(PART)? == 1, "form")?;
-    let line = lines.take(PART)?;
-    let id = line.only("id")?;
-    line.want(id < plan.nodes(), "node")?;
-    let line = lines.take(PART)?;
-    line.want(line.len() == 2 && line.is(0, "state"), "form")?;
-    let start = line.bytes(alloc, 1, plan.bytes(id))?;
-    let end = lines.take_end(PART)?.end;
-    let packets = input.get(end..).unwrap_or(&[]);
-    Ok(answer(alloc, &plan, &Node { id, start }, packets)?)
+    let node = read_node(alloc, &plan, lines)?;
+    lines.result()?;
+    let packets = input.get(lines.end()..).unwrap_or(&[]);
+    Ok(answer(alloc, &plan, &node, packets)?)
 }

@@ -1,59 +1,73 @@
 //! Plans from texts.
 
-use crate::lines::{Line, Lines};
+use crate::lines::Lines;
 use crate::plans::{Level, Plan};
 use crate::premises::{broken_base, broken_level};
-use crate::refusals::{Stop, put};
-use std::alloc::Global;
+use crate::refusals::Stop;
+use std::alloc::{AllocError, Global};
 
-/// Refuses a line by a premise, where it breaks one.
-pub fn want_none_broken(line: &Line, broken: Option<&'static str>) -> Result<(), Stop> {
-    match broken {
-        Some(premise) => Err(line.refused(premise)),
-        None => Ok(()),
+/// Refuses the line by a premise, where it breaks one.
+pub fn want_none_broken(lines: &mut Lines, broken: Option<&'static str>) {
+    if let Some(premise) = broken {
+        lines.want(false, premise);
     }
 }
 
-/// The level of a line, in a plan of a version.
-fn level_of(line: &Line, version: u64) -> Result<Level, Stop> {
+/// The level of the line, in a plan of a version.
+fn level_of(lines: &mut Lines, version: u64) -> Level {
     let length = if version == 2 { 6 } else { 4 };
-    line.want(line.len() == length && line.is(0, "level"), "form")?;
+    lines.want_form(length, "level");
     let mut level = Level {
-        blocks: line.number(1)?,
-        faults: line.number(2)?,
-        modulus: line.number(3)?,
+        blocks: lines.number(1),
+        faults: lines.number(2),
+        modulus: lines.number(3),
         spares: 0,
     };
     if version == 2 {
-        line.want(line.is(4, "spare"), "form")?;
-        level.spares = line.number(5)?;
+        let is_spare = lines.is(4, "spare");
+        lines.want(is_spare, "form");
+        level.spares = lines.number(5);
     }
-    Ok(level)
+    level
 }
 
 /// Puts a level on a plan, which may break no premise.
-pub fn put_level(line: &Line, plan: &mut Plan, level: Level) -> Result<(), Stop> {
+pub fn put_level(lines: &mut Lines, plan: &mut Plan, level: Level) -> Result<(), AllocError> {
     let depth = plan.levels.len();
-    put(&mut plan.levels, level)?;
-    want_none_broken(line, broken_level(plan, depth, &level))
+    plan.levels.push(level)?;
+    want_none_broken(lines, broken_level(plan, depth, &level));
+    Ok(())
+}
+
+/// Takes the first lines of a plan: its version and its base.
+fn read_front(lines: &mut Lines) -> (u64, u64) {
+    lines.take("plan");
+    let version = lines.only("plan");
+    lines.want(version == 1 || version == 2, "form");
+    lines.take("plan");
+    let base = lines.only("base");
+    want_none_broken(lines, broken_base(base));
+    (version, base)
+}
+
+/// Takes the lines of the levels of a plan, and its end.
+fn read_levels(lines: &mut Lines, plan: &mut Plan) -> Result<(), AllocError> {
+    for _ in 0..=lines.len() {
+        lines.take("plan");
+        if lines.is_over() {
+            break;
+        }
+        let level = level_of(lines, plan.version);
+        put_level(lines, plan, level)?;
+    }
+    Ok(())
 }
 
 /// Takes the lines of a plan.
 pub fn read_plan(alloc: Global, lines: &mut Lines) -> Result<Plan, Stop> {
-    let line = lines.take("plan")?;
-    let version = line.only("plan")?;
-    line.want(version == 1 || version == 2, "form")?;
-    let line = lines.take("plan")?;
-    let base = line.only("base")?;
-    want_none_broken(&line, broken_base(base))?;
+    let (version, base) = read_front(lines);
     let mut plan = Plan::of(alloc, version, base, &[])?;
-    for _ in 0..=lines.len() {
-        let line = lines.take("plan")?;
-        if line.is_alone("end") {
-            return Ok(plan);
-        }
-        let level = level_of(&line, version)?;
-        put_level(&line, &mut plan, level)?;
-    }
-    Err(lines.unended("plan"))
+    read_levels(lines, &mut plan)?;
+    lines.result()?;
+    Ok(plan)
 }

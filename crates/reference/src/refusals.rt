@@ -11,7 +11,7 @@ pub struct Refusal {
 }
 
 /// Why reading stops: a line is refused, or there is no memory.
-#[derive(Drop)]
+#[derive(Clone, Copy)]
 pub enum Stop {
     Refused(Refusal),
     NoMemory(AllocError),
@@ -21,12 +21,6 @@ impl From<AllocError> for Stop {
     fn from(error: AllocError) -> Stop {
         Stop::NoMemory(error)
     }
-}
-
-/// Puts a value at the end of a list.
-pub fn put<T: Drop>(list: &mut Vec<T>, value: T) -> Result<(), AllocError> {
-    list.push(value)?;
-    Ok(())
 }
 
 impl Refusal {

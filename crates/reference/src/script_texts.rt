@@ -1,11 +1,11 @@
 //! Scripts from texts.
 
 use crate::lie_texts::{Names, lie_of};
-use crate::lines::{Line, Lines};
+use crate::lines::Lines;
 use crate::plans::Plan;
-use crate::refusals::{Stop, put};
+use crate::refusals::Stop;
 use crate::scripts::{Era, Rule, Script, Start};
-use std::alloc::Global;
+use std::alloc::{AllocError, Global};
 
 /// How many rounds may be played.
 const MOST_ROUNDS: u64 = 1_000_000;
@@ -31,145 +31,180 @@ fn rises(numbers: &[u64]) -> bool {
 }
 
 /// Whether all are nodes of a plan.
-pub fn are_nodes(plan: &Plan, numbers: &[u64]) -> bool {
+fn are_nodes(plan: &Plan, numbers: &[u64]) -> bool {
     let nodes = plan.nodes();
     numbers.iter().all(|number| *number < nodes)
 }
 
-/// Refuses a line whose ids are not those of a faulty set, or one that is not behind the one
+/// Refuses the line where its ids are not those of a faulty set, or where it is not behind the one
 /// before.
-fn want_faulty(line: &Line, plan: &Plan, ids: &[u64], is_behind: bool) -> Result<(), Stop> {
-    line.want(are_nodes(plan, ids), "node")?;
-    line.want(is_behind && rises(ids), "order")?;
-    line.want(ids.len() as u64 <= plan.faults(), "faults")
+fn want_faulty(lines: &mut Lines, plan: &Plan, ids: &[u64], is_behind: bool) {
+    lines.want(are_nodes(plan, ids), "node");
+    lines.want(is_behind && rises(ids), "order");
+    lines.want(ids.len() as u64 <= plan.faults(), "faults");
+}
+
+/// The node of the line of a start, which is behind the ones before.
+fn start_of(plan: &Plan, lines: &mut Lines, before: &[Start]) -> u64 {
+    let has_form = lines.words() == 4 && lines.is(1, "node");
+    lines.want(has_form, "form");
+    let node = lines.number(2);
+    lines.want(node < plan.nodes(), "node");
+    lines.want(before.last().is_none_or(|last| last.node < node), "order");
+    node
 }
 
 /// Takes the lines of nodes' starts, and the line behind them.
-fn read_starts(alloc: Global, plan: &Plan, lines: &mut Lines) -> Result<(Vec<Start>, Line), Stop> {
-    let mut starts: Vec<Start> = Vec::new(alloc);
+fn read_starts(
+    alloc: Global,
+    plan: &Plan,
+    lines: &mut Lines,
+    starts: &mut Vec<Start>,
+) -> Result<(), AllocError> {
     for _ in 0..=lines.len() {
-        let line = lines.take(PART)?;
-        if !line.is(0, "start") {
-            return Ok((starts, line));
+        lines.take(PART);
+        if !lines.begins("start") {
+            break;
         }
-        line.want(line.len() == 4 && line.is(1, "node"), "form")?;
-        let node = line.number(2)?;
-        line.want(node < plan.nodes(), "node")?;
-        line.want(starts.last().is_none_or(|last| last.node < node), "order")?;
-        let bytes = line.bytes(alloc, 3, plan.bytes(node))?;
-        put(&mut starts, Start { node, bytes })?;
+        let node = start_of(plan, lines, starts);
+        let bytes = lines.bytes(alloc, 3, plan.bytes(node))?;
+        starts.push(Start { node, bytes })?;
     }
-    Err(lines.unended(PART))
+    Ok(())
 }
 
-/// Takes the lines of the eras of which the line of the first one is given, if there is one, and
-/// the line behind them.
+/// The era of the line, behind the ones before, with no starts so far.
+fn era_of(
+    alloc: Global,
+    plan: &Plan,
+    lines: &mut Lines,
+    before: &[Era],
+) -> Result<Era, AllocError> {
+    let has_form = lines.words() >= 3 && lines.is(2, "faulty");
+    lines.want(has_form, "form");
+    let first = lines.number(1);
+    let faulty = lines.numbers(alloc, 3)?;
+    lines.want(before.len() < MOST_ERAS, "limit");
+    let is_behind = before.last().map_or(0, |era| era.first) < first;
+    want_faulty(lines, plan, &faulty, is_behind);
+    Ok(Era {
+        first,
+        faulty,
+        starts: Vec::new(alloc),
+    })
+}
+
+/// Takes the lines of the eras, the first of which is taken if there is one, and the line behind
+/// them.
 fn read_eras(
     alloc: Global,
     plan: &Plan,
     lines: &mut Lines,
-    first: Line,
-) -> Result<(Vec<Era>, Line), Stop> {
-    let mut eras: Vec<Era> = Vec::new(alloc);
-    let mut line = first;
+    eras: &mut Vec<Era>,
+) -> Result<(), AllocError> {
     for _ in 0..=lines.len() {
-        if !line.is(0, "era") {
-            return Ok((eras, line));
+        if !lines.begins("era") {
+            break;
         }
-        line.want(line.len() >= 3 && line.is(2, "faulty"), "form")?;
-        let first = line.number(1)?;
-        let faulty = line.numbers(alloc, 3)?;
-        line.want(eras.len() < MOST_ERAS, "limit")?;
-        let is_behind = eras.last().map_or(0, |era| era.first) < first;
-        want_faulty(&line, plan, &faulty, is_behind)?;
-        let (starts, next) = read_starts(alloc, plan, lines)?;
-        put(
-            &mut eras,
-            Era {
-                first,
-                faulty,
-                starts,
-            },
-        )?;
-        line = next;
+        let mut era = era_of(alloc, plan, lines, eras)?;
+        read_starts(alloc, plan, lines, &mut era.starts)?;
+        eras.push(era)?;
     }
-    Err(lines.unended(PART))
+    Ok(())
 }
 
-/// Takes the lines of the groups of which the line of the first one is given, if there is one, and
-/// the line behind them.
+/// The nodes of the line of a group, before which there are so many.
+fn group_of(
+    alloc: Global,
+    plan: &Plan,
+    lines: &mut Lines,
+    before: usize,
+) -> Result<Vec<u64>, AllocError> {
+    let has_form = lines.words() >= 3;
+    lines.want(has_form, "form");
+    let ids = lines.numbers(alloc, 2)?;
+    lines.want(before < MOST_LINES, "limit");
+    lines.want(are_nodes(plan, &ids), "node");
+    lines.want(rises(&ids), "order");
+    Ok(ids)
+}
+
+/// Takes the lines of the groups, the first of which is taken if there is one, and the line behind
+/// them.
 fn read_groups(
     alloc: Global,
     plan: &Plan,
     lines: &mut Lines,
-    first: Line,
-) -> Result<(Names, Vec<Vec<u64>>, Line), Stop> {
-    let mut names = Names::new(alloc);
-    let mut groups: Vec<Vec<u64>> = Vec::new(alloc);
-    let mut line = first;
+    names: &mut Names,
+    groups: &mut Vec<Vec<u64>>,
+) -> Result<(), AllocError> {
     for _ in 0..=lines.len() {
-        if !line.is(0, "group") {
-            return Ok((names, groups, line));
+        if !lines.begins("group") {
+            break;
         }
-        line.want(line.len() >= 3, "form")?;
-        let ids = line.numbers(alloc, 2)?;
-        line.want(groups.len() < MOST_LINES, "limit")?;
-        line.want(are_nodes(plan, &ids), "node")?;
-        line.want(rises(&ids), "order")?;
-        line.want(names.may_be(line.word(1)), "name")?;
-        names.add(alloc, line.word(1))?;
-        put(&mut groups, ids)?;
-        line = lines.take(PART)?;
+        let group = group_of(alloc, plan, lines, groups.len())?;
+        groups.push(group)?;
+        let is_name = names.may_be(lines.word(1));
+        lines.want(is_name, "name");
+        names.add(alloc, lines.word(1))?;
+        lines.take(PART);
     }
-    Err(lines.unended(PART))
+    Ok(())
 }
 
-/// Takes the lines of the lies of which the line of the first one is given, if there is one, and
-/// the line behind them. Some nodes are faulty at some time.
+/// Takes the lines of the lies, the first of which is taken if there is one, and the line behind
+/// them. Some nodes are faulty at some time.
 fn read_lies(
     alloc: Global,
     plan: &Plan,
     lines: &mut Lines,
     names: &Names,
-    faulty: &[u64],
-    first: Line,
-) -> Result<(Vec<Rule>, Line), Stop> {
-    let mut rules: Vec<Rule> = Vec::new(alloc);
-    let mut line = first;
+    script: &mut Script,
+) -> Result<(), AllocError> {
+    let faulty = liars(alloc, script)?;
     for _ in 0..=lines.len() {
-        if !line.is(0, "lie") {
-            return Ok((rules, line));
+        if !lines.begins("lie") {
+            break;
         }
-        let has_room = rules.len() < MOST_LINES;
-        put(
-            &mut rules,
-            lie_of(alloc, plan, names, faulty, &line, has_room)?,
-        )?;
-        line = lines.take(PART)?;
+        let has_room = script.rules.len() < MOST_LINES;
+        let rule = lie_of(alloc, plan, names, &faulty, lines, has_room)?;
+        script.rules.push(rule)?;
+        lines.take(PART);
     }
-    Err(lines.unended(PART))
+    Ok(())
 }
 
-/// Takes the last lines, of which the first is given: how many rounds are played, of which the last
-/// era begins at a configuration, and the first and the last configuration that are shown.
-fn read_rounds(lines: &mut Lines, line: &Line, last_era: u64) -> Result<(u64, u64, u64), Stop> {
-    let rounds = line.only("rounds")?;
-    line.want(rounds <= MOST_ROUNDS, "limit")?;
-    line.want(rounds >= last_era, "range")?;
-    let line = lines.take(PART)?;
-    line.want(line.len() == 3 && line.is(0, "show"), "form")?;
-    let first = line.number(1)?;
-    let last = line.number(2)?;
-    line.want(first <= last && last <= rounds, "range")?;
-    lines.take_end(PART)?;
-    lines.want_none(PART)?;
-    Ok((rounds, first, last))
+/// The nodes that are faulty at some time.
+fn liars(alloc: Global, script: &Script) -> Result<Vec<u64>, AllocError> {
+    let mut liars = Vec::from_slice(alloc, &script.faulty)?;
+    for era in &script.eras {
+        liars.extend_from_slice(&era.faulty)?;
+    }
+    Ok(liars)
 }
 
-/// The key of a line.
-fn key_of(alloc: Global, line: &Line) -> Result<[u8; 32], Stop> {
-    line.want(line.len() == 2, "form")?;
-    let bytes = line.bytes(alloc, 1, 32)?;
+/// Takes the last lines, the first of which is taken: how many rounds are played, and the first and
+/// the last configuration that are shown.
+fn read_rounds(lines: &mut Lines, script: &mut Script) {
+    script.rounds = lines.only("rounds");
+    lines.want(script.rounds <= MOST_ROUNDS, "limit");
+    let last_era = script.eras.last().map_or(0, |era| era.first);
+    lines.want(script.rounds >= last_era, "range");
+    lines.take(PART);
+    lines.want_form(3, "show");
+    script.first = lines.number(1);
+    script.last = lines.number(2);
+    let is_played = script.first <= script.last && script.last <= script.rounds;
+    lines.want(is_played, "range");
+    lines.take_end(PART);
+    lines.want_none(PART);
+}
+
+/// The key of the line.
+fn key_of(alloc: Global, lines: &mut Lines) -> Result<[u8; 32], AllocError> {
+    let has_form = lines.words() == 2;
+    lines.want(has_form, "form");
+    let bytes = lines.bytes(alloc, 1, 32)?;
     let mut key = [0; 32];
     for (byte, of_key) in bytes.iter().zip(&mut key) {
         *of_key = *byte;
@@ -177,60 +212,96 @@ fn key_of(alloc: Global, line: &Line) -> Result<[u8; 32], Stop> {
     Ok(key)
 }
 
-/// Takes the first lines: the version, the nodes that are faulty at first, the key, and whether
-/// nodes start noisily.
-fn read_front(
+/// Takes the first lines: the version, and the nodes that are faulty at first.
+fn read_faulty(
     alloc: Global,
     plan: &Plan,
     lines: &mut Lines,
-) -> Result<(u64, Vec<u64>, Option<[u8; 32]>, bool), Stop> {
-    let line = lines.take(PART)?;
-    let version = line.only("script")?;
-    line.want(version == 1 || version == 2, "form")?;
-    let line = lines.take(PART)?;
-    line.want(line.is(0, "faulty"), "form")?;
-    let faulty = line.numbers(alloc, 1)?;
-    want_faulty(&line, plan, &faulty, true)?;
-    let mut line = lines.take(PART)?;
-    let mut key = None;
-    if line.is(0, "seed") {
-        key = Some(key_of(alloc, &line)?);
-        line = lines.take(PART)?;
+) -> Result<(u64, Vec<u64>), AllocError> {
+    lines.take(PART);
+    let version = lines.only("script");
+    lines.want(version == 1 || version == 2, "form");
+    lines.take(PART);
+    let is_named = lines.is(0, "faulty");
+    lines.want(is_named, "form");
+    let faulty = lines.numbers(alloc, 1)?;
+    want_faulty(lines, plan, &faulty, true);
+    Ok((version, faulty))
+}
+
+/// Takes the line of the key, if there is one, and the line behind it.
+fn read_key(alloc: Global, lines: &mut Lines) -> Result<Option<[u8; 32]>, AllocError> {
+    lines.take(PART);
+    if !lines.is(0, "seed") {
+        return Ok(None);
     }
-    let is_noisy = line.is(1, "noise");
-    line.want(line.len() == 2 && line.is(0, "start"), "form")?;
-    line.want(is_noisy || line.is(1, "zero"), "form")?;
-    Ok((version, faulty, key, is_noisy))
+    let key = key_of(alloc, lines)?;
+    lines.take(PART);
+    Ok(Some(key))
+}
+
+/// Whether nodes start noisily, by the line.
+fn read_noise(lines: &mut Lines) -> bool {
+    let is_noisy = lines.is(1, "noise");
+    lines.want_form(2, "start");
+    let is_known = is_noisy || lines.is(1, "zero");
+    lines.want(is_known, "form");
+    is_noisy
+}
+
+/// Takes the first lines of a script, down to that of how nodes start.
+fn read_front(alloc: Global, plan: &Plan, lines: &mut Lines) -> Result<Script, AllocError> {
+    let (version, faulty) = read_faulty(alloc, plan, lines)?;
+    let mut script = Script {
+        version,
+        faulty,
+        key: None,
+        noisy: false,
+        starts: Vec::new(alloc),
+        eras: Vec::new(alloc),
+        groups: Vec::new(alloc),
+        rules: Vec::new(alloc),
+        rounds: 0,
+        first: 0,
+        last: 0,
+    };
+    script.key = read_key(alloc, lines)?;
+    script.noisy = read_noise(lines);
+    Ok(script)
+}
+
+/// Takes the lines of the groups and the lies, and the line behind them.
+fn read_rules(
+    alloc: Global,
+    plan: &Plan,
+    lines: &mut Lines,
+    script: &mut Script,
+) -> Result<(), AllocError> {
+    let mut names = Names::new(alloc);
+    read_groups(alloc, plan, lines, &mut names, &mut script.groups)?;
+    read_lies(alloc, plan, lines, &names, script)
+}
+
+/// Takes the lines behind the first ones.
+fn read_rest(
+    alloc: Global,
+    plan: &Plan,
+    lines: &mut Lines,
+    script: &mut Script,
+) -> Result<(), AllocError> {
+    read_starts(alloc, plan, lines, &mut script.starts)?;
+    if script.version == 2 {
+        read_eras(alloc, plan, lines, &mut script.eras)?;
+    }
+    read_rules(alloc, plan, lines, script)?;
+    read_rounds(lines, script);
+    Ok(())
 }
 
 /// Takes the lines of a script, behind which there may be none.
 pub fn read_script(alloc: Global, plan: &Plan, lines: &mut Lines) -> Result<Script, Stop> {
-    let (version, faulty, key, noisy) = read_front(alloc, plan, lines)?;
-    let (starts, line) = read_starts(alloc, plan, lines)?;
-    let (eras, line) = if version == 2 {
-        read_eras(alloc, plan, lines, line)?
-    } else {
-        (Vec::new(alloc), line)
-    };
-    let mut liars = Vec::from_slice(alloc, &faulty)?;
-    for era in &eras {
-        liars.extend_from_slice(&era.faulty)?;
-    }
-    let (names, groups, line) = read_groups(alloc, plan, lines, line)?;
-    let (rules, line) = read_lies(alloc, plan, lines, &names, &liars, line)?;
-    let last_era = eras.last().map_or(0, |era| era.first);
-    let (rounds, first, last) = read_rounds(lines, &line, last_era)?;
-    Ok(Script {
-        version,
-        faulty,
-        key,
-        noisy,
-        starts,
-        eras,
-        groups,
-        rules,
-        rounds,
-        first,
-        last,
-    })
+    let mut script = read_front(alloc, plan, lines)?;
+    read_rest(alloc, plan, lines, &mut script)?;
+    lines.result()?;
+    Ok(script)
 }

@@ -3,7 +3,7 @@
 use crate::lines::Lines;
 use crate::plan_texts::{read_plan, want_none_broken};
 use crate::plans::Plan;
-use crate::refusals::{Stop, put};
+use crate::refusals::Stop;
 use crate::runs::Run;
 use crate::script_texts::read_script;
 use crate::scripts::Script;
@@ -103,33 +103,38 @@ pub fn played(
     Ok(text)
 }
 
+/// The slot of the line.
+fn slot_of(lines: &mut Lines) -> Slot {
+    lines.want_form(4, "slot");
+    Slot {
+        node: lines.number(1),
+        first: lines.number(2),
+        last: lines.number(3),
+    }
+}
+
 /// Takes the lines of slots.
-fn read_slots(alloc: Global, plan: &Plan, lines: &mut Lines) -> Result<Vec<Slot>, Stop> {
-    let line = lines.take(PART)?;
-    line.want(line.only(PART)? == 1, "form")?;
+fn read_slots(alloc: Global, plan: &Plan, lines: &mut Lines) -> Result<Vec<Slot>, AllocError> {
+    lines.take_first(PART);
     let mut slots: Vec<Slot> = Vec::new(alloc);
     for _ in 0..=lines.len() {
-        let line = lines.take(PART)?;
-        if line.is_alone("end") {
-            return Ok(slots);
+        lines.take(PART);
+        if lines.is_over() {
+            break;
         }
-        line.want(line.len() == 4 && line.is(0, "slot"), "form")?;
-        let slot = Slot {
-            node: line.number(1)?,
-            first: line.number(2)?,
-            last: line.number(3)?,
-        };
-        line.want(slots.len() < MOST_SLOTS, "limit")?;
-        want_none_broken(&line, broken_rule(plan, &slot, &slots))?;
-        put(&mut slots, slot)?;
+        let slot = slot_of(lines);
+        lines.want(slots.len() < MOST_SLOTS, "limit");
+        want_none_broken(lines, broken_rule(plan, &slot, &slots));
+        slots.push(slot)?;
     }
-    Err(lines.unended(PART))
+    Ok(slots)
 }
 
 /// What `slots` writes.
 pub fn slots(alloc: Global, lines: &mut Lines) -> Result<String, Stop> {
     let plan = read_plan(alloc, lines)?;
     let slots = read_slots(alloc, &plan, lines)?;
+    lines.result()?;
     let script = read_script(alloc, &plan, lines)?;
     Ok(played(alloc, &plan, &slots, &script)?)
 }

@@ -63,6 +63,14 @@ pub fn whole_of(plan: &Plan) -> Whole {
     }
 }
 
+/// Writes words and numbers behind them.
+fn write_pairs(text: &mut String, pairs: &[(&'static str, u64)]) -> Result<(), AllocError> {
+    for (word, number) in pairs {
+        write!(text, " {word} {number}")?;
+    }
+    Ok(())
+}
+
 /// Writes the line of a level.
 fn write_level(
     text: &mut String,
@@ -70,34 +78,39 @@ fn write_level(
     level: &Level,
     numbers: Numbers,
 ) -> Result<(), AllocError> {
-    let Level {
-        blocks,
-        faults,
-        modulus,
-        spares,
-    } = *level;
-    let Numbers {
-        index,
-        leaders,
-        nodes,
-        beat,
-        span,
-        bound,
-        bits,
-    } = numbers;
-    write!(
-        text,
-        "level {index} blocks {blocks} leaders {leaders} nodes {nodes} "
-    )?;
-    write!(
-        text,
-        "faults {faults} beat {beat} span {span} modulus {modulus} "
-    )?;
-    write!(text, "bound {bound} bits {bits}")?;
+    let index = numbers.index;
+    write!(text, "level {index}")?;
+    let pairs = [
+        ("blocks", level.blocks),
+        ("leaders", numbers.leaders),
+        ("nodes", numbers.nodes),
+        ("faults", level.faults),
+        ("beat", numbers.beat),
+        ("span", numbers.span),
+        ("modulus", level.modulus),
+        ("bound", numbers.bound),
+        ("bits", numbers.bits),
+    ];
+    write_pairs(text, &pairs)?;
     if version == 2 {
-        write!(text, " spare {spares}")?;
+        write_pairs(text, &[("spare", level.spares)])?;
     }
     writeln!(text)
+}
+
+/// Writes the line of a plan, and the end.
+fn write_whole(text: &mut String, whole: Whole) -> Result<(), AllocError> {
+    let pairs = [
+        ("nodes", whole.nodes),
+        ("faults", whole.faults),
+        ("modulus", whole.modulus),
+        ("bound", whole.bound),
+        ("bits", whole.bits),
+        ("bytes", whole.bytes),
+    ];
+    write!(text, "plan")?;
+    write_pairs(text, &pairs)?;
+    writeln!(text, "\nend")
 }
 
 /// Writes a table of a plan with these numbers.
@@ -113,19 +126,7 @@ pub fn write_table(
     for (level, numbers) in plan.levels.iter().zip(all) {
         write_level(text, version, level, *numbers)?;
     }
-    let Whole {
-        nodes,
-        faults,
-        modulus,
-        bound,
-        bits,
-        bytes,
-    } = whole;
-    write!(
-        text,
-        "plan nodes {nodes} faults {faults} modulus {modulus} "
-    )?;
-    writeln!(text, "bound {bound} bits {bits} bytes {bytes}\nend")
+    write_whole(text, whole)
 }
 
 /// The text of the table of a plan.
@@ -139,14 +140,16 @@ pub fn table_of(alloc: Global, plan: &Plan) -> Result<String, AllocError> {
 /// What `plan` writes.
 pub fn plan(alloc: Global, lines: &mut Lines) -> Result<String, Stop> {
     let plan = read_plan(alloc, lines)?;
-    lines.want_none("plan")?;
+    lines.want_none("plan");
+    lines.result()?;
     Ok(table_of(alloc, &plan)?)
 }
 
 /// What `upgrade` writes.
 pub fn upgrade(alloc: Global, lines: &mut Lines) -> Result<String, Stop> {
     let mut plan = read_plan(alloc, lines)?;
-    lines.want_none("plan")?;
+    lines.want_none("plan");
+    lines.result()?;
     plan.version = 2;
     let mut text = String::new(alloc);
     write_plan(&mut text, &plan)?;

@@ -42,6 +42,16 @@ impl Want {
     }
 }
 
+/// Whether of two lists the first number that differs is less in the first.
+fn comes_before(numbers: &[u64], others: &[u64]) -> bool {
+    for (number, other) in numbers.iter().zip(others) {
+        if number != other {
+            return number < other;
+        }
+    }
+    false
+}
+
 impl Tower {
     /// No level.
     fn new(alloc: Global) -> Tower {
@@ -74,32 +84,23 @@ impl Tower {
         Ok(tower)
     }
 
-    /// The blocks and faults of its levels.
-    fn steps(&self, alloc: Global) -> Result<Vec<u64>, AllocError> {
-        let mut steps = Vec::new(alloc);
+    /// The bound, the nodes, the number of levels, and their blocks and faults.
+    fn key(&self, alloc: Global) -> Result<Vec<u64>, AllocError> {
+        let first = [self.bound, self.nodes, self.levels.len() as u64];
+        let mut key = Vec::from_slice(alloc, &first)?;
         for level in &self.levels {
-            steps.push(level.blocks)?;
-            steps.push(level.faults)?;
+            key.push(level.blocks)?;
+            key.push(level.faults)?;
         }
-        Ok(steps)
+        Ok(key)
     }
 
     /// Whether it comes before another: by the bound, the nodes, the number of levels, and their
     /// blocks and faults.
     fn is_before(&self, alloc: Global, other: &Tower) -> Result<bool, AllocError> {
-        let own = [self.bound, self.nodes, self.levels.len() as u64];
-        let others = [other.bound, other.nodes, other.levels.len() as u64];
-        for (number, other) in own.iter().zip(&others) {
-            if number != other {
-                return Ok(number < other);
-            }
-        }
-        for (number, other) in self.steps(alloc)?.iter().zip(&other.steps(alloc)?) {
-            if number != other {
-                return Ok(number < other);
-            }
-        }
-        Ok(false)
+        let own = self.key(alloc)?;
+        let others = other.key(alloc)?;
+        Ok(comes_before(&own, &others))
     }
 
     /// The plan of these levels that counts by a modulus: each modulus is the span above it.
@@ -205,19 +206,25 @@ pub fn answer(alloc: Global, want: Want) -> Result<String, AllocError> {
     Ok(text)
 }
 
+/// Takes the lines of a want.
+fn read_want(lines: &mut Lines) -> Want {
+    lines.take_first(PART);
+    lines.take(PART);
+    lines.want_form(4, "want");
+    let want = Want {
+        faults: lines.number(1),
+        modulus: lines.number(2),
+        most: lines.number(3),
+    };
+    want_none_broken(lines, want.broken_rule());
+    lines.take_end(PART);
+    lines.want_none(PART);
+    want
+}
+
 /// What `find` writes.
 pub fn find(alloc: Global, lines: &mut Lines) -> Result<String, Stop> {
-    let line = lines.take(PART)?;
-    line.want(line.only(PART)? == 1, "form")?;
-    let line = lines.take(PART)?;
-    line.want(line.len() == 4 && line.is(0, "want"), "form")?;
-    let want = Want {
-        faults: line.number(1)?,
-        modulus: line.number(2)?,
-        most: line.number(3)?,
-    };
-    want_none_broken(&line, want.broken_rule())?;
-    lines.take_end(PART)?;
-    lines.want_none(PART)?;
+    let want = read_want(lines);
+    lines.result()?;
     Ok(answer(alloc, want)?)
 }
