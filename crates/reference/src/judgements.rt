@@ -12,8 +12,8 @@ use std::alloc::{AllocError, Global};
 const MOST_ROUNDS: u64 = 1000000;
 
 /// A certificate that is read: its version and plan, which nodes are faulty, and the configuration
-/// of the run that it states; its eras and rows so far, the first row that differs, and the first locked
-/// configuration of the era.
+/// of the run that it states; its eras and rows so far, the first row that differs, and the first
+/// locked configuration of the era.
 struct Certificate {
     version: u64,
     plan: Plan,

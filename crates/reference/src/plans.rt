@@ -14,13 +14,26 @@ pub struct Level {
 /// A version, 1 or 2, a base modulus, and levels from the bottom up. Version 1 has no spare nodes.
 /// Behind the registers of the levels each node has those of a layer, whose values are below
 /// `values`.
-#[derive(Drop)]
 pub struct Plan {
     pub version: u64,
     pub base: u64,
     pub levels: Vec<Level>,
     pub behind: usize,
     pub values: u64,
+}
+
+// Written out, so that what lets go of one calls this, and no more.
+impl Drop for Plan {
+    fn drop(self) {
+        let Plan {
+            version: _,
+            base: _,
+            levels,
+            behind: _,
+            values: _,
+        } = self;
+        drop(levels);
+    }
 }
 
 /// `a` divided by `b`, or 0 where `b` is 0.

@@ -12,10 +12,18 @@ use crate::steps::{shown, stepped};
 use std::alloc::{AllocError, Global};
 
 /// A run that is at a configuration, and which configurations so far are locked.
-#[derive(Drop)]
 pub struct Run {
     pub config: Vec<State>,
     pub locked: Vec<bool>,
+}
+
+// Written out, so that what lets go of one calls this, and no more.
+impl Drop for Run {
+    fn drop(self) {
+        let Run { config, locked } = self;
+        drop(config);
+        drop(locked);
+    }
 }
 
 /// The configuration behind round `at`: every node steps from what it hears, and some are put into

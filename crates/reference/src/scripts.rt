@@ -50,7 +50,6 @@ pub struct Era {
 }
 
 /// A script of version 1 or 2: what its lines say, in their order. Version 1 has no eras.
-#[derive(Drop)]
 pub struct Script {
     pub version: u64,
     pub faulty: Vec<u64>,
@@ -63,6 +62,30 @@ pub struct Script {
     pub rounds: u64,
     pub first: u64,
     pub last: u64,
+}
+
+// Written out, so that what lets go of one calls this, and no more.
+impl Drop for Script {
+    fn drop(self) {
+        let Script {
+            version: _,
+            faulty,
+            key: _,
+            noisy: _,
+            starts,
+            eras,
+            groups,
+            rules,
+            rounds: _,
+            first: _,
+            last: _,
+        } = self;
+        drop(faulty);
+        drop(starts);
+        drop(eras);
+        drop(groups);
+        drop(rules);
+    }
 }
 
 /// The word of a key at a place of a stream.
