@@ -13,11 +13,23 @@ use std::alloc::{AllocError, Global};
 const PART: &str = "agree";
 
 /// Agreement on values below some number: the input of each node, and what it has decided.
-#[derive(Drop)]
 pub struct Agreement {
     pub values: u64,
     pub inputs: Vec<u64>,
     decisions: Vec<u64>,
+}
+
+// Written out, so that what lets go of one calls this, and no more.
+impl Drop for Agreement {
+    fn drop(self) {
+        let Agreement {
+            values: _,
+            inputs,
+            decisions,
+        } = self;
+        drop(inputs);
+        drop(decisions);
+    }
 }
 
 /// Takes the line of the inputs, which are below `values`, and the end.

@@ -12,13 +12,27 @@ use crate::steps::shown;
 use std::alloc::{AllocError, Global};
 
 /// A plan with levels, and what its nodes show below the top level in the configurations of a run.
-#[derive(Drop)]
 struct Shown {
     top: Level,
     nodes: u64,
     faults: u64,
     outputs: Vec<Vec<u64>>,
     faulty: Vec<u64>,
+}
+
+// Written out, so that what lets go of one calls this, and no more.
+impl Drop for Shown {
+    fn drop(self) {
+        let Shown {
+            top: _,
+            nodes: _,
+            faults: _,
+            outputs,
+            faulty,
+        } = self;
+        drop(outputs);
+        drop(faulty);
+    }
 }
 
 /// A window that begins at a configuration, of a leader, and in it a phase of a king.

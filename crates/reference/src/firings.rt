@@ -24,10 +24,18 @@ pub struct Request {
 }
 
 /// Firing on requests, and whether each node fired in its last round.
-#[derive(Drop)]
 pub struct Firing {
     requests: Vec<Request>,
     fired: Vec<bool>,
+}
+
+// Written out, so that what lets go of one calls this, and no more.
+impl Drop for Firing {
+    fn drop(self) {
+        let Firing { requests, fired } = self;
+        drop(requests);
+        drop(fired);
+    }
 }
 
 impl Firing {

@@ -6,9 +6,16 @@ use crate::scripts::{Lie, Receivers, Rule};
 use std::alloc::{AllocError, Global};
 
 /// The names of the groups so far.
-#[derive(Drop)]
 pub struct Names {
     names: Vec<Vec<u8>>,
+}
+
+// Written out, so that what lets go of one calls this, and no more.
+impl Drop for Names {
+    fn drop(self) {
+        let Names { names } = self;
+        drop(names);
+    }
 }
 
 /// To whom a line says that a lie is told: to all, from a node to a node, or to those of a name.

@@ -8,12 +8,24 @@ const LONGEST_LINE: usize = 4096;
 
 /// A line of a text, and where in the text the next one begins. It has no words where it is too
 /// long, or has an empty word or a carriage return.
-#[derive(Drop)]
 struct Line {
     words: Vec<Vec<u8>>,
     is_skipped: bool,
     is_ended: bool,
     end: usize,
+}
+
+// Written out, so that what lets go of one calls this, and no more.
+impl Drop for Line {
+    fn drop(self) {
+        let Line {
+            words,
+            is_skipped: _,
+            is_ended: _,
+            end: _,
+        } = self;
+        drop(words);
+    }
 }
 
 /// The lines of a text, how many of them were taken, for which part the last one was, and what is

@@ -18,18 +18,37 @@ const MOST_KEPT: u64 = 1024;
 
 /// What the lines of a log say: below what values are, how many entries are kept, and the commands
 /// of each node.
-#[derive(Drop)]
 pub struct Commands {
     pub values: u64,
     pub keep: u64,
     pub commands: Vec<Vec<u64>>,
 }
 
+// Written out, so that what lets go of one calls this, and no more.
+impl Drop for Commands {
+    fn drop(self) {
+        let Commands {
+            values: _,
+            keep: _,
+            commands,
+        } = self;
+        drop(commands);
+    }
+}
+
 /// A log that is replicated, with the values of the entries that each node keeps, the newest last.
-#[derive(Drop)]
 pub struct Replica {
     lines: Commands,
     entries: Vec<Vec<u64>>,
+}
+
+// Written out, so that what lets go of one calls this, and no more.
+impl Drop for Replica {
+    fn drop(self) {
+        let Replica { lines, entries } = self;
+        drop(lines);
+        drop(entries);
+    }
 }
 
 /// How many rounds belong to an entry.

@@ -15,18 +15,32 @@ const PART: &str = "node";
 pub const MOST_PACKETS: u64 = 1_000_000;
 
 /// A node of a plan, and the bytes of the state that it begins with.
-#[derive(Drop)]
 pub struct Node {
     pub id: u64,
     pub start: Vec<u8>,
 }
 
+// Written out, so that what lets go of one calls this, and no more.
+impl Drop for Node {
+    fn drop(self) {
+        let Node { id: _, start } = self;
+        drop(start);
+    }
+}
+
 /// The bytes of one cell of each node, without their lengths, and how many bytes they take with
 /// them.
-#[derive(Drop)]
 struct Packet {
     cells: Vec<Vec<u8>>,
     length: usize,
+}
+
+// Written out, so that what lets go of one calls this, and no more.
+impl Drop for Packet {
+    fn drop(self) {
+        let Packet { cells, length: _ } = self;
+        drop(cells);
+    }
 }
 
 /// Puts the length of a cell and then its bytes.

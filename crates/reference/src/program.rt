@@ -15,11 +15,22 @@ use crate::wants::find;
 use std::alloc::{AllocError, Global};
 
 /// The bytes that are written, the exit code, and by which rule the input is refused, if it is.
-#[derive(Drop)]
 pub struct Answer {
     pub bytes: Vec<u8>,
     pub code: u8,
     pub refusal: Option<Refusal>,
+}
+
+// Written out, so that what lets go of one calls this, and no more.
+impl Drop for Answer {
+    fn drop(self) {
+        let Answer {
+            bytes,
+            code: _,
+            refusal: _,
+        } = self;
+        drop(bytes);
+    }
 }
 
 /// The text that is written of an accepted input.

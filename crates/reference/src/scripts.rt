@@ -25,7 +25,6 @@ pub enum Lie {
 
 /// A line of lies: in the rounds from `first` to `last` the sender tells the receivers that lie,
 /// where it is faulty.
-#[derive(Drop)]
 pub struct Rule {
     pub first: u64,
     pub last: u64,
@@ -34,19 +33,52 @@ pub struct Rule {
     pub lie: Lie,
 }
 
+// Written out, so that what lets go of one calls this, and no more.
+impl Drop for Rule {
+    fn drop(self) {
+        let Rule {
+            first: _,
+            last: _,
+            sender: _,
+            receivers: _,
+            lie,
+        } = self;
+        drop(lie);
+    }
+}
+
 /// The bytes in which a node starts.
-#[derive(Drop)]
 pub struct Start {
     pub node: u64,
     pub bytes: Vec<u8>,
 }
 
+// Written out, so that what lets go of one calls this, and no more.
+impl Drop for Start {
+    fn drop(self) {
+        let Start { node: _, bytes } = self;
+        drop(bytes);
+    }
+}
+
 /// From configuration `first` on these nodes are faulty; some nodes are put into states there.
-#[derive(Drop)]
 pub struct Era {
     pub first: u64,
     pub faulty: Vec<u64>,
     pub starts: Vec<Start>,
+}
+
+// Written out, so that what lets go of one calls this, and no more.
+impl Drop for Era {
+    fn drop(self) {
+        let Era {
+            first: _,
+            faulty,
+            starts,
+        } = self;
+        drop(faulty);
+        drop(starts);
+    }
 }
 
 /// A script of version 1 or 2: what its lines say, in their order. Version 1 has no eras.

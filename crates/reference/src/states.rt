@@ -13,10 +13,18 @@ pub struct Register {
 
 /// A number and a register for each level, from the bottom up, and behind them those of a layer.
 /// What a node lacks is 0, with no mark.
-#[derive(Clone, Drop)]
+#[derive(Clone)]
 pub struct State {
     pub x: u64,
     pub registers: Vec<Register>,
+}
+
+// Written out, so that what lets go of one calls this, and no more.
+impl Drop for State {
+    fn drop(self) {
+        let State { x: _, registers } = self;
+        drop(registers);
+    }
 }
 
 /// A register that a node lacks, or that it starts with.

@@ -21,12 +21,25 @@ pub struct Want {
 
 /// Levels without moduli, the nodes of the highest, the faults that it stands, and the sum of the
 /// spans.
-#[derive(Clone, Drop)]
+#[derive(Clone)]
 struct Tower {
     levels: Vec<Level>,
     nodes: u64,
     faults: u64,
     bound: u64,
+}
+
+// Written out, so that what lets go of one calls this, and no more.
+impl Drop for Tower {
+    fn drop(self) {
+        let Tower {
+            levels,
+            nodes: _,
+            faults: _,
+            bound: _,
+        } = self;
+        drop(levels);
+    }
 }
 
 impl Want {
