@@ -78,6 +78,7 @@ impl NodeEngine {
     /// Hears the next cell where it stands, if it has just so many bytes as a state of that node
     /// has, and these stand whole in the buffer with eight bytes more behind them. Else nothing
     /// changes.
+    // It is small, and called for each cell of each packet.
     #[inline(always)]
     fn hear_held<S: Source>(&mut self, feed: &mut Feed<'_, S>, sender: u32) -> bool
         requires { sender < plan_nodes self.old.plan }
@@ -100,6 +101,7 @@ impl NodeEngine {
     }
 
     /// Hears the next cell: true where it was whole.
+    // As above: the loop over a packet's cells has no other call.
     #[inline(always)]
     fn hear_cell<S: Source>(
         &mut self,

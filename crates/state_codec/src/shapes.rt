@@ -1,4 +1,4 @@
-ghost use Rattle.std.specs.Prelude.{◌≡◌, ◌<◌, ◌≤◌, ◌+◌, ◌*◌, ◌^◌, length, take, slice_index, All};
+ghost use Rattle.std.specs.Prelude.{◌≡◌, ◌<◌, ◌≤◌, ◌+◌, ◌^◌, length, take, slice_index, All};
 ghost use Rattle.std.specs.Prelude.{IfOk};
 ghost use Rattle.construction.specs.Plans.{plan_bits, plan_depth, plan_nodes};
 ghost use Rattle.state_codec.specs.Shapes.{shape_over, shape_of, shape_with, fields_from};
