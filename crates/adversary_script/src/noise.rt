@@ -1,4 +1,4 @@
-ghost use Rattle.std.specs.Prelude.{◌≡◌, ◌<◌, ◌≤◌, ◌^◌, ◌+◌, ◌*◌, ◌%◌, length, take, IfOk, IfSome};
+ghost use Rattle.std.specs.Prelude.{◌≡◌, ◌≤◌, ◌+◌, ◌*◌, ◌%◌, length, take, IfOk, IfSome};
 ghost use Rattle.state_codec.specs.Shapes.{fields_at, bytes_in};
 ghost use Rattle.state_codec.specs.Ranges.{InRange};
 ghost use Rattle.adversary_script.specs.Noise.{key_in, words_in, noise_bytes, noise_state};
@@ -188,8 +188,7 @@ impl Noise {
 
     /// Fills `bytes`, at most 128, with those of a stream from a place on.
     pub fn fill_bytes(&mut self, stream: u64, first: u64, bytes: &mut [u8])
-        requires few { length bytes.old ≤ 128 }
-        requires fits { first + 32 < 2 ^ 64 }
+        requires { length bytes.old ≤ 128 }
         ensures bytes { bytes.new ≡ noise_bytes self.old stream first (length bytes.old) }
         ensures same { self.new ≡ self.old }
     {
