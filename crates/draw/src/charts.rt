@@ -6,7 +6,7 @@ ghost use Rattle.draw.specs.Charts.{frame_of};
 use crate::frames::{Frame, band_height};
 
 /// What a node shows in a row. Rows and nodes are counted from 0.
-#[derive(Clone, Copy, Debug)]
+#[derive(Clone, Copy)]
 pub struct Cell {
     pub row: u32,
     pub node: u16,
@@ -17,7 +17,7 @@ pub struct Cell {
 }
 
 /// A line behind the rows: the first locked configuration of an era, if there is one.
-#[derive(Clone, Copy, Debug)]
+#[derive(Clone, Copy)]
 pub struct End {
     /// How many such lines stand before it.
     pub place: u32,
@@ -30,7 +30,6 @@ pub struct End {
 }
 
 /// What `run` wrote: the bound, the rows, and the lines behind them.
-#[derive(Debug)]
 pub struct Chart {
     pub bound: u64,
     /// The configuration of the first row.

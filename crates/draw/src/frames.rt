@@ -8,7 +8,7 @@ ghost use Rattle.draw.specs.Frames.{column_width, left, line_top, middle, right,
 pub const MOST_COLUMNS: u32 = 120;
 
 /// What all parts of a picture stand in.
-#[derive(Clone, Copy, Debug, PartialEq, Eq)]
+#[derive(Clone, Copy)]
 pub struct Frame {
     /// The configuration of the first column.
     pub first: u32,
@@ -20,7 +20,7 @@ pub struct Frame {
 }
 
 /// Where something is drawn: in a column, from a height of its band on.
-#[derive(Clone, Copy, Debug, PartialEq, Eq)]
+#[derive(Clone, Copy)]
 pub struct Spot {
     pub frame: Frame,
     pub column: u32,

@@ -85,7 +85,7 @@ fn most_numbered(notes: &[Note]) -> u64 {
 }
 
 /// What a node was in the configuration before.
-#[derive(Clone, Copy, Debug)]
+#[derive(Clone, Copy)]
 struct Past {
     number: Option<u64>,
     is_faulty: bool,

@@ -10,7 +10,7 @@ use std::alloc::{AllocFailed, Global};
 const STRIPS: usize = MOST_LEVELS as usize + 1;
 
 /// What is known of a level's strip.
-#[derive(Clone, Copy, Debug)]
+#[derive(Clone, Copy)]
 struct Strip {
     /// Whether some node takes part in the level.
     is_there: bool,

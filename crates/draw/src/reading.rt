@@ -58,7 +58,7 @@ impl<T: Drop> From<AllocFailed<T>> for ChartError {
 }
 
 /// Why a line is not taken.
-#[derive(Clone, Copy, Debug, PartialEq, Eq)]
+#[derive(Clone, Copy)]
 enum LineError {
     Unwanted,
     NoMemory,
@@ -71,7 +71,7 @@ impl<T: Drop> From<AllocFailed<T>> for LineError {
 }
 
 /// A chart of which the front was read, and what should come next.
-#[derive(Debug, Drop)]
+#[derive(Drop)]
 struct Draft {
     chart: Chart,
     wanted: Wanted,

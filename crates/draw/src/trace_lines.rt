@@ -6,7 +6,7 @@ use edge_io::{Words, number};
 use std::alloc::{AllocFailed, Global};
 
 /// Why a line of a trace is not taken.
-#[derive(Clone, Copy, Debug, PartialEq, Eq)]
+#[derive(Clone, Copy)]
 pub enum TraceFault {
     Unwanted,
     NoMemory,
@@ -19,7 +19,6 @@ impl<T: Drop> From<AllocFailed<T>> for TraceFault {
 }
 
 /// What a line says.
-#[derive(Debug)]
 pub struct TraceLine {
     pub t: u32,
     pub node: u64,
@@ -61,158 +60,182 @@ impl TraceLine {
     }
 }
 
-/// The words of a line that are still to be read.
+/// The words of a line that are still to be read, and whether one so far was not wanted.
 #[derive(Drop)]
 struct Reader<'a> {
     words: Words<'a>,
+    is_unwanted: bool,
 }
 
 impl<'a> Reader<'a> {
-    /// The next word.
-    fn word(&mut self) -> Result<&'a [u8], TraceFault> {
-        self.words.next().ok_or(TraceFault::Unwanted)
+    /// Remembers that a word is not wanted, unless something holds.
+    fn want(&mut self, holds: bool) {
+        if !holds {
+            self.is_unwanted = true;
+        }
+    }
+
+    /// The next word, which must be there.
+    fn word(&mut self) -> &'a [u8] {
+        match self.words.next() {
+            Some(word) => word,
+            None => {
+                self.want(false);
+                &[]
+            }
+        }
+    }
+
+    /// The number of a word, which must be one.
+    fn number_of(&mut self, word: &[u8]) -> u64 {
+        match number(word) {
+            Some(n) => n,
+            None => {
+                self.want(false);
+                0
+            }
+        }
     }
 
     /// The next word as a number.
-    fn number(&mut self) -> Result<u64, TraceFault> {
-        number(self.word()?).ok_or(TraceFault::Unwanted)
+    fn number(&mut self) -> u64 {
+        let word = self.word();
+        self.number_of(word)
+    }
+
+    /// The next word as a number of 32 bits.
+    fn small_number(&mut self) -> u32 {
+        match next_number(&mut self.words) {
+            Some(n) => n,
+            None => {
+                self.want(false);
+                0
+            }
+        }
     }
 
     /// The next word as a number, or None for `none`.
-    fn number_or_none(&mut self) -> Result<Option<u64>, TraceFault> {
-        let word = self.word()?;
+    fn number_or_none(&mut self) -> Option<u64> {
+        let word = self.word();
         if word == b"none".as_slice() {
-            return Ok(None);
-        }
-        match number(word) {
-            Some(n) => Ok(Some(n)),
-            None => Err(TraceFault::Unwanted),
+            None
+        } else {
+            Some(self.number_of(word))
         }
     }
 
     /// Goes past a word that must stand there.
-    fn pass(&mut self, key: &[u8]) -> Result<(), TraceFault> {
-        if next_is(&mut self.words, key) {
-            Ok(())
-        } else {
-            Err(TraceFault::Unwanted)
-        }
+    fn pass(&mut self, key: &[u8]) {
+        let is_there = next_is(&mut self.words, key);
+        self.want(is_there);
     }
 
     /// The number behind a word that must stand there.
-    fn number_after(&mut self, key: &[u8]) -> Result<u64, TraceFault> {
-        self.pass(key)?;
+    fn number_after(&mut self, key: &[u8]) -> u64 {
+        self.pass(key);
         self.number()
     }
 
+    /// The number, or `none`, behind a word that must stand there.
+    fn number_or_none_after(&mut self, key: &[u8]) -> Option<u64> {
+        self.pass(key);
+        self.number_or_none()
+    }
+
     /// How a register holds its value.
-    fn held(&mut self) -> Result<Held, TraceFault> {
-        let word = self.word()?;
-        if word == b"unmarked".as_slice() {
-            return Ok(Held::Unmarked);
-        }
+    fn held(&mut self) -> Held {
+        let word = self.word();
         if word == b"marked".as_slice() {
-            return Ok(Held::Marked);
+            return Held::Marked;
         }
         if word == b"locked".as_slice() {
-            return Ok(Held::Locked);
+            return Held::Locked;
         }
-        Err(TraceFault::Unwanted)
+        self.want(word == b"unmarked".as_slice());
+        Held::Unmarked
     }
 
     /// What a king's turn has come to.
-    fn turn(&mut self) -> Result<Turn, TraceFault> {
-        let word = self.word()?;
-        if word == b"keep".as_slice() {
-            return Ok(Turn::Keep);
-        }
+    fn turn(&mut self) -> Turn {
+        let word = self.word();
         if word == b"mark".as_slice() {
-            return Ok(Turn::Mark);
+            return Turn::Mark;
         }
         if word == b"king".as_slice() {
-            return Ok(Turn::King);
+            return Turn::King;
         }
-        Err(TraceFault::Unwanted)
+        self.want(word == b"keep".as_slice());
+        Turn::Keep
     }
 
     /// The votes up to the word `lead`, which is read too.
-    fn votes(&mut self, alloc: Global) -> Result<Vec<u64>, TraceFault> {
+    fn votes(&mut self, alloc: Global) -> Result<Vec<u64>, AllocFailed<u64>> {
         let mut votes = Vec::new(alloc);
         for _ in 0..MOST_BLOCKS {
-            let word = self.word()?;
+            let word = self.word();
             if word == b"lead".as_slice() {
                 return Ok(votes);
             }
-            votes.push(number(word).ok_or(TraceFault::Unwanted)?)?;
+            let vote = self.number_of(word);
+            if self.is_unwanted {
+                return Ok(votes);
+            }
+            votes.push(vote)?;
         }
-        Err(TraceFault::Unwanted)
+        self.want(false);
+        Ok(votes)
     }
 
     /// What a node hears, behind the word `votes`.
     fn heard(&mut self, alloc: Global) -> Result<Heard, TraceFault> {
-        let votes = self.votes(alloc)?;
-        let lead = self.number()?;
-        let position = self.number_after(b"position")?;
-        let turn = self.turn()?;
-        let king = self.number_after(b"king")?;
-        let same = self.number_after(b"same")?;
-        self.pass(b"least")?;
         Ok(Heard {
-            votes,
-            lead,
-            position,
-            turn,
-            king,
-            same,
-            least: self.number_or_none()?,
+            votes: self.votes(alloc)?,
+            lead: self.number(),
+            position: self.number_after(b"position"),
+            turn: self.turn(),
+            king: self.number_after(b"king"),
+            same: self.number_after(b"same"),
+            least: self.number_or_none_after(b"least"),
         })
     }
 
     /// What a node hears, if the line goes on.
     fn heard_or_nothing(&mut self, alloc: Global) -> Result<Option<Heard>, TraceFault> {
-        match self.words.next() {
-            None => Ok(None),
-            Some(word) => {
-                if word != b"votes".as_slice() {
-                    return Err(TraceFault::Unwanted);
-                }
-                Ok(Some(self.heard(alloc)?))
-            }
+        let Some(word) = self.words.next() else {
+            return Ok(None);
+        };
+        self.want(word == b"votes".as_slice());
+        if self.is_unwanted {
+            return Ok(None);
         }
+        Ok(Some(self.heard(alloc)?))
     }
 
     /// A register, behind the word `level`.
     fn register(&mut self, alloc: Global) -> Result<Register, TraceFault> {
-        let level = self.number()?;
-        self.pass(b"value")?;
-        let value = self.number_or_none()?;
-        let held = self.held()?;
         Ok(Register {
-            level,
-            value,
-            held,
+            level: self.number(),
+            value: self.number_or_none_after(b"value"),
+            held: self.held(),
             heard: self.heard_or_nothing(alloc)?,
         })
     }
 
     /// What a node shows, behind the word `number`.
-    fn output(&mut self) -> Result<Output, TraceFault> {
-        let number = self.number_or_none()?;
-        Ok(Output {
-            number,
-            output: self.number_after(b"output")?,
-        })
+    fn output(&mut self) -> Output {
+        Output {
+            number: self.number_or_none(),
+            output: self.number_after(b"output"),
+        }
     }
 
     /// What a line is about, of which this is the first word.
     fn seen(&mut self, alloc: Global, word: &[u8]) -> Result<Seen, TraceFault> {
-        if word == b"number".as_slice() {
-            return Ok(Seen::Shows(self.output()?));
-        }
         if word == b"level".as_slice() {
             return Ok(Seen::Holds(self.register(alloc)?));
         }
-        Err(TraceFault::Unwanted)
+        self.want(word == b"number".as_slice());
+        Ok(Seen::Shows(self.output()))
     }
 }
 
@@ -223,17 +246,18 @@ const MOST_BLOCKS: usize = 257;
 pub fn trace_line(alloc: Global, line: &[u8]) -> Result<TraceLine, TraceFault> {
     let mut reader = Reader {
         words: Words::new(line),
+        is_unwanted: false,
     };
-    reader.pass(b"at")?;
-    let t = next_number(&mut reader.words).ok_or(TraceFault::Unwanted)?;
-    let node = reader.number_after(b"node")?;
-    let mut word = reader.word()?;
+    reader.pass(b"at");
+    let t = reader.small_number();
+    let node = reader.number_after(b"node");
+    let mut word = reader.word();
     let is_faulty = word == b"faulty".as_slice();
     if is_faulty {
-        word = reader.word()?;
+        word = reader.word();
     }
     let seen = reader.seen(alloc, word)?;
-    if reader.words.next().is_some() {
+    if reader.is_unwanted || reader.words.next().is_some() {
         return Err(TraceFault::Unwanted);
     }
     Ok(TraceLine {

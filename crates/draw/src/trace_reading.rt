@@ -14,7 +14,7 @@ const MOST_NODES: usize = 256;
 pub const MOST_LEVELS: u64 = 16;
 
 /// A trace of which the front was read.
-#[derive(Debug, Drop)]
+#[derive(Drop)]
 struct Draft {
     trace: Trace,
     /// The nodes of the first configuration, and of each other one.

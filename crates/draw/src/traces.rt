@@ -5,7 +5,7 @@ ghost use Rattle.std.specs.Prelude.{◌≡◌};
 use crate::frames::Frame;
 
 /// How a register holds its value.
-#[derive(Clone, Copy, Debug, PartialEq, Eq)]
+#[derive(Clone, Copy)]
 pub enum Held {
     Unmarked,
     Marked,
@@ -13,7 +13,7 @@ pub enum Held {
 }
 
 /// Which of its three instructions a king's turn has come to.
-#[derive(Clone, Copy, Debug, PartialEq, Eq)]
+#[derive(Clone, Copy, PartialEq, Eq)]
 pub enum Turn {
     Keep,
     Mark,
@@ -21,7 +21,6 @@ pub enum Turn {
 }
 
 /// What a node makes of what it hears at a level.
-#[derive(Debug, Drop)]
 pub struct Heard {
     /// The vote of each block.
     pub votes: Vec<u64>,
@@ -33,15 +32,30 @@ pub struct Heard {
     pub least: Option<u64>,
 }
 
+// Written out, so that what lets go of one calls this, and no more.
+impl Drop for Heard {
+    fn drop(self) {
+        let Heard {
+            votes,
+            lead: _,
+            position: _,
+            turn: _,
+            king: _,
+            same: _,
+            least: _,
+        } = self;
+        drop(votes);
+    }
+}
+
 /// What a node shows, and its number if it has one.
-#[derive(Clone, Copy, Debug)]
+#[derive(Clone, Copy)]
 pub struct Output {
     pub number: Option<u64>,
     pub output: u64,
 }
 
 /// A register, and what the node hears at its level, if it goes on.
-#[derive(Debug, Drop)]
 pub struct Register {
     pub level: u64,
     pub value: Option<u64>,
@@ -49,15 +63,27 @@ pub struct Register {
     pub heard: Option<Heard>,
 }
 
+// Written out, so that what lets go of one calls this, and no more.
+impl Drop for Register {
+    fn drop(self) {
+        let Register {
+            level: _,
+            value: _,
+            held: _,
+            heard,
+        } = self;
+        drop(heard);
+    }
+}
+
 /// What a line is about.
-#[derive(Debug, Drop)]
+#[derive(Drop)]
 pub enum Seen {
     Shows(Output),
     Holds(Register),
 }
 
 /// A line of a trace, and where it is drawn.
-#[derive(Debug, Drop)]
 pub struct Note {
     /// How many configurations stand before that of the line.
     pub column: u32,
@@ -72,8 +98,24 @@ pub struct Note {
     pub seen: Seen,
 }
 
+// Written out, so that what lets go of one calls this, and no more.
+impl Drop for Note {
+    fn drop(self) {
+        let Note {
+            column: _,
+            top: _,
+            node: _,
+            is_first: _,
+            is_faulty: _,
+            is_hit: _,
+            seen,
+        } = self;
+        drop(seen);
+    }
+}
+
 /// A king's turn, as some correct nodes hear it.
-#[derive(Clone, Copy, Debug)]
+#[derive(Clone, Copy)]
 pub struct Reign {
     pub column: u32,
     pub level: u64,
@@ -88,7 +130,7 @@ pub struct Reign {
 }
 
 /// The word before a strip, in a band.
-#[derive(Clone, Copy, Debug)]
+#[derive(Clone, Copy)]
 pub struct Title {
     pub column: u32,
     pub top: u32,
@@ -96,7 +138,7 @@ pub struct Title {
 }
 
 /// A level, in the caption.
-#[derive(Clone, Copy, Debug)]
+#[derive(Clone, Copy)]
 pub struct Level {
     /// How many stand before it.
     pub place: u32,
@@ -106,7 +148,6 @@ pub struct Level {
 }
 
 /// What `trace` wrote, and what is drawn of it.
-#[derive(Debug)]
 pub struct Trace {
     pub frame: Frame,
     pub nodes: u16,
