@@ -31,6 +31,12 @@ impl Draws {
                 script = self.script(plan, version)?;
             }
         }
+        self.lengthen(plan, &mut script);
+        Ok(script)
+    }
+
+    /// Makes the eras of a script so long, and mostly its rules.
+    fn lengthen(&mut self, plan: &Plan, script: &mut Script) {
         let slots = plan.slot().wrapping_add(1).wrapping_mul(4);
         let mut first = 0u64;
         for era in script.eras.iter_mut() {
@@ -55,6 +61,5 @@ impl Draws {
                 rule.last = script.rounds.max(rule.first);
             }
         }
-        Ok(script)
     }
 }

@@ -3,7 +3,7 @@
 use crate::draws::{Centre, Draws};
 use reference::plans::{Plan, quotient};
 use reference::scripts::{Era, Lie, Receivers, Rule, Script, Start};
-use std::alloc::AllocError;
+use std::alloc::{AllocError, Global};
 
 impl Draws {
     /// Faulty nodes: mostly as many as the plan stands.
@@ -29,15 +29,23 @@ impl Draws {
         for node in 0..plan.nodes() {
             if !self.once_in(often) {
                 let group = quotient(node, plan.group(1));
-                let bytes = if group % 2 == 0 {
-                    self.state(plan, node, centre)?
-                } else {
-                    self.state(plan, node, &other)?
-                };
+                let near = if group % 2 == 0 { centre } else { &other };
+                let bytes = self.state(plan, node, near)?;
                 starts.push(Start { node, bytes })?;
             }
         }
         Ok(starts)
+    }
+
+    /// An era from a configuration on.
+    fn era(&mut self, plan: &Plan, first: u64, centre: &Centre) -> Result<Era, AllocError> {
+        let faulty = self.faulty(plan)?;
+        let often = self.between(1, 3);
+        Ok(Era {
+            first,
+            faulty,
+            starts: self.starts(plan, centre, often)?,
+        })
     }
 
     /// Some eras within so many rounds.
@@ -49,14 +57,7 @@ impl Draws {
             if first > rounds {
                 break;
             }
-            let faulty = self.faulty(plan)?;
-            let often = self.between(1, 3);
-            let starts = self.starts(plan, centre, often)?;
-            eras.push(Era {
-                first,
-                faulty,
-                starts,
-            })?;
+            eras.push(self.era(plan, first, centre)?)?;
         }
         Ok(eras)
     }
@@ -95,6 +96,26 @@ impl Draws {
         })
     }
 
+    /// A rule for a node that is faulty at some time.
+    fn rule(
+        &mut self,
+        plan: &Plan,
+        faulty: &[u64],
+        groups: u64,
+        centre: &Centre,
+    ) -> Result<Rule, AllocError> {
+        let place = self.below(faulty.len() as u64);
+        let sender = faulty.get(place as usize).copied().unwrap_or(0);
+        let first = if self.once_in(2) { 0 } else { self.below(8) };
+        Ok(Rule {
+            first,
+            last: self.between(first, 12),
+            sender,
+            receivers: self.receivers(plan, groups),
+            lie: self.lie(plan, sender, centre)?,
+        })
+    }
+
     /// Rules for nodes that are faulty at some time.
     fn rules(
         &mut self,
@@ -106,16 +127,7 @@ impl Draws {
         let mut rules = Vec::new(self.alloc);
         let most = (faulty.len() as u64).wrapping_mul(4);
         for _ in 0..self.between(most.min(1), most) {
-            let place = self.below(faulty.len() as u64);
-            let sender = faulty.get(place as usize).copied().unwrap_or(0);
-            let first = if self.once_in(2) { 0 } else { self.below(8) };
-            rules.push(Rule {
-                first,
-                last: self.between(first, 12),
-                sender,
-                receivers: self.receivers(plan, groups),
-                lie: self.lie(plan, sender, centre)?,
-            })?;
+            rules.push(self.rule(plan, faulty, groups, centre)?)?;
         }
         Ok(rules)
     }
@@ -140,36 +152,67 @@ impl Draws {
         }
     }
 
-    /// A script of a version for a plan.
-    pub fn script(&mut self, plan: &Plan, version: u64) -> Result<Script, AllocError> {
-        let faulty = self.faulty(plan)?;
-        let centre = self.centre(plan)?;
-        let rounds = self.rounds();
-        let eras = if version == 2 {
-            self.eras(plan, rounds, &centre)?
-        } else {
-            Vec::new(self.alloc)
-        };
-        let mut liars = Vec::from_slice(self.alloc, &faulty)?;
-        for era in &eras {
-            liars.extend_from_slice(&era.faulty)?;
-        }
-        let groups = self.groups(plan)?;
-        let rules = self.rules(plan, &liars, groups.len() as u64, &centre)?;
-        let (first, last) = self.shown(rounds);
-        let often = self.between(2, 12);
+    /// A script of a version for a plan, with nodes that are faulty and nothing else.
+    fn bare_script(&mut self, plan: &Plan, version: u64) -> Result<Script, AllocError> {
         Ok(Script {
             version,
-            faulty,
-            key: self.key(),
-            noisy: self.once_in(2),
-            starts: self.starts(plan, &centre, often)?,
-            eras,
-            groups,
-            rules,
-            rounds,
-            first,
-            last,
+            faulty: self.faulty(plan)?,
+            key: None,
+            noisy: false,
+            starts: Vec::new(self.alloc),
+            eras: Vec::new(self.alloc),
+            groups: Vec::new(self.alloc),
+            rules: Vec::new(self.alloc),
+            rounds: 0,
+            first: 0,
+            last: 0,
         })
     }
+
+    /// Puts groups and rules into a script.
+    fn draw_rules(
+        &mut self,
+        plan: &Plan,
+        script: &mut Script,
+        centre: &Centre,
+    ) -> Result<(), AllocError> {
+        let liars = liars(self.alloc, script)?;
+        script.groups = self.groups(plan)?;
+        script.rules = self.rules(plan, &liars, script.groups.len() as u64, centre)?;
+        Ok(())
+    }
+
+    /// Puts the rest into a script.
+    fn draw_rest(&mut self, plan: &Plan, script: &mut Script) -> Result<(), AllocError> {
+        let centre = self.centre(plan)?;
+        script.rounds = self.rounds();
+        if script.version == 2 {
+            script.eras = self.eras(plan, script.rounds, &centre)?;
+        }
+        self.draw_rules(plan, script, &centre)?;
+        let (first, last) = self.shown(script.rounds);
+        script.first = first;
+        script.last = last;
+        let often = self.between(2, 12);
+        script.key = self.key();
+        script.noisy = self.once_in(2);
+        script.starts = self.starts(plan, &centre, often)?;
+        Ok(())
+    }
+
+    /// A script of a version for a plan.
+    pub fn script(&mut self, plan: &Plan, version: u64) -> Result<Script, AllocError> {
+        let mut script = self.bare_script(plan, version)?;
+        self.draw_rest(plan, &mut script)?;
+        Ok(script)
+    }
+}
+
+/// The nodes of a script that are faulty at some time.
+fn liars(alloc: Global, script: &Script) -> Result<Vec<u64>, AllocError> {
+    let mut liars = Vec::from_slice(alloc, &script.faulty)?;
+    for era in &script.eras {
+        liars.extend_from_slice(&era.faulty)?;
+    }
+    Ok(liars)
 }

@@ -14,10 +14,17 @@ pub struct Draws {
 }
 
 /// What states are near to: a number, and a value for each register.
-#[derive(Drop)]
 pub struct Centre {
     x: u64,
     values: Vec<u64>,
+}
+
+// Written out, so that what lets go of one calls this, and no more.
+impl Drop for Centre {
+    fn drop(self) {
+        let Centre { x: _, values } = self;
+        drop(values);
+    }
 }
 
 impl Draws {

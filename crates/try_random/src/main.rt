@@ -7,6 +7,7 @@ mod drawn_layers;
 mod drawn_plans;
 mod drawn_scripts;
 mod draws;
+mod inputs;
 mod plain_check;
 mod plain_consensus;
 mod plain_explain;

@@ -4,7 +4,7 @@ use crate::comparing::is_answered;
 use crate::draws::Draws;
 use reference::certificates::certificate;
 use reference::judgements::judged;
-use std::alloc::AllocError;
+use std::alloc::{AllocError, Global};
 
 /// How many scripts are drawn, for each version of plans and of scripts.
 const DRAWN_SCRIPTS: u64 = 15;
@@ -26,26 +26,39 @@ fn lines_of(draws: &Draws, text: &[u8]) -> Result<Vec<Vec<u8>>, AllocError> {
     Ok(lines)
 }
 
+/// Lines one after the other, those of some places in place of the one at a place.
+fn joined(
+    alloc: Global,
+    lines: &[Vec<u8>],
+    place: usize,
+    others: &[usize],
+) -> Result<Vec<u8>, AllocError> {
+    let mut joined = Vec::new(alloc);
+    for line in lines.iter().take(place) {
+        joined.extend_from_slice(line)?;
+    }
+    for other in others {
+        if let Some(line) = lines.get(*other) {
+            joined.extend_from_slice(line)?;
+        }
+    }
+    for line in lines.iter().skip(place.saturating_add(1)) {
+        joined.extend_from_slice(line)?;
+    }
+    Ok(joined)
+}
+
 impl Draws {
     /// The lines of a text with one that is left out, doubled, or has another one's place.
     fn with_other_lines(&mut self, text: &[u8]) -> Result<Vec<u8>, AllocError> {
         let lines = lines_of(self, text)?;
         let place = self.below(lines.len() as u64) as usize;
         let other = self.below(lines.len() as u64) as usize;
-        let change = self.below(3);
-        let mut changed = Vec::new(self.alloc);
-        for (i, line) in lines.iter().enumerate() {
-            if i != place {
-                changed.extend_from_slice(line)?;
-            } else if change == 1 {
-                changed.extend_from_slice(line)?;
-                changed.extend_from_slice(line)?;
-            } else if change == 2 {
-                let swapped = lines.get(other).unwrap_or(line);
-                changed.extend_from_slice(swapped)?;
-            }
+        match self.below(3) {
+            0 => joined(self.alloc, &lines, place, &[]),
+            1 => joined(self.alloc, &lines, place, &[place, place]),
+            _ => joined(self.alloc, &lines, place, &[other]),
         }
-        Ok(changed)
     }
 
     /// A text with another byte at a place, or one more.
@@ -93,6 +106,17 @@ fn is_judged(rt: &HostRuntime, text: &[u8]) -> anyhow::Result<bool> {
     Ok(same)
 }
 
+/// The certificate of a script that is drawn.
+fn drawn_certificate(
+    draws: &mut Draws,
+    plan_version: u64,
+    script_version: u64,
+) -> Result<String, AllocError> {
+    let plan = draws.plan(plan_version)?;
+    let script = draws.script(&plan, script_version)?;
+    certificate(draws.alloc, &plan, &script)
+}
+
 /// Whether the certificate of a script that is drawn is judged, and so are changes of it.
 fn try_script(
     rt: &HostRuntime,
@@ -100,9 +124,7 @@ fn try_script(
     plan_version: u64,
     script_version: u64,
 ) -> anyhow::Result<bool> {
-    let plan = draws.plan(plan_version)?;
-    let script = draws.script(&plan, script_version)?;
-    let text = certificate(rt.alloc(), &plan, &script)?;
+    let text = drawn_certificate(draws, plan_version, script_version)?;
     let mut same = is_judged(rt, text.as_bytes())?;
     for _ in 0..CHANGES {
         let changed = draws.changed(text.as_bytes())?;
@@ -112,15 +134,26 @@ fn try_script(
     Ok(same)
 }
 
+/// How many certificates of scripts of a version, on plans of a version, are judged alike.
+fn agreeing(
+    rt: &HostRuntime,
+    draws: &mut Draws,
+    plan_version: u64,
+    script_version: u64,
+) -> anyhow::Result<u64> {
+    let mut same = 0u64;
+    for _ in 0..DRAWN_SCRIPTS {
+        if try_script(rt, draws, plan_version, script_version)? {
+            same = same.wrapping_add(1);
+        }
+    }
+    Ok(same)
+}
+
 /// Tries certificates of scripts that are drawn.
 pub fn try_all(rt: &HostRuntime, draws: &mut Draws) -> anyhow::Result<()> {
     for (plan_version, script_version) in [(1, 1), (1, 2), (2, 1), (2, 2)] {
-        let mut same = 0u64;
-        for _ in 0..DRAWN_SCRIPTS {
-            if try_script(rt, draws, plan_version, script_version)? {
-                same = same.wrapping_add(1);
-            }
-        }
+        let same = agreeing(rt, draws, plan_version, script_version)?;
         println!(rt;
             "drawn plans {plan_version}, script {script_version}: {same} of {DRAWN_SCRIPTS} certificates are judged alike"
         )?;

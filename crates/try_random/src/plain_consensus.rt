@@ -3,8 +3,9 @@
 use crate::comparing::agrees;
 use crate::drawn_layers::{PLANS_WITH_SLOTS, plan_with_slots};
 use crate::draws::Draws;
+use crate::inputs::{plan_text, refusal_of};
 use reference::agreements::Agreement;
-use reference::input_texts::{write_numbers, write_plan, write_script};
+use reference::input_texts::{write_numbers, write_script};
 use reference::layers::answer;
 use reference::plans::{Plan, remainder};
 use std::alloc::{AllocError, Global};
@@ -33,9 +34,7 @@ fn refusal(
     } else {
         return Ok(None);
     };
-    let mut text = String::new(alloc);
-    writeln!(text, "refused agree line {line} rule {rule}")?;
-    Ok(Some(text))
+    Ok(Some(refusal_of(alloc, "agree", line, rule)?))
 }
 
 impl Draws {
@@ -80,6 +79,17 @@ fn write_agreement(text: &mut String, agreement: &Agreement) -> Result<(), Alloc
     writeln!(text, "\nend")
 }
 
+/// The lines of a plan and of an agreement.
+fn agreement_input(
+    alloc: Global,
+    plan: &Plan,
+    agreement: &Agreement,
+) -> Result<String, AllocError> {
+    let mut input = plan_text(alloc, plan)?;
+    write_agreement(&mut input, agreement)?;
+    Ok(input)
+}
+
 /// Whether an agreement and a script of a version that are drawn for a plan agree.
 fn try_script(
     rt: &HostRuntime,
@@ -90,9 +100,7 @@ fn try_script(
     let mut agreement = draws.agreement(plan)?;
     plan.set_layer(1, agreement.values);
     let script = draws.long_script(plan, version)?;
-    let mut input = String::new(rt.alloc());
-    write_plan(&mut input, plan)?;
-    write_agreement(&mut input, &agreement)?;
+    let mut input = agreement_input(rt.alloc(), plan, &agreement)?;
     write_script(&mut input, &script)?;
     let wanted = answer(rt.alloc(), plan, &mut agreement, &script)?;
     agrees(rt, "consensus", input.as_str(), wanted.as_str(), 0)
@@ -103,9 +111,7 @@ fn try_refused(rt: &HostRuntime, draws: &mut Draws, version: u64) -> anyhow::Res
     let plan = draws.plan(version)?;
     let mut agreement = draws.agreement(&plan)?;
     draws.spoil_agreement(&mut agreement)?;
-    let mut input = String::new(rt.alloc());
-    write_plan(&mut input, &plan)?;
-    write_agreement(&mut input, &agreement)?;
+    let input = agreement_input(rt.alloc(), &plan, &agreement)?;
     match refusal(rt.alloc(), &plan, &agreement)? {
         Some(wanted) => agrees(rt, "consensus", input.as_str(), wanted.as_str(), 3),
         None => Ok(false),
@@ -126,18 +132,24 @@ fn agreeing(rt: &HostRuntime, draws: &mut Draws, version: u64) -> anyhow::Result
     Ok(same)
 }
 
+/// How many of the agreements of a version that may be refused agree.
+fn agreeing_refusals(rt: &HostRuntime, draws: &mut Draws, version: u64) -> anyhow::Result<u64> {
+    let mut same = 0u64;
+    for _ in 0..20 {
+        if try_refused(rt, draws, version)? {
+            same = same.wrapping_add(1);
+        }
+    }
+    Ok(same)
+}
+
 /// Tries agreements on plans with slots, and ones that are refused.
 pub fn try_all(rt: &HostRuntime, draws: &mut Draws) -> anyhow::Result<()> {
     let all = PLANS_WITH_SLOTS * DRAWN_SCRIPTS;
     for version in 1..=2 {
         let same = agreeing(rt, draws, version)?;
         println!(rt; "script {version}: {same} of {all} runs of consensus agree")?;
-        let mut refused = 0u64;
-        for _ in 0..20 {
-            if try_refused(rt, draws, version)? {
-                refused = refused.wrapping_add(1);
-            }
-        }
+        let refused = agreeing_refusals(rt, draws, version)?;
         println!(rt; "drawn plans {version}: {refused} of 20 spoiled agreements agree")?;
     }
     Ok(())

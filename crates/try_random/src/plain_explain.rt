@@ -3,8 +3,8 @@
 
 use crate::comparing::agrees;
 use crate::draws::Draws;
+use crate::inputs::input_of;
 use reference::explanations::answer;
-use reference::input_texts::{write_plan, write_script};
 use reference::plans::Plan;
 use reference::scripts::Script;
 use std::alloc::AllocError;
@@ -40,6 +40,13 @@ impl Draws {
     }
 }
 
+/// Whether a script agrees.
+fn try_script(rt: &HostRuntime, plan: &Plan, script: &Script) -> anyhow::Result<bool> {
+    let input = input_of(rt.alloc(), plan, script)?;
+    let wanted = answer(rt.alloc(), plan, script)?;
+    agrees(rt, "explain", input.as_str(), wanted.as_str(), 0)
+}
+
 /// How many of the scripts of a version that are drawn for a plan agree.
 fn agreeing(
     rt: &HostRuntime,
@@ -51,15 +58,23 @@ fn agreeing(
     let mut same = 0u64;
     for _ in 0..DRAWN_SCRIPTS {
         let script = draws.explained_script(plan, version, most)?;
-        let mut input = String::new(rt.alloc());
-        write_plan(&mut input, plan)?;
-        write_script(&mut input, &script)?;
-        let wanted = answer(rt.alloc(), plan, &script)?;
-        if agrees(rt, "explain", input.as_str(), wanted.as_str(), 0)? {
+        if try_script(rt, plan, &script)? {
             same = same.wrapping_add(1);
         }
     }
     Ok(same)
+}
+
+/// Tries scripts of both versions on a plan.
+fn try_plan(rt: &HostRuntime, draws: &mut Draws, plan: &Plan, most: u64) -> anyhow::Result<()> {
+    let nodes = plan.nodes();
+    for version in 1..=2 {
+        let same = agreeing(rt, draws, plan, version, most)?;
+        println!(rt;
+            "{nodes} nodes, script {version}: {same} of {DRAWN_SCRIPTS} explanations agree"
+        )?;
+    }
+    Ok(())
 }
 
 /// Tries scripts on given plans.
@@ -75,13 +90,7 @@ pub fn try_all(rt: &HostRuntime, draws: &mut Draws) -> anyhow::Result<()> {
     ];
     for (plan_version, base, most, levels) in rows {
         let plan = Plan::of(rt.alloc(), plan_version, base, levels)?;
-        let nodes = plan.nodes();
-        for version in 1..=2 {
-            let same = agreeing(rt, draws, &plan, version, most)?;
-            println!(rt;
-                "{nodes} nodes, script {version}: {same} of {DRAWN_SCRIPTS} explanations agree"
-            )?;
-        }
+        try_plan(rt, draws, &plan, most)?;
     }
     Ok(())
 }

@@ -2,8 +2,10 @@
 
 use crate::comparing::agrees;
 use crate::draws::Draws;
+use crate::inputs::refusal_of;
 use reference::premises::MOST;
 use reference::wants::{Want, answer};
+use std::alloc::{AllocError, Global};
 
 /// How many wants are drawn.
 const DRAWN_WANTS: u64 = 40;
@@ -28,26 +30,31 @@ impl Draws {
     }
 }
 
-/// Whether a want is answered.
-fn try_want(rt: &HostRuntime, want: Want) -> anyhow::Result<bool> {
+/// The lines of a want.
+fn find_input(alloc: Global, want: Want) -> Result<String, AllocError> {
     let Want {
         faults,
         modulus,
         most,
     } = want;
-    let mut input = String::new(rt.alloc());
+    let mut input = String::new(alloc);
     writeln!(input, "find 1\nwant {faults} {modulus} {most}\nend")?;
+    Ok(input)
+}
+
+/// What is written, and the exit code.
+fn wanted_of(alloc: Global, want: Want) -> Result<(String, u8), AllocError> {
     match want.broken_rule() {
-        Some(rule) => {
-            let mut wanted = String::new(rt.alloc());
-            writeln!(wanted, "refused find line 2 rule {rule}")?;
-            agrees(rt, "find", input.as_str(), wanted.as_str(), 3)
-        }
-        None => {
-            let wanted = answer(rt.alloc(), want)?;
-            agrees(rt, "find", input.as_str(), wanted.as_str(), 0)
-        }
+        Some(rule) => Ok((refusal_of(alloc, "find", 2, rule)?, 3)),
+        None => Ok((answer(alloc, want)?, 0)),
     }
+}
+
+/// Whether a want is answered.
+fn try_want(rt: &HostRuntime, want: Want) -> anyhow::Result<bool> {
+    let input = find_input(rt.alloc(), want)?;
+    let (wanted, code) = wanted_of(rt.alloc(), want)?;
+    agrees(rt, "find", input.as_str(), wanted.as_str(), code)
 }
 
 /// Tries wants that are drawn.

@@ -4,8 +4,9 @@
 use crate::comparing::agrees;
 use crate::drawn_layers::{PLANS_WITH_SLOTS, plan_with_slots};
 use crate::draws::Draws;
+use crate::inputs::{plan_text, refusal_of};
 use reference::firings::{Firing, Request, broken_rule};
-use reference::input_texts::{write_plan, write_script};
+use reference::input_texts::write_script;
 use reference::layers::answer;
 use reference::plans::{Plan, remainder};
 use std::alloc::{AllocError, Global};
@@ -13,8 +14,8 @@ use std::alloc::{AllocError, Global};
 /// How many scripts are drawn, for each plan and each version of scripts.
 const DRAWN_SCRIPTS: u64 = 2;
 
-/// What is written where the part is refused, and none where it is not.
-fn refusal(alloc: Global, plan: &Plan, requests: &[Request]) -> Result<Option<String>, AllocError> {
+/// What is written where the part is refused, or else the script that is not there.
+fn refusal(alloc: Global, plan: &Plan, requests: &[Request]) -> Result<String, AllocError> {
     let mut line = (plan.levels.len() as u64).wrapping_add(4);
     let mut rule = None;
     if remainder(plan.modulus(), plan.slot()) != 0 {
@@ -27,18 +28,20 @@ fn refusal(alloc: Global, plan: &Plan, requests: &[Request]) -> Result<Option<St
         }
     }
     match rule {
-        Some(rule) => {
-            let mut text = String::new(alloc);
-            writeln!(text, "refused fire line {line} rule {rule}")?;
-            Ok(Some(text))
+        Some(rule) => refusal_of(alloc, "fire", line, rule),
+        None => {
+            let plan_lines = (plan.levels.len() as u64).wrapping_add(3);
+            let line = plan_lines
+                .wrapping_add(requests.len() as u64)
+                .wrapping_add(3);
+            refusal_of(alloc, "script", line, "form")
         }
-        None => Ok(None),
     }
 }
 
 impl Draws {
-    /// Requests in so many rounds: mostly many, so that all correct nodes request at times.
-    fn requests(&mut self, plan: &Plan, rounds: u64) -> Result<Vec<Request>, AllocError> {
+    /// Requests of most nodes in the same rounds.
+    fn common_requests(&mut self, plan: &Plan, rounds: u64) -> Result<Vec<Request>, AllocError> {
         let mut requests = Vec::new(self.alloc);
         for _ in 0..self.below(3) {
             let first = self.below(rounds);
@@ -49,6 +52,12 @@ impl Draws {
                 }
             }
         }
+        Ok(requests)
+    }
+
+    /// Requests in so many rounds: mostly many, so that all correct nodes request at times.
+    fn requests(&mut self, plan: &Plan, rounds: u64) -> Result<Vec<Request>, AllocError> {
+        let mut requests = self.common_requests(plan, rounds)?;
         for _ in 0..self.below(plan.nodes().wrapping_mul(8)) {
             let first = self.below(rounds);
             requests.push(Request {
@@ -80,6 +89,13 @@ fn write_requests(text: &mut String, requests: &[Request]) -> Result<(), AllocEr
     writeln!(text, "end")
 }
 
+/// The lines of a plan and of requests.
+fn requests_input(alloc: Global, plan: &Plan, requests: &[Request]) -> Result<String, AllocError> {
+    let mut input = plan_text(alloc, plan)?;
+    write_requests(&mut input, requests)?;
+    Ok(input)
+}
+
 /// Whether requests and a script of a version that are drawn for a plan agree.
 fn try_script(
     rt: &HostRuntime,
@@ -91,9 +107,7 @@ fn try_script(
     plan.set_layer(1, 2);
     let script = draws.long_script(plan, version)?;
     let requests = draws.requests(plan, script.rounds)?;
-    let mut input = String::new(alloc);
-    write_plan(&mut input, plan)?;
-    write_requests(&mut input, &requests)?;
+    let mut input = requests_input(alloc, plan, &requests)?;
     write_script(&mut input, &script)?;
     let mut firing = Firing::new(alloc, plan, requests)?;
     let wanted = answer(alloc, plan, &mut firing, &script)?;
@@ -106,21 +120,8 @@ fn try_refused(rt: &HostRuntime, draws: &mut Draws, version: u64) -> anyhow::Res
     let plan = draws.plan(version)?;
     let mut requests = draws.requests(&plan, 10)?;
     requests.push(draws.any_request(&plan))?;
-    let mut input = String::new(rt.alloc());
-    write_plan(&mut input, &plan)?;
-    write_requests(&mut input, &requests)?;
-    let wanted = match refusal(rt.alloc(), &plan, &requests)? {
-        Some(wanted) => wanted,
-        None => {
-            let plan_lines = (plan.levels.len() as u64).wrapping_add(3);
-            let line = plan_lines
-                .wrapping_add(requests.len() as u64)
-                .wrapping_add(3);
-            let mut text = String::new(rt.alloc());
-            writeln!(text, "refused script line {line} rule form")?;
-            text
-        }
-    };
+    let input = requests_input(rt.alloc(), &plan, &requests)?;
+    let wanted = refusal(rt.alloc(), &plan, &requests)?;
     agrees(rt, "fire", input.as_str(), wanted.as_str(), 3)
 }
 
@@ -138,18 +139,24 @@ fn agreeing(rt: &HostRuntime, draws: &mut Draws, version: u64) -> anyhow::Result
     Ok(same)
 }
 
+/// How many of the requests of a version that may be refused agree.
+fn agreeing_refusals(rt: &HostRuntime, draws: &mut Draws, version: u64) -> anyhow::Result<u64> {
+    let mut same = 0u64;
+    for _ in 0..20 {
+        if try_refused(rt, draws, version)? {
+            same = same.wrapping_add(1);
+        }
+    }
+    Ok(same)
+}
+
 /// Tries requests on plans with slots, and ones that are refused.
 pub fn try_all(rt: &HostRuntime, draws: &mut Draws) -> anyhow::Result<()> {
     let all = PLANS_WITH_SLOTS * DRAWN_SCRIPTS;
     for version in 1..=2 {
         let same = agreeing(rt, draws, version)?;
         println!(rt; "script {version}: {same} of {all} runs of firing agree")?;
-        let mut refused = 0u64;
-        for _ in 0..20 {
-            if try_refused(rt, draws, version)? {
-                refused = refused.wrapping_add(1);
-            }
-        }
+        let refused = agreeing_refusals(rt, draws, version)?;
         println!(rt; "drawn plans {version}: {refused} of 20 refusals of firing agree")?;
     }
     Ok(())

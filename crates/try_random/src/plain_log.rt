@@ -3,7 +3,8 @@
 use crate::comparing::agrees;
 use crate::drawn_layers::{PLANS_WITH_SLOTS, plan_with_slots};
 use crate::draws::Draws;
-use reference::input_texts::{write_numbers, write_plan, write_script};
+use crate::inputs::{plan_text, refusal_of};
+use reference::input_texts::{write_numbers, write_script};
 use reference::layers::answer;
 use reference::logs::{Commands, Replica, broken_commands, length_of_entry};
 use reference::plans::{Plan, remainder};
@@ -48,13 +49,8 @@ fn write_log(text: &mut String, lines: &Commands) -> Result<(), AllocError> {
 }
 
 impl Draws {
-    /// The lines of a log, with some commands of each node.
-    fn log(&mut self, plan: &Plan) -> Result<Commands, AllocError> {
-        let values = if self.once_in(2) {
-            2
-        } else {
-            self.between(3, 65536)
-        };
+    /// Some commands of each node.
+    fn commands(&mut self, plan: &Plan, values: u64) -> Result<Vec<Vec<u64>>, AllocError> {
         let mut commands = Vec::new(self.alloc);
         for _ in 0..plan.nodes() {
             let mut own = Vec::new(self.alloc);
@@ -63,6 +59,17 @@ impl Draws {
             }
             commands.push(own)?;
         }
+        Ok(commands)
+    }
+
+    /// The lines of a log, with some commands of each node.
+    fn log(&mut self, plan: &Plan) -> Result<Commands, AllocError> {
+        let values = if self.once_in(2) {
+            2
+        } else {
+            self.between(3, 65536)
+        };
+        let commands = self.commands(plan, values)?;
         Ok(Commands {
             values,
             keep: self.between(1, 4),
@@ -92,6 +99,25 @@ impl Draws {
     }
 }
 
+/// The lines of a plan and of a log.
+fn log_input(alloc: Global, plan: &Plan, lines: &Commands) -> Result<String, AllocError> {
+    let mut input = plan_text(alloc, plan)?;
+    write_log(&mut input, lines)?;
+    Ok(input)
+}
+
+/// What is written where a log is refused, or else the script that is not there.
+fn refusal(alloc: Global, plan: &Plan, lines: &Commands) -> Result<String, AllocError> {
+    let first = (plan.levels.len() as u64).wrapping_add(4);
+    match broken(plan, lines) {
+        Some((place, rule)) => refusal_of(alloc, "log", first.wrapping_add(place), rule),
+        None => {
+            let line = first.wrapping_add(plan.nodes()).wrapping_add(4);
+            refusal_of(alloc, "script", line, "form")
+        }
+    }
+}
+
 /// Whether a log and a script of a version that are drawn for a plan agree.
 fn try_script(
     rt: &HostRuntime,
@@ -103,9 +129,7 @@ fn try_script(
     let lines = draws.log(plan)?;
     plan.set_layer(2, lines.values);
     let script = draws.long_script(plan, version)?;
-    let mut input = String::new(alloc);
-    write_plan(&mut input, plan)?;
-    write_log(&mut input, &lines)?;
+    let mut input = log_input(alloc, plan, &lines)?;
     write_script(&mut input, &script)?;
     let mut replica = Replica::new(alloc, plan, lines)?;
     let wanted = answer(alloc, plan, &mut replica, &script)?;
@@ -122,21 +146,8 @@ fn try_refused(rt: &HostRuntime, draws: &mut Draws, version: u64) -> anyhow::Res
     };
     let mut lines = draws.log(&plan)?;
     draws.spoil_log(&mut lines)?;
-    let mut input = String::new(rt.alloc());
-    write_plan(&mut input, &plan)?;
-    write_log(&mut input, &lines)?;
-    let first = (plan.levels.len() as u64).wrapping_add(4);
-    let mut wanted = String::new(rt.alloc());
-    match broken(&plan, &lines) {
-        Some((place, rule)) => {
-            let line = first.wrapping_add(place);
-            writeln!(wanted, "refused log line {line} rule {rule}")?;
-        }
-        None => {
-            let line = first.wrapping_add(plan.nodes()).wrapping_add(4);
-            writeln!(wanted, "refused script line {line} rule form")?;
-        }
-    }
+    let input = log_input(rt.alloc(), &plan, &lines)?;
+    let wanted = refusal(rt.alloc(), &plan, &lines)?;
     agrees(rt, "log", input.as_str(), wanted.as_str(), 3)
 }
 
@@ -154,18 +165,24 @@ fn agreeing(rt: &HostRuntime, draws: &mut Draws, version: u64) -> anyhow::Result
     Ok(same)
 }
 
+/// How many of the logs of a version that may be refused agree.
+fn agreeing_refusals(rt: &HostRuntime, draws: &mut Draws, version: u64) -> anyhow::Result<u64> {
+    let mut same = 0u64;
+    for _ in 0..20 {
+        if try_refused(rt, draws, version)? {
+            same = same.wrapping_add(1);
+        }
+    }
+    Ok(same)
+}
+
 /// Tries logs on plans with slots, and ones that are refused.
 pub fn try_all(rt: &HostRuntime, draws: &mut Draws) -> anyhow::Result<()> {
     let all = PLANS_WITH_SLOTS * DRAWN_SCRIPTS;
     for version in 1..=2 {
         let same = agreeing(rt, draws, version)?;
         println!(rt; "script {version}: {same} of {all} runs of logs agree")?;
-        let mut refused = 0u64;
-        for _ in 0..20 {
-            if try_refused(rt, draws, version)? {
-                refused = refused.wrapping_add(1);
-            }
-        }
+        let refused = agreeing_refusals(rt, draws, version)?;
         println!(rt; "drawn plans {version}: {refused} of 20 spoiled logs agree")?;
     }
     Ok(())

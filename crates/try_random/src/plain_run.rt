@@ -2,12 +2,20 @@
 
 use crate::comparing::agrees;
 use crate::draws::Draws;
-use reference::input_texts::{write_plan, write_script};
+use crate::inputs::input_of;
 use reference::plans::Plan;
 use reference::runs::answer;
+use reference::scripts::Script;
 
 /// How many plans are drawn of a version, for each version of scripts.
 const DRAWN_PLANS: u64 = 30;
+
+/// Whether a script agrees.
+fn try_script(rt: &HostRuntime, plan: &Plan, script: &Script) -> anyhow::Result<bool> {
+    let input = input_of(rt.alloc(), plan, script)?;
+    let wanted = answer(rt.alloc(), plan, script)?;
+    agrees(rt, "run", input.as_str(), wanted.as_str(), 0)
+}
 
 /// How many of so many scripts that are drawn for a plan agree.
 fn agreeing(
@@ -20,11 +28,7 @@ fn agreeing(
     let mut same = 0u64;
     for _ in 0..scripts {
         let script = draws.script(plan, version)?;
-        let mut input = String::new(rt.alloc());
-        write_plan(&mut input, plan)?;
-        write_script(&mut input, &script)?;
-        let wanted = answer(rt.alloc(), plan, &script)?;
-        if agrees(rt, "run", input.as_str(), wanted.as_str(), 0)? {
+        if try_script(rt, plan, &script)? {
             same = same.wrapping_add(1);
         }
     }
@@ -93,15 +97,26 @@ fn try_second_plans(rt: &HostRuntime, draws: &mut Draws) -> anyhow::Result<()> {
     Ok(())
 }
 
+/// How many scripts of a version agree, two for each of the plans that are drawn.
+fn agreeing_of_plans(
+    rt: &HostRuntime,
+    draws: &mut Draws,
+    version: u64,
+    script_version: u64,
+) -> anyhow::Result<u64> {
+    let mut same = 0u64;
+    for _ in 0..DRAWN_PLANS {
+        let plan = draws.plan(version)?;
+        same = same.wrapping_add(agreeing(rt, draws, &plan, script_version, 2)?);
+    }
+    Ok(same)
+}
+
 /// Tries plans of a version that are drawn, each with two scripts of each version, and one of five
 /// levels with one.
 fn try_drawn_plans(rt: &HostRuntime, draws: &mut Draws, version: u64) -> anyhow::Result<()> {
     for script_version in 1..=2 {
-        let mut same = 0u64;
-        for _ in 0..DRAWN_PLANS {
-            let plan = draws.plan(version)?;
-            same = same.wrapping_add(agreeing(rt, draws, &plan, script_version, 2)?);
-        }
+        let same = agreeing_of_plans(rt, draws, version, script_version)?;
         let all = 2 * DRAWN_PLANS;
         println!(rt; "drawn plans {version}, script {script_version}: {same} of {all} runs agree")?;
         let plan = draws.high_plan(version)?;

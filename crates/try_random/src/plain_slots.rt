@@ -2,8 +2,10 @@
 
 use crate::comparing::agrees;
 use crate::draws::Draws;
-use reference::input_texts::{write_plan, write_script};
+use crate::inputs::{plan_text, refusal_of};
+use reference::input_texts::write_script;
 use reference::plans::Plan;
+use reference::scripts::Script;
 use reference::slot_tables::{Slot, broken_rule, played};
 use std::alloc::{AllocError, Global};
 
@@ -16,9 +18,7 @@ fn refusal(alloc: Global, plan: &Plan, slots: &[Slot]) -> Result<Option<String>,
     for (place, slot) in slots.iter().enumerate() {
         let others = slots.get(..place).unwrap_or(&[]);
         if let Some(rule) = broken_rule(plan, slot, others) {
-            let mut text = String::new(alloc);
-            writeln!(text, "refused slots line {line} rule {rule}")?;
-            return Ok(Some(text));
+            return Ok(Some(refusal_of(alloc, "slots", line, rule)?));
         }
         line = line.wrapping_add(1);
     }
@@ -54,6 +54,42 @@ impl Draws {
     }
 }
 
+/// Writes the lines of slots.
+fn write_slots(text: &mut String, slots: &[Slot]) -> Result<(), AllocError> {
+    writeln!(text, "slots 1")?;
+    for slot in slots {
+        let Slot { node, first, last } = *slot;
+        writeln!(text, "slot {node} {first} {last}")?;
+    }
+    writeln!(text, "end")
+}
+
+/// The lines of a plan, of slots and of a script.
+fn slots_input(
+    alloc: Global,
+    plan: &Plan,
+    slots: &[Slot],
+    script: &Script,
+) -> Result<String, AllocError> {
+    let mut input = plan_text(alloc, plan)?;
+    write_slots(&mut input, slots)?;
+    write_script(&mut input, script)?;
+    Ok(input)
+}
+
+/// What is written, and the exit code.
+fn wanted_of(
+    alloc: Global,
+    plan: &Plan,
+    slots: &[Slot],
+    script: &Script,
+) -> Result<(String, u8), AllocError> {
+    match refusal(alloc, plan, slots)? {
+        Some(wanted) => Ok((wanted, 3)),
+        None => Ok((played(alloc, plan, slots, script)?, 0)),
+    }
+}
+
 /// Whether a slot table and a script of a version that are drawn for a plan agree.
 fn try_table(
     rt: &HostRuntime,
@@ -63,36 +99,32 @@ fn try_table(
 ) -> anyhow::Result<bool> {
     let slots = draws.slots(plan)?;
     let script = draws.script(plan, version)?;
-    let mut input = String::new(rt.alloc());
-    write_plan(&mut input, plan)?;
-    writeln!(input, "slots 1")?;
-    for slot in &slots {
-        let node = slot.node;
-        let first = slot.first;
-        let last = slot.last;
-        writeln!(input, "slot {node} {first} {last}")?;
-    }
-    writeln!(input, "end")?;
-    write_script(&mut input, &script)?;
-    match refusal(rt.alloc(), plan, &slots)? {
-        Some(wanted) => agrees(rt, "slots", input.as_str(), wanted.as_str(), 3),
-        None => {
-            let wanted = played(rt.alloc(), plan, &slots, &script)?;
-            agrees(rt, "slots", input.as_str(), wanted.as_str(), 0)
+    let input = slots_input(rt.alloc(), plan, &slots, &script)?;
+    let (wanted, code) = wanted_of(rt.alloc(), plan, &slots, &script)?;
+    agrees(rt, "slots", input.as_str(), wanted.as_str(), code)
+}
+
+/// How many slot tables agree, each with a script of a version, on plans of a version.
+fn agreeing(
+    rt: &HostRuntime,
+    draws: &mut Draws,
+    plan_version: u64,
+    script_version: u64,
+) -> anyhow::Result<u64> {
+    let mut same = 0u64;
+    for _ in 0..DRAWN_TABLES {
+        let plan = draws.plan(plan_version)?;
+        if try_table(rt, draws, &plan, script_version)? {
+            same = same.wrapping_add(1);
         }
     }
+    Ok(same)
 }
 
 /// Tries slot tables on plans that are drawn.
 pub fn try_all(rt: &HostRuntime, draws: &mut Draws) -> anyhow::Result<()> {
     for (plan_version, script_version) in [(1, 1), (1, 2), (2, 1), (2, 2)] {
-        let mut same = 0u64;
-        for _ in 0..DRAWN_TABLES {
-            let plan = draws.plan(plan_version)?;
-            if try_table(rt, draws, &plan, script_version)? {
-                same = same.wrapping_add(1);
-            }
-        }
+        let same = agreeing(rt, draws, plan_version, script_version)?;
         println!(rt;
             "drawn plans {plan_version}, script {script_version}: {same} of {DRAWN_TABLES} slot tables agree"
         )?;

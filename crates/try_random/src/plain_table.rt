@@ -3,11 +3,11 @@
 
 use crate::comparing::{agrees, is_answered};
 use crate::draws::Draws;
-use reference::input_texts::write_plan;
+use crate::inputs::plan_text;
 use reference::plans::Plan;
 use reference::premises::{MOST, broken_base, broken_level};
 use reference::tables::{Numbers, Whole, numbers_of, table_of, whole_of, write_table};
-use std::alloc::AllocError;
+use std::alloc::{AllocError, Global};
 
 /// How many plans are drawn, of each version.
 const DRAWN_PLANS: u64 = 60;
@@ -86,47 +86,58 @@ impl Draws {
     }
 }
 
-/// Whether a plan is answered with its table, or with its first line that is refused.
-fn try_plan(rt: &HostRuntime, plan: &Plan) -> anyhow::Result<bool> {
-    let mut input = String::new(rt.alloc());
-    write_plan(&mut input, plan)?;
+/// What is written of a plan, and the exit code.
+fn wanted_of(alloc: Global, plan: &Plan) -> Result<(String, u8), AllocError> {
     match broken(plan) {
         Some((line, premise)) => {
-            let mut wanted = String::new(rt.alloc());
+            let mut wanted = String::new(alloc);
             writeln!(wanted, "refused plan line {line} premise {premise}")?;
-            agrees(rt, "plan", input.as_str(), wanted.as_str(), 1)
+            Ok((wanted, 1))
         }
-        None => {
-            let wanted = table_of(rt.alloc(), plan)?;
-            agrees(rt, "plan", input.as_str(), wanted.as_str(), 0)
-        }
+        None => Ok((table_of(alloc, plan)?, 0)),
     }
+}
+
+/// Whether a plan is answered with its table, or with its first line that is refused.
+fn try_plan(rt: &HostRuntime, plan: &Plan) -> anyhow::Result<bool> {
+    let input = plan_text(rt.alloc(), plan)?;
+    let (wanted, code) = wanted_of(rt.alloc(), plan)?;
+    agrees(rt, "plan", input.as_str(), wanted.as_str(), code)
 }
 
 /// Whether the plan is answered in version 2 with its own numbers.
 fn try_upgrade(rt: &HostRuntime, plan: &mut Plan) -> anyhow::Result<bool> {
-    let mut input = String::new(rt.alloc());
-    write_plan(&mut input, plan)?;
+    let input = plan_text(rt.alloc(), plan)?;
     plan.version = 2;
-    let mut wanted = String::new(rt.alloc());
-    write_plan(&mut wanted, plan)?;
+    let wanted = plan_text(rt.alloc(), plan)?;
     agrees(rt, "upgrade", input.as_str(), wanted.as_str(), 0)
 }
 
-/// Whether a table with a wrong number is refused.
-fn try_spoiled(rt: &HostRuntime, draws: &mut Draws, plan: &Plan) -> anyhow::Result<bool> {
-    let mut all = numbers_of(rt.alloc(), plan)?;
+/// A table with a wrong number, and on which line behind that of the base.
+fn spoiled_table(draws: &mut Draws, plan: &Plan) -> Result<(String, u64), AllocError> {
+    let mut all = numbers_of(draws.alloc, plan)?;
     let mut whole = whole_of(plan);
     let place = draws.below((all.len() as u64).wrapping_add(1));
     match all.get_mut(place as usize) {
         Some(numbers) => draws.spoil(numbers),
         None => draws.spoil_whole(&mut whole),
     }
-    let mut table = String::new(rt.alloc());
+    let mut table = String::new(draws.alloc);
     write_table(&mut table, plan, &all, whole)?;
-    let line = place.wrapping_add(3);
-    let mut wanted = String::new(rt.alloc());
-    writeln!(wanted, "refused table line {line} cause value")?;
+    Ok((table, place))
+}
+
+/// What is written where a line of a table is refused by a cause.
+fn refused_table(alloc: Global, line: u64, cause: &str) -> Result<String, AllocError> {
+    let mut text = String::new(alloc);
+    writeln!(text, "refused table line {line} cause {cause}")?;
+    Ok(text)
+}
+
+/// Whether a table with a wrong number is refused.
+fn try_spoiled(rt: &HostRuntime, draws: &mut Draws, plan: &Plan) -> anyhow::Result<bool> {
+    let (table, place) = spoiled_table(draws, plan)?;
+    let wanted = refused_table(rt.alloc(), place.wrapping_add(3), "value")?;
     agrees(rt, "table", table.as_str(), wanted.as_str(), 4)
 }
 
@@ -141,8 +152,7 @@ fn try_cut(rt: &HostRuntime, draws: &mut Draws, table: &str) -> anyhow::Result<b
             line = line.wrapping_add(1);
         }
     }
-    let mut wanted = String::new(rt.alloc());
-    writeln!(wanted, "refused table line {line} cause form")?;
+    let wanted = refused_table(rt.alloc(), line, "form")?;
     is_answered(rt, "table", front, wanted.as_bytes(), 4)
 }
 
@@ -166,24 +176,30 @@ fn try_three(rt: &HostRuntime, draws: &mut Draws, plan: &mut Plan) -> anyhow::Re
     Ok(is_numbered && is_upgraded && is_tested)
 }
 
+/// How many plans of a version, and how many of their tables, agree.
+fn agreeing(rt: &HostRuntime, draws: &mut Draws, version: u64) -> anyhow::Result<(u64, u64)> {
+    let mut plans = 0u64;
+    let mut tables = 0u64;
+    for _ in 0..DRAWN_PLANS {
+        let mut plan = if draws.once_in(8) {
+            draws.high_plan(version)?
+        } else {
+            draws.plan(version)?
+        };
+        if try_table(rt, draws, &plan)? {
+            tables = tables.wrapping_add(1);
+        }
+        if try_three(rt, draws, &mut plan)? {
+            plans = plans.wrapping_add(1);
+        }
+    }
+    Ok((plans, tables))
+}
+
 /// Tries plans that are drawn.
 pub fn try_all(rt: &HostRuntime, draws: &mut Draws) -> anyhow::Result<()> {
     for version in 1..=2 {
-        let mut plans = 0u64;
-        let mut tables = 0u64;
-        for _ in 0..DRAWN_PLANS {
-            let mut plan = if draws.once_in(8) {
-                draws.high_plan(version)?
-            } else {
-                draws.plan(version)?
-            };
-            if try_table(rt, draws, &plan)? {
-                tables = tables.wrapping_add(1);
-            }
-            if try_three(rt, draws, &mut plan)? {
-                plans = plans.wrapping_add(1);
-            }
-        }
+        let (plans, tables) = agreeing(rt, draws, version)?;
         println!(rt;
             "drawn plans {version}: {plans} of {DRAWN_PLANS} plans and {tables} of {DRAWN_PLANS} tables agree"
         )?;
