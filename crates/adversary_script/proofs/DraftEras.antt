@@ -1,5 +1,7 @@
 -- The parts of a draft that says nothing, and those after one more era or one more start.
-use Rattle.std.proofs.Common.{◌≡◌, ℕ, ◌-◌, ◌<◌, List, [], ◌∷◌, ◌++◌, length, map, get_or, set, Bool, true, false, if◌then◌else◌, Option, Some, None, Result, Ok, Err, refl, sym, ap, subst, ◌∙◌, arith}
+use Rattle.std.proofs.Common.{◌≡◌, ℕ, ◌-◌, ◌<◌, List, [], ◌∷◌, ◌++◌, length, map, get_or, set, Bool}
+use Rattle.std.proofs.Common.{true, false, if◌then◌else◌, Option, Some, None, Result, Ok, Err, refl}
+use Rattle.std.proofs.Common.{sym, ap, subst, ◌∙◌, arith}
 use Rattle.std.specs.Prelude.{All, IfOk, IfSome, is_ok}
 use Rattle.std.proofs.lemmas.List.{map-append, map-set, length-map, get_or-map}
 use Rattle.std.proofs.lemmas.List.Elements.{All-push}

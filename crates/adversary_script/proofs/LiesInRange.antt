@@ -1,6 +1,8 @@
 -- The states in which a well formed script starts nodes, and those that its lies give, are in
 -- range.
-use Rattle.std.proofs.Common.{◌≡◌, ℕ, zero, suc, ◌+◌, ◌*◌, ◌<◌, ◌==◌, List, [], ◌∷◌, length, Bool, true, false, ◌&&◌, nat_le, if◌then◌else◌, Option, Some, None, get_or, refl, sym, subst, ◌∙◌, arith}
+use Rattle.std.proofs.Common.{◌≡◌, ℕ, zero, suc, ◌+◌, ◌*◌, ◌<◌, ◌==◌, List, [], ◌∷◌, length, Bool}
+use Rattle.std.proofs.Common.{true, false, ◌&&◌, nat_le, if◌then◌else◌, Option, Some, None, get_or}
+use Rattle.std.proofs.Common.{refl, sym, subst, ◌∙◌, arith}
 use Rattle.std.proofs.lemmas.List.{get_or_default}
 use Rattle.std.specs.Prelude.{All, IfSome, slice_index_or}
 use Rattle.std.specs.List.{find}
@@ -21,7 +23,8 @@ use Rattle.adversary_script.specs.declared.lies.What.TheVariants as what
 use Rattle.adversary_script.specs.Scripts.{Script, IsLying, AreInRange, IsScript}
 use Rattle.adversary_script.specs.Noise.{noise_bytes, words_in, noise_state}
 use Rattle.adversary_script.specs.Lookup.{hears, speaks, lie_for, start_in, start_for}
-use Rattle.adversary_script.specs.Lies.{AreStates, fitted, common_start, own_or_common, start_of, lie_state, lie_or_puppet, lie_of}
+use Rattle.adversary_script.specs.Lies.{AreStates, fitted, common_start, own_or_common, start_of}
+use Rattle.adversary_script.specs.Lies.{lie_state, lie_or_puppet, lie_of}
 use Rattle.adversary_script.proofs.Shifted.{shifted_in_range}
 use Rattle.adversary_script.proofs.Fitted.{fitted_in_range}
 

@@ -1,5 +1,6 @@
 -- What the empty script has and each line keeps, every script that is read has.
-use Rattle.std.proofs.Common.{◌≡◌, ℕ, ◌+◌, List, Bool, true, false, if◌then◌else◌, Option, Some, None, Result, Ok, Err, refl}
+use Rattle.std.proofs.Common.{◌≡◌, ℕ, ◌+◌, List, Bool, true, false, if◌then◌else◌, Option, Some}
+use Rattle.std.proofs.Common.{None, Result, Ok, Err, refl}
 use Rattle.std.specs.Prelude.{IfOk}
 use Rattle.texts.specs.Lines.{words_of}
 use Rattle.texts.specs.Parts.{Next, refuses, with_skips, Found, At}
@@ -14,7 +15,9 @@ use Rattle.adversary_script.specs.declared.kinds.Kind.TheVariants as kind
 use Rattle.adversary_script.specs.Kinds.{kind_of, may_follow}
 use Rattle.adversary_script.specs.Scripts.{Script, empty_script}
 use Rattle.adversary_script.specs.Steps.{line_step}
-use Rattle.adversary_script.specs.ScriptPart.{ScriptSoFar, nothing_read, passed, read_as, script_step, part_of, unless_followed, alone, script_of}
+use Rattle.adversary_script.specs.ScriptPart.{ScriptSoFar, nothing_read, passed, read_as}
+use Rattle.adversary_script.specs.ScriptPart.{script_step, part_of, unless_followed, alone}
+use Rattle.adversary_script.specs.ScriptPart.{script_of}
 
 -- P speaks of the kind of the last line and of what was said
 module _ (plan : Plan) (shape : Shape) (P : Option Kind → Script → Type 0)

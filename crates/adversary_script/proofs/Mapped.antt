@@ -1,5 +1,6 @@
 -- The code's map of groups, as the list of groups that it stands for.
-use Rattle.std.proofs.Common.{◌≡◌, ℕ, ◌+◌, ◌≤◌, true, false, Vec, arith, List, [], ◌∷◌, ◌++◌, length, map, Bool, not, cond, ltb, Some, None, refl, sym, ap, ◌∙◌}
+use Rattle.std.proofs.Common.{◌≡◌, ℕ, ◌+◌, ◌≤◌, true, false, Vec, arith, List, [], ◌∷◌, ◌++◌}
+use Rattle.std.proofs.Common.{length, map, Bool, not, cond, ltb, Some, None, refl, sym, ap, ◌∙◌}
 use Rattle.std.proofs.lemmas.List.{length-map, map-append}
 use Rattle.std.specs.List.{position_or_len, position}
 use Rattle.std.specs.Str.{bytes_eq}

@@ -1,5 +1,6 @@
 -- Every script that is read is well formed and for its plan.
-use Rattle.std.proofs.Common.{◌≡◌, ℕ, map, get_or, ◌<◌, ◌≤◌, List, [], ◌∷◌, length, true, ◌||◌, nat_lt, Option, Some, Result, Ok, Err, refl, sym, arith}
+use Rattle.std.proofs.Common.{◌≡◌, ℕ, map, get_or, ◌<◌, ◌≤◌, List, [], ◌∷◌, length, true, ◌||◌}
+use Rattle.std.proofs.Common.{nat_lt, Option, Some, Result, Ok, Err, refl, sym, arith}
 use Rattle.std.specs.Prelude.{⊤, All, IfOk}
 use Rattle.std.proofs.lemmas.Bool.{ltb-false, true≢false}
 use Rattle.std.proofs.lemmas.List.{length-map}
@@ -15,7 +16,8 @@ use Rattle.adversary_script.specs.declared.kinds.Kind.TheVariants as kind
 use Rattle.adversary_script.specs.declared.refusals.ScriptError.{ScriptError}
 use Rattle.adversary_script.specs.Kinds.{may_follow}
 use Rattle.adversary_script.specs.WordTests.{numbers_in}
-use Rattle.adversary_script.specs.Scripts.{Era, Script, firsts, AreWithin, IsFormed, IsScript, empty_script}
+use Rattle.adversary_script.specs.Scripts.{Era, Script, firsts, AreWithin, IsFormed, IsScript}
+use Rattle.adversary_script.specs.Scripts.{empty_script}
 use Rattle.adversary_script.specs.FaultySteps.{last_first}
 use Rattle.adversary_script.specs.Steps.{done, rounds_tested, show_tested, line_step}
 use Rattle.adversary_script.specs.ScriptPart.{IsClosed, IsAnswer, IsFor, script_of}

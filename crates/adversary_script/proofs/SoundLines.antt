@@ -1,5 +1,7 @@
 -- Each line keeps a script well formed and for its plan.
-use Rattle.std.proofs.Common.{◌≡◌, ℕ, add-one, suc, ◌<◌, ◌≤◌, List, [], ◌∷◌, length, Bool, true, false, ◌&&◌, ◌||◌, not, nat_lt, nat_le, ◌==◌, if◌then◌else◌, Option, Some, None, Result, Ok, Err, refl, sym, arith}
+use Rattle.std.proofs.Common.{◌≡◌, ℕ, add-one, suc, ◌<◌, ◌≤◌, List, [], ◌∷◌, length, Bool, true}
+use Rattle.std.proofs.Common.{false, ◌&&◌, ◌||◌, not, nat_lt, nat_le, ◌==◌, if◌then◌else◌, Option}
+use Rattle.std.proofs.Common.{Some, None, Result, Ok, Err, refl, sym, arith}
 use Rattle.std.specs.Prelude.{All, IfOk, IfSome, is_some, codes, slice_index_or}
 use Rattle.std.specs.Option.{option_map}
 use Rattle.std.specs.Str.{bytes_eq}
@@ -27,13 +29,20 @@ use Rattle.adversary_script.specs.declared.lies.Start.{Start}
 use Rattle.adversary_script.specs.declared.lies.Who.{Who}
 use Rattle.adversary_script.specs.declared.lies.What.{What}
 use Rattle.adversary_script.specs.declared.lies.What.TheVariants as what
-use Rattle.adversary_script.specs.LieWords.{WhatSaid, noise, copy, digits, shift, LieSaid, lie_words}
-use Rattle.adversary_script.specs.WordTests.{numbers_in, only, both, is_name, are_below, is_rising, who_below, what_below, are_ids, is_crossed}
+use Rattle.adversary_script.specs.LieWords.{WhatSaid, noise, copy, digits, shift, LieSaid}
+use Rattle.adversary_script.specs.LieWords.{lie_words}
+use Rattle.adversary_script.specs.WordTests.{numbers_in, only, both, is_name, are_below, is_rising}
+use Rattle.adversary_script.specs.WordTests.{who_below, what_below, are_ids, is_crossed}
 use Rattle.adversary_script.specs.Scripts.{Group, Era, Script, faulty_sets, IsLying, IsFormed}
-use Rattle.adversary_script.specs.FaultySteps.{faulty_tested, era_words, last_era, last_first, with_era, era_tested}
-use Rattle.adversary_script.specs.StartSteps.{is_above, last_starts, started, with_start, start_tested, start_step}
-use Rattle.adversary_script.specs.LieSteps.{group_at, state_of_digits, who_of, what_of, with_lie, lie_tested}
-use Rattle.adversary_script.specs.Steps.{done, head_tested, key_of_digits, with_key, seed_tested, group_tested, group_step, rounds_tested, show_tested, line_step}
+use Rattle.adversary_script.specs.FaultySteps.{faulty_tested, era_words, last_era, last_first}
+use Rattle.adversary_script.specs.FaultySteps.{with_era, era_tested}
+use Rattle.adversary_script.specs.StartSteps.{is_above, last_starts, started, with_start}
+use Rattle.adversary_script.specs.StartSteps.{start_tested, start_step}
+use Rattle.adversary_script.specs.LieSteps.{group_at, state_of_digits, who_of, what_of, with_lie}
+use Rattle.adversary_script.specs.LieSteps.{lie_tested}
+use Rattle.adversary_script.specs.Steps.{done, head_tested, key_of_digits, with_key, seed_tested}
+use Rattle.adversary_script.specs.Steps.{group_tested, group_step, rounds_tested, show_tested}
+use Rattle.adversary_script.specs.Steps.{line_step}
 use Rattle.adversary_script.specs.ScriptPart.{IsFor}
 use Rattle.adversary_script.proofs.RisingIds.{id_below, rises_at}
 use Rattle.adversary_script.proofs.FormedEras.{era_formed, sets_pushed, sets_started, start_formed}

@@ -47,15 +47,12 @@ pub struct Lie {
 impl Drop for Lie {
     fn drop(self) {
         let Lie {
-            first,
-            last,
-            sender,
+            first: _,
+            last: _,
+            sender: _,
             who,
             what,
         } = self;
-        drop(first);
-        drop(last);
-        drop(sender);
         drop(who);
         drop(what);
     }
@@ -70,8 +67,7 @@ pub struct Start {
 // Written out, so that what lets go of one calls this, and no more.
 impl Drop for Start {
     fn drop(self) {
-        let Start { node, state } = self;
-        drop(node);
+        let Start { node: _, state } = self;
         drop(state);
     }
 }

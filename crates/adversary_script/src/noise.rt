@@ -38,13 +38,12 @@ impl Drop for Noise {
             stretches,
             places,
             firsts,
-            key,
+            key: _,
         } = self;
         drop(generator);
         drop(stretches);
         drop(places);
         drop(firsts);
-        drop(key);
     }
 }
 

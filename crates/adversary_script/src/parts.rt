@@ -19,11 +19,10 @@ pub struct Era {
 impl Drop for Era {
     fn drop(self) {
         let Era {
-            first,
+            first: _,
             faulty,
             starts,
         } = self;
-        drop(first);
         drop(faulty);
         drop(starts);
     }
@@ -47,27 +46,22 @@ pub struct Parts {
 impl Drop for Parts {
     fn drop(self) {
         let Parts {
-            version,
-            key,
+            version: _,
+            key: _,
             common,
             starts,
             eras,
             groups,
             lies,
-            rounds,
-            first,
-            last,
+            rounds: _,
+            first: _,
+            last: _,
         } = self;
-        drop(version);
-        drop(key);
         drop(common);
         drop(starts);
         drop(eras);
         drop(groups);
         drop(lies);
-        drop(rounds);
-        drop(first);
-        drop(last);
     }
 }
 

@@ -28,11 +28,10 @@ pub struct ScriptLines<'a> {
 impl<'a> Drop for ScriptLines<'a> {
     fn drop(self) {
         let ScriptLines {
-            faults,
+            faults: _,
             last,
             draft,
         } = self;
-        drop(faults);
         drop(last);
         drop(draft);
     }

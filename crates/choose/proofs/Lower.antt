@@ -1,11 +1,13 @@
 -- What stands below the top level of a plan: fewer nodes, which bear enough faults, at a lesser
 -- bound.
-use Rattle.std.proofs.Common.{◌≡◌, ℕ, ◌+◌, ◌*◌, ◌/◌, ◌<◌, ◌≤◌, ◌^◌, List, [], ◌∷◌, sym, ap, subst, arith}
+use Rattle.std.proofs.Common.{◌≡◌, ℕ, ◌+◌, ◌*◌, ◌/◌, ◌<◌, ◌≤◌, ◌^◌, List, [], ◌∷◌, sym, ap, subst}
+use Rattle.std.proofs.Common.{arith}
 use Rattle.std.specs.Int.{div_ceil}
 use Rattle.std.proofs.lemmas.Nat.{le-div}
 use Rattle.std.proofs.lemmas.List.Elements.{All-tail}
 use Rattle.std.proofs.Math.Nat.{mul-le-mul_right, div-lt_iff_lt-mul}
-use Rattle.construction.specs.Plans.{Level, Plan, nodes_of, faults_of, bound_of, span_of, plan_bound}
+use Rattle.construction.specs.Plans.{Level, Plan, nodes_of, faults_of, bound_of, span_of}
+use Rattle.construction.specs.Plans.{plan_bound}
 use Rattle.plan_numbers.specs.Numbers.{below_of}
 use Rattle.plan_numbers.specs.Premises.{FitsVersion, MeetsPremises}
 use Rattle.plan_numbers.proofs.Accepted.{meets, level_sized, accepted_sized}

@@ -1,5 +1,6 @@
 -- What is written of a plan is read as that plan.
-use Rattle.std.proofs.Common.{◌≡◌, ℕ, ◌<◌, ◌≤◌, ◌^◌, true, false, List, [], ◌∷◌, ◌++◌, reverse, refl, sym, ap, ◌∙◌, subst, arith}
+use Rattle.std.proofs.Common.{◌≡◌, ℕ, ◌<◌, ◌≤◌, ◌^◌, true, false, List, [], ◌∷◌, ◌++◌, reverse}
+use Rattle.std.proofs.Common.{refl, sym, ap, ◌∙◌, subst, arith}
 use Rattle.std.specs.Prelude.{decimal, codes, ◌==◌, if◌then◌else◌, Ok}
 use Rattle.std.specs.List.{All, list_all, flat_map}
 use Rattle.std.specs.Char.{is_ascii_digit}
@@ -17,7 +18,8 @@ use Rattle.plan_numbers.proofs.Accepted.{meets}
 use Rattle.plan_certificate.specs.Tables.{version_line, base_line}
 use Rattle.plan_certificate.specs.PlanTexts.{level_text, level_texts, plan_text, in_version}
 use Rattle.plan_certificate.proofs.ReadBack.{text_is_whole}
-use Rattle.choose.specs.FrontText.{base_part, level_part, levels_part, plan_part, in_lines, TextsArePlans}
+use Rattle.choose.specs.FrontText.{base_part, level_part, levels_part, plan_part, in_lines}
+use Rattle.choose.specs.FrontText.{TextsArePlans}
 
 -- no digit is a semicolon
 digit_stays : (b : ℕ) → is_ascii_digit b ≡ true → (b == 59) ≡ false

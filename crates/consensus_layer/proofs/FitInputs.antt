@@ -1,6 +1,7 @@
 -- What is read of consensus is for the plan: values within their limits, an input of each node, and
 -- a modulus that is a multiple of a slot's length.
-use Rattle.std.proofs.Common.{◌≡◌, ℕ, ◌<◌, ◌≤◌, ◌%◌, Bool, true, false, List, [], ◌∷◌, length, All, Option, Some, None, Result, Ok, Err, refl, subst, ap, ap₂, ◌∙◌}
+use Rattle.std.proofs.Common.{◌≡◌, ℕ, ◌<◌, ◌≤◌, ◌%◌, Bool, true, false, List, [], ◌∷◌, length, All}
+use Rattle.std.proofs.Common.{Option, Some, None, Result, Ok, Err, refl, subst, ap, ap₂, ◌∙◌}
 use Rattle.std.specs.Prelude.{⊤, IfOk, nat_lt, not, ◌==◌, if◌then◌else◌, codes}
 use Rattle.std.specs.List.{list_all}
 use Rattle.std.specs.Str.{bytes_eq}
@@ -16,8 +17,11 @@ use Rattle.construction.specs.Plans.{Plan, plan_nodes, plan_faults, plan_modulus
 use Rattle.layer_laws.specs.Slots.{slot_length}
 use Rattle.consensus_layer.specs.AgreeSaid.{AgreeSaid}
 use Rattle.consensus_layer.specs.declared.agree_lines.AgreeStage.{AgreeStage}
-use Rattle.consensus_layer.specs.declared.agree_lines.AgreeStage.TheVariants.{Unread, Begun, Valued, Given}
-use Rattle.consensus_layer.specs.AgreePart.{AgreeSoFar, nothing_read, values_tested, numbers_behind, inputs_tested, inputs_in, goes_at, goes_with, step_at, agree_step, part_of, IsFor}
+use Rattle.consensus_layer.specs.declared.agree_lines.AgreeStage.TheVariants.{Unread, Begun, Valued}
+use Rattle.consensus_layer.specs.declared.agree_lines.AgreeStage.TheVariants.{Given}
+use Rattle.consensus_layer.specs.AgreePart.{AgreeSoFar, nothing_read, values_tested, numbers_behind}
+use Rattle.consensus_layer.specs.AgreePart.{inputs_tested, inputs_in, goes_at, goes_with, step_at}
+use Rattle.consensus_layer.specs.AgreePart.{agree_step, part_of, IsFor}
 
 abbrev IsValues : ℕ → Type 0
 IsValues values = (2 ≤ values) × (values ≤ 65536)

@@ -1,10 +1,12 @@
 -- A slot of a register that was loaded in the round before decides.
-use Rattle.std.proofs.Common.{◌≡◌, ℕ, ◌+◌, ◌-◌, ◌*◌, ◌%◌, ◌<◌, ◌≤◌, Bool, List, [], ◌∷◌, length, get_or, Some, sym, ap, ◌∙◌, subst, arith}
+use Rattle.std.proofs.Common.{◌≡◌, ℕ, ◌+◌, ◌-◌, ◌*◌, ◌%◌, ◌<◌, ◌≤◌, Bool, List, [], ◌∷◌, length}
+use Rattle.std.proofs.Common.{get_or, Some, sym, ap, ◌∙◌, subst, arith}
 use Rattle.std.proofs.Math.Nat.{add-zero}
 use Rattle.std.proofs.lemmas.Bool.{ne_eqb, eq-eqb}
 use Rattle.sync_types.specs.declared.states.Reg.{Reg}
 use Rattle.sync_types.specs.States.{State, register_at, zero_register}
-use Rattle.construction.specs.Plans.{Plan, plan_nodes, plan_faults, plan_modulus, plan_bound, plan_depth}
+use Rattle.construction.specs.Plans.{Plan, plan_nodes, plan_faults, plan_modulus, plan_bound}
+use Rattle.construction.specs.Plans.{plan_depth}
 use Rattle.construction.specs.Shown.{shown}
 use Rattle.construction.specs.Steps.{state_of}
 use Rattle.construction.specs.Runs.{IsBorne}
@@ -13,7 +15,8 @@ use Rattle.plan_laws.specs.PlanMeaning.{plan_meaning}
 use Rattle.counter_core.specs.Overlays.{Layer, SameNumbers}
 use Rattle.layer_laws.specs.Scenes.{Scene, kept_of}
 use Rattle.layer_laws.specs.LayerRuns.{LayerRun, scene}
-use Rattle.layer_laws.specs.Slots.{slot_length, agreed_in_turn, HasSlots, AllAre, TakesLast, SlotAgrees}
+use Rattle.layer_laws.specs.Slots.{slot_length, agreed_in_turn, HasSlots, AllAre, TakesLast}
+use Rattle.layer_laws.specs.Slots.{SlotAgrees}
 use Rattle.layer_laws.proofs.NodesSteps.{node_steps, shows_rest, common_rest, rest_before, shown_at}
 use Rattle.layer_laws.proofs.CutRuns.{layer_register}
 use Rattle.layer_laws.proofs.PlanSlots.{quorum_of, few_of, counts_of, slots_agree}

@@ -1,5 +1,7 @@
 -- When what liars tell leaves a register of agreement as it is.
-use Rattle.std.proofs.Common.{◌≡◌, ◌⊎◌, inl, inr, ℕ, zero, suc, ◌+◌, ◌-◌, ◌*◌, ◌<◌, ◌≤◌, Bool, true, false, not, ◌&&◌, nat_eq, nat_le, List, length, map, get_or, Option, Some, None, refl, sym, ap, ◌∙◌, arith}
+use Rattle.std.proofs.Common.{◌≡◌, ◌⊎◌, inl, inr, ℕ, zero, suc, ◌+◌, ◌-◌, ◌*◌, ◌<◌, ◌≤◌, Bool, true}
+use Rattle.std.proofs.Common.{false, not, ◌&&◌, nat_eq, nat_le, List, length, map, get_or, Option}
+use Rattle.std.proofs.Common.{Some, None, refl, sym, ap, ◌∙◌, arith}
 use Rattle.std.specs.Option.{option_eq, is_some}
 use Rattle.std.proofs.lemmas.Bool.{cases_Bool, true≢false}
 use Rattle.std.proofs.lemmas.Bool.Decides.{nat_tests}
@@ -13,7 +15,8 @@ use Rattle.sync_types.specs.FaultSets.{is_in}
 use Rattle.sync_types.specs.States.{State, zero_state, register_at}
 use Rattle.construction.specs.PhaseKing.{instructed, locked_at}
 use Rattle.construction.specs.Steps.{state_of}
-use Rattle.phase_king.proofs.Closed.{infinite_stays, zero_closed, one_closed, two_closed, marked_stays}
+use Rattle.phase_king.proofs.Closed.{infinite_stays, zero_closed, one_closed, two_closed}
+use Rattle.phase_king.proofs.Closed.{marked_stays}
 use Rattle.counter_core.specs.HeardRegisters.{RegisterHeard, heard_at}
 use Rattle.counter_core.specs.Heeding.{HearsTruth, HeedsOnly}
 use Rattle.counter_core.proofs.ListsAndPlaces.{places_of_ids}

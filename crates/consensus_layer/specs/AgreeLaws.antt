@@ -1,5 +1,7 @@
 -- The step of agreement keeps values in range.
-use Rattle.std.proofs.Common.{◌≡◌, ℕ, zero, suc, ◌+◌, ◌-◌, ◌*◌, ◌/◌, ◌%◌, ◌<◌, Bool, true, false, List, [], length, map, get_or, All, Option, Some, None, IfSome, unwrap_or, nat_le, refl, subst, arith}
+use Rattle.std.proofs.Common.{◌≡◌, ℕ, zero, suc, ◌+◌, ◌-◌, ◌*◌, ◌/◌, ◌%◌, ◌<◌, Bool, true, false}
+use Rattle.std.proofs.Common.{List, [], length, map, get_or, All, Option, Some, None, IfSome}
+use Rattle.std.proofs.Common.{unwrap_or, nat_le, refl, subst, arith}
 use Rattle.std.specs.Prelude.{if◌then◌else◌, ◌==◌, slice_index}
 use Rattle.std.proofs.Math.Nat.{add-zero, mod-lt}
 use Rattle.std.specs.Option.{option_map}

@@ -1,5 +1,6 @@
 -- The agree part of an input: `agree 1`, `values V`, `inputs` and a number for each node, `end`.
-use Rattle.std.specs.Prelude.{◌≡◌, ℕ, ◌<◌, ◌≤◌, ◌%◌, ◌==◌, nat_lt, not, Bool, List, [], ◌∷◌, length, All, Option, Some, None, Result, Ok, Err, if◌then◌else◌, codes}
+use Rattle.std.specs.Prelude.{◌≡◌, ℕ, ◌<◌, ◌≤◌, ◌%◌, ◌==◌, nat_lt, not, Bool, List, [], ◌∷◌, length}
+use Rattle.std.specs.Prelude.{All, Option, Some, None, Result, Ok, Err, if◌then◌else◌, codes}
 use Rattle.std.specs.List.{list_all}
 use Rattle.std.specs.Str.{bytes_eq}
 use Rattle.texts.specs.Lines.{words_of}
@@ -11,7 +12,8 @@ use Rattle.construction.specs.Plans.{Plan, plan_nodes, plan_faults, plan_modulus
 use Rattle.layer_laws.specs.Slots.{slot_length}
 use Rattle.consensus_layer.specs.AgreeSaid.{AgreeSaid}
 use Rattle.consensus_layer.specs.declared.agree_lines.AgreeStage.{AgreeStage}
-use Rattle.consensus_layer.specs.declared.agree_lines.AgreeStage.TheVariants.{Unread, Begun, Valued, Given}
+use Rattle.consensus_layer.specs.declared.agree_lines.AgreeStage.TheVariants.{Unread, Begun, Valued}
+use Rattle.consensus_layer.specs.declared.agree_lines.AgreeStage.TheVariants.{Given}
 
 -- how many nodes there are, whether the modulus is a multiple of a slot's length, how far the part
 -- was read, and the inputs

@@ -1,7 +1,9 @@
 -- Consensus on a counter: in each slot the nodes agree on a decision, which each keeps to the end
 -- of the next slot.
-use Rattle.std.specs.Prelude.{◌≡◌, ℕ, ◌+◌, ◌%◌, ◌<◌, List, [], ◌∷◌, length, false, unwrap_or, slice_index}
-use Rattle.construction.specs.Plans.{Plan, plan_nodes, plan_faults, plan_modulus, plan_bound, plan_depth}
+use Rattle.std.specs.Prelude.{◌≡◌, ℕ, ◌+◌, ◌%◌, ◌<◌, List, [], ◌∷◌, length, false, unwrap_or}
+use Rattle.std.specs.Prelude.{slice_index}
+use Rattle.construction.specs.Plans.{Plan, plan_nodes, plan_faults, plan_modulus, plan_bound}
+use Rattle.construction.specs.Plans.{plan_depth}
 use Rattle.construction.specs.Runs.{is_in, IsBorne}
 use Rattle.plan_numbers.specs.Premises.{IsAccepted}
 use Rattle.counter_core.specs.Overlays.{Layer}

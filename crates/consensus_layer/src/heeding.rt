@@ -1,4 +1,5 @@
-ghost use Rattle.std.specs.Prelude.{◌≡◌, ◌+◌, ◌-◌, ◌*◌, ◌%◌, ◌<◌, ◌≤◌, ◌⊎◌, ℕ, List, None, false, length};
+ghost use Rattle.std.specs.Prelude.{◌≡◌, ◌+◌, ◌-◌, ◌*◌, ◌%◌, ◌<◌, ◌≤◌, ◌⊎◌, ℕ, List, None, false};
+ghost use Rattle.std.specs.Prelude.{length};
 ghost use Rattle.sync_types.specs.States.{State};
 ghost use Rattle.construction.specs.PhaseKing.{locked_at};
 ghost use Rattle.construction.specs.Steps.{state_of};

@@ -1,10 +1,12 @@
 -- Worked values of the definitions, by computation.
-use Rattle.std.proofs.Common.{◌≡◌, ℕ, ◌^◌, List, [], ◌∷◌, Option, Some, None, true, false, map, refl}
+use Rattle.std.proofs.Common.{◌≡◌, ℕ, ◌^◌, List, [], ◌∷◌, Option, Some, None, true, false, map}
+use Rattle.std.proofs.Common.{refl}
 use Rattle.std.specs.List.{range_with_len}
 use Rattle.sync_types.specs.declared.states.Reg.{Reg}
 use Rattle.sync_types.specs.States.{State}
 use Rattle.construction.specs.Widths.{width}
-use Rattle.construction.specs.Plans.{Level, Plan, beat_of, span_of, plan_nodes, plan_faults, plan_bound, plan_bits, plan_low}
+use Rattle.construction.specs.Plans.{Level, Plan, beat_of, span_of, plan_nodes, plan_faults}
+use Rattle.construction.specs.Plans.{plan_bound, plan_bits, plan_low}
 use Rattle.construction.specs.Pointers.{pointer_of, part_of}
 use Rattle.construction.specs.PhaseKing.{instructed, up}
 use Rattle.construction.specs.Steps.{step_of}

@@ -1,11 +1,14 @@
 -- Rounds and runs of a plan with faulty nodes, and that its outputs come to count.
-use Rattle.std.specs.Prelude.{◌≡◌, ⊤, ℕ, ◌+◌, ◌%◌, ◌<◌, ◌≤◌, List, [], ◌∷◌, length, map, Bool, true, false, nat_le, ◌==◌, ◌||◌, not, All, IfSome, slice_index_or, if◌then◌else◌}
+use Rattle.std.specs.Prelude.{◌≡◌, ⊤, ℕ, ◌+◌, ◌%◌, ◌<◌, ◌≤◌, List, [], ◌∷◌, length, map, Bool, true}
+use Rattle.std.specs.Prelude.{false, nat_le, ◌==◌, ◌||◌, not, All, IfSome, slice_index_or}
+use Rattle.std.specs.Prelude.{if◌then◌else◌}
 use Rattle.std.specs.List.{range_with_len}
 use Rattle.std.specs.List.Sorted.{IsStrictlyIncreasing}
 pub use Rattle.sync_types.specs.FaultSets.{is_in}
 use Rattle.sync_types.specs.declared.states.Reg.{Reg}
 use Rattle.sync_types.specs.States.{State, zero_register, register_at}
-use Rattle.construction.specs.Plans.{Level, Plan, plan_nodes, plan_faults, plan_modulus, plan_bound, plan_depth, plan_low, nodes_of}
+use Rattle.construction.specs.Plans.{Level, Plan, plan_nodes, plan_faults, plan_modulus, plan_bound}
+use Rattle.construction.specs.Plans.{plan_depth, plan_low, nodes_of}
 use Rattle.construction.specs.Shown.{shown}
 use Rattle.construction.specs.PhaseKing.{locked_at}
 use Rattle.construction.specs.Steps.{state_of, step_of}

@@ -1,7 +1,8 @@
 -- The step of a node, from the states that it hears of all nodes, its own among them. The group of
 -- the top level is all nodes; that of the level below is the block of it that has the node, and so
 -- on.
-use Rattle.std.specs.Prelude.{Option, ℕ, ◌*◌, ◌/◌, ◌%◌, nat_lt, if◌then◌else◌, List, [], ◌∷◌, ◌++◌, length, map, take, slice_index_or}
+use Rattle.std.specs.Prelude.{Option, ℕ, ◌*◌, ◌/◌, ◌%◌, nat_lt, if◌then◌else◌, List, [], ◌∷◌, ◌++◌}
+use Rattle.std.specs.Prelude.{length, map, take, slice_index_or}
 use Rattle.sync_types.specs.States.{State, zero_state, register_at}
 use Rattle.sync_types.specs.declared.states.Reg.{Reg}
 use Rattle.construction.specs.Plans.{Level, Plan, group_size, nodes_of}

@@ -1,6 +1,7 @@
 -- The laws of one node that counts by itself. They stand here, without tactics, since the laws of
 -- an impl cannot cite the proofs of its own crate.
-use Rattle.std.proofs.Common.{◌≡◌, ℕ, ◌+◌, ◌*◌, ◌^◌, ◌<◌, ◌≤◌, List, [], ◌∷◌, length, false, refl, ap, ◌∙◌, subst, sym}
+use Rattle.std.proofs.Common.{◌≡◌, ℕ, ◌+◌, ◌*◌, ◌^◌, ◌<◌, ◌≤◌, List, [], ◌∷◌, length, false, refl}
+use Rattle.std.proofs.Common.{ap, ◌∙◌, subst, sym}
 use Rattle.std.proofs.Math.Nat.{mod-lt, le_of_lt, not-suc-le-zero}
 use Rattle.std.proofs.Math.Arith.{lt-one}
 use Rattle.std.proofs.lemmas.Bool.{leb-true, ltb-true}

@@ -7,7 +7,8 @@ use Rattle.counting.specs.Values.{count_of, majority_of, least_above}
 use Rattle.counting.specs.Unfinished.{MajorityStays, LeastStays}
 use Rattle.counting.proofs.Counts.{count_of-append}
 use Rattle.counting.proofs.Unfinished.{same_majority, same_least}
-use Rattle.counting.proofs.Parted.{heard_values, true_values, told_values, heard_counts, heard_long, told_long}
+use Rattle.counting.proofs.Parted.{heard_values, true_values, told_values, heard_counts, heard_long}
+use Rattle.counting.proofs.Parted.{told_long}
 
 module _ {X : Type 0} (none : X) (told : List X) (p : ℕ → Bool) (w : X → Option ℕ) (true_value : ℕ → Option ℕ) (from count k : ℕ) (e : places p from + k ≡ places p (from + count)) (within : places p (from + count) ≤ length told) where
   heard : List (Option ℕ)

@@ -1,5 +1,7 @@
 -- The least finite value that passes a test, and the least that more than f places hold.
-use Rattle.std.proofs.Common.{◌≡◌, ℕ, zero, suc, ◌<◌, ◌≤◌, min, Bool, true, false, if◌then◌else◌, All, IfSome, List, [], ◌∷◌, length, get_or, nat_lt, Option, Some, None, refl, sym, ap, ◌∙◌, subst, ⊎_elim, arith}
+use Rattle.std.proofs.Common.{◌≡◌, ℕ, zero, suc, ◌<◌, ◌≤◌, min, Bool, true, false, if◌then◌else◌}
+use Rattle.std.proofs.Common.{All, IfSome, List, [], ◌∷◌, length, get_or, nat_lt, Option, Some}
+use Rattle.std.proofs.Common.{None, refl, sym, ap, ◌∙◌, subst, ⊎_elim, arith}
 use Rattle.std.proofs.lemmas.Bool.{cases_lt, ltb-true, lt-ltb}
 use Rattle.std.proofs.lemmas.List.Elements.{All-head, All-tail}
 use Rattle.counting.specs.Values.{count_of, lesser, least_passing, least_above}

@@ -1,11 +1,16 @@
 -- The value that more than half of a list's places hold.
-use Rattle.std.proofs.Common.{◌≡◌, ◌≢◌, ◌⊎◌, ℕ, zero, suc, ◌*◌, ◌<◌, ◌≤◌, Bool, true, false, if◌then◌else◌, List, [], ◌∷◌, map, length, get_or, nat_eq, nat_lt, Option, Some, None, unwrap_or, refl, sym, ap, ◌∙◌, subst, inl, inr, ⊎_elim, arith}
-use Rattle.std.proofs.lemmas.Bool.{cases_Bool, true≢false, cases_eq, cases_lt, ltb-true, lt-ltb, eqb-true, eq-eqb}
+use Rattle.std.proofs.Common.{◌≡◌, ◌≢◌, ◌⊎◌, ℕ, zero, suc, ◌*◌, ◌<◌, ◌≤◌, Bool, true, false}
+use Rattle.std.proofs.Common.{if◌then◌else◌, List, [], ◌∷◌, map, length, get_or, nat_eq, nat_lt}
+use Rattle.std.proofs.Common.{Option, Some, None, unwrap_or, refl, sym, ap, ◌∙◌, subst, inl, inr}
+use Rattle.std.proofs.Common.{⊎_elim, arith}
+use Rattle.std.proofs.lemmas.Bool.{cases_Bool, true≢false, cases_eq, cases_lt, ltb-true, lt-ltb}
+use Rattle.std.proofs.lemmas.Bool.{eqb-true, eq-eqb}
 use Rattle.std.proofs.lemmas.List.{length-map}
 use Rattle.counting.specs.Places.{places}
 use Rattle.counting.specs.Values.{count_of, first_passing, majority_of, majority_or_zero}
 use Rattle.counting.proofs.Places.{cover_all, one_passes}
-use Rattle.counting.proofs.Counts.{two_values, held_from_count, count_of_most, count_of_numbers-places}
+use Rattle.counting.proofs.Counts.{two_values, held_from_count, count_of_most}
+use Rattle.counting.proofs.Counts.{count_of_numbers-places}
 
 first_passes_by : (passes : ℕ → Bool) (a j : ℕ) (rest : Option ℕ) (b : Bool) → passes a ≡ b → (if b then Some a else rest) ≡ Some j → (rest ≡ Some j → passes j ≡ true) → passes j ≡ true
 first_passes_by passes a j rest true h e more = let f : a ≡ j = cc in subst (λ z. passes z ≡ true) f h

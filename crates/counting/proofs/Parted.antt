@@ -1,5 +1,7 @@
 -- What is heard of a stretch of nodes, the correct ones apart from the liars.
-use Rattle.std.proofs.Common.{◌≡◌, ℕ, zero, suc, ◌+◌, ◌-◌, ◌≤◌, Bool, true, false, not, if◌then◌else◌, cond, List, [], ◌∷◌, map, length, get_or, take, drop, Option, refl, sym, ap, ◌∙◌, arith}
+use Rattle.std.proofs.Common.{◌≡◌, ℕ, zero, suc, ◌+◌, ◌-◌, ◌≤◌, Bool, true, false, not}
+use Rattle.std.proofs.Common.{if◌then◌else◌, cond, List, [], ◌∷◌, map, length, get_or, take, drop}
+use Rattle.std.proofs.Common.{Option, refl, sym, ap, ◌∙◌, arith}
 use Rattle.std.specs.List.{filter, range_with_len}
 use Rattle.counting.specs.Places.{places}
 use Rattle.counting.specs.Values.{count_of}

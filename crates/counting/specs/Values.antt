@@ -1,6 +1,7 @@
 -- How often a list holds a value, and the values that it holds often. A value is a number, or None
 -- for infinity.
-use Rattle.std.specs.Prelude.{ℕ, ◌*◌, min, List, [], ◌∷◌, length, map, Bool, nat_lt, nat_eq, count_by, Option, Some, None, unwrap_or, if◌then◌else◌}
+use Rattle.std.specs.Prelude.{ℕ, ◌*◌, min, List, [], ◌∷◌, length, map, Bool, nat_lt, nat_eq}
+use Rattle.std.specs.Prelude.{count_by, Option, Some, None, unwrap_or, if◌then◌else◌}
 use Rattle.std.specs.Option.{option_eq}
 
 -- how many places hold z, which may be infinity

@@ -1,5 +1,6 @@
 -- The text of a chart: what `run` writes of it.
-use Rattle.std.specs.Prelude.{ℕ, ◌+◌, ◌==◌, List, [], ◌∷◌, ◌++◌, Option, Some, None, if◌then◌else◌, codes, decimal}
+use Rattle.std.specs.Prelude.{ℕ, ◌+◌, ◌==◌, List, [], ◌∷◌, ◌++◌, Option, Some, None, if◌then◌else◌}
+use Rattle.std.specs.Prelude.{codes, decimal}
 use Rattle.std.specs.List.{concat, flat_map}
 use Rattle.draw.specs.declared.charts.Cell.{Cell}
 use Rattle.draw.specs.declared.charts.End.{End}

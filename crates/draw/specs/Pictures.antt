@@ -1,5 +1,6 @@
 -- The picture of a chart, in SVG.
-use Rattle.std.specs.Prelude.{ℕ, ◌+◌, ◌-◌, ◌*◌, ◌&&◌, nat_le, nat_lt, max, length, List, [], ◌∷◌, ◌++◌, Bool, true, Option, Some, None, if◌then◌else◌, codes, decimal}
+use Rattle.std.specs.Prelude.{ℕ, ◌+◌, ◌-◌, ◌*◌, ◌&&◌, nat_le, nat_lt, max, length, List, [], ◌∷◌}
+use Rattle.std.specs.Prelude.{◌++◌, Bool, true, Option, Some, None, if◌then◌else◌, codes, decimal}
 use Rattle.std.specs.List.{concat, flat_map}
 use Rattle.draw.specs.declared.charts.End.{End}
 use Rattle.draw.specs.declared.charts.Chart.{Chart}

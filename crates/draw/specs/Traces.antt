@@ -1,5 +1,6 @@
 -- The text of a trace: what `trace` writes of it.
-use Rattle.std.specs.Prelude.{ℕ, ◌+◌, List, [], ◌∷◌, ◌++◌, Bool, true, false, Option, Some, None, codes, decimal}
+use Rattle.std.specs.Prelude.{ℕ, ◌+◌, List, [], ◌∷◌, ◌++◌, Bool, true, false, Option, Some, None}
+use Rattle.std.specs.Prelude.{codes, decimal}
 use Rattle.std.specs.List.{concat, flat_map}
 use Rattle.draw.specs.declared.traces.Held.{Held}
 use Rattle.draw.specs.declared.traces.Held.TheVariants.{Unmarked, Marked, Locked}

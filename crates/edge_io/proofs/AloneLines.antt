@@ -1,5 +1,7 @@
 -- The end behind the last line of a text whose lines all end with a newline.
-use Rattle.std.proofs.Common.{◌≡◌, ◌⊎◌, ℕ, ◌+◌, ◌-◌, ◌≤◌, Bool, true, false, List, [], ◌∷◌, ◌++◌, length, Option, None, Result, Err, if◌then◌else◌, sym, ap, ◌∙◌, append_assoc, append-nil, length-append, subst, arith}
+use Rattle.std.proofs.Common.{◌≡◌, ◌⊎◌, ℕ, ◌+◌, ◌-◌, ◌≤◌, Bool, true, false, List, [], ◌∷◌, ◌++◌}
+use Rattle.std.proofs.Common.{length, Option, None, Result, Err, if◌then◌else◌, sym, ap, ◌∙◌}
+use Rattle.std.proofs.Common.{append_assoc, append-nil, length-append, subst, arith}
 use Rattle.std.specs.Io.KnownBytes.{Consumes, Keeps, IsAtEnd}
 use Rattle.std.proofs.KnownBytes.{Consumes-trans, Consumes-kept}
 use Rattle.texts.specs.Lines.{lines_of, whole_lines}
@@ -12,7 +14,9 @@ use Rattle.texts.proofs.LineByLine.{whole_open}
 use Rattle.texts.proofs.OpenLines.{open_behind, open_alone}
 use Rattle.edge_io.specs.declared.fed_parts.FedError.{FedError}
 use Rattle.edge_io.specs.declared.fed_parts.FedError.TheVariants as fed
-use Rattle.edge_io.specs.EndedReads.{RefusedOnlyAt, TextPending, WholeText, RefusedText, LongText, LostText, TextRead, FirstIs, LinePending, LineBehind, LineBeyond, EndIs}
+use Rattle.edge_io.specs.EndedReads.{RefusedOnlyAt, TextPending, WholeText, RefusedText, LongText}
+use Rattle.edge_io.specs.EndedReads.{LostText, TextRead, FirstIs, LinePending, LineBehind}
+use Rattle.edge_io.specs.EndedReads.{LineBeyond, EndIs}
 
 module _ {S V R : Type 0} (step : S → List ℕ → Next S V R) (form : R)
     (start : S) (limit : ℕ) (old : Option (List ℕ)) where

@@ -1,5 +1,6 @@
 -- A part that is read behind another one of the same text.
-use Rattle.std.proofs.Common.{◌≡◌, ℕ, ◌+◌, ◌≤◌, Bool, true, false, List, ◌++◌, length, Option, None, sym, ap, ◌∙◌, length-append, subst, arith}
+use Rattle.std.proofs.Common.{◌≡◌, ℕ, ◌+◌, ◌≤◌, Bool, true, false, List, ◌++◌, length, Option, None}
+use Rattle.std.proofs.Common.{sym, ap, ◌∙◌, length-append, subst, arith}
 use Rattle.texts.specs.Lines.{whole_lines}
 use Rattle.texts.specs.Parts.{Next}
 use Rattle.texts.specs.Limits.{by, with_limit, behind_lines}

@@ -1,5 +1,8 @@
 -- One line after another of a text whose lines all end with a newline.
-use Rattle.std.proofs.Common.{◌≡◌, ◌≢◌, ◌⊎◌, inl, inr, ℕ, ◌+◌, ◌-◌, ◌<◌, ◌≤◌, Bool, true, false, eqb, not, List, [], ◌∷◌, ◌++◌, length, Option, None, Result, Ok, Err, refl, sym, ap, ◌∙◌, append_assoc, append-nil, length-append, subst, arith}
+use Rattle.std.proofs.Common.{◌≡◌, ◌≢◌, ◌⊎◌, inl, inr, ℕ, ◌+◌, ◌-◌, ◌<◌, ◌≤◌, Bool, true, false}
+use Rattle.std.proofs.Common.{eqb, not, List, [], ◌∷◌, ◌++◌, length, Option, None, Result, Ok, Err}
+use Rattle.std.proofs.Common.{refl, sym, ap, ◌∙◌, append_assoc, append-nil, length-append, subst}
+use Rattle.std.proofs.Common.{arith}
 use Rattle.std.specs.Io.KnownBytes.{Consumes, IsAtEnd}
 use Rattle.std.proofs.KnownBytes.{Consumes-nil, Consumes-trans, Consumes-kept}
 use Rattle.std.proofs.lemmas.Bool.{le-ltb, lt-ltb, ne_eqb}
@@ -9,14 +12,17 @@ use Rattle.texts.specs.Parts.{Next, goes, ends, refuses, Found, At, part_from}
 use Rattle.texts.specs.Limits.{Limited, by, with_limit, room_of, behind_lines}
 use Rattle.texts.specs.Pending.{AllButLast, AtOnce}
 use Rattle.texts.specs.EndedTexts.{with_length, ended_lines, alone, then_alone, ended_text}
-use Rattle.texts.proofs.LineByLine.{PartsLines, lines_part, whole_part, whole_open, WholeLonger, longer_whole}
+use Rattle.texts.proofs.LineByLine.{PartsLines, lines_part, whole_part, whole_open, WholeLonger}
+use Rattle.texts.proofs.LineByLine.{longer_whole}
 use Rattle.edge_io.specs.declared.feed.Line.TheVariants as how
 use Rattle.edge_io.specs.declared.feed.LineFault.TheVariants as fault
 use Rattle.edge_io.specs.Feeds.{LineIs}
 use Rattle.edge_io.specs.FedParts.{limited_part, fed_part}
-use Rattle.edge_io.specs.EndedReads.{RefusedOnlyAt, TextPending, RefusedText, LongText, LostText, HaltedText}
+use Rattle.edge_io.specs.EndedReads.{RefusedOnlyAt, TextPending, RefusedText, LongText, LostText}
+use Rattle.edge_io.specs.EndedReads.{HaltedText}
 use Rattle.edge_io.proofs.Standing.{Standing, stands_first, open_counts, may_go_on, newline_here}
-use Rattle.edge_io.proofs.FedLines.{stands_more, parted, size_more, then_made, behind_more, counts_more}
+use Rattle.edge_io.proofs.FedLines.{stands_more, parted, size_more, then_made, behind_more}
+use Rattle.edge_io.proofs.FedLines.{counts_more}
 use Rattle.edge_io.proofs.FedEnds.{RefusesLong, byte_shows, long_line, past_line, refused_long}
 use Rattle.edge_io.proofs.AloneLines.{Alone}
 

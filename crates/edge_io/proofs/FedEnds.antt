@@ -1,6 +1,8 @@
 -- Where reading a part from a feed ends: a line is too long, nothing is left, or the limit is
 -- passed.
-use Rattle.std.proofs.Common.{◌≡◌, ◌≢◌, ℕ, ◌+◌, ◌-◌, ◌<◌, ◌≤◌, min, Bool, true, false, eqb, leb, not, List, [], ◌∷◌, ◌++◌, length, Option, Ok, Err, refl, sym, ap, ◌∙◌, append_assoc, length-append, arith}
+use Rattle.std.proofs.Common.{◌≡◌, ◌≢◌, ℕ, ◌+◌, ◌-◌, ◌<◌, ◌≤◌, min, Bool, true, false, eqb, leb}
+use Rattle.std.proofs.Common.{not, List, [], ◌∷◌, ◌++◌, length, Option, Ok, Err, refl, sym, ap, ◌∙◌}
+use Rattle.std.proofs.Common.{append_assoc, length-append, arith}
 use Rattle.std.proofs.KnownBytes.{Consumes-trans, Consumes-kept}
 use Rattle.std.proofs.lemmas.Bool.{lt-leb, ne_eqb, lt-ltb}
 use Rattle.std.proofs.lemmas.List.Folds.{list_all-append}
@@ -12,7 +14,8 @@ use Rattle.texts.proofs.LineByLine.{lines_part, longer_line}
 use Rattle.edge_io.specs.declared.feed.Line.TheVariants as how
 use Rattle.edge_io.specs.declared.feed.LineFault.TheVariants as fault
 use Rattle.edge_io.specs.Feeds.{LineIs}
-use Rattle.edge_io.specs.FedParts.{limited_part, fed_part, PartPending, Decided, Undecided, refused_at}
+use Rattle.edge_io.specs.FedParts.{limited_part, fed_part, PartPending, Decided, Undecided}
+use Rattle.edge_io.specs.FedParts.{refused_at}
 use Rattle.edge_io.proofs.Standing.{Standing, pending_end, but_last, long_shows}
 use Rattle.edge_io.proofs.FedLines.{shown_by, parted, size_more}
 

@@ -1,5 +1,7 @@
 -- One line after another of a part that is read from a feed.
-use Rattle.std.proofs.Common.{◌≡◌, ℕ, suc, ◌+◌, ◌-◌, ◌≤◌, min, Bool, true, false, List, [], ◌∷◌, ◌++◌, length, Option, Some, None, Ok, Err, refl, sym, ap, ◌∙◌, append_assoc, length-append, arith}
+use Rattle.std.proofs.Common.{◌≡◌, ℕ, suc, ◌+◌, ◌-◌, ◌≤◌, min, Bool, true, false, List, [], ◌∷◌}
+use Rattle.std.proofs.Common.{◌++◌, length, Option, Some, None, Ok, Err, refl, sym, ap, ◌∙◌}
+use Rattle.std.proofs.Common.{append_assoc, length-append, arith}
 use Rattle.std.proofs.KnownBytes.{Consumes-trans}
 use Rattle.std.proofs.lemmas.Bool.{le-leb}
 use Rattle.texts.specs.Lines.{lines_of, is_one_line, whole_lines}
@@ -13,7 +15,8 @@ use Rattle.edge_io.specs.declared.taking.TakeError.TheVariants as take
 use Rattle.edge_io.specs.declared.fed_parts.FedError.TheVariants as fed
 use Rattle.edge_io.specs.Taking.{Takes}
 use Rattle.edge_io.specs.Feeds.{LineIs}
-use Rattle.edge_io.specs.FedParts.{LimitedPart, limited_part, fed_part, PartPending, Decided, refused_at, PartFed}
+use Rattle.edge_io.specs.FedParts.{LimitedPart, limited_part, fed_part, PartPending, Decided}
+use Rattle.edge_io.specs.FedParts.{refused_at, PartFed}
 use Rattle.edge_io.proofs.Standing.{Standing, pending, but_last, newline_here}
 
 pub takes_goes : {S V R : Type 0} (next : Next S V R) (new : S) → Takes next new (Ok None)

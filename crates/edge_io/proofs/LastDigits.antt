@@ -1,11 +1,15 @@
 -- A number whose last digit is kept apart rises.
-use Rattle.std.proofs.Common.{◌≡◌, ℕ, zero, suc, ◌+◌, ◌-◌, ◌/◌, ◌%◌, ◌^◌, ◌<◌, ◌≤◌, List, [], ◌∷◌, ◌++◌, length, take, drop, get_or, set, inl, inr, length-append, refl, sym, ap, ap₂, subst, ◌∙◌, decimal, arith}
+use Rattle.std.proofs.Common.{◌≡◌, ℕ, zero, suc, ◌+◌, ◌-◌, ◌/◌, ◌%◌, ◌^◌, ◌<◌, ◌≤◌, List, [], ◌∷◌}
+use Rattle.std.proofs.Common.{◌++◌, length, take, drop, get_or, set, inl, inr, length-append, refl}
+use Rattle.std.proofs.Common.{sym, ap, ap₂, subst, ◌∙◌, decimal, arith}
 use Rattle.std.proofs.lemmas.Bool.{cases_lt}
 use Rattle.std.proofs.lemmas.Fmt.{decimal_digit, decimal_step}
 use Rattle.std.proofs.Math.Seq.{take-append_seam, take-append-add}
-use Rattle.std.proofs.lemmas.List.{length-take-le, length-set, get_or-set_same, get_or-set_other, set-get_or, take-set-le, set-append_left, set-append_right}
+use Rattle.std.proofs.lemmas.List.{length-take-le, length-set, get_or-set_same, get_or-set_other}
+use Rattle.std.proofs.lemmas.List.{set-get_or, take-set-le, set-append_left, set-append_right}
 use Rattle.edge_io.specs.Rising.{IsText, IsRising}
-use Rattle.edge_io.proofs.RisingTexts.{text_length, text_placed, rises_in_place, two_digits, nine_carried}
+use Rattle.edge_io.proofs.RisingTexts.{text_length, text_placed, rises_in_place, two_digits}
+use Rattle.edge_io.proofs.RisingTexts.{nine_carried}
 
 -- what is set last stands
 set_twice : (xs : List ℕ) (i a b : ℕ) → set (set xs i a) i b ≡ set xs i b

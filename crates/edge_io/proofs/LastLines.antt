@@ -1,5 +1,7 @@
 -- The line that ends an input, of a part that is read from a feed.
-use Rattle.std.proofs.Common.{◌≡◌, ℕ, ◌+◌, ◌≤◌, true, false, List, [], ◌∷◌, ◌++◌, length, Option, None, Result, Ok, Err, refl, sym, ap, ◌∙◌, append-nil, length-append, arith}
+use Rattle.std.proofs.Common.{◌≡◌, ℕ, ◌+◌, ◌≤◌, true, false, List, [], ◌∷◌, ◌++◌, length, Option}
+use Rattle.std.proofs.Common.{None, Result, Ok, Err, refl, sym, ap, ◌∙◌, append-nil, length-append}
+use Rattle.std.proofs.Common.{arith}
 use Rattle.std.proofs.KnownBytes.{Consumes-trans}
 use Rattle.texts.specs.Lines.{lines_of, is_one_line}
 use Rattle.texts.specs.Parts.{Next, goes, ends, refuses, Found, At, part_from}
@@ -10,7 +12,8 @@ use Rattle.edge_io.specs.declared.fed_parts.FedPart.{FedPart}
 use Rattle.edge_io.specs.declared.fed_parts.FedError.{FedError}
 use Rattle.edge_io.specs.declared.fed_parts.FedError.TheVariants as fed
 use Rattle.edge_io.specs.Feeds.{LineIs}
-use Rattle.edge_io.specs.FedParts.{LimitedPart, limited_part, PartPending, Decided, ends_with, refused_at, PartFed, IsLastLine}
+use Rattle.edge_io.specs.FedParts.{LimitedPart, limited_part, PartPending, Decided, ends_with}
+use Rattle.edge_io.specs.FedParts.{refused_at, PartFed, IsLastLine}
 use Rattle.edge_io.proofs.Standing.{Standing, pending}
 
 -- what a part answers: two that are the same have the same parts

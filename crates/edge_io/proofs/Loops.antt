@@ -1,5 +1,6 @@
 -- What the loops over a source and a sink keep.
-use Rattle.std.proofs.Common.{◌≡◌, ℕ, ◌≤◌, ◌<◌, ◌-◌, ◌+◌, List, [], ◌++◌, length, take, drop, Option, refl, ap, sym, ◌∙◌, append_assoc, length-append, arith}
+use Rattle.std.proofs.Common.{◌≡◌, ℕ, ◌≤◌, ◌<◌, ◌-◌, ◌+◌, List, [], ◌++◌, length, take, drop}
+use Rattle.std.proofs.Common.{Option, refl, ap, sym, ◌∙◌, append_assoc, length-append, arith}
 use Rattle.std.specs.Io.KnownBytes.{Consumes, Keeps, Appends}
 use Rattle.std.specs.Prelude.{Result, Ok, Err, OnErr}
 use Rattle.std.proofs.KnownBytes.{Consumes-kept, Consumes-trans}

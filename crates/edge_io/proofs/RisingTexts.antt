@@ -1,6 +1,9 @@
 -- A number that is kept as text rises.
-use Rattle.std.proofs.Common.{◌≡◌, ℕ, ◌+◌, ◌-◌, ◌*◌, ◌/◌, ◌%◌, ◌^◌, ◌<◌, ◌≤◌, List, [], ◌∷◌, ◌++◌, length, take, get_or, set, inl, inr, sym, ap, ap₂, ◌∙◌, append_assoc, length-append, length-set, take-take, decimal, arith, eq-zero-or-pos}
-use Rattle.std.proofs.lemmas.List.{length-take-le, take_more_set, take-set-le, take-append-le, get_or-take}
+use Rattle.std.proofs.Common.{◌≡◌, ℕ, ◌+◌, ◌-◌, ◌*◌, ◌/◌, ◌%◌, ◌^◌, ◌<◌, ◌≤◌, List, [], ◌∷◌, ◌++◌}
+use Rattle.std.proofs.Common.{length, take, get_or, set, inl, inr, sym, ap, ap₂, ◌∙◌, append_assoc}
+use Rattle.std.proofs.Common.{length-append, length-set, take-take, decimal, arith, eq-zero-or-pos}
+use Rattle.std.proofs.lemmas.List.{length-take-le, take_more_set, take-set-le, take-append-le}
+use Rattle.std.proofs.lemmas.List.{get_or-take}
 use Rattle.std.proofs.lemmas.Fmt.{decimal_digit, decimal_step}
 use Rattle.std.proofs.Math.Seq.{take-append_seam, take-append-add, get_or-append_seam}
 use Rattle.edge_io.specs.Rising.{IsText}

@@ -1,5 +1,6 @@
 -- What reading a text whose lines all end with a newline, from its front to its end, did.
-use Rattle.std.specs.Prelude.{◌≡◌, ℕ, ◌+◌, ◌-◌, ◌<◌, ◌≤◌, List, ◌∷◌, ◌++◌, length, Bool, true, false, Option, Result, Ok, Err}
+use Rattle.std.specs.Prelude.{◌≡◌, ℕ, ◌+◌, ◌-◌, ◌<◌, ◌≤◌, List, ◌∷◌, ◌++◌, length, Bool, true}
+use Rattle.std.specs.Prelude.{false, Option, Result, Ok, Err}
 use Rattle.std.specs.Io.KnownBytes.{Consumes, Keeps, IsAtEnd}
 use Rattle.texts.specs.Lines.{lines_of, whole_lines, is_one_line}
 use Rattle.texts.specs.Parts.{Next, At}

@@ -1,5 +1,6 @@
 -- Sources and sinks in memory: which calls fail, and how many bytes a call moves.
-use Rattle.std.specs.Prelude.{ℕ, suc, ◌+◌, ◌-◌, ◌^◌, ◌%◌, min, List, [], ◌++◌, length, drop, slice_index, Some, Bool, ◌||◌, ◌==◌, if◌then◌else◌}
+use Rattle.std.specs.Prelude.{ℕ, suc, ◌+◌, ◌-◌, ◌^◌, ◌%◌, min, List, [], ◌++◌, length, drop}
+use Rattle.std.specs.Prelude.{slice_index, Some, Bool, ◌||◌, ◌==◌, if◌then◌else◌}
 use Rattle.texts.specs.Growth.{Told}
 
 -- one more call or fault; a count stands still at 2 ^ 64 - 1

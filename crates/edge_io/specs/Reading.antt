@@ -1,5 +1,6 @@
 -- What is left of a source, and whether its end was met.
-use Rattle.std.specs.Prelude.{◌≡◌, ℕ, ◌+◌, ◌<◌, ◌≤◌, length, List, Option, Bool, ◌||◌, ◌==◌, Result, MatchResult}
+use Rattle.std.specs.Prelude.{◌≡◌, ℕ, ◌+◌, ◌<◌, ◌≤◌, length, List, Option, Bool, ◌||◌, ◌==◌, Result}
+use Rattle.std.specs.Prelude.{MatchResult}
 use Rattle.std.specs.Io.KnownBytes.{Consumes}
 
 -- some bytes at the front were read, and those behind them are left

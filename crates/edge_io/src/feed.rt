@@ -48,13 +48,15 @@ pub struct Feed<'a, S> {
 }
 
 impl<'a, S: Source> Feed<'a, S> {
-    ghost use Rattle.std.specs.Prelude.{◌≡◌, ◌<◌, ◌≤◌, ◌+◌, ◌^◌, ℕ, [], true, false, not, ◌||◌, length, take, drop, Ok, OnErr, IfOk};
+    ghost use Rattle.std.specs.Prelude.{◌≡◌, ◌<◌, ◌≤◌, ◌+◌, ◌^◌, ℕ, [], true, false, not, ◌||◌};
+    ghost use Rattle.std.specs.Prelude.{length, take, drop, Ok, OnErr, IfOk};
     ghost use Rattle.std.specs.Option.{is_none};
     ghost use Rattle.edge_io.specs.declared.feed.Line.TheVariants as how;
     ghost use Rattle.std.specs.Io.KnownBytes.{Consumes, Keeps, IsAtEnd};
     ghost use Rattle.texts.specs.Causes.{HasCause};
     ghost use Rattle.texts.specs.Lines.{is_one_line};
-    ghost use Rattle.edge_io.specs.Feeds.{buffered, feed_left, TakesByte, TakesLineByte, LineIs, HasLineCause, IsDry, meets_end};
+    ghost use Rattle.edge_io.specs.Feeds.{buffered, feed_left, TakesByte, TakesLineByte, LineIs};
+    ghost use Rattle.edge_io.specs.Feeds.{HasLineCause, IsDry, meets_end};
 
     /// A feed of all that the source has left, of which no line was read.
     pub fn new(source: &'a mut S) -> Feed<'a, S>

@@ -28,7 +28,8 @@ pub struct Gathered<'a, K> {
 }
 
 impl<'a, K: Sink> Gathered<'a, K> {
-    ghost use Rattle.std.specs.Prelude.{◌≡◌, ◌+◌, [], ◌∷◌, ◌<◌, ◌≤◌, List, ℕ, length, take, decimal, OnOk};
+    ghost use Rattle.std.specs.Prelude.{◌≡◌, ◌+◌, [], ◌∷◌, ◌<◌, ◌≤◌, List, ℕ, length, take};
+    ghost use Rattle.std.specs.Prelude.{decimal, OnOk};
     ghost use Rattle.texts.specs.Growth.{Told, Wrote, Puts, gathering};
     ghost use Rattle.edge_io.specs.Gathering.{gathered_told, held};
     ghost use Rattle.edge_io.specs.Rising.{labelled_text};

@@ -27,7 +27,8 @@ impl Model for LineBuf {
 }
 
 impl LineBuf {
-    ghost use Rattle.std.specs.Prelude.{◌≡◌, ◌<◌, ◌≤◌, ◌+◌, [], ◌∷◌, ◌++◌, ◌==◌, length, None, IfOk, IfSome};
+    ghost use Rattle.std.specs.Prelude.{◌≡◌, ◌<◌, ◌≤◌, ◌+◌, [], ◌∷◌, ◌++◌, ◌==◌, length, None};
+    ghost use Rattle.std.specs.Prelude.{IfOk, IfSome};
     ghost use Rattle.edge_io.specs.HeldLines.{IsLineOf};
 
     /// An empty line. It takes all memory that it ever needs; `NoMemory` comes where there is none.

@@ -107,11 +107,13 @@ impl MemSink {
 }
 
 impl Sink for MemSink {
-    ghost use Rattle.std.specs.Prelude.{◌≡◌, ◌<◌, ◌≤◌, ◌-◌, ◌⊎◌, length, take, min, Some, Contains, OnOk, OnErr, IfOk, MatchResult};
+    ghost use Rattle.std.specs.Prelude.{◌≡◌, ◌<◌, ◌≤◌, ◌-◌, ◌⊎◌, length, take, min, Some, Contains};
+    ghost use Rattle.std.specs.Prelude.{OnOk, OnErr, IfOk, MatchResult};
     ghost use Rattle.std.specs.Io.KnownBytes.{WriteAppends};
     ghost use Rattle.texts.specs.Causes.{HasCause};
     ghost use Rattle.texts.specs.Growth.{Follows, UsesUp, IsMissed, arrived};
-    ghost use Rattle.edge_io.specs.Memory.{counted, moved, after_write, after_failed_write, memory_told};
+    ghost use Rattle.edge_io.specs.Memory.{counted, moved, after_write, after_failed_write};
+    ghost use Rattle.edge_io.specs.Memory.{memory_told};
 
     ghost told = { λ s. memory_told s };
 

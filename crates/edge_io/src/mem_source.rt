@@ -87,7 +87,8 @@ impl MemSource {
 }
 
 impl Source for MemSource {
-    ghost use Rattle.std.specs.Prelude.{◌≡◌, ◌<◌, length, min, Some, Contains, OnOk, OnErr, IfOk, MatchResult};
+    ghost use Rattle.std.specs.Prelude.{◌≡◌, ◌<◌, length, min, Some, Contains, OnOk, OnErr, IfOk};
+    ghost use Rattle.std.specs.Prelude.{MatchResult};
     ghost use Rattle.std.specs.Io.{ReadsAtMost};
     ghost use Rattle.std.specs.Io.KnownBytes.{ReadConsumes};
     ghost use Rattle.texts.specs.Causes.{HasCause};

@@ -1,4 +1,5 @@
-ghost use Rattle.std.specs.Prelude.{◌≡◌, ◌≤◌, ◌<◌, ◌+◌, ◌^◌, List, ℕ, length, drop, MatchResult, IfOk, Ok};
+ghost use Rattle.std.specs.Prelude.{◌≡◌, ◌≤◌, ◌<◌, ◌+◌, ◌^◌, List, ℕ, length, drop, MatchResult};
+ghost use Rattle.std.specs.Prelude.{IfOk, Ok};
 ghost use Rattle.texts.specs.Lines.{lines_of, is_well_parted, has_empty_word, words_of};
 ghost use Rattle.edge_io.specs.Taking.{Takes, FailsAt};
 ghost use Rattle.texts.specs.Parts.{Next, Found, is_skipped, with_skips, part_from};

@@ -29,7 +29,8 @@ impl<R: Read> StdSource<R> {
 }
 
 impl<R: Read> Source for StdSource<R> {
-    ghost use Rattle.std.specs.Prelude.{◌≡◌, ◌<◌, length, true, false, None, Ok, OnOk, OnErr, IfOk, ◌==◌};
+    ghost use Rattle.std.specs.Prelude.{◌≡◌, ◌<◌, length, true, false, None, Ok, OnOk, OnErr, IfOk};
+    ghost use Rattle.std.specs.Prelude.{◌==◌};
     ghost use Rattle.std.specs.Io.{ReadsAtMost};
     ghost use Rattle.std.specs.Io.KnownBytes.{Keeps, ReadConsumes};
     ghost use Rattle.texts.specs.Causes.{HasCause};

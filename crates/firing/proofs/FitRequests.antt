@@ -1,6 +1,7 @@
 -- Requests that are read are those of nodes of the plan, and the plan's modulus is a multiple of a
 -- slot.
-use Rattle.std.proofs.Common.{◌≡◌, ℕ, ◌<◌, ◌≤◌, ◌%◌, Bool, true, false, List, [], ◌∷◌, length, All, Option, Some, None, Result, Ok, Err, refl, subst, arith}
+use Rattle.std.proofs.Common.{◌≡◌, ℕ, ◌<◌, ◌≤◌, ◌%◌, Bool, true, false, List, [], ◌∷◌, length, All}
+use Rattle.std.proofs.Common.{Option, Some, None, Result, Ok, Err, refl, subst, arith}
 use Rattle.std.specs.Prelude.{IfOk, nat_le, nat_lt, if◌then◌else◌, codes}
 use Rattle.std.specs.Str.{bytes_eq}
 use Rattle.std.proofs.lemmas.Bool.{eqb-true, leb-false}
@@ -15,7 +16,8 @@ use Rattle.sync_types.specs.declared.answers.Rule.TheVariants.{Form, Limit, Node
 use Rattle.construction.specs.Plans.{Plan, plan_nodes, plan_faults, plan_modulus}
 use Rattle.layer_laws.specs.Slots.{slot_length}
 use Rattle.firing.specs.declared.requests.Request.{Request}
-use Rattle.firing.specs.FirePart.{FireSoFar, nothing_read, head_step, request_tested, request_in, goes_with, fire_step, part_of, AreFor}
+use Rattle.firing.specs.FirePart.{FireSoFar, nothing_read, head_step, request_tested, request_in}
+use Rattle.firing.specs.FirePart.{goes_with, fire_step, part_of, AreFor}
 
 -- what holds of the requests so far
 record FitSoFar (plan : Plan) (s : FireSoFar) : Type 0 where

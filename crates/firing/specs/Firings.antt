@@ -1,8 +1,10 @@
 -- Simultaneous firing: consensus on one bit, whose input is whether a node requests in the round.
-use Rattle.std.specs.Prelude.{◌≡◌, ℕ, ◌+◌, ◌-◌, ◌%◌, ◌<◌, List, [], ◌∷◌, length, Bool, false, ◌==◌, ◌&&◌, nat_le, nat_eq, Some, if◌then◌else◌, slice_index_or}
+use Rattle.std.specs.Prelude.{◌≡◌, ℕ, ◌+◌, ◌-◌, ◌%◌, ◌<◌, List, [], ◌∷◌, length, Bool, false, ◌==◌}
+use Rattle.std.specs.Prelude.{◌&&◌, nat_le, nat_eq, Some, if◌then◌else◌, slice_index_or}
 use Rattle.std.specs.List.{list_any}
 use Rattle.std.specs.Option.{option_eq}
-use Rattle.construction.specs.Plans.{Plan, plan_nodes, plan_faults, plan_modulus, plan_bound, plan_depth}
+use Rattle.construction.specs.Plans.{Plan, plan_nodes, plan_faults, plan_modulus, plan_bound}
+use Rattle.construction.specs.Plans.{plan_depth}
 use Rattle.construction.specs.Runs.{is_in, IsBorne}
 use Rattle.plan_numbers.specs.Premises.{IsAccepted}
 use Rattle.counter_core.specs.Overlays.{Layer}

@@ -1,5 +1,6 @@
 -- What is heard of a stretch of nodes, by what its correct ones have and its liars tell.
-use Rattle.std.proofs.Common.{◌≡◌, ℕ, ◌+◌, ◌≤◌, Bool, true, false, if◌then◌else◌, List, ◌++◌, map, length, replicate, Option, Some, unwrap_or, refl, sym, ap, ◌∙◌, arith}
+use Rattle.std.proofs.Common.{◌≡◌, ℕ, ◌+◌, ◌≤◌, Bool, true, false, if◌then◌else◌, List, ◌++◌, map}
+use Rattle.std.proofs.Common.{length, replicate, Option, Some, unwrap_or, refl, sym, ap, ◌∙◌, arith}
 use Rattle.std.specs.List.{range_with_len}
 use Rattle.std.proofs.Math.Path.{fun_ext}
 use Rattle.std.proofs.lemmas.Simd.{map-map}
@@ -16,7 +17,9 @@ use Rattle.construction.specs.Shown.{shown}
 use Rattle.majority_votes.specs.Outlooks.{IsOutlook}
 use Rattle.majority_votes.specs.declared.tally.Outlook.{Outlook}
 use Rattle.majority_votes.specs.declared.tally.Outlook.TheVariants as outlook
-use Rattle.group_votes.specs.Senders.{Sent, is_liar, output_of, register_of, correct_in, liars_below, liars_in, values_of, IsTold, told_by, lies_in, output_heard, outputs_heard, values_heard}
+use Rattle.group_votes.specs.Senders.{Sent, is_liar, output_of, register_of, correct_in}
+use Rattle.group_votes.specs.Senders.{liars_below, liars_in, values_of, IsTold, told_by, lies_in}
+use Rattle.group_votes.specs.Senders.{output_heard, outputs_heard, values_heard}
 use Rattle.group_votes.specs.Votes.{known_number, IsKnown}
 use Rattle.group_votes.proofs.Single.{single_number}
 

@@ -1,5 +1,6 @@
 -- The lead and the beat of a group, where they are known.
-use Rattle.std.proofs.Common.{◌≡◌, ℕ, ◌+◌, ◌*◌, ◌/◌, ◌%◌, ◌<◌, List, IfSome, map, length, get_or, Option, Some, None, refl, sym, ap, ◌∙◌, subst, arith}
+use Rattle.std.proofs.Common.{◌≡◌, ℕ, ◌+◌, ◌*◌, ◌/◌, ◌%◌, ◌<◌, List, IfSome, map, length, get_or}
+use Rattle.std.proofs.Common.{Option, Some, None, refl, sym, ap, ◌∙◌, subst, arith}
 use Rattle.std.specs.List.{range_with_len}
 use Rattle.std.proofs.Math.Nat.{mod-lt}
 use Rattle.std.proofs.lemmas.List.{get_or-map, length-map}
@@ -8,7 +9,8 @@ use Rattle.counting.proofs.Majority.{majority_below_at}
 use Rattle.sync_types.specs.States.{State}
 use Rattle.majority_votes.specs.Votes.{Votes}
 use Rattle.group_votes.specs.Senders.{Sent, IsTold, outputs_heard}
-use Rattle.group_votes.specs.Votes.{IsKnown, IsBeat, AreVotes, IsLead, block_vote, block_part, blocks_lead}
+use Rattle.group_votes.specs.Votes.{IsKnown, IsBeat, AreVotes, IsLead, block_vote, block_part}
+use Rattle.group_votes.specs.Votes.{blocks_lead}
 use Rattle.group_votes.proofs.Heard.{known_of_some}
 
 -- the majority of numbers below m is below m

@@ -1,11 +1,14 @@
 -- The lead from votes of which some are known.
-use Rattle.std.proofs.Common.{◌≡◌, ℕ, ◌+◌, ◌/◌, ◌<◌, ◌≤◌, List, IfSome, map, length, get_or, Option, Some, None, unwrap_or, inl, inr, ◌⊎◌, refl, sym, ap, ◌∙◌, subst, ⊎_elim, arith}
+use Rattle.std.proofs.Common.{◌≡◌, ℕ, ◌+◌, ◌/◌, ◌<◌, ◌≤◌, List, IfSome, map, length, get_or, Option}
+use Rattle.std.proofs.Common.{Some, None, unwrap_or, inl, inr, ◌⊎◌, refl, sym, ap, ◌∙◌, subst}
+use Rattle.std.proofs.Common.{⊎_elim, arith}
 use Rattle.std.specs.List.{range_with_len}
 use Rattle.std.proofs.lemmas.Bool.{cases_lt}
 use Rattle.std.proofs.lemmas.Simd.{map-map}
 use Rattle.std.proofs.lemmas.List.FromFn.{get_or-map-range_with_len, length-map-range_with_len}
 use Rattle.counting.specs.Values.{count_of, majority_of, majority_or_zero}
-use Rattle.counting.proofs.Counts.{holds_at, holds_is, holds_from, count_of-places, count_of-places_at, held_from_count}
+use Rattle.counting.proofs.Counts.{holds_at, holds_is, holds_from, count_of-places}
+use Rattle.counting.proofs.Counts.{count_of-places_at, held_from_count}
 use Rattle.counting.proofs.Majority.{majority_is, no_majority}
 use Rattle.counting.proofs.Places.{cover, fewer}
 use Rattle.group_votes.specs.Votes.{IsLead}

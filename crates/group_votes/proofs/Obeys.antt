@@ -1,9 +1,12 @@
 -- The instruction of a beat, by what is heard.
-use Rattle.std.proofs.Common.{◌≡◌, ℕ, zero, suc, ◌+◌, ◌-◌, ◌*◌, ◌/◌, ◌%◌, ◌<◌, ◌≤◌, true, not, if◌then◌else◌, IfSome, All, nat_le, List, ◌++◌, map, length, drop, subst, Option, Some, None, refl, sym, ap, ◌∙◌, arith}
+use Rattle.std.proofs.Common.{◌≡◌, ℕ, zero, suc, ◌+◌, ◌-◌, ◌*◌, ◌/◌, ◌%◌, ◌<◌, ◌≤◌, true, not}
+use Rattle.std.proofs.Common.{if◌then◌else◌, IfSome, All, nat_le, List, ◌++◌, map, length, drop}
+use Rattle.std.proofs.Common.{subst, Option, Some, None, refl, sym, ap, ◌∙◌, arith}
 use Rattle.std.specs.List.{range_with_len}
 use Rattle.std.proofs.lemmas.Nat.{mul-le}
 use Rattle.std.proofs.lemmas.List.{length-map}
-use Rattle.std.proofs.lemmas.List.Elements.{All-nil, All-cons, All-filter, All-map, All-append, All-take, All-drop}
+use Rattle.std.proofs.lemmas.List.Elements.{All-nil, All-cons, All-filter, All-map, All-append}
+use Rattle.std.proofs.lemmas.List.Elements.{All-take, All-drop}
 use Rattle.std.proofs.lemmas.List.FromFn.{get_or-map-range_with_len}
 use Rattle.counting.specs.Values.{count_of, least_above}
 use Rattle.counting.proofs.Places.{shorter}
@@ -12,7 +15,8 @@ use Rattle.sync_types.specs.States.{State, zero_register, register_at}
 use Rattle.construction.specs.PhaseKing.{instructed, incremented, own_or_kings, up}
 use Rattle.plan_numbers.specs.declared.numbers.LevelNums.{LevelNums}
 use Rattle.plan_numbers.specs.Sizes.{block_nodes}
-use Rattle.group_votes.specs.Senders.{Sent, is_liar, register_of, correct_in, liars_below, liars_in, values_of, IsTold, lies_in, value_heard, values_heard}
+use Rattle.group_votes.specs.Senders.{Sent, is_liar, register_of, correct_in, liars_below, liars_in}
+use Rattle.group_votes.specs.Senders.{values_of, IsTold, lies_in, value_heard, values_heard}
 use Rattle.group_votes.specs.Groups.{AreNumbers, AreBelow, AreLies}
 use Rattle.group_votes.specs.Votes.{IsKnown}
 use Rattle.group_votes.proofs.Heard.{count_of_heard, least_of_heard, lies_long, correct_count}

@@ -11,8 +11,10 @@ use Rattle.phase_king.proofs.Registers.{locked_register}
 use Rattle.plan_numbers.specs.declared.numbers.LevelNums.{LevelNums}
 use Rattle.plan_numbers.specs.Numbers.{level_of}
 use Rattle.plan_numbers.specs.Sizes.{block_nodes}
-use Rattle.group_votes.specs.Senders.{Sent, is_liar, register_of, told_by, outputs_heard, values_heard}
-use Rattle.group_votes.specs.Groups.{AreNumbers, Contents, HasRoom, lead_heard, beat_of_lead, register_heard}
+use Rattle.group_votes.specs.Senders.{Sent, is_liar, register_of, told_by, outputs_heard}
+use Rattle.group_votes.specs.Senders.{values_heard}
+use Rattle.group_votes.specs.Groups.{AreNumbers, Contents, HasRoom, lead_heard, beat_of_lead}
+use Rattle.group_votes.specs.Groups.{register_heard}
 use Rattle.group_votes.proofs.Beats.{beat_is, part_below}
 
 module _ (s : Sent) (nums : LevelNums) (numbers : AreNumbers nums) (first node : ℕ) where

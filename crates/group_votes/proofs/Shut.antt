@@ -1,5 +1,7 @@
 -- When nothing that is told matters to a node's new register.
-use Rattle.std.proofs.Common.{◌≡◌, ℕ, ◌+◌, ◌-◌, ◌*◌, ◌/◌, ◌%◌, ◌<◌, ◌≤◌, ◌⊎◌, inl, inr, Bool, true, false, if◌then◌else◌, List, map, length, nat_le, get_or, Option, Some, None, refl, sym, ap, ◌∙◌, subst, arith}
+use Rattle.std.proofs.Common.{◌≡◌, ℕ, ◌+◌, ◌-◌, ◌*◌, ◌/◌, ◌%◌, ◌<◌, ◌≤◌, ◌⊎◌, inl, inr, Bool, true}
+use Rattle.std.proofs.Common.{false, if◌then◌else◌, List, map, length, nat_le, get_or, Option, Some}
+use Rattle.std.proofs.Common.{None, refl, sym, ap, ◌∙◌, subst, arith}
 use Rattle.std.proofs.lemmas.List.{length-map}
 use Rattle.std.proofs.lemmas.List.FromFn.{get_or-map-range_with_len}
 use Rattle.counting.specs.Values.{count_of, least_above}
@@ -9,10 +11,13 @@ use Rattle.sync_types.specs.declared.states.Reg.{Reg}
 use Rattle.sync_types.specs.States.{State, register_at}
 use Rattle.construction.specs.Votes.{beat_heard}
 use Rattle.construction.specs.PhaseKing.{locked_at}
-use Rattle.phase_king.proofs.Registers.{zero_infinite, zero_tested, one_tested, two_kings, two_marked}
+use Rattle.phase_king.proofs.Registers.{zero_infinite, zero_tested, one_tested, two_kings}
+use Rattle.phase_king.proofs.Registers.{two_marked}
 use Rattle.plan_numbers.specs.Numbers.{level_of}
 use Rattle.plan_numbers.specs.Sizes.{block_nodes}
-use Rattle.group_votes.specs.Senders.{Sent, is_liar, register_of, liars_in, values_of, IsTold, TellsItself, told_by, lies_in, value_heard, outputs_heard, values_heard}
+use Rattle.group_votes.specs.Senders.{Sent, is_liar, register_of, liars_in, values_of, IsTold}
+use Rattle.group_votes.specs.Senders.{TellsItself, told_by, lies_in, value_heard, outputs_heard}
+use Rattle.group_votes.specs.Senders.{values_heard}
 use Rattle.group_votes.specs.Votes.{IsKnown}
 use Rattle.group_votes.specs.Groups.{Contents, HasRoom, beat_of_lead, register_heard}
 use Rattle.group_votes.proofs.Heard.{count_parted, lies_long, known_of_some}

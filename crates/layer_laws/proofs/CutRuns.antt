@@ -1,21 +1,25 @@
 -- A run with a layer, cut to the registers of the plan, is a run of the plan.
-use Rattle.std.proofs.Common.{◌≡◌, ℕ, ◌+◌, ◌<◌, Bool, true, false, cond, not, ◌||◌, ◌==◌, List, [], ◌++◌, length, map, get_or, refl, sym, ap, ap₂, ◌∙◌, subst, arith}
+use Rattle.std.proofs.Common.{◌≡◌, ℕ, ◌+◌, ◌<◌, Bool, true, false, cond, not, ◌||◌, ◌==◌, List, []}
+use Rattle.std.proofs.Common.{◌++◌, length, map, get_or, refl, sym, ap, ap₂, ◌∙◌, subst, arith}
 use Rattle.std.specs.List.{range_with_len}
 use Rattle.std.proofs.lemmas.List.{length-map, take_at, get_or-map, get_or-append-add}
 use Rattle.std.proofs.lemmas.List.Elements.{All-map, All-weaker, All-get_or}
-use Rattle.std.proofs.lemmas.List.FromFn.{fill_by_all, length-map-range_with_len, get_or-map-range_with_len}
+use Rattle.std.proofs.lemmas.List.FromFn.{fill_by_all, length-map-range_with_len}
+use Rattle.std.proofs.lemmas.List.FromFn.{get_or-map-range_with_len}
 use Rattle.sync_types.specs.declared.states.Reg.{Reg}
 use Rattle.sync_types.specs.States.{State, zero_state, zero_register, register_at}
 use Rattle.construction.specs.Plans.{Plan, plan_nodes, plan_depth}
 use Rattle.construction.specs.Steps.{state_of, step_of}
-use Rattle.construction.specs.Runs.{is_in, IsState, IsConfiguration, IsTold, IsTable, IsNext, Run, configuration, heard_of, heard_by}
+use Rattle.construction.specs.Runs.{is_in, IsState, IsConfiguration, IsTold, IsTable, IsNext, Run}
+use Rattle.construction.specs.Runs.{configuration, heard_of, heard_by}
 use Rattle.construction.proofs.Ranges.{length-step_in}
 use Rattle.plan_laws.specs.PlanMeaning.{plan_meaning}
 use Rattle.plan_laws.proofs.Ranges.{state_of-cut, step_of-cut}
 use Rattle.counter_core.specs.Meanings.{cut}
 use Rattle.counter_core.specs.Overlays.{Layer}
 use Rattle.layer_laws.specs.Scenes.{Scene, kept_of, layer_step, new_state}
-use Rattle.layer_laws.specs.LayerRuns.{IsLayerState, IsLayerConfiguration, IsLayerTold, IsLayerTable, LayerRun, scene, without_layer}
+use Rattle.layer_laws.specs.LayerRuns.{IsLayerState, IsLayerConfiguration, IsLayerTold}
+use Rattle.layer_laws.specs.LayerRuns.{IsLayerTable, LayerRun, scene, without_layer}
 
 -- a choice of two states, cut
 cut_choice : (d : ℕ) (b : Bool) (s t : State) → cond b (cut d s) (cut d t) ≡ cut d (cond b s t)

@@ -1,5 +1,7 @@
 -- What is played in an era is a run with the layer.
-use Rattle.std.proofs.Common.{◌≡◌, inl, inr, ℕ, zero, suc, ◌+◌, ◌<◌, cond, eqb, not, ◌||◌, List, [], length, map, get_or, All, IfSome, sym, ap, ap₂, ◌∙◌, subst, length-append, add-one, arith}
+use Rattle.std.proofs.Common.{◌≡◌, inl, inr, ℕ, zero, suc, ◌+◌, ◌<◌, cond, eqb, not, ◌||◌, List, []}
+use Rattle.std.proofs.Common.{length, map, get_or, All, IfSome, sym, ap, ap₂, ◌∙◌, subst}
+use Rattle.std.proofs.Common.{length-append, add-one, arith}
 use Rattle.std.specs.List.{range_with_len}
 use Rattle.std.proofs.lemmas.Bool.{lt-ltb}
 use Rattle.std.proofs.lemmas.List.Elements.{All-get_or, All-from_get_or}
@@ -16,11 +18,14 @@ use Rattle.plan_laws.specs.PlanMeaning.{plan_meaning}
 use Rattle.plan_laws.proofs.PlanCounter.{positive, plan_sizes}
 use Rattle.plan_laws.proofs.Ranges.{shown_of_cut, range_of_state}
 use Rattle.counter_core.specs.Meanings.{cut}
-use Rattle.counter_core.specs.Overlays.{Layer, SameNumbers, StandsOver, HasRegisters, HasValues, KeepsRange, MayHear, AreNew}
+use Rattle.counter_core.specs.Overlays.{Layer, SameNumbers, StandsOver, HasRegisters, HasValues}
+use Rattle.counter_core.specs.Overlays.{KeepsRange, MayHear, AreNew}
 use Rattle.layer_laws.specs.Scenes.{Scene, kept_of, layer_step, new_state}
-use Rattle.layer_laws.specs.LayerRuns.{IsLayerState, IsLayerConfiguration, IsLayerTold, IsLayerTable, LayerRun, scene}
+use Rattle.layer_laws.specs.LayerRuns.{IsLayerState, IsLayerConfiguration, IsLayerTold}
+use Rattle.layer_laws.specs.LayerRuns.{IsLayerTable, LayerRun, scene}
 use Rattle.layer_laws.specs.Laws.{ErasAreRuns}
-use Rattle.layer_laws.specs.Played.{Telling, TellsInRange, IsKeptFor, lies_in, heard_in, state_after, kept_after, next_scene, scene_after, era_from}
+use Rattle.layer_laws.specs.Played.{Telling, TellsInRange, IsKeptFor, lies_in, heard_in}
+use Rattle.layer_laws.specs.Played.{state_after, kept_after, next_scene, scene_after, era_from}
 use Rattle.layer_laws.proofs.CutRuns.{new_front, layer_register}
 use Rattle.layer_laws.proofs.NodesSteps.{each_below, choice_is}
 

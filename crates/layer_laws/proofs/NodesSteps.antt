@@ -1,5 +1,7 @@
 -- What a correct node hears in a round of a run with a layer, and what correct nodes show once the plan's bound is past.
-use Rattle.std.proofs.Common.{◌≡◌, ℕ, zero, suc, ◌+◌, ◌-◌, ◌%◌, ◌<◌, ◌≤◌, inl, inr, Bool, true, false, cond, eqb, not, ◌||◌, List, [], length, map, get_or, All, sym, ap, ◌∙◌, subst, arith}
+use Rattle.std.proofs.Common.{◌≡◌, ℕ, zero, suc, ◌+◌, ◌-◌, ◌%◌, ◌<◌, ◌≤◌, inl, inr, Bool, true}
+use Rattle.std.proofs.Common.{false, cond, eqb, not, ◌||◌, List, [], length, map, get_or, All, sym}
+use Rattle.std.proofs.Common.{ap, ◌∙◌, subst, arith}
 use Rattle.std.specs.List.{range_with_len}
 use Rattle.std.proofs.Math.Bool.{or-true}
 use Rattle.std.proofs.Math.Nat.{mod-mod_of_dvd, mod-add-mod, mod-eq_of_lt, mod-lt, add-zero}
@@ -19,7 +21,8 @@ use Rattle.plan_laws.proofs.Ranges.{state_of-cut, shown_of_cut}
 use Rattle.counter_core.specs.Meanings.{cut}
 use Rattle.counter_core.specs.Overlays.{Layer}
 use Rattle.layer_laws.specs.Scenes.{Scene}
-use Rattle.layer_laws.specs.LayerRuns.{IsLayerState, IsLayerConfiguration, IsLayerTold, LayerRun, NodeSteps, scene, without_layer}
+use Rattle.layer_laws.specs.LayerRuns.{IsLayerState, IsLayerConfiguration, IsLayerTold, LayerRun}
+use Rattle.layer_laws.specs.LayerRuns.{NodeSteps, scene, without_layer}
 use Rattle.layer_laws.specs.Slots.{AllAre}
 use Rattle.layer_laws.proofs.CutRuns.{configuration_at, cut_at}
 

@@ -1,6 +1,7 @@
 -- A register of a layer that agrees: in slots of F + 1 phases it takes the phase king's
 -- instructions, without increment, over all nodes of the plan.
-use Rattle.std.specs.Prelude.{◌≡◌, ℕ, ◌+◌, ◌*◌, ◌/◌, ◌%◌, ◌<◌, ◌≤◌, List, map, Some, false, slice_index_or}
+use Rattle.std.specs.Prelude.{◌≡◌, ℕ, ◌+◌, ◌*◌, ◌/◌, ◌%◌, ◌<◌, ◌≤◌, List, map, Some, false}
+use Rattle.std.specs.Prelude.{slice_index_or}
 use Rattle.sync_types.specs.declared.states.Reg.{Reg}
 use Rattle.sync_types.specs.States.{State, register_at, zero_register}
 use Rattle.construction.specs.Plans.{Plan, plan_nodes, plan_faults, plan_depth}

@@ -1,12 +1,17 @@
 -- The laws of intervals, and how they grow with the block.
-use Rattle.std.proofs.Common.{◌≡◌, ℕ, zero, suc, ◌+◌, ◌*◌, ◌/◌, ◌%◌, ◌^◌, ◌<◌, ◌≤◌, sym, ap, ◌∙◌, subst, ⊎_elim, arith}
-use Rattle.std.proofs.Math.Nat.{div-add-mod, mod-add-mod, mul-le-mul_left, mul-pos, pow-suc, one-le-pow, pow-le-pow_right, le_antisymm, mul-add-div, mul-add-mod_self_left, add-div_right, add-mul-div_right, add-mod_right, mod-mod_of_dvd, mul-mod_right}
+use Rattle.std.proofs.Common.{◌≡◌, ℕ, zero, suc, ◌+◌, ◌*◌, ◌/◌, ◌%◌, ◌^◌, ◌<◌, ◌≤◌, sym, ap, ◌∙◌}
+use Rattle.std.proofs.Common.{subst, ⊎_elim, arith}
+use Rattle.std.proofs.Math.Nat.{div-add-mod, mod-add-mod, mul-le-mul_left, mul-pos, pow-suc}
+use Rattle.std.proofs.Math.Nat.{one-le-pow, pow-le-pow_right, le_antisymm, mul-add-div}
+use Rattle.std.proofs.Math.Nat.{mul-add-mod_self_left, add-div_right, add-mul-div_right}
+use Rattle.std.proofs.Math.Nat.{add-mod_right, mod-mod_of_dvd, mul-mod_right}
 use Rattle.std.proofs.lemmas.Nat.{div-mul-add}
 use Rattle.std.proofs.lemmas.Nat.Gcd.{dvd_trans, dvd_of_mod-eq-zero}
 use Rattle.std.proofs.lemmas.Bool.{cases_lt}
 use Rattle.construction.specs.Plans.{interval_of}
 use Rattle.construction.specs.Pointers.{pointer_of, part_of}
-use Rattle.leader_pointers.specs.Intervals.{IntervalKeepsPointer, NextIntervalHasNextLeader, PointerHasPeriod, ModulusIsUnseen}
+use Rattle.leader_pointers.specs.Intervals.{IntervalKeepsPointer, NextIntervalHasNextLeader}
+use Rattle.leader_pointers.specs.Intervals.{PointerHasPeriod, ModulusIsUnseen}
 
 pub interval_pos : (beat m i : ℕ) → 1 ≤ beat → 1 ≤ m → 1 ≤ interval_of beat m i
 interval_pos beat m i p q = mul-pos p (one-le-pow i (2 * m) (omega arith))

@@ -1,12 +1,15 @@
 -- The common window, by induction on the number of blocks.
-use Rattle.std.proofs.Common.{◌≡◌, ◌⊎◌, ℕ, zero, suc, ◌+◌, ◌-◌, ◌*◌, ◌/◌, ◌%◌, ◌<◌, ◌≤◌, Bool, true, false, refl, sym, ap, ◌∙◌, subst, inl, inr, arith}
-use Rattle.std.proofs.Math.Nat.{mod-mod, mod-add-mod, mul-le-mul_left, div-eq_of_lt-le, pow-zero, add-zero}
+use Rattle.std.proofs.Common.{◌≡◌, ◌⊎◌, ℕ, zero, suc, ◌+◌, ◌-◌, ◌*◌, ◌/◌, ◌%◌, ◌<◌, ◌≤◌, Bool, true}
+use Rattle.std.proofs.Common.{false, refl, sym, ap, ◌∙◌, subst, inl, inr, arith}
+use Rattle.std.proofs.Math.Nat.{mod-mod, mod-add-mod, mul-le-mul_left, div-eq_of_lt-le, pow-zero}
+use Rattle.std.proofs.Math.Nat.{add-zero}
 use Rattle.std.proofs.lemmas.Nat.{mod-mul-add}
 use Rattle.std.proofs.lemmas.Bool.{cases_Bool, true≢false, cases_lt}
 use Rattle.construction.specs.Plans.{interval_of}
 use Rattle.construction.specs.Pointers.{pointer_of, part_of}
 use Rattle.leader_pointers.specs.Windows.{CountsFor, BlocksMeetAtEachLeader}
-use Rattle.leader_pointers.proofs.Intervals.{interval_pos, interval_suc, below_suc, pointer_unseen, part_unseen}
+use Rattle.leader_pointers.proofs.Intervals.{interval_pos, interval_suc, below_suc, pointer_unseen}
+use Rattle.leader_pointers.proofs.Intervals.{part_unseen}
 
 reach_by : (m a b : ℕ) → b < m → (b < a % m) ⊎ (a % m ≤ b) → (q : ℕ) × (a ≤ q) × (q < a + m) × (q % m ≡ b)
 reach_by m a b h (inl g) = ((a / m + 1) * m + b, omega arith, omega arith, mod-mul-add (a / m + 1) m b h)

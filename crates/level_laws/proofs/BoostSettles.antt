@@ -1,5 +1,6 @@
 -- A boosted counter settles where the counter below does.
-use Rattle.std.proofs.Common.{◌≡◌, ◌⊎◌, ℕ, ◌+◌, ◌*◌, ◌%◌, ◌<◌, ◌≤◌, Bool, List, length, None, unwrap_or, sym, ap, ◌∙◌, inl, inr, arith}
+use Rattle.std.proofs.Common.{◌≡◌, ◌⊎◌, ℕ, ◌+◌, ◌*◌, ◌%◌, ◌<◌, ◌≤◌, Bool, List, length, None}
+use Rattle.std.proofs.Common.{unwrap_or, sym, ap, ◌∙◌, inl, inr, arith}
 use Rattle.std.proofs.lemmas.Nat.{mod-mul-add}
 use Rattle.std.proofs.lemmas.Bool.{cases_lt}
 use Rattle.std.proofs.lemmas.List.{length-map, get_or-map}
@@ -18,7 +19,8 @@ use Rattle.counter_core.specs.Laws.{Sizes}
 use Rattle.counter_core.proofs.ListsAndPlaces.{settles_over_lists, settles_by_place}
 use Rattle.level_laws.specs.Hearing.{RegistersStep}
 use Rattle.level_laws.specs.Level.{faults_in, BlockCounts, StaysLocked}
-use Rattle.level_laws.specs.Boosted.{outputs_heard, values_heard, level_register, inner_state, boosted, BoostedRange, StandsOn}
+use Rattle.level_laws.specs.Boosted.{outputs_heard, values_heard, level_register, inner_state}
+use Rattle.level_laws.specs.Boosted.{boosted, BoostedRange, StandsOn}
 use Rattle.level_laws.proofs.BoostLaws.{register_cut, register_with, deep_inner}
 use Rattle.level_laws.proofs.BlockRuns.{block_run}
 use Rattle.level_laws.specs.Explained.{Explains, IsExplained}

@@ -1,7 +1,9 @@
 -- Registers behind those of a boosted counter matter to nothing, where those behind the counter below don't.
-use Rattle.std.proofs.Common.{◌≡◌, ℕ, ◌+◌, ◌*◌, ◌/◌, ◌%◌, ◌<◌, ◌≤◌, List, length, map, unwrap_or, IfSome, sym, ap, ◌∙◌, subst, arith}
+use Rattle.std.proofs.Common.{◌≡◌, ℕ, ◌+◌, ◌*◌, ◌/◌, ◌%◌, ◌<◌, ◌≤◌, List, length, map, unwrap_or}
+use Rattle.std.proofs.Common.{IfSome, sym, ap, ◌∙◌, subst, arith}
 use Rattle.std.proofs.lemmas.List.{length-map, get_or-map}
-use Rattle.std.proofs.lemmas.List.FromFn.{length-map-range_with_len, get_or-map-range_with_len, fill_by_all}
+use Rattle.std.proofs.lemmas.List.FromFn.{length-map-range_with_len, get_or-map-range_with_len}
+use Rattle.std.proofs.lemmas.List.FromFn.{fill_by_all}
 use Rattle.sync_types.specs.declared.states.Reg.{Reg}
 use Rattle.sync_types.specs.States.{State, zero_state, register_at}
 use Rattle.construction.specs.Plans.{Level}
@@ -13,7 +15,8 @@ use Rattle.std.specs.Prelude.{nat_lt}
 use Rattle.std.proofs.lemmas.Bool.{ltb-true}
 use Rattle.construction.proofs.Choices.{same_choice}
 use Rattle.construction.proofs.Blocks.{length-block, block-map}
-use Rattle.level_laws.specs.Boosted.{outputs_heard, values_heard, level_register, inner_state, boosted, BoostedRange}
+use Rattle.level_laws.specs.Boosted.{outputs_heard, values_heard, level_register, inner_state}
+use Rattle.level_laws.specs.Boosted.{boosted, BoostedRange}
 use Rattle.level_laws.proofs.BoostLaws.{map_over, cut_again, register_cut, place_in_block}
 
 module _ (a : Meaning) (in_range : State → Type 0) (level : Level) (sizes : Sizes a in_range) (ignores : IgnoresFurther a in_range) where

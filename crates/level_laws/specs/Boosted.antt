@@ -1,6 +1,7 @@
 -- What a level over blocks of a counter means: a counter again, with a register more. The group has
 -- the level's blocks, each of as many nodes as the counter below, and behind them its spares.
-use Rattle.std.specs.Prelude.{ℕ, ◌+◌, ◌*◌, ◌/◌, ◌%◌, ◌^◌, ◌<◌, ◌≤◌, nat_lt, if◌then◌else◌, List, map, Option, unwrap_or, IfSome}
+use Rattle.std.specs.Prelude.{ℕ, ◌+◌, ◌*◌, ◌/◌, ◌%◌, ◌^◌, ◌<◌, ◌≤◌, nat_lt, if◌then◌else◌, List}
+use Rattle.std.specs.Prelude.{map, Option, unwrap_or, IfSome}
 use Rattle.std.specs.List.{range_with_len}
 use Rattle.sync_types.specs.declared.states.Reg.{Reg}
 use Rattle.sync_types.specs.States.{State, zero_state, register_at}

@@ -1,7 +1,8 @@
 -- How the registers of a group go from one configuration to the next, where each node hears lists
 -- of its own. The group has the level's blocks of n nodes each, and its spares behind them. Inner
 -- outputs, which the blocks' nodes alone have, and registers are given by place.
-use Rattle.std.specs.Prelude.{◌≡◌, ℕ, ◌+◌, ◌*◌, ◌/◌, ◌%◌, ◌<◌, ◌≤◌, List, length, Bool, false, slice_index}
+use Rattle.std.specs.Prelude.{◌≡◌, ℕ, ◌+◌, ◌*◌, ◌/◌, ◌%◌, ◌<◌, ◌≤◌, List, length, Bool, false}
+use Rattle.std.specs.Prelude.{slice_index}
 use Rattle.sync_types.specs.declared.states.Reg.{Reg}
 use Rattle.construction.specs.Plans.{Level, group_size}
 use Rattle.construction.specs.Votes.{beat_heard}

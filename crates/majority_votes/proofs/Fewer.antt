@@ -1,5 +1,6 @@
 -- What one place less of a number does to the counts.
-use Rattle.std.proofs.Common.{◌≡◌, ℕ, zero, suc, ◌+◌, ◌<◌, ◌≤◌, All, eqb, if◌then◌else◌, List, [], ◌∷◌, length, set, sym, ap, subst, ⊎_elim, arith}
+use Rattle.std.proofs.Common.{◌≡◌, ℕ, zero, suc, ◌+◌, ◌<◌, ◌≤◌, All, eqb, if◌then◌else◌, List, []}
+use Rattle.std.proofs.Common.{◌∷◌, length, set, sym, ap, subst, ⊎_elim, arith}
 use Rattle.std.specs.List.{remove}
 use Rattle.std.proofs.lemmas.Bool.{cases_lt}
 use Rattle.std.proofs.lemmas.Bool.Decides.{nat_tests}
@@ -8,8 +9,10 @@ use Rattle.std.proofs.lemmas.List.Edits.{length-remove, get_or-remove_below, get
 use Rattle.std.proofs.lemmas.List.Elements.{All-set}
 use Rattle.std.proofs.lemmas.List.Sums.{sum_by-set, sum_by-remove}
 use Rattle.majority_votes.specs.declared.counts.Count.{Count}
-use Rattle.majority_votes.specs.Counts.{count_at, value_at, places_of, IsRising, IsAt, CountsOneLess}
-use Rattle.majority_votes.proofs.Lookups.{NoneBefore, none_before, none_before_tail, is_at_tail, places_of_absent}
+use Rattle.majority_votes.specs.Counts.{count_at, value_at, places_of, IsRising, IsAt}
+use Rattle.majority_votes.specs.Counts.{CountsOneLess}
+use Rattle.majority_votes.proofs.Lookups.{NoneBefore, none_before, none_before_tail, is_at_tail}
+use Rattle.majority_votes.proofs.Lookups.{places_of_absent}
 
 -- fewer places at the first count of a number
 places_of_put : (counts : List Count) (number i q : ℕ) → IsAt counts number i → NoneBefore counts number i → (count_at counts i).places ≡ q + 1 → (z : ℕ) → places_of counts z ≡ places_of (set counts i (record { value = number; places = q })) z + (if eqb z number then 1 else 0)

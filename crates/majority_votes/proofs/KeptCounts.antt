@@ -1,5 +1,6 @@
 -- What the kept counts say of the list: its majority, its least value above a number, and what one more value does.
-use Rattle.std.proofs.Common.{◌≡◌, ℕ, ◌+◌, ◌-◌, ◌/◌, ◌<◌, ◌≤◌, ◌*◌, List, length, Option, Some, None, sym, ap, subst, ◌∙◌, ⊎_elim, arith}
+use Rattle.std.proofs.Common.{◌≡◌, ℕ, ◌+◌, ◌-◌, ◌/◌, ◌<◌, ◌≤◌, ◌*◌, List, length, Option, Some}
+use Rattle.std.proofs.Common.{None, sym, ap, subst, ◌∙◌, ⊎_elim, arith}
 use Rattle.std.proofs.lemmas.Bool.{cases_lt}
 use Rattle.counting.specs.Values.{count_of, majority_of, least_above}
 use Rattle.counting.proofs.Majority.{majority_is, no_majority}

@@ -1,5 +1,7 @@
 -- Nodes that step in rounds as the calls answer are connected nodes, which count.
-use Rattle.std.proofs.Common.{◌≡◌, ℕ, zero, suc, ◌+◌, ◌<◌, ◌≤◌, cond, Bool, true, false, List, [], ◌∷◌, length, map, take, get_or, Result, Ok, Err, add-one, refl, sym, ap, ◌∙◌, subst, arith}
+use Rattle.std.proofs.Common.{◌≡◌, ℕ, zero, suc, ◌+◌, ◌<◌, ◌≤◌, cond, Bool, true, false, List, []}
+use Rattle.std.proofs.Common.{◌∷◌, length, map, take, get_or, Result, Ok, Err, add-one, refl, sym}
+use Rattle.std.proofs.Common.{ap, ◌∙◌, subst, arith}
 use Rattle.std.specs.Prelude.{◌==◌, IfOk}
 use Rattle.std.specs.List.{range_with_len}
 use Rattle.std.proofs.lemmas.Bool.{eq-eqb, lt-ltb}
@@ -25,7 +27,8 @@ use Rattle.node_stepper.proofs.Answering.{state_push}
 use Rattle.node_runs.proofs.States.{read_is_state, reads_back, behind_is_state}
 use Rattle.node_calls.specs.declared.errors.CallError.{CallError}
 use Rattle.node_calls.specs.declared.errors.CallError.TheVariants as error
-use Rattle.node_calls.specs.Answers.{plan_or_refused, plan_answer, packets_for, by_ending, bytes_behind, steps_over, step_in, step_answer, output_answer}
+use Rattle.node_calls.specs.Answers.{plan_or_refused, plan_answer, packets_for, by_ending}
+use Rattle.node_calls.specs.Answers.{bytes_behind, steps_over, step_in, step_answer, output_answer}
 use Rattle.node_calls.specs.Counting.{InRounds, CountByBytes, NodesCount}
 use Rattle.node_calls.proofs.Packets.{as_many, only_one}
 

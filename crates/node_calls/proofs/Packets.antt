@@ -1,5 +1,6 @@
 -- How many packets there are.
-use Rattle.std.proofs.Common.{◌≡◌, ℕ, zero, suc, ◌+◌, List, [], ◌∷◌, length, get_or, Result, Ok, Err, refl, arith}
+use Rattle.std.proofs.Common.{◌≡◌, ℕ, zero, suc, ◌+◌, List, [], ◌∷◌, length, get_or, Result, Ok}
+use Rattle.std.proofs.Common.{Err, refl, arith}
 use Rattle.node_stepper.specs.Packets.{whole, cut, Packets, cells_of, onto_packet, packets_of}
 
 -- packets that end behind packet n are so many from the first one on

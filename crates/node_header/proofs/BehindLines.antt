@@ -1,5 +1,6 @@
 -- What stands behind the lines of a part.
-use Rattle.std.proofs.Common.{◌≡◌, ℕ, zero, suc, Bool, true, false, eqb, List, [], ◌∷◌, ◌++◌, length, refl, ap, arith}
+use Rattle.std.proofs.Common.{◌≡◌, ℕ, zero, suc, Bool, true, false, eqb, List, [], ◌∷◌, ◌++◌}
+use Rattle.std.proofs.Common.{length, refl, ap, arith}
 use Rattle.std.specs.List.{onto_first}
 use Rattle.texts.specs.Lines.{lines_of}
 use Rattle.texts.specs.Limits.{behind_lines}

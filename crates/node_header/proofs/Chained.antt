@@ -1,5 +1,7 @@
 -- One part of a header behind another.
-use Rattle.std.proofs.Common.{◌≡◌, ℕ, ◌+◌, ◌-◌, ◌^◌, Bool, true, false, List, [], ◌++◌, Option, Some, None, Result, Ok, Err, refl, sym, ap, ◌∙◌, append_assoc, length-append, subst, arith}
+use Rattle.std.proofs.Common.{◌≡◌, ℕ, ◌+◌, ◌-◌, ◌^◌, Bool, true, false, List, [], ◌++◌, Option}
+use Rattle.std.proofs.Common.{Some, None, Result, Ok, Err, refl, sym, ap, ◌∙◌, append_assoc}
+use Rattle.std.proofs.Common.{length-append, subst, arith}
 use Rattle.std.proofs.KnownBytes.{Consumes-trans}
 use Rattle.texts.specs.Causes.{Counted}
 use Rattle.texts.specs.Lines.{lines_of, whole_lines}
@@ -10,7 +12,8 @@ use Rattle.edge_io.proofs.Chains.{open_second}
 use Rattle.edge_io.specs.declared.fed_parts.FedPart.{FedPart}
 use Rattle.edge_io.specs.declared.fed_parts.FedError.{FedError}
 use Rattle.edge_io.specs.declared.fed_parts.FedError.TheVariants as fed
-use Rattle.edge_io.specs.FedParts.{MayFollow, limited_part, Decided, Undecided, WholePart, LostPart, HaltedPart, PartFed, HasPartCause}
+use Rattle.edge_io.specs.FedParts.{MayFollow, limited_part, Decided, Undecided, WholePart, LostPart}
+use Rattle.edge_io.specs.FedParts.{HaltedPart, PartFed, HasPartCause}
 use Rattle.sync_types.specs.declared.answers.Premise.{Premise}
 use Rattle.sync_types.specs.declared.answers.Premise.TheVariants as premise
 use Rattle.sync_types.specs.declared.answers.Rule.{Rule}
@@ -26,10 +29,13 @@ use Rattle.node_header.specs.declared.headers.HeaderRead.{HeaderRead}
 use Rattle.node_header.specs.declared.headers.HeaderError.{HeaderError}
 use Rattle.node_header.specs.NodePart.{HeaderSoFar, nothing_read}
 use Rattle.node_header.specs.Headers.{Header, header_in, behind_plan, behind_node}
-use Rattle.node_header.specs.FedHeaders.{HeaderPending, HeaderDecided, HeaderWhole, HeaderTooLong, HeaderLost, HeaderHalted, HeaderFed, plan_failed, node_failed, HasHeaderCause}
+use Rattle.node_header.specs.FedHeaders.{HeaderPending, HeaderDecided, HeaderWhole, HeaderTooLong}
+use Rattle.node_header.specs.FedHeaders.{HeaderLost, HeaderHalted, HeaderFed, plan_failed}
+use Rattle.node_header.specs.FedHeaders.{node_failed, HasHeaderCause}
 use Rattle.node_header.specs.Fits.{IsFit}
 use Rattle.node_header.proofs.HeaderFits.{header_fits}
-use Rattle.node_header.proofs.PendingHeaders.{plan_line, node_line, PlanPending, NodePending, all_but_last, at_once, pending_first, pending_second}
+use Rattle.node_header.proofs.PendingHeaders.{plan_line, node_line, PlanPending, NodePending}
+use Rattle.node_header.proofs.PendingHeaders.{all_but_last, at_once, pending_first, pending_second}
 
 -- the header of a text of which so many bytes may be read
 abbrev header_by : (longer : Bool) → List ℕ → Result Header (Option HeaderRefusal)

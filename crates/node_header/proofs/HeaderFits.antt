@@ -1,5 +1,6 @@
 -- A header that was read fits the plan.
-use Rattle.std.proofs.Common.{◌≡◌, ℕ, ◌<◌, Bool, true, false, List, [], ◌∷◌, ◌++◌, length, Option, Some, None, Ok, Err, refl, sym, ap, subst, arith}
+use Rattle.std.proofs.Common.{◌≡◌, ℕ, ◌<◌, Bool, true, false, List, [], ◌∷◌, ◌++◌, length, Option}
+use Rattle.std.proofs.Common.{Some, None, Ok, Err, refl, sym, ap, subst, arith}
 use Rattle.std.specs.Prelude.{slice_index_or, IfOk, nat_le, if◌then◌else◌, codes}
 use Rattle.std.specs.Str.{bytes_eq}
 use Rattle.std.proofs.lemmas.Bool.{leb-false}
@@ -19,8 +20,11 @@ use Rattle.state_codec.proofs.Lows.{fields_limited}
 use Rattle.state_codec.proofs.Ranged.{read_is_in_range}
 use Rattle.node_header.specs.declared.header_lines.NodeHeader.{NodeHeader}
 use Rattle.node_header.specs.declared.header_lines.HeaderStage.{HeaderStage}
-use Rattle.node_header.specs.declared.header_lines.HeaderStage.TheVariants.{Unread, Begun, Named, Stated}
-use Rattle.node_header.specs.NodePart.{HeaderSoFar, nothing_read, header_step, stage_step, id_by, state_in, header_of, header_by, state_word, goes_named, goes_stated}
+use Rattle.node_header.specs.declared.header_lines.HeaderStage.TheVariants.{Unread, Begun, Named}
+use Rattle.node_header.specs.declared.header_lines.HeaderStage.TheVariants.{Stated}
+use Rattle.node_header.specs.NodePart.{HeaderSoFar, nothing_read, header_step, stage_step, id_by}
+use Rattle.node_header.specs.NodePart.{state_in, header_of, header_by, state_word, goes_named}
+use Rattle.node_header.specs.NodePart.{goes_stated}
 use Rattle.node_header.specs.Fits.{IsFit, StageFits}
 
 module _ {S V R : Type 0} (step : S → List ℕ → Next S V R) (P : S → Type 0) (Q : V → Type 0)

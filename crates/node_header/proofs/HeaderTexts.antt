@@ -1,5 +1,6 @@
 -- The text of a header is read as that header.
-use Rattle.std.proofs.Common.{◌≡◌, ℕ, ◌+◌, ◌<◌, ◌≤◌, Bool, true, false, List, [], ◌∷◌, ◌++◌, length, Some, None, Result, Ok, Err, refl, ap, ◌∙◌, append_assoc, arith}
+use Rattle.std.proofs.Common.{◌≡◌, ℕ, ◌+◌, ◌<◌, ◌≤◌, Bool, true, false, List, [], ◌∷◌, ◌++◌, length}
+use Rattle.std.proofs.Common.{Some, None, Result, Ok, Err, refl, ap, ◌∙◌, append_assoc, arith}
 use Rattle.std.specs.Prelude.{codes, decimal, nat_le, nat_lt, ◌==◌, if◌then◌else◌}
 use Rattle.std.specs.List.{list_all}
 use Rattle.std.proofs.lemmas.Bool.{and_parts, lt-leb}
@@ -10,7 +11,8 @@ use Rattle.texts.specs.Lines.{lines_of, words_of, is_one_line}
 use Rattle.texts.specs.Shapes.{numbers_after}
 use Rattle.texts.specs.Parts.{Found, At, with_skips, part_from}
 use Rattle.texts.proofs.NumberWords.{printed_is_read}
-use Rattle.texts.proofs.Printed.{joined, IsPlain, ArePlain, decimal_is_plain, words_joined, counts, goes_behind, ends_there}
+use Rattle.texts.proofs.Printed.{joined, IsPlain, ArePlain, decimal_is_plain, words_joined, counts}
+use Rattle.texts.proofs.Printed.{goes_behind, ends_there}
 use Rattle.sync_types.specs.declared.answers.Rule.{Rule}
 use Rattle.sync_types.specs.declared.answers.Rule.TheVariants as rule
 use Rattle.sync_types.specs.States.{State}
@@ -27,7 +29,8 @@ use Rattle.state_codec.proofs.PlanStates.{in_range_of_node}
 use Rattle.node_header.specs.declared.header_lines.NodeHeader.{NodeHeader}
 use Rattle.node_header.specs.declared.header_lines.HeaderStage.{HeaderStage}
 use Rattle.node_header.specs.declared.header_lines.HeaderStage.TheVariants as stage
-use Rattle.node_header.specs.NodePart.{HeaderSoFar, header_step, id_by, id_in, state_word, state_in, header_of, header_by, goes_named, goes_stated}
+use Rattle.node_header.specs.NodePart.{HeaderSoFar, header_step, id_by, id_in, state_word, state_in}
+use Rattle.node_header.specs.NodePart.{header_of, header_by, goes_named, goes_stated}
 use Rattle.node_header.specs.HeaderTexts.{digits_of, node_part}
 use Rattle.node_header.proofs.StateDigits.{digits_plain, digits_few}
 

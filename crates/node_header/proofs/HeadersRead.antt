@@ -1,5 +1,7 @@
 -- The text of a header is read as that header, also where more follows than a header may have.
-use Rattle.std.proofs.Common.{◌≡◌, ℕ, ◌+◌, ◌*◌, ◌^◌, ◌<◌, ◌≤◌, Bool, true, false, List, [], ◌∷◌, ◌++◌, length, Option, Some, None, Result, Ok, refl, sym, ap, ◌∙◌, append_assoc, arith}
+use Rattle.std.proofs.Common.{◌≡◌, ℕ, ◌+◌, ◌*◌, ◌^◌, ◌<◌, ◌≤◌, Bool, true, false, List, [], ◌∷◌}
+use Rattle.std.proofs.Common.{◌++◌, length, Option, Some, None, Result, Ok, refl, sym, ap, ◌∙◌}
+use Rattle.std.proofs.Common.{append_assoc, arith}
 use Rattle.std.specs.Prelude.{codes}
 use Rattle.texts.specs.Lines.{lines_of}
 use Rattle.texts.specs.Parts.{with_skips}
@@ -25,7 +27,8 @@ use Rattle.node_header.specs.NodePart.{header_step, nothing_read}
 use Rattle.node_header.specs.Headers.{Header, behind_node, behind_plan, header_in}
 use Rattle.node_header.specs.HeaderTexts.{node_part, header_text, header_stated, HeaderTextIsRead}
 use Rattle.node_header.proofs.BehindLines.{behind_all}
-use Rattle.node_header.proofs.HeaderTexts.{line_1, line_2, line_3, line_4, part_text, part_is_read, words_are_lines}
+use Rattle.node_header.proofs.HeaderTexts.{line_1, line_2, line_3, line_4, part_text, part_is_read}
+use Rattle.node_header.proofs.HeaderTexts.{words_are_lines}
 use Rattle.node_header.proofs.Rooms.{HasRoom, is_within}
 
 -- a room of the limit shows the lines of a header

@@ -1,5 +1,6 @@
 -- The digits of a state are a word: they are some, not many, and above a space.
-use Rattle.std.proofs.Common.{◌≡◌, ℕ, zero, suc, ◌+◌, ◌-◌, ◌*◌, ◌^◌, ◌<◌, ◌≤◌, Bool, true, false, cond, List, [], ◌∷◌, length, get_or, refl, sym, ap, ◌∙◌, subst, arith}
+use Rattle.std.proofs.Common.{◌≡◌, ℕ, zero, suc, ◌+◌, ◌-◌, ◌*◌, ◌^◌, ◌<◌, ◌≤◌, Bool, true, false}
+use Rattle.std.proofs.Common.{cond, List, [], ◌∷◌, length, get_or, refl, sym, ap, ◌∙◌, subst, arith}
 use Rattle.std.specs.Prelude.{nat_lt, ◌==◌, All, slice_index_or}
 use Rattle.std.specs.List.{list_all}
 use Rattle.std.proofs.lemmas.Bool.{and_parts, eqb-true, le-ltb, ne_eqb}
@@ -12,7 +13,8 @@ use Rattle.construction.proofs.Ranges.{low_most}
 use Rattle.plan_numbers.specs.Premises.{IsAccepted}
 use Rattle.plan_numbers.proofs.Accepted.{accepted_depth}
 use Rattle.sync_types.specs.States.{State}
-use Rattle.state_codec.specs.Shapes.{Fields, IsShape, Shape, shape_of, fields_at, fields_from, moduli_from, register_bits, registers_bits, bits_in, bytes_in}
+use Rattle.state_codec.specs.Shapes.{Fields, IsShape, Shape, shape_of, fields_at, fields_from}
+use Rattle.state_codec.specs.Shapes.{moduli_from, register_bits, registers_bits, bits_in, bytes_in}
 use Rattle.state_codec.specs.Texts.{is_lower_digit}
 use Rattle.state_codec.proofs.BitLengths.{width_fits, width_short}
 use Rattle.state_codec.proofs.Digits.{text_is_taken}

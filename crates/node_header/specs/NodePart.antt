@@ -1,5 +1,6 @@
 -- The part `node` of an input: `node 1`, `id V`, `state H`, `end`.
-use Rattle.std.specs.Prelude.{◌≡◌, ℕ, nat_le, List, [], ◌∷◌, length, Option, Some, None, Result, Ok, Err, if◌then◌else◌, codes}
+use Rattle.std.specs.Prelude.{◌≡◌, ℕ, nat_le, List, [], ◌∷◌, length, Option, Some, None, Result, Ok}
+use Rattle.std.specs.Prelude.{Err, if◌then◌else◌, codes}
 use Rattle.std.specs.Str.{bytes_eq}
 use Rattle.texts.specs.Lines.{words_of}
 use Rattle.texts.specs.Shapes.{numbers_after}
@@ -13,7 +14,8 @@ use Rattle.state_codec.specs.Shapes.{Fields, Shape, fields_at}
 use Rattle.state_codec.specs.Texts.{is_state_text, read_text}
 use Rattle.node_header.specs.declared.header_lines.NodeHeader.{NodeHeader}
 use Rattle.node_header.specs.declared.header_lines.HeaderStage.{HeaderStage}
-use Rattle.node_header.specs.declared.header_lines.HeaderStage.TheVariants.{Unread, Begun, Named, Stated}
+use Rattle.node_header.specs.declared.header_lines.HeaderStage.TheVariants.{Unread, Begun, Named}
+use Rattle.node_header.specs.declared.header_lines.HeaderStage.TheVariants.{Stated}
 
 -- so much of the part was read, for nodes of that shape
 pub record HeaderSoFar : Type 0 where

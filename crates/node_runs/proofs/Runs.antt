@@ -1,21 +1,25 @@
 -- Connected nodes are a run: a packet is a round, in which a faulty node tells what its cell is
 -- read as.
-use Rattle.std.proofs.Common.{◌≡◌, ℕ, ◌+◌, ◌-◌, ◌<◌, ◌≤◌, Bool, true, false, cond, not, ◌||◌, List, [], length, map, take, get_or, All, refl, sym, ap, ◌∙◌, subst, arith}
+use Rattle.std.proofs.Common.{◌≡◌, ℕ, ◌+◌, ◌-◌, ◌<◌, ◌≤◌, Bool, true, false, cond, not, ◌||◌, List}
+use Rattle.std.proofs.Common.{[], length, map, take, get_or, All, refl, sym, ap, ◌∙◌, subst, arith}
 use Rattle.std.specs.Prelude.{◌==◌, if◌then◌else◌}
 use Rattle.std.specs.List.{range_with_len}
 use Rattle.std.proofs.lemmas.Bool.{eqb-true, eqb-false}
 use Rattle.std.proofs.lemmas.List.{take_more}
 use Rattle.std.proofs.lemmas.List.Elements.{All-from_get_or}
-use Rattle.std.proofs.lemmas.List.FromFn.{fill_by_all, length-map-range_with_len, get_or-map-range_with_len}
+use Rattle.std.proofs.lemmas.List.FromFn.{fill_by_all, length-map-range_with_len}
+use Rattle.std.proofs.lemmas.List.FromFn.{get_or-map-range_with_len}
 use Rattle.sync_types.specs.States.{State, zero_state}
 use Rattle.construction.specs.Plans.{Plan, plan_nodes}
 use Rattle.construction.specs.Steps.{state_of, step_of}
-use Rattle.construction.specs.Runs.{is_in, IsState, IsConfiguration, IsTold, IsTable, Round, IsNext, Run, configuration, heard_by}
+use Rattle.construction.specs.Runs.{is_in, IsState, IsConfiguration, IsTold, IsTable, Round, IsNext}
+use Rattle.construction.specs.Runs.{Run, configuration, heard_by}
 use Rattle.construction.specs.Runs as runs
 use Rattle.plan_numbers.specs.Premises.{IsAccepted}
 use Rattle.state_codec.specs.Reading.{read}
 use Rattle.node_stepper.specs.Nodes.{fields_of, heard_of, heard_in, state_after, state_behind}
-use Rattle.node_runs.specs.NodeRuns.{Nodes, cell_given, IsCorrect, state_at, states_at, AreConnected}
+use Rattle.node_runs.specs.NodeRuns.{Nodes, cell_given, IsCorrect, state_at, states_at}
+use Rattle.node_runs.specs.NodeRuns.{AreConnected}
 use Rattle.node_runs.specs.Laws.{RunThrough, NodesRun}
 use Rattle.node_stepper.proofs.Answering.{state_push}
 use Rattle.node_runs.proofs.States.{read_is_state, behind_is_state}

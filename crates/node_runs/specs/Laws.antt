@@ -8,7 +8,8 @@ use Rattle.plan_numbers.specs.Premises.{IsAccepted}
 use Rattle.state_codec.specs.Writing.{written}
 use Rattle.node_stepper.specs.Nodes.{fields_of}
 use Rattle.node_stepper.specs.Laws.{AreFull}
-use Rattle.node_runs.specs.NodeRuns.{Nodes, cell_given, IsCorrect, SomeIsCorrect, state_at, states_at, AreConnected}
+use Rattle.node_runs.specs.NodeRuns.{Nodes, cell_given, IsCorrect, SomeIsCorrect, state_at}
+use Rattle.node_runs.specs.NodeRuns.{states_at, AreConnected}
 
 -- of configurations, by their number
 module _ (plan : Plan) (faulty : List ℕ) (at : ℕ → List State) where

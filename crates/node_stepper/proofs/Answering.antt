@@ -1,5 +1,7 @@
 -- One packet after another is heard and answered.
-use Rattle.std.proofs.Common.{◌≡◌, ℕ, suc, ◌+◌, ◌-◌, ◌<◌, ◌⊎◌, inl, inr, List, [], ◌∷◌, ◌++◌, Option, Ok, Err, refl, sym, ap, ◌∙◌, append_assoc, append-nil, subst, arith}
+use Rattle.std.proofs.Common.{◌≡◌, ℕ, suc, ◌+◌, ◌-◌, ◌<◌, ◌⊎◌, inl, inr, List, [], ◌∷◌, ◌++◌}
+use Rattle.std.proofs.Common.{Option, Ok, Err, refl, sym, ap, ◌∙◌, append_assoc, append-nil, subst}
+use Rattle.std.proofs.Common.{arith}
 use Rattle.std.specs.Io.KnownBytes.{Consumes, Keeps, IsAtEnd}
 use Rattle.std.proofs.KnownBytes.{Consumes-nil, Consumes-trans, Consumes-kept}
 use Rattle.std.specs.List.{flat_map}
@@ -10,7 +12,8 @@ use Rattle.sync_types.specs.States.{State}
 use Rattle.construction.specs.Plans.{Plan, plan_nodes}
 use Rattle.node_stepper.specs.declared.faults.NodeFault.TheVariants as fault
 use Rattle.node_stepper.specs.Packets.{cells_of, Ending, whole, cut, beyond, Packets, packets_of}
-use Rattle.node_stepper.specs.Nodes.{Standing, own, nobody, state_cell, state_after, state_behind, states_of, node_text, stepped, forgetting}
+use Rattle.node_stepper.specs.Nodes.{Standing, own, nobody, state_cell, state_after, state_behind}
+use Rattle.node_stepper.specs.Nodes.{states_of, node_text, stepped, forgetting}
 use Rattle.node_stepper.specs.Hearing.{IsSame, PacketFed, PacketCut}
 use Rattle.node_stepper.specs.Serving.{StandsBehind, served, answer, Served, ServedCut, Serves}
 use Rattle.node_stepper.proofs.Packets.{after, after_one_more, packets_next, packets_cut, within_if}

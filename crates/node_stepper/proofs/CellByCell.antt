@@ -1,5 +1,8 @@
 -- One cell after another.
-use Rattle.std.proofs.Common.{◌*◌, ◌<◌, ◌≢◌, Bool, true, false, drop, Option, Some, None, Result, Ok, Err, length-append, sym, ◌-◌, ◌/◌, ◌%◌, ◌≡◌, ℕ, suc, ◌+◌, ◌≤◌, List, [], ◌∷◌, ◌++◌, length, take, set, get_or, refl, ap, ◌∙◌, subst, arith}
+use Rattle.std.proofs.Common.{◌*◌, ◌<◌, ◌≢◌, Bool, true, false, drop, Option, Some, None, Result}
+use Rattle.std.proofs.Common.{Ok, Err, length-append, sym, ◌-◌, ◌/◌, ◌%◌, ◌≡◌, ℕ, suc, ◌+◌, ◌≤◌}
+use Rattle.std.proofs.Common.{List, [], ◌∷◌, ◌++◌, length, take, set, get_or, refl, ap, ◌∙◌, subst}
+use Rattle.std.proofs.Common.{arith}
 use Rattle.std.specs.Prelude.{◌==◌, if◌then◌else◌, slice_set}
 use Rattle.std.specs.Io.KnownBytes.{Consumes}
 use Rattle.std.proofs.KnownBytes.{Consumes-trans}

@@ -1,7 +1,10 @@
 -- The states that an engine keeps are a configuration.
-use Rattle.std.proofs.Common.{Bool, true, ◌≡◌, ℕ, zero, suc, ◌<◌, ◌≤◌, inl, inr, List, [], ◌∷◌, ◌++◌, length, replicate, get_or, set, slice_index_or, All, refl, sym, ap, ap₂, ◌∙◌, subst, arith}
+use Rattle.std.proofs.Common.{Bool, true, ◌≡◌, ℕ, zero, suc, ◌<◌, ◌≤◌, inl, inr, List, [], ◌∷◌}
+use Rattle.std.proofs.Common.{◌++◌, length, replicate, get_or, set, slice_index_or, All, refl, sym}
+use Rattle.std.proofs.Common.{ap, ap₂, ◌∙◌, subst, arith}
 use Rattle.std.proofs.lemmas.Bool.{cases_eq}
-use Rattle.std.proofs.lemmas.List.{append-nil, drop_all, length-set, get_or-set_same, get_or-set_other, get_or-replicate, length-replicate}
+use Rattle.std.proofs.lemmas.List.{append-nil, drop_all, length-set, get_or-set_same}
+use Rattle.std.proofs.lemmas.List.{get_or-set_other, get_or-replicate, length-replicate}
 use Rattle.sync_types.specs.declared.states.Reg.{Reg}
 use Rattle.sync_types.specs.States.{State, zero_state, zero_register}
 use Rattle.construction.specs.Plans.{Plan, plan_nodes, plan_depth}

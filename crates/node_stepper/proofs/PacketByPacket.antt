@@ -1,16 +1,21 @@
 -- The cells of a packet, one after another.
-use Rattle.std.proofs.Common.{◌⊎◌, ◌≡◌, ◌≢◌, ℕ, suc, ◌+◌, ◌-◌, ◌<◌, ◌≤◌, inl, inr, Bool, true, false, List, [], ◌∷◌, ◌++◌, length, set, slice_index_or, Option, Some, None, Result, Ok, Err, refl, sym, ap, ◌∙◌, append_assoc, append-nil, length-append, subst, arith}
+use Rattle.std.proofs.Common.{◌⊎◌, ◌≡◌, ◌≢◌, ℕ, suc, ◌+◌, ◌-◌, ◌<◌, ◌≤◌, inl, inr, Bool, true}
+use Rattle.std.proofs.Common.{false, List, [], ◌∷◌, ◌++◌, length, set, slice_index_or, Option, Some}
+use Rattle.std.proofs.Common.{None, Result, Ok, Err, refl, sym, ap, ◌∙◌, append_assoc, append-nil}
+use Rattle.std.proofs.Common.{length-append, subst, arith}
 use Rattle.std.specs.Io.KnownBytes.{Consumes}
 use Rattle.std.proofs.KnownBytes.{Consumes-trans}
 use Rattle.std.proofs.lemmas.Bool.{cases_eq, eq-eqb, ne_eqb}
-use Rattle.std.proofs.lemmas.List.{length_push, length-set, get_or-set_same, get_or-set_other, get_or_append_left, get_or-append-add}
+use Rattle.std.proofs.lemmas.List.{length_push, length-set, get_or-set_same, get_or-set_other}
+use Rattle.std.proofs.lemmas.List.{get_or_append_left, get_or-append-add}
 use Rattle.std.proofs.lemmas.List.FromFn.{fill_by_all}
 use Rattle.sync_types.specs.States.{zero_state}
 use Rattle.construction.specs.Plans.{plan_nodes}
 use Rattle.construction.specs.Steps.{state_of, step_of}
 use Rattle.state_codec.specs.Reading.{read}
 use Rattle.node_stepper.specs.Packets.{cell_at, onto_cell, cells_of}
-use Rattle.node_stepper.specs.Nodes.{Standing, own, fields_of, heard_of, heard_in, state_after, hearing, stepped, AllHeard}
+use Rattle.node_stepper.specs.Nodes.{Standing, own, fields_of, heard_of, heard_in, state_after}
+use Rattle.node_stepper.specs.Nodes.{hearing, stepped, AllHeard}
 use Rattle.node_stepper.specs.Hearing.{IsSame, HeardCells, WholeCell, CellFed, PacketFed, PacketCut}
 
 -- the packet's cells behind others

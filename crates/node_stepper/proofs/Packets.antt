@@ -1,6 +1,8 @@
 -- Packets of bytes, one in front of the others.
-use Rattle.std.proofs.Common.{◌≡◌, ℕ, suc, ◌+◌, ◌<◌, List, [], ◌∷◌, ◌++◌, length, Ok, Err, refl, sym, ap, append_assoc, subst, arith}
-use Rattle.node_stepper.specs.Packets.{cells_of, Ending, IsWithin, cut, Packets, onto_packet, packets_of}
+use Rattle.std.proofs.Common.{◌≡◌, ℕ, suc, ◌+◌, ◌<◌, List, [], ◌∷◌, ◌++◌, length, Ok, Err, refl}
+use Rattle.std.proofs.Common.{sym, ap, append_assoc, subst, arith}
+use Rattle.node_stepper.specs.Packets.{cells_of, Ending, IsWithin, cut, Packets, onto_packet}
+use Rattle.node_stepper.specs.Packets.{packets_of}
 
 -- packets behind others
 abbrev pub after : List (List (List ℕ)) → Packets → Packets

@@ -1,5 +1,6 @@
 -- Cells and packets.
-use Rattle.std.specs.Prelude.{ℕ, zero, suc, ◌+◌, ◌*◌, List, [], ◌∷◌, length, take, drop, nat_le, if◌then◌else◌, Option, Some, None, Result, Ok, Err}
+use Rattle.std.specs.Prelude.{ℕ, zero, suc, ◌+◌, ◌*◌, List, [], ◌∷◌, length, take, drop, nat_le}
+use Rattle.std.specs.Prelude.{if◌then◌else◌, Option, Some, None, Result, Ok, Err}
 
 -- the cell at the front, two bytes of length, high byte first, and so many bytes, and what follows
 abbrev pub cell_at : List ℕ → Option (List ℕ × List ℕ)

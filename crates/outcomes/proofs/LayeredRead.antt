@@ -1,6 +1,7 @@
 -- What is read of an input of a plan, a part and a script: a part that fits its plan, and a script
 -- for both.
-use Rattle.std.proofs.Common.{◌≡◌, ℕ, ◌+◌, ◌^◌, ◌≤◌, List, replicate, Result, Ok, Err, refl, ◌∙◌, sym, subst, arith}
+use Rattle.std.proofs.Common.{◌≡◌, ℕ, ◌+◌, ◌^◌, ◌≤◌, List, replicate, Result, Ok, Err, refl, ◌∙◌}
+use Rattle.std.proofs.Common.{sym, subst, arith}
 use Rattle.std.specs.Prelude.{IfOk}
 use Rattle.std.proofs.lemmas.List.Elements.{All-append, All-replicate}
 use Rattle.texts.specs.Parts.{At, Found}
@@ -38,7 +39,8 @@ use Rattle.replicated_log.specs.Logs.{log_layer}
 use Rattle.replicated_log.proofs.FitLogs.{log_fits}
 use Rattle.outcomes.specs.declared.refusals.Refusal.{Refusal}
 use Rattle.outcomes.specs.Layered.{Layered, layered_with, behind_part, behind_plan, layered_of}
-use Rattle.outcomes.specs.Layered.{slots_shape, slotted_of, agree_shape, agreed_of, fire_shape, firing_of, log_shape, logging_of}
+use Rattle.outcomes.specs.Layered.{slots_shape, slotted_of, agree_shape, agreed_of, fire_shape}
+use Rattle.outcomes.specs.Layered.{firing_of, log_shape, logging_of}
 
 -- what was read: a part that fits its plan, and a script for both
 pub record IsRead {Said : Type 0} (shape_for : Plan → Said → Shape) (Fits : Plan → Said → Type 0)

@@ -1,6 +1,7 @@
 -- What the word `check` makes of an input: what a run certificate comes to, or the line at which it
 -- is none.
-use Rattle.std.specs.Prelude.{ℕ, ◌^◌, List, [], ◌∷◌, Option, Some, None, Result, Ok, Err, codes, decimal}
+use Rattle.std.specs.Prelude.{ℕ, ◌^◌, List, [], ◌∷◌, Option, Some, None, Result, Ok, Err, codes}
+use Rattle.std.specs.Prelude.{decimal}
 use Rattle.std.specs.List.{concat}
 use Rattle.texts.specs.Parts.{At}
 use Rattle.texts.specs.Limits.{Limited, by, beyond}

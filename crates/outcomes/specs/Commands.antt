@@ -1,5 +1,6 @@
 -- The words of a command, how it reads, and what it makes of its input.
-use Rattle.std.specs.Prelude.{ℕ, ◌^◌, ◌≤◌, length, List, [], ◌∷◌, Option, Some, None, Err, if◌then◌else◌, codes}
+use Rattle.std.specs.Prelude.{ℕ, ◌^◌, ◌≤◌, length, List, [], ◌∷◌, Option, Some, None, Err}
+use Rattle.std.specs.Prelude.{if◌then◌else◌, codes}
 use Rattle.std.specs.Option.{option_map}
 use Rattle.std.specs.Str.{bytes_eq}
 use Rattle.texts.specs.Numbers.{number_of}

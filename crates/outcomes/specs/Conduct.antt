@@ -8,7 +8,8 @@ use Rattle.texts.specs.Growth.{Told, Wrote, Cut}
 use Rattle.outcomes.specs.declared.commands.Command.{Command}
 use Rattle.outcomes.specs.declared.commands.Command.TheVariants as command
 use Rattle.outcomes.specs.Outcomes.{Outcome}
-use Rattle.outcomes.specs.Commands.{Manner, nothing, all_first, as_it_goes, manner, defined, so_far, IsPending}
+use Rattle.outcomes.specs.Commands.{Manner, nothing, all_first, as_it_goes, manner, defined, so_far}
+use Rattle.outcomes.specs.Commands.{IsPending}
 
 -- ---- what was read
 

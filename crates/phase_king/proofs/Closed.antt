@@ -1,5 +1,6 @@
 -- When two lists heard give one instruction: what of a register's step hangs on them.
-use Rattle.std.proofs.Common.{◌≡◌, ℕ, ◌-◌, Bool, true, false, cond, List, slice_index_or, nat_le, Option, Some, None, refl, ap, ◌∙◌}
+use Rattle.std.proofs.Common.{◌≡◌, ℕ, ◌-◌, Bool, true, false, cond, List, slice_index_or, nat_le}
+use Rattle.std.proofs.Common.{Option, Some, None, refl, ap, ◌∙◌}
 use Rattle.sync_types.specs.declared.states.Reg.{Reg}
 use Rattle.counting.specs.Values.{count_of, least_above}
 use Rattle.construction.specs.PhaseKing.{instructed, incremented, own_or_kings}

@@ -1,6 +1,8 @@
 -- What counts over the lists heard say, where at most f of n > 3f nodes are faulty.
-use Rattle.std.proofs.Common.{◌≡◌, ◌≢◌, ℕ, ◌+◌, ◌<◌, ◌≤◌, Bool, false, not, ◌&&◌, List, Option, sym, ap, ◌∙◌, inl, inr, ⊎_elim, arith}
-use Rattle.std.proofs.lemmas.Bool.{cases_Bool, false≢true, and_parts, and_from, not-true, true_from_ne_false}
+use Rattle.std.proofs.Common.{◌≡◌, ◌≢◌, ℕ, ◌+◌, ◌<◌, ◌≤◌, Bool, false, not, ◌&&◌, List, Option, sym}
+use Rattle.std.proofs.Common.{ap, ◌∙◌, inl, inr, ⊎_elim, arith}
+use Rattle.std.proofs.lemmas.Bool.{cases_Bool, false≢true, and_parts, and_from, not-true}
+use Rattle.std.proofs.lemmas.Bool.{true_from_ne_false}
 use Rattle.counting.specs.Places.{places}
 use Rattle.counting.specs.Values.{count_of}
 use Rattle.counting.proofs.Places.{overlap, cover, cover_all, fewer, some_place}

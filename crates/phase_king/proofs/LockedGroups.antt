@@ -1,5 +1,6 @@
 -- In a locked group a register that is locked too goes on, whatever is heard and whatever the beat.
-use Rattle.std.proofs.Common.{◌≡◌, ℕ, ◌+◌, ◌<◌, Bool, false, cond, Option, None, refl, ap, ◌∙◌, arith}
+use Rattle.std.proofs.Common.{◌≡◌, ℕ, ◌+◌, ◌<◌, Bool, false, cond, Option, None, refl, ap, ◌∙◌}
+use Rattle.std.proofs.Common.{arith}
 use Rattle.std.proofs.lemmas.List.FromFn.{length-map-range_with_len, get_or-map-range_with_len}
 use Rattle.sync_types.specs.declared.states.Reg.{Reg}
 use Rattle.construction.specs.PhaseKing.{instructed, locked_at}

@@ -1,5 +1,6 @@
 -- When what the liars tell leaves a level's register as it is.
-use Rattle.std.proofs.Common.{◌≡◌, ℕ, ◌-◌, ◌/◌, ◌%◌, Bool, true, List, slice_index_or, nat_le, Option, Some, None, sym, ap, ◌∙◌}
+use Rattle.std.proofs.Common.{◌≡◌, ℕ, ◌-◌, ◌/◌, ◌%◌, Bool, true, List, slice_index_or, nat_le}
+use Rattle.std.proofs.Common.{Option, Some, None, sym, ap, ◌∙◌}
 use Rattle.sync_types.specs.declared.states.Reg.{Reg}
 use Rattle.counting.specs.Values.{count_of, least_above}
 use Rattle.construction.specs.Plans.{Level, group_size}
@@ -8,7 +9,8 @@ use Rattle.construction.specs.PhaseKing.{instructed, locked_at, up}
 use Rattle.construction.specs.Steps.{register_after}
 use Rattle.phase_king.specs.Groups.{values_heard, IsLockedGroup}
 use Rattle.phase_king.proofs.LockedGroups.{locked_goes_on}
-use Rattle.phase_king.proofs.Closed.{infinite_stays, zero_closed, one_closed, two_closed, marked_stays}
+use Rattle.phase_king.proofs.Closed.{infinite_stays, zero_closed, one_closed, two_closed}
+use Rattle.phase_king.proofs.Closed.{marked_stays}
 
 -- a register that is locked at the value of its locked group goes on, whatever outputs and values are heard
 pub locked_register : (first n : ℕ) (level : Level) (liars : ℕ → Bool) (registers : ℕ → Reg) (value : ℕ) → IsLockedGroup first (group_size level n) level.faults liars registers value →

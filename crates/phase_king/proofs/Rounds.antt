@@ -1,6 +1,9 @@
 -- What one round, and one phase, does to the registers of a group of n > 3f nodes of which at most f are faulty.
-use Rattle.std.proofs.Common.{◌≡◌, ℕ, zero, suc, ◌-◌, ◌*◌, ◌<◌, ◌≤◌, Bool, true, false, not, ◌&&◌, cond, List, get_or, Option, Some, None, is_some, option_map, unwrap_or, leb, refl, sym, ap, ◌∙◌, subst, ⊎_elim, arith}
-use Rattle.std.proofs.lemmas.Bool.{cases_eq, true≢false, false≢true, leb-true, le-leb, and_parts, not-true, and_cases}
+use Rattle.std.proofs.Common.{◌≡◌, ℕ, zero, suc, ◌-◌, ◌*◌, ◌<◌, ◌≤◌, Bool, true, false, not, ◌&&◌}
+use Rattle.std.proofs.Common.{cond, List, get_or, Option, Some, None, is_some, option_map}
+use Rattle.std.proofs.Common.{unwrap_or, leb, refl, sym, ap, ◌∙◌, subst, ⊎_elim, arith}
+use Rattle.std.proofs.lemmas.Bool.{cases_eq, true≢false, false≢true, leb-true, le-leb, and_parts}
+use Rattle.std.proofs.lemmas.Bool.{not-true, and_cases}
 use Rattle.counting.specs.Places.{places}
 use Rattle.counting.specs.Values.{count_of, least_above}
 use Rattle.counting.proofs.Places.{some_place}

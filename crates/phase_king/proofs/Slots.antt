@@ -1,5 +1,6 @@
 -- f + 1 phases in a row, each under its own king, without increment.
-use Rattle.std.proofs.Common.{◌≡◌, ℕ, zero, suc, ◌+◌, ◌-◌, ◌*◌, ◌/◌, ◌%◌, ◌<◌, ◌≤◌, Bool, Some, sym, ap, ◌∙◌, subst, arith, add-zero}
+use Rattle.std.proofs.Common.{◌≡◌, ℕ, zero, suc, ◌+◌, ◌-◌, ◌*◌, ◌/◌, ◌%◌, ◌<◌, ◌≤◌, Bool, Some, sym}
+use Rattle.std.proofs.Common.{ap, ◌∙◌, subst, arith, add-zero}
 use Rattle.counting.specs.Places.{places}
 use Rattle.counting.proofs.Places.{one_fails, shorter}
 use Rattle.sync_types.specs.declared.states.Reg.{Reg}

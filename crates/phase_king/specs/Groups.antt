@@ -1,6 +1,7 @@
 -- A group of nodes from a first one on: what is heard of its registers' values, and when nothing
 -- that its liars tell matters.
-use Rattle.std.specs.Prelude.{◌≡◌, ℕ, ◌+◌, ◌*◌, ◌<◌, ◌≤◌, List, Bool, false, map, if◌then◌else◌, Option}
+use Rattle.std.specs.Prelude.{◌≡◌, ℕ, ◌+◌, ◌*◌, ◌<◌, ◌≤◌, List, Bool, false, map, if◌then◌else◌}
+use Rattle.std.specs.Prelude.{Option}
 use Rattle.std.specs.List.{range_with_len}
 use Rattle.sync_types.specs.declared.states.Reg.{Reg}
 use Rattle.counting.specs.Places.{places}

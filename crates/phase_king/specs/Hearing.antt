@@ -1,6 +1,7 @@
 -- Rounds of a group of n nodes that bears f faults, as functions of the place: which nodes are
 -- faulty, and which register each node has. Each node hears a list of its own.
-use Rattle.std.specs.Prelude.{◌≡◌, ℕ, ◌<◌, List, length, Bool, false, Option, Some, None, slice_index_or}
+use Rattle.std.specs.Prelude.{◌≡◌, ℕ, ◌<◌, List, length, Bool, false, Option, Some, None}
+use Rattle.std.specs.Prelude.{slice_index_or}
 use Rattle.sync_types.specs.declared.states.Reg.{Reg}
 use Rattle.construction.specs.PhaseKing.{instructed, locked_at}
 

@@ -1,5 +1,7 @@
 -- The text of a plan is read as that plan.
-use Rattle.std.proofs.Common.{◌≡◌, ℕ, suc, ◌+◌, ◌^◌, ◌≤◌, Bool, false, List, [], ◌∷◌, ◌++◌, length, reverse, Option, None, Result, refl, sym, ap, ◌∙◌, append_assoc, arith, ◌⊎◌, inl, inr}
+use Rattle.std.proofs.Common.{◌≡◌, ℕ, suc, ◌+◌, ◌^◌, ◌≤◌, Bool, false, List, [], ◌∷◌, ◌++◌, length}
+use Rattle.std.proofs.Common.{reverse, Option, None, Result, refl, sym, ap, ◌∙◌, append_assoc}
+use Rattle.std.proofs.Common.{arith, ◌⊎◌, inl, inr}
 use Rattle.std.specs.Prelude.{codes, if◌then◌else◌, All, Some}
 use Rattle.std.specs.Str.{bytes_eq}
 use Rattle.std.specs.List.{flat_map}
@@ -14,13 +16,20 @@ use Rattle.sync_types.specs.declared.answers.Premise.{Premise}
 use Rattle.sync_types.specs.declared.answers.Premise.TheVariants.{Form}
 use Rattle.construction.specs.Plans.{Level, Plan, plan_depth}
 use Rattle.plan_numbers.specs.Numbers.{with_level, below_of, numbers_below}
-use Rattle.plan_numbers.specs.Premises.{base_premise, first_premise, unless, FitsVersion, LevelsAccepted}
+use Rattle.plan_numbers.specs.Premises.{base_premise, first_premise, unless, FitsVersion}
+use Rattle.plan_numbers.specs.Premises.{LevelsAccepted}
 use Rattle.plan_reader.specs.declared.stages.PlanStage.{PlanStage}
 use Rattle.plan_reader.specs.declared.stages.PlanStage.TheVariants.{Unread, Begun, Built}
-use Rattle.plan_reader.specs.PlanPart.{whole_plan_of, alone, plan_step, after_level, level_quadruple, level_by, base_by, goes_with}
+use Rattle.plan_reader.specs.PlanPart.{whole_plan_of, alone, plan_step, after_level}
+use Rattle.plan_reader.specs.PlanPart.{level_quadruple, level_by, base_by, goes_with}
 use Rattle.plan_certificate.specs.Tables.{version_line, base_line}
-use Rattle.plan_certificate.specs.PlanTexts.{level_text, level_texts, plan_text, PlanTextIsRead, PlanTextIsWhole}
-use Rattle.plan_certificate.proofs.StatedLines.{small_short, IsSmall, level_small, after_plan, after_base, after_level_1, after_level_2, version_text, base_text, text_1, text_2, plan_plain, base_plain, plain_1, plain_2, room_1, room_2, quadruple_1, quadruple_2, base_numbers}
+use Rattle.plan_certificate.specs.PlanTexts.{level_text, level_texts, plan_text, PlanTextIsRead}
+use Rattle.plan_certificate.specs.PlanTexts.{PlanTextIsWhole}
+use Rattle.plan_certificate.proofs.StatedLines.{small_short, IsSmall, level_small, after_plan}
+use Rattle.plan_certificate.proofs.StatedLines.{after_base, after_level_1, after_level_2}
+use Rattle.plan_certificate.proofs.StatedLines.{version_text, base_text, text_1, text_2, plan_plain}
+use Rattle.plan_certificate.proofs.StatedLines.{base_plain, plain_1, plain_2, room_1, room_2}
+use Rattle.plan_certificate.proofs.StatedLines.{quadruple_1, quadruple_2, base_numbers}
 
 -- how a part is read on
 abbrev read_on : PlanStage → (taken number : ℕ) → List ℕ → Result (Found Plan) (At Premise)

@@ -1,5 +1,7 @@
 -- A text that is read as a table is the table text of the plan that was read.
-use Rattle.std.proofs.Common.{◌≡◌, ℕ, zero, suc, ◌+◌, ◌≤◌, inl, inr, Bool, true, false, cond, List, [], ◌∷◌, ◌++◌, Option, Some, None, Result, Ok, Err, decimal, codes, refl, sym, ap, subst, ◌∙◌, append_assoc, arith}
+use Rattle.std.proofs.Common.{◌≡◌, ℕ, zero, suc, ◌+◌, ◌≤◌, inl, inr, Bool, true, false, cond, List}
+use Rattle.std.proofs.Common.{[], ◌∷◌, ◌++◌, Option, Some, None, Result, Ok, Err, decimal, codes}
+use Rattle.std.proofs.Common.{refl, sym, ap, subst, ◌∙◌, append_assoc, arith}
 use Rattle.std.specs.Prelude.{⊤, if◌then◌else◌, slice_index}
 use Rattle.std.specs.Str.{bytes_eq}
 use Rattle.std.proofs.lemmas.List.{append-nil}
@@ -21,11 +23,17 @@ use Rattle.construction.specs.Plans.{Plan}
 use Rattle.plan_numbers.specs.Numbers.{numbers_below, with_level}
 use Rattle.plan_numbers.specs.Premises.{IsAccepted, FitsVersion, base_premise, first_premise}
 use Rattle.plan_certificate.specs.declared.table_stages.TableStage.{TableStage}
-use Rattle.plan_certificate.specs.declared.table_stages.TableStage.TheVariants.{Unread, Begun, Built, Stated}
+use Rattle.plan_certificate.specs.declared.table_stages.TableStage.TheVariants.{Unread, Begun}
+use Rattle.plan_certificate.specs.declared.table_stages.TableStage.TheVariants.{Built, Stated}
 use Rattle.plan_certificate.specs.Tables.{table_text}
-use Rattle.plan_certificate.specs.TableLines.{same_numbers, level_in, level_stated, plan_stated, plan_values, values_over, unless_premise, based, goes_with, built_by, begins, table_step, alone, unless_followed, table_of}
+use Rattle.plan_certificate.specs.TableLines.{same_numbers, level_in, level_stated, plan_stated}
+use Rattle.plan_certificate.specs.TableLines.{plan_values, values_over, unless_premise, based}
+use Rattle.plan_certificate.specs.TableLines.{goes_with, built_by, begins, table_step, alone}
+use Rattle.plan_certificate.specs.TableLines.{unless_followed, table_of}
 use Rattle.plan_certificate.proofs.TableWords.{level_words, plan_words, level_back, plan_back}
-use Rattle.plan_certificate.proofs.StatedTables.{IsVersion, first_of, base_of, whole_of, built_lines, stage_lines, table_lines, table_text_is}
+use Rattle.plan_certificate.proofs.StatedTables.{IsVersion, first_of, base_of, whole_of}
+use Rattle.plan_certificate.proofs.StatedTables.{built_lines, stage_lines, table_lines}
+use Rattle.plan_certificate.proofs.StatedTables.{table_text_is}
 
 -- what holds of a stage
 abbrev IsSound : TableStage → Type 0

@@ -1,5 +1,6 @@
 -- The lines of a plan's text, as words, and the numbers that are read of them.
-use Rattle.std.proofs.Common.{◌≡◌, ℕ, ◌^◌, ◌≤◌, List, [], ◌∷◌, ◌++◌, length, Some, None, refl, ap, ◌∙◌, append_assoc, arith}
+use Rattle.std.proofs.Common.{◌≡◌, ℕ, ◌^◌, ◌≤◌, List, [], ◌∷◌, ◌++◌, length, Some, None, refl, ap}
+use Rattle.std.proofs.Common.{◌∙◌, append_assoc, arith}
 use Rattle.std.specs.Prelude.{codes, decimal}
 use Rattle.std.proofs.lemmas.List.{append-nil}
 use Rattle.std.proofs.lemmas.Fmt.{length-decimal-le}
@@ -7,7 +8,8 @@ use Rattle.texts.specs.Lines.{words_of}
 use Rattle.texts.specs.Numbers.{number_of}
 use Rattle.texts.specs.Shapes.{numbers_after}
 use Rattle.texts.proofs.NumberWords.{printed_is_read}
-use Rattle.texts.proofs.Printed.{joined, IsPlain, ArePlain, spaced_length, decimal_is_plain, words_joined}
+use Rattle.texts.proofs.Printed.{joined, IsPlain, ArePlain, spaced_length, decimal_is_plain}
+use Rattle.texts.proofs.Printed.{words_joined}
 use Rattle.construction.specs.Plans.{Level}
 use Rattle.plan_numbers.specs.Numbers.{below_of}
 use Rattle.plan_numbers.specs.Premises.{first_premise}

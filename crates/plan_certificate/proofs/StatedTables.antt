@@ -1,5 +1,6 @@
 -- The lines of a table text, one for each stage of its reader.
-use Rattle.std.proofs.Common.{◌≡◌, ℕ, ◌+◌, ◌⊎◌, inl, inr, List, [], ◌∷◌, ◌++◌, length, decimal, codes, refl, sym, ap, ◌∙◌, append_assoc, arith}
+use Rattle.std.proofs.Common.{◌≡◌, ℕ, ◌+◌, ◌⊎◌, inl, inr, List, [], ◌∷◌, ◌++◌, length, decimal}
+use Rattle.std.proofs.Common.{codes, refl, sym, ap, ◌∙◌, append_assoc, arith}
 use Rattle.std.specs.List.{concat, flat_map, enumerate_from}
 use Rattle.std.proofs.lemmas.List.{append-nil}
 use Rattle.std.proofs.lemmas.Grind.{flat_map-append}
@@ -9,8 +10,10 @@ use Rattle.plan_numbers.specs.declared.numbers.LevelNums.{LevelNums}
 use Rattle.plan_numbers.specs.Numbers.{below_of, numbers_over, numbers_of}
 use Rattle.plan_numbers.proofs.LevelLaws.{length-numbers_of}
 use Rattle.plan_certificate.specs.declared.table_stages.TableStage.{TableStage}
-use Rattle.plan_certificate.specs.declared.table_stages.TableStage.TheVariants.{Unread, Begun, Built, Stated}
-use Rattle.plan_certificate.specs.Tables.{version_line, base_line, level_line, level_lines, plan_line, table_text}
+use Rattle.plan_certificate.specs.declared.table_stages.TableStage.TheVariants.{Unread, Begun}
+use Rattle.plan_certificate.specs.declared.table_stages.TableStage.TheVariants.{Built, Stated}
+use Rattle.plan_certificate.specs.Tables.{version_line, base_line, level_line, level_lines}
+use Rattle.plan_certificate.specs.Tables.{plan_line, table_text}
 use Rattle.plan_certificate.specs.TableLines.{level_values, plan_values}
 use Rattle.plan_certificate.proofs.TableWords.{named_words, words_by, level_words, plan_words}
 

@@ -1,5 +1,7 @@
 -- The words of the lines of a table, both ways.
-use Rattle.std.proofs.Common.{◌≡◌, ℕ, ◌^◌, ◌<◌, Bool, true, false, cond, List, [], ◌∷◌, ◌++◌, length, take, Option, Some, None, decimal, codes, refl, sym, ap, subst, ◌∙◌, arith}
+use Rattle.std.proofs.Common.{◌≡◌, ℕ, ◌^◌, ◌<◌, Bool, true, false, cond, List, [], ◌∷◌, ◌++◌}
+use Rattle.std.proofs.Common.{length, take, Option, Some, None, decimal, codes, refl, sym, ap}
+use Rattle.std.proofs.Common.{subst, ◌∙◌, arith}
 use Rattle.std.specs.Prelude.{◌==◌, slice_index}
 use Rattle.std.specs.List.{AllByRecursion}
 use Rattle.std.specs.Str.{bytes_eq}
@@ -9,7 +11,9 @@ use Rattle.texts.specs.Numbers.{number_of}
 use Rattle.texts.specs.Shapes.{onto_numbers}
 use Rattle.texts.proofs.LineWords.{is_solid, IsWord, decimal_word, number_back, number_there}
 use Rattle.plan_numbers.specs.declared.numbers.LevelNums.{LevelNums}
-use Rattle.plan_certificate.specs.TableLines.{numbers_named, level_names, spare_level_names, plan_names, without_spares, level_stated, plan_stated, level_values}
+use Rattle.plan_certificate.specs.TableLines.{numbers_named, level_names, spare_level_names}
+use Rattle.plan_certificate.specs.TableLines.{plan_names, without_spares, level_stated, plan_stated}
+use Rattle.plan_certificate.specs.TableLines.{level_values}
 use Rattle.plan_certificate.proofs.NamedNumbers.{length_named}
 
 -- a number of at most 15 digits

@@ -1,5 +1,7 @@
 -- The table text of an accepted plan is read as that plan.
-use Rattle.std.proofs.Common.{◌≡◌, ℕ, zero, suc, ◌+◌, ◌^◌, ◌*◌, ◌<◌, ◌≤◌, inl, inr, true, List, [], ◌∷◌, ◌++◌, length, Some, None, Result, Ok, Err, decimal, codes, refl, sym, ap, ◌∙◌, append_assoc, arith}
+use Rattle.std.proofs.Common.{◌≡◌, ℕ, zero, suc, ◌+◌, ◌^◌, ◌*◌, ◌<◌, ◌≤◌, inl, inr, true, List, []}
+use Rattle.std.proofs.Common.{◌∷◌, ◌++◌, length, Some, None, Result, Ok, Err, decimal, codes, refl}
+use Rattle.std.proofs.Common.{sym, ap, ◌∙◌, append_assoc, arith}
 use Rattle.std.specs.Prelude.{if◌then◌else◌, All}
 use Rattle.std.specs.Int.{div_ceil}
 use Rattle.std.specs.List.{AllByRecursion}
@@ -12,20 +14,28 @@ use Rattle.texts.specs.Shapes.{numbers_after}
 use Rattle.texts.specs.Parts.{goes, refuses, Found, At, part_from}
 use Rattle.texts.specs.Words.{joined, text_of, open_rest}
 use Rattle.texts.proofs.Texts.{IsOneLine, cut_again}
-use Rattle.texts.proofs.LineWords.{is_solid, IsWord, words_there, decimal_word, number_there, joined_is_one}
+use Rattle.texts.proofs.LineWords.{is_solid, IsWord, words_there, decimal_word, number_there}
+use Rattle.texts.proofs.LineWords.{joined_is_one}
 use Rattle.sync_types.specs.declared.answers.Cause.{Cause}
 use Rattle.sync_types.specs.declared.answers.Cause.TheVariants as cause
 use Rattle.sync_types.specs.declared.answers.Premise.TheVariants.{Form}
 use Rattle.construction.specs.Plans.{Level, Plan}
 use Rattle.plan_numbers.specs.Numbers.{below_of, numbers_over, with_level}
-use Rattle.plan_numbers.specs.Premises.{IsAccepted, LevelsAccepted, FitsVersion, base_premise, first_premise}
+use Rattle.plan_numbers.specs.Premises.{IsAccepted, LevelsAccepted, FitsVersion, base_premise}
+use Rattle.plan_numbers.specs.Premises.{first_premise}
 use Rattle.plan_numbers.proofs.Accepted.{meets, level_sized, accepted_sized, accepted_depth}
 use Rattle.plan_certificate.specs.declared.table_stages.TableStage.{TableStage}
-use Rattle.plan_certificate.specs.declared.table_stages.TableStage.TheVariants.{Unread, Begun, Built, Stated}
+use Rattle.plan_certificate.specs.declared.table_stages.TableStage.TheVariants.{Unread, Begun}
+use Rattle.plan_certificate.specs.declared.table_stages.TableStage.TheVariants.{Built, Stated}
 use Rattle.plan_certificate.specs.Tables.{table_text}
-use Rattle.plan_certificate.specs.TableLines.{same_numbers, level_values, level_stated, plan_stated, plan_values, values_over, unless_premise, based, goes_with, built_by, table_step, alone, table_of}
-use Rattle.plan_certificate.proofs.TableWords.{IsShort, level_words, plan_words, level_there, level_solid, some_words, plan_there, plan_solid, no_level}
-use Rattle.plan_certificate.proofs.StatedTables.{IsVersion, first_of, base_of, level_of_table, whole_of, built_lines, table_lines, table_text_is}
+use Rattle.plan_certificate.specs.TableLines.{same_numbers, level_values, level_stated, plan_stated}
+use Rattle.plan_certificate.specs.TableLines.{plan_values, values_over, unless_premise, based}
+use Rattle.plan_certificate.specs.TableLines.{goes_with, built_by, table_step, alone, table_of}
+use Rattle.plan_certificate.proofs.TableWords.{IsShort, level_words, plan_words, level_there}
+use Rattle.plan_certificate.proofs.TableWords.{level_solid, some_words, plan_there, plan_solid}
+use Rattle.plan_certificate.proofs.TableWords.{no_level}
+use Rattle.plan_certificate.proofs.StatedTables.{IsVersion, first_of, base_of, level_of_table}
+use Rattle.plan_certificate.proofs.StatedTables.{whole_of, built_lines, table_lines, table_text_is}
 
 abbrev read : TableStage → (taken number : ℕ) → List (List ℕ) → Result (Found Plan) (At Cause)
 read s taken number lines = part_from table_step (cause.Premise Form) s taken number lines

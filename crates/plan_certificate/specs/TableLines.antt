@@ -1,5 +1,6 @@
 -- A table text as its reader takes it, line by line, and what each line has to say.
-use Rattle.std.specs.Prelude.{ℕ, ◌+◌, List, [], ◌∷◌, ◌++◌, Bool, Option, Some, None, Result, Ok, Err, length, slice_index, nat_eq, ◌==◌, if◌then◌else◌, codes}
+use Rattle.std.specs.Prelude.{ℕ, ◌+◌, List, [], ◌∷◌, ◌++◌, Bool, Option, Some, None, Result, Ok}
+use Rattle.std.specs.Prelude.{Err, length, slice_index, nat_eq, ◌==◌, if◌then◌else◌, codes}
 use Rattle.std.specs.Int.{div_ceil}
 use Rattle.std.specs.Str.{bytes_eq}
 use Rattle.std.specs.Cmp.Lexicographic.{pointwise}
@@ -12,12 +13,14 @@ use Rattle.sync_types.specs.declared.answers.Premise as premise
 use Rattle.sync_types.specs.declared.answers.Premise.TheVariants.{Form}
 use Rattle.sync_types.specs.declared.answers.Cause.{Cause}
 use Rattle.sync_types.specs.declared.answers.Cause.TheVariants.{Premise, Value}
-use Rattle.construction.specs.Plans.{Level, Plan, plan_nodes, plan_faults, plan_modulus, plan_bound, plan_bits, plan_depth}
+use Rattle.construction.specs.Plans.{Level, Plan, plan_nodes, plan_faults, plan_modulus, plan_bound}
+use Rattle.construction.specs.Plans.{plan_bits, plan_depth}
 use Rattle.plan_numbers.specs.declared.numbers.LevelNums.{LevelNums}
 use Rattle.plan_numbers.specs.Numbers.{line, with_level, below_of, numbers_below, numbers_over}
 use Rattle.plan_numbers.specs.Premises.{base_premise, first_premise}
 use Rattle.plan_certificate.specs.declared.table_stages.TableStage.{TableStage}
-use Rattle.plan_certificate.specs.declared.table_stages.TableStage.TheVariants.{Unread, Begun, Built, Stated}
+use Rattle.plan_certificate.specs.declared.table_stages.TableStage.TheVariants.{Unread, Begun}
+use Rattle.plan_certificate.specs.declared.table_stages.TableStage.TheVariants.{Built, Stated}
 
 -- ---- the words of a line
 

@@ -2,7 +2,8 @@
 use Rattle.std.specs.Prelude.{ℕ, List, [], ◌∷◌, ◌++◌, ◌==◌, if◌then◌else◌, codes, decimal}
 use Rattle.std.specs.Int.{div_ceil}
 use Rattle.std.specs.List.{concat, flat_map, enumerate_from}
-use Rattle.construction.specs.Plans.{Plan, plan_nodes, plan_faults, plan_modulus, plan_bound, plan_bits}
+use Rattle.construction.specs.Plans.{Plan, plan_nodes, plan_faults, plan_modulus, plan_bound}
+use Rattle.construction.specs.Plans.{plan_bits}
 use Rattle.plan_numbers.specs.declared.numbers.LevelNums.{LevelNums}
 use Rattle.plan_numbers.specs.Numbers.{level_numbers}
 

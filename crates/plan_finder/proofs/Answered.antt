@@ -1,5 +1,6 @@
 -- What was found is the least plan, and its costs are potentials.
-use Rattle.std.proofs.Common.{◌≡◌, ℕ, ◌+◌, ◌*◌, ◌≤◌, List, [], ◌∷◌, refl, sym, ap, ◌∙◌, subst, inl, inr, arith}
+use Rattle.std.proofs.Common.{◌≡◌, ℕ, ◌+◌, ◌*◌, ◌≤◌, List, [], ◌∷◌, refl, sym, ap, ◌∙◌, subst, inl}
+use Rattle.std.proofs.Common.{inr, arith}
 use Rattle.std.specs.Prelude.{Option, Some, None, IfSome}
 use Rattle.std.specs.List.{Contains}
 use Rattle.std.proofs.lemmas.Bool.{cases_lt}
@@ -9,7 +10,8 @@ use Rattle.plan_finder.specs.declared.pots.Pot.{Pot}
 use Rattle.plan_finder.specs.declared.best.Best.{Best}
 use Rattle.plan_finder.specs.Steps.{IsPath, IsStep, cost_of}
 use Rattle.plan_finder.specs.Costs.{Reaches, IsLeastCost, AreLeastCosts}
-use Rattle.plan_finder.specs.Potentials.{ArePotentials, IsKnown, IsAtMost, StepsAreKnown, KeepsBound, bound_in}
+use Rattle.plan_finder.specs.Potentials.{ArePotentials, IsKnown, IsAtMost, StepsAreKnown}
+use Rattle.plan_finder.specs.Potentials.{KeepsBound, bound_in}
 use Rattle.plan_finder.specs.Wanted.{IsPlanFor}
 use Rattle.plan_finder.specs.Building.{IsBuilt}
 use Rattle.plan_finder.specs.Best.{levels_in, IsKept, IsBestOf, HasFaults}

@@ -1,14 +1,17 @@
 -- The best of sets of levels: of one set in two forms, of two sets together, and with one more level.
-use Rattle.std.proofs.Common.{◌≡◌, ℕ, suc, ◌+◌, ◌*◌, List, [], ◌∷◌, ◌++◌, length, map, reverse, refl, sym, ap, ◌∙◌, subst, inl, inr, arith}
+use Rattle.std.proofs.Common.{◌≡◌, ℕ, suc, ◌+◌, ◌*◌, List, [], ◌∷◌, ◌++◌, length, map, reverse}
+use Rattle.std.proofs.Common.{refl, sym, ap, ◌∙◌, subst, inl, inr, arith}
 use Rattle.std.specs.Prelude.{◌⊎◌, Option, Some, None}
-use Rattle.std.proofs.lemmas.List.{reverse-append, reverse-reverse, length-map, length-reverse, length-take}
+use Rattle.std.proofs.lemmas.List.{reverse-append, reverse-reverse, length-map, length-reverse}
+use Rattle.std.proofs.lemmas.List.{length-take}
 use Rattle.construction.specs.Plans.{Level, nodes_of, bound_of}
 use Rattle.plan_finder.specs.declared.best.Step.{Step}
 use Rattle.plan_finder.specs.declared.best.Best.{Best}
 use Rattle.plan_finder.specs.Steps.{IsStep, cost_of}
 use Rattle.plan_finder.specs.Orders.{IsLess, steps_of, rank_of}
 use Rattle.plan_finder.specs.Costs.{Reaches}
-use Rattle.plan_finder.specs.Best.{level_by, levels_by, numbers_by, steps_in, levels_in, rank_in, IsKept, IsBest, IsBestOf, IsLesser, IsWith, AreOver}
+use Rattle.plan_finder.specs.Best.{level_by, levels_by, numbers_by, steps_in, levels_in, rank_in}
+use Rattle.plan_finder.specs.Best.{IsKept, IsBest, IsBestOf, IsLesser, IsWith, AreOver}
 use Rattle.plan_finder.proofs.Orders.{less_then, less_below, less_split, less_irreflexive}
 use Rattle.plan_finder.proofs.Paths.{length-steps_of}
 

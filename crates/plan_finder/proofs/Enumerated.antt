@@ -2,12 +2,15 @@
 use Rattle.std.proofs.lemmas.List.{append-nil, append_assoc}
 use Rattle.std.proofs.lemmas.List.Concat.{flat_map-append}
 use Rattle.plan_finder.specs.declared.pots.Pot.{Pot}
-use Rattle.std.proofs.Common.{◌≡◌, ℕ, zero, suc, ◌+◌, ◌*◌, ◌<◌, ◌≤◌, ◌^◌, List, [], ◌∷◌, ◌++◌, length, map, reverse, Bool, true, false, cond, refl, sym, ap, ◌∙◌, subst, inl, inr, add-one, zero-add, arith}
+use Rattle.std.proofs.Common.{◌≡◌, ℕ, zero, suc, ◌+◌, ◌*◌, ◌<◌, ◌≤◌, ◌^◌, List, [], ◌∷◌, ◌++◌}
+use Rattle.std.proofs.Common.{length, map, reverse, Bool, true, false, cond, refl, sym, ap, ◌∙◌}
+use Rattle.std.proofs.Common.{subst, inl, inr, add-one, zero-add, arith}
 use Rattle.std.specs.Prelude.{Option, Some, None, nat_lt, nat_le, ◌==◌, ◌&&◌, ◌||◌}
 use Rattle.std.specs.Option.{option_map}
 use Rattle.std.specs.Int.{div_ceil}
 use Rattle.std.specs.List.{flat_map, filter, range_with_len}
-use Rattle.std.proofs.lemmas.Bool.{and_parts, and_from, ltb-true, lt-ltb, leb-true, le-leb, eqb-true, eq-eqb, true≢false, or_cases}
+use Rattle.std.proofs.lemmas.Bool.{and_parts, and_from, ltb-true, lt-ltb, leb-true, le-leb}
+use Rattle.std.proofs.lemmas.Bool.{eqb-true, eq-eqb, true≢false, or_cases}
 use Rattle.construction.specs.Plans.{Level, Plan, nodes_of, faults_of}
 use Rattle.plan_numbers.specs.Numbers.{line}
 use Rattle.plan_numbers.proofs.Spans.{depth_most}
@@ -18,12 +21,15 @@ use Rattle.plan_finder.specs.Orders.{IsLess, rank_of, steps_of}
 use Rattle.plan_finder.specs.Costs.{Reaches}
 use Rattle.plan_finder.specs.Best.{level_by, steps_in, levels_in, IsBestOf, HasFaults}
 use Rattle.plan_finder.specs.Building.{plan_with, IsBuilt}
-use Rattle.plan_finder.specs.Least.{is_less, is_step, is_path, levels_over, all_levels, first_of, least_of, least_levels, has_faults, reaches, find_plan, pot_if, pots_at}
+use Rattle.plan_finder.specs.Least.{is_less, is_step, is_path, levels_over, all_levels, first_of}
+use Rattle.plan_finder.specs.Least.{least_of, least_levels, has_faults, reaches, find_plan, pot_if}
+use Rattle.plan_finder.specs.Least.{pots_at}
 use Rattle.plan_finder.proofs.Orders.{less_or_not, less_then, less_below, less_irreflexive}
 use Rattle.plan_finder.proofs.Paths.{length-steps_of}
 use Rattle.plan_finder.proofs.Moduli.{last_same}
 use Rattle.plan_finder.proofs.Sets.{path_deep, path_few}
-use Rattle.plan_finder.proofs.Members.{IsIn, in_filter, from_filter, in_flat_map, from_flat_map, in_map, from_map, in_range, range_push}
+use Rattle.plan_finder.proofs.Members.{IsIn, in_filter, from_filter, in_flat_map, from_flat_map}
+use Rattle.plan_finder.proofs.Members.{in_map, from_map, in_range, range_push}
 
 -- ---- plain levels: their moduli are left aside
 

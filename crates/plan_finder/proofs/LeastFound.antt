@@ -1,5 +1,6 @@
 -- The plan and the pairs that are defined for wants are the least ones.
-use Rattle.std.proofs.Common.{◌≡◌, ℕ, zero, suc, ◌+◌, ◌*◌, ◌/◌, ◌^◌, ◌<◌, ◌≤◌, List, ◌++◌, length, Bool, true, refl, sym, ap, ◌∙◌, subst, append-nil, add-one, arith}
+use Rattle.std.proofs.Common.{◌≡◌, ℕ, zero, suc, ◌+◌, ◌*◌, ◌/◌, ◌^◌, ◌<◌, ◌≤◌, List, ◌++◌, length}
+use Rattle.std.proofs.Common.{Bool, true, refl, sym, ap, ◌∙◌, subst, append-nil, add-one, arith}
 use Rattle.std.specs.Prelude.{Option, Some, None, Result, Ok, Err, IfOk}
 use Rattle.std.specs.Option.{option_map}
 use Rattle.std.specs.List.{flat_map, filter, range_with_len}
@@ -22,11 +23,16 @@ use Rattle.plan_finder.specs.Best.{levels_in, IsBestOf, HasFaults, AreCostsBefor
 use Rattle.plan_finder.specs.Building.{plan_with, IsBuilt}
 use Rattle.plan_finder.specs.FindPart.{find_step, unless_followed, alone, want_of, IsFit}
 use Rattle.plan_finder.specs.FindLaws.{IsAnswerFor, FindsLeast}
-use Rattle.plan_finder.specs.Least.{all_levels, least_levels, has_faults, reaches, find_plan, pots_at, pot_if, costs_of}
+use Rattle.plan_finder.specs.Least.{all_levels, least_levels, has_faults, reaches, find_plan}
+use Rattle.plan_finder.specs.Least.{pots_at, pot_if, costs_of}
 use Rattle.plan_finder.proofs.Sets.{path_deep, path_few}
 use Rattle.plan_finder.proofs.Members.{IsIn, in_filter, from_filter}
-use Rattle.plan_finder.proofs.Enumerated.{IsPlain, AreFew, IsLeastIn, least_is, in_all, few_path, from_all, in_set_of, faults_yes, faults_from, reaches_yes, reaches_from, row_push, rows_push, rows_before}
-use Rattle.plan_finder.proofs.PlainLevels.{plain_of, is_plain, nodes_plain, faults_plain, rank_plain, path_plain, best_from, levels_from, kept_from, path_accepted}
+use Rattle.plan_finder.proofs.Enumerated.{IsPlain, AreFew, IsLeastIn, least_is, in_all, few_path}
+use Rattle.plan_finder.proofs.Enumerated.{from_all, in_set_of, faults_yes, faults_from, reaches_yes}
+use Rattle.plan_finder.proofs.Enumerated.{reaches_from, row_push, rows_push, rows_before}
+use Rattle.plan_finder.proofs.PlainLevels.{plain_of, is_plain, nodes_plain, faults_plain}
+use Rattle.plan_finder.proofs.PlainLevels.{rank_plain, path_plain, best_from, levels_from}
+use Rattle.plan_finder.proofs.PlainLevels.{kept_from, path_accepted}
 use Rattle.plan_finder.proofs.Answered.{plan_for, costs_pass}
 use Rattle.plan_finder.proofs.FitWants.{part_fits}
 use Rattle.plan_finder.proofs.Gathered.{costs_none, costs_skip, costs_push, costs_row, costs_end}

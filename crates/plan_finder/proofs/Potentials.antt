@@ -1,11 +1,14 @@
 -- Potentials are at most the cost of every path, and so bound every plan.
-use Rattle.std.proofs.Common.{◌≡◌, ℕ, ◌+◌, ◌*◌, ◌≤◌, List, [], ◌∷◌, refl, sym, ap, ◌∙◌, subst, arith}
+use Rattle.std.proofs.Common.{◌≡◌, ℕ, ◌+◌, ◌*◌, ◌≤◌, List, [], ◌∷◌, refl, sym, ap, ◌∙◌, subst}
+use Rattle.std.proofs.Common.{arith}
 use Rattle.std.specs.Prelude.{Option, Some, None}
 use Rattle.std.proofs.lemmas.List.Elements.{All-contains}
-use Rattle.construction.specs.Plans.{Level, nodes_of, faults_of, bound_of, plan_faults, plan_nodes, plan_bound}
+use Rattle.construction.specs.Plans.{Level, nodes_of, faults_of, bound_of, plan_faults, plan_nodes}
+use Rattle.construction.specs.Plans.{plan_bound}
 use Rattle.plan_finder.specs.declared.pots.Pot.{Pot}
 use Rattle.plan_finder.specs.Steps.{IsPath, IsStep, cost_of}
-use Rattle.plan_finder.specs.Potentials.{IsAtMost, IsKnown, ArePotentials, StepsAreKnown, KeepsBound, IsBoundOf, PotentialsBound}
+use Rattle.plan_finder.specs.Potentials.{IsAtMost, IsKnown, ArePotentials, StepsAreKnown}
+use Rattle.plan_finder.specs.Potentials.{KeepsBound, IsBoundOf, PotentialsBound}
 use Rattle.plan_finder.proofs.Paths.{plan_path}
 
 module _ (f most : ℕ) (bound : Option ℕ) (pots : List Pot) (are : ArePotentials f most bound pots) where

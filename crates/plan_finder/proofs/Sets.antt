@@ -1,5 +1,6 @@
 -- The sets of levels that a search goes through.
-use Rattle.std.proofs.Common.{◌≡◌, ℕ, ◌+◌, ◌*◌, ◌/◌, ◌%◌, ◌^◌, ◌<◌, ◌≤◌, List, [], ◌∷◌, ◌++◌, length, get_or, refl, sym, ap, ◌∙◌, subst, inl, inr, arith}
+use Rattle.std.proofs.Common.{◌≡◌, ℕ, ◌+◌, ◌*◌, ◌/◌, ◌%◌, ◌^◌, ◌<◌, ◌≤◌, List, [], ◌∷◌, ◌++◌}
+use Rattle.std.proofs.Common.{length, get_or, refl, sym, ap, ◌∙◌, subst, inl, inr, arith}
 use Rattle.std.specs.Prelude.{◌⊎◌, Option, Some, None, IfSome}
 use Rattle.std.proofs.lemmas.Bool.{cases_lt}
 use Rattle.std.proofs.lemmas.List.{get_or_at, get_or_append_left, length_push}
@@ -11,7 +12,8 @@ use Rattle.construction.specs.Plans.{Level, nodes_of, faults_of, bound_of}
 use Rattle.plan_finder.specs.declared.best.Best.{Best}
 use Rattle.plan_finder.specs.Steps.{IsPath, IsStep, cost_of}
 use Rattle.plan_finder.specs.Costs.{Reaches}
-use Rattle.plan_finder.specs.Best.{levels_in, levels_by, steps_in, IsKept, IsBest, IsBestOf, IsLesser, IsTried, HasFaults, AreOver, AreBest}
+use Rattle.plan_finder.specs.Best.{levels_in, levels_by, steps_in, IsKept, IsBest, IsBestOf}
+use Rattle.plan_finder.specs.Best.{IsLesser, IsTried, HasFaults, AreOver, AreBest}
 use Rattle.plan_finder.proofs.Bests.{same_set, together, rank_is}
 
 -- ---- what every path has

@@ -1,5 +1,7 @@
 -- A block of a run is a run of the levels below the top.
-use Rattle.std.proofs.Common.{◌≡◌, ℕ, ◌+◌, ◌-◌, ◌*◌, ◌/◌, ◌%◌, ◌<◌, ◌≤◌, subst, Bool, true, false, eqb, not, ◌||◌, cond, List, [], ◌∷◌, length, get_or, map, refl, sym, ap, ap₂, ◌∙◌, subst₂, ⊎_elim, arith}
+use Rattle.std.proofs.Common.{◌≡◌, ℕ, ◌+◌, ◌-◌, ◌*◌, ◌/◌, ◌%◌, ◌<◌, ◌≤◌, subst, Bool, true, false}
+use Rattle.std.proofs.Common.{eqb, not, ◌||◌, cond, List, [], ◌∷◌, length, get_or, map, refl, sym}
+use Rattle.std.proofs.Common.{ap, ap₂, ◌∙◌, subst₂, ⊎_elim, arith}
 use Rattle.std.specs.List.{range_with_len, filter}
 use Rattle.std.specs.Prelude.{nat_le}
 use Rattle.std.proofs.Math.Nat.{div-add-mod}
@@ -8,13 +10,16 @@ use Rattle.std.proofs.lemmas.Bool.{lt-ltb, eq-eqb, ne_eqb, eqb-true, true≢fals
 use Rattle.std.proofs.lemmas.Bool.Decides.{eqb_tells}
 use Rattle.std.proofs.lemmas.List.{length-map, get_or-map, length-take-le}
 use Rattle.std.proofs.lemmas.List.Elements.{All-map, All-weaker, All-get_or}
-use Rattle.std.proofs.lemmas.List.FromFn.{fill_by_all, length-map-range_with_len, get_or-map-range_with_len}
+use Rattle.std.proofs.lemmas.List.FromFn.{fill_by_all, length-map-range_with_len}
+use Rattle.std.proofs.lemmas.List.FromFn.{get_or-map-range_with_len}
 use Rattle.sync_types.specs.declared.states.Reg.{Reg}
 use Rattle.sync_types.specs.States.{State, zero_state}
 use Rattle.construction.specs.Plans.{Level, Plan, group_size, low_of, plan_nodes, plan_depth}
 use Rattle.construction.specs.Votes.{block}
 use Rattle.construction.specs.Steps.{state_of, new_register, with_register, step_in, step_of}
-use Rattle.construction.specs.Runs.{is_in, configuration, IsState, IsNumber, HasRegisters, IsConfiguration, IsTold, IsTable, heard_of, heard_by, Round, IsNext, Run}
+use Rattle.construction.specs.Runs.{is_in, configuration, IsState, IsNumber, HasRegisters}
+use Rattle.construction.specs.Runs.{IsConfiguration, IsTold, IsTable, heard_of, heard_by, Round}
+use Rattle.construction.specs.Runs.{IsNext, Run}
 use Rattle.construction.proofs.Ranges.{length-step_in}
 use Rattle.construction.proofs.Blocks.{block_room, length-block, get_or-block, All-block}
 use Rattle.plan_numbers.specs.Numbers.{with_level}

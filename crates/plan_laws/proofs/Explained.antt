@@ -1,5 +1,6 @@
 -- What the nested counter means is what the plan means, number by number.
-use Rattle.std.proofs.Common.{◌≡◌, ℕ, ◌+◌, ◌*◌, ◌/◌, ◌%◌, cond, List, [], ◌∷◌, length, map, take, unwrap_or, refl, sym, ap, ap₂, ◌∙◌, arith}
+use Rattle.std.proofs.Common.{◌≡◌, ℕ, ◌+◌, ◌*◌, ◌/◌, ◌%◌, cond, List, [], ◌∷◌, length, map, take}
+use Rattle.std.proofs.Common.{unwrap_or, refl, sym, ap, ap₂, ◌∙◌, arith}
 use Rattle.std.specs.Prelude.{nat_lt}
 use Rattle.std.specs.List.{range_with_len}
 use Rattle.std.proofs.lemmas.Bool.{ltb-true}
@@ -8,7 +9,8 @@ use Rattle.std.proofs.lemmas.List.{length-map, length-take-le, get_or-map, get_o
 use Rattle.std.proofs.lemmas.List.FromFn.{fill_by_all}
 use Rattle.sync_types.specs.declared.states.Reg.{Reg}
 use Rattle.sync_types.specs.States.{State, zero_state, register_at}
-use Rattle.construction.specs.Plans.{Level, group_size, nodes_of, faults_of, modulus_of, bound_of, span_of, low_of}
+use Rattle.construction.specs.Plans.{Level, group_size, nodes_of, faults_of, modulus_of, bound_of}
+use Rattle.construction.specs.Plans.{span_of, low_of}
 use Rattle.construction.specs.Shown.{shown}
 use Rattle.construction.specs.Votes.{block}
 use Rattle.construction.specs.Steps.{state_of, register_after, new_register, with_register, step_in}

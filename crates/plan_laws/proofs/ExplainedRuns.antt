@@ -2,7 +2,8 @@
 use Rattle.std.proofs.Common.{◌≡◌, ℕ, ◌+◌, ◌-◌, ◌%◌, List, ◌∷◌, length, sym, subst, subst₂, arith}
 use Rattle.std.proofs.Math.Path.{fun_ext}
 use Rattle.sync_types.specs.States.{State, register_at}
-use Rattle.construction.specs.Plans.{Level, Plan, group_size, nodes_of, faults_of, bound_of, span_of}
+use Rattle.construction.specs.Plans.{Level, Plan, group_size, nodes_of, faults_of, bound_of}
+use Rattle.construction.specs.Plans.{span_of}
 use Rattle.construction.specs.Steps.{state_of}
 use Rattle.construction.specs.Runs.{is_in, configuration}
 use Rattle.phase_king.specs.Hearing.{AllLocked}

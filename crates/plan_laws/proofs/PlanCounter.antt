@@ -1,17 +1,20 @@
 -- The laws of the counter of an accepted plan, beside that it settles.
-use Rattle.std.proofs.Common.{ℕ, ◌*◌, ◌<◌, ◌≤◌, List, [], ◌∷◌, length, Option, Some, None, unwrap_or, IfSome, arith}
+use Rattle.std.proofs.Common.{ℕ, ◌*◌, ◌<◌, ◌≤◌, List, [], ◌∷◌, length, Option, Some, None}
+use Rattle.std.proofs.Common.{unwrap_or, IfSome, arith}
 use Rattle.std.proofs.Math.Nat.{mul-le-mul_right}
 use Rattle.sync_types.specs.States.{State, zero_state, register_at}
 use Rattle.construction.specs.Plans.{Level, Plan, nodes_of, plan_depth, modulus_of}
 use Rattle.construction.specs.Shown.{shown}
 use Rattle.construction.specs.Steps.{step_of}
-use Rattle.construction.proofs.Ranges.{ArePositive, length-step_in, low_most, zero_at, step_is_state}
+use Rattle.construction.proofs.Ranges.{ArePositive, length-step_in, low_most, zero_at}
+use Rattle.construction.proofs.Ranges.{step_is_state}
 use Rattle.plan_numbers.specs.Numbers.{below_of}
 use Rattle.plan_numbers.specs.Premises.{LevelsAccepted, IsAccepted}
 use Rattle.plan_numbers.proofs.Accepted.{accepted_sized, meets}
 use Rattle.counter_core.specs.Laws.{Sizes, StaysInRange, IgnoresFurther}
 use Rattle.plan_laws.specs.PlanMeaning.{plan_meaning, InRange, IsInRange}
-use Rattle.plan_laws.proofs.Ranges.{range_of_cut, range_from_cut, shown_of_cut, range_of_state, step_of-cut}
+use Rattle.plan_laws.proofs.Ranges.{range_of_cut, range_from_cut, shown_of_cut, range_of_state}
+use Rattle.plan_laws.proofs.Ranges.{step_of-cut}
 
 -- the moduli of accepted levels are at least one
 pub positive : (base : ℕ) (levels : List Level) → LevelsAccepted base levels

@@ -1,5 +1,6 @@
 -- A run of an accepted plan is a run of its counter, and of the nested one.
-use Rattle.std.proofs.Common.{◌≡◌, ℕ, ◌+◌, ◌-◌, ◌<◌, Bool, true, false, eqb, not, ◌||◌, cond, List, [], length, get_or, map, All, sym, ap, ◌∙◌, subst, arith}
+use Rattle.std.proofs.Common.{◌≡◌, ℕ, ◌+◌, ◌-◌, ◌<◌, Bool, true, false, eqb, not, ◌||◌, cond, List}
+use Rattle.std.proofs.Common.{[], length, get_or, map, All, sym, ap, ◌∙◌, subst, arith}
 use Rattle.std.specs.List.{range_with_len}
 use Rattle.std.proofs.Math.Bool.{or-true}
 use Rattle.std.proofs.lemmas.List.{take_all}
@@ -9,7 +10,8 @@ use Rattle.sync_types.specs.declared.states.Reg.{Reg}
 use Rattle.sync_types.specs.States.{State, zero_state}
 use Rattle.construction.specs.Plans.{Plan, plan_nodes, plan_depth}
 use Rattle.construction.specs.Steps.{state_of, step_of}
-use Rattle.construction.specs.Runs.{is_in, configuration, IsState, IsConfiguration, IsTable, heard_of, heard_by, Round}
+use Rattle.construction.specs.Runs.{is_in, configuration, IsState, IsConfiguration, IsTable}
+use Rattle.construction.specs.Runs.{heard_of, heard_by, Round}
 use Rattle.construction.specs.Runs as plan_runs
 use Rattle.construction.proofs.Ranges.{length-step_in}
 use Rattle.plan_numbers.specs.Premises.{IsAccepted}

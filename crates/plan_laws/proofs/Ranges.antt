@@ -1,6 +1,8 @@
 -- Registers behind those of the levels matter neither to what is in range, nor to what is shown,
 -- nor to the step.
-use Rattle.std.proofs.Common.{◌≡◌, ℕ, zero, suc, ◌+◌, ◌*◌, ◌/◌, ◌%◌, ◌<◌, ◌≤◌, cond, Bool, true, false, List, [], ◌∷◌, length, take, map, Option, IfSome, unwrap_or, refl, sym, ap, ap₂, ◌∙◌, subst, arith}
+use Rattle.std.proofs.Common.{◌≡◌, ℕ, zero, suc, ◌+◌, ◌*◌, ◌/◌, ◌%◌, ◌<◌, ◌≤◌, cond, Bool, true}
+use Rattle.std.proofs.Common.{false, List, [], ◌∷◌, length, take, map, Option, IfSome, unwrap_or}
+use Rattle.std.proofs.Common.{refl, sym, ap, ap₂, ◌∙◌, subst, arith}
 use Rattle.std.specs.Prelude.{nat_lt, nat_le}
 use Rattle.std.proofs.lemmas.List.{take-map}
 use Rattle.sync_types.specs.declared.states.Reg.{Reg}
@@ -9,7 +11,8 @@ use Rattle.construction.specs.Plans.{Level, Plan, nodes_of, low_of, plan_depth}
 use Rattle.construction.specs.Shown.{shown}
 use Rattle.construction.specs.PhaseKing.{up}
 use Rattle.construction.specs.Votes.{block}
-use Rattle.construction.specs.Steps.{state_of, register_after, new_register, with_register, step_in, step_of}
+use Rattle.construction.specs.Steps.{state_of, register_after, new_register, with_register, step_in}
+use Rattle.construction.specs.Steps.{step_of}
 use Rattle.construction.specs.Runs.{IsNumber, IsRegister, HasRegisters, IsState}
 use Rattle.construction.proofs.Ranges.{ArePositive}
 use Rattle.construction.proofs.Blocks.{block-map}

@@ -1,5 +1,7 @@
 -- Accepted plans settle, their configuration at the bound is locked, and locked ones stay so.
-use Rattle.std.proofs.Common.{◌≡◌, ◌⊎◌, ℕ, zero, suc, ◌+◌, ◌-◌, ◌%◌, ◌<◌, ◌≤◌, List, [], ◌∷◌, length, unwrap_or, refl, sym, ap, ◌∙◌, subst₂, inl, inr, ⊎_elim, arith}
+use Rattle.std.proofs.Common.{◌≡◌, ◌⊎◌, ℕ, zero, suc, ◌+◌, ◌-◌, ◌%◌, ◌<◌, ◌≤◌, List, [], ◌∷◌}
+use Rattle.std.proofs.Common.{length, unwrap_or, refl, sym, ap, ◌∙◌, subst₂, inl, inr, ⊎_elim}
+use Rattle.std.proofs.Common.{arith}
 use Rattle.sync_types.specs.declared.states.Reg.{Reg}
 use Rattle.sync_types.specs.States.{State, register_at}
 use Rattle.counting.specs.Places.{places}

@@ -2,7 +2,8 @@
 -- the construction.
 use Rattle.std.specs.Prelude.{⊤, ℕ, ◌<◌, List, [], ◌∷◌, length, IfSome}
 use Rattle.sync_types.specs.States.{State, register_at}
-use Rattle.construction.specs.Plans.{Level, Plan, plan_nodes, plan_faults, plan_modulus, plan_bound, plan_depth, plan_low}
+use Rattle.construction.specs.Plans.{Level, Plan, plan_nodes, plan_faults, plan_modulus, plan_bound}
+use Rattle.construction.specs.Plans.{plan_depth, plan_low}
 use Rattle.construction.specs.Shown.{shown}
 use Rattle.construction.specs.Steps.{step_of}
 use Rattle.counter_core.specs.Meanings.{Meaning}

@@ -1,7 +1,8 @@
 -- The version of a plan, and plans without spare nodes.
 use Rattle.std.specs.Prelude.{◌≡◌, ℕ, ◌*◌, ◌<◌, ◌↔◌, List, [], ◌∷◌, All}
 use Rattle.sync_types.specs.States.{State}
-use Rattle.construction.specs.Plans.{Level, Plan, plan_nodes, plan_faults, plan_modulus, plan_bound, plan_bits, plan_depth, plan_low}
+use Rattle.construction.specs.Plans.{Level, Plan, plan_nodes, plan_faults, plan_modulus, plan_bound}
+use Rattle.construction.specs.Plans.{plan_bits, plan_depth, plan_low}
 use Rattle.construction.specs.Steps.{step_of}
 use Rattle.construction.specs.Runs.{Run}
 use Rattle.plan_numbers.specs.Premises.{IsAccepted}

@@ -1,7 +1,8 @@
 -- Worked values of the definitions, by computation.
 use Rattle.std.proofs.Common.{◌≡◌, ℕ, ◌+◌, ◌^◌, List, [], ◌∷◌, Option, Some, None, refl}
 use Rattle.sync_types.specs.declared.answers.Premise.{Premise}
-use Rattle.sync_types.specs.declared.answers.Premise.TheVariants.{Limit, Blocks, Modulus, Quorum, Share, Multiple}
+use Rattle.sync_types.specs.declared.answers.Premise.TheVariants.{Limit, Blocks, Modulus, Quorum}
+use Rattle.sync_types.specs.declared.answers.Premise.TheVariants.{Share, Multiple}
 use Rattle.construction.specs.Widths.{width}
 use Rattle.construction.specs.Plans.{Level}
 use Rattle.plan_numbers.specs.Numbers.{line, below_of, numbers_over, numbers_of}

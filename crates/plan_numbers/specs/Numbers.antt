@@ -1,7 +1,8 @@
 -- The numbers of a plan's levels, as the code hands them round.
 use Rattle.std.specs.Prelude.{ℕ, ◌+◌, List, [], ◌∷◌, ◌++◌, map, reverse}
 use Rattle.construction.specs.Widths.{width}
-use Rattle.construction.specs.Plans.{Level, Plan, leaders_of, beat_of, span_of, group_size, nodes_of, faults_of, modulus_of, bound_of, bits_of}
+use Rattle.construction.specs.Plans.{Level, Plan, leaders_of, beat_of, span_of, group_size}
+use Rattle.construction.specs.Plans.{nodes_of, faults_of, modulus_of, bound_of, bits_of}
 use Rattle.plan_numbers.specs.declared.numbers.Below.{Below}
 use Rattle.plan_numbers.specs.declared.numbers.LevelNums.{LevelNums}
 

@@ -1,7 +1,10 @@
 -- The premises of a plan's lines, in the order in which they are tested.
-use Rattle.std.specs.Prelude.{◌≡◌, ℕ, ◌+◌, ◌*◌, ◌^◌, ◌%◌, ◌<◌, ◌≤◌, List, [], ◌∷◌, ◌||◌, not, nat_lt, nat_le, ◌==◌, if◌then◌else◌, Option, Some, None, Result, Ok, Err, All}
+use Rattle.std.specs.Prelude.{◌≡◌, ℕ, ◌+◌, ◌*◌, ◌^◌, ◌%◌, ◌<◌, ◌≤◌, List, [], ◌∷◌, ◌||◌, not}
+use Rattle.std.specs.Prelude.{nat_lt, nat_le, ◌==◌, if◌then◌else◌, Option, Some, None, Result, Ok}
+use Rattle.std.specs.Prelude.{Err, All}
 use Rattle.sync_types.specs.declared.answers.Premise.{Premise}
-use Rattle.sync_types.specs.declared.answers.Premise.TheVariants.{Limit, Blocks, Modulus, Quorum, Share, Multiple}
+use Rattle.sync_types.specs.declared.answers.Premise.TheVariants.{Limit, Blocks, Modulus, Quorum}
+use Rattle.sync_types.specs.declared.answers.Premise.TheVariants.{Share, Multiple}
 use Rattle.construction.specs.Plans.{Level, Plan, group_size, leaders_of, span_of}
 use Rattle.plan_numbers.specs.declared.numbers.Below.{Below}
 use Rattle.plan_numbers.specs.Numbers.{below_of}

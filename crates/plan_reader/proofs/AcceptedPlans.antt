@@ -1,5 +1,6 @@
 -- Each plan that an input is defined to give is accepted.
-use Rattle.std.proofs.Common.{◌≡◌, ℕ, ◌+◌, ◌≤◌, arith, Bool, true, false, cond, List, [], ◌∷◌, Option, Some, None, Result, Ok, Err, refl}
+use Rattle.std.proofs.Common.{◌≡◌, ℕ, ◌+◌, ◌≤◌, arith, Bool, true, false, cond, List, [], ◌∷◌}
+use Rattle.std.proofs.Common.{Option, Some, None, Result, Ok, Err, refl}
 use Rattle.std.specs.Prelude.{⊤, IfOk, IfSome, slice_index, ◌==◌, codes}
 use Rattle.std.specs.Str.{bytes_eq}
 use Rattle.std.proofs.lemmas.List.Elements.{All-cons}
@@ -12,10 +13,13 @@ use Rattle.sync_types.specs.declared.answers.Premise.{Premise}
 use Rattle.sync_types.specs.declared.answers.Premise.TheVariants.{Form}
 use Rattle.construction.specs.Plans.{Level, Plan}
 use Rattle.plan_numbers.specs.Numbers.{line, with_level, numbers_below}
-use Rattle.plan_numbers.specs.Premises.{base_premise, first_premise, unless, FitsVersion, IsAccepted}
+use Rattle.plan_numbers.specs.Premises.{base_premise, first_premise, unless, FitsVersion}
+use Rattle.plan_numbers.specs.Premises.{IsAccepted}
 use Rattle.plan_reader.specs.declared.stages.PlanStage.{PlanStage}
 use Rattle.plan_reader.specs.declared.stages.PlanStage.TheVariants.{Unread, Begun, Built}
-use Rattle.plan_reader.specs.PlanPart.{plan_of, whole_plan_of, alone, unless_followed, plan_step, begins, base_by, level_by, without_spares, with_spares, level_quadruple, after_level, goes_with}
+use Rattle.plan_reader.specs.PlanPart.{plan_of, whole_plan_of, alone, unless_followed, plan_step}
+use Rattle.plan_reader.specs.PlanPart.{begins, base_by, level_by, without_spares, with_spares}
+use Rattle.plan_reader.specs.PlanPart.{level_quadruple, after_level, goes_with}
 use Rattle.plan_reader.specs.Skipped.{first_unskipped}
 
 -- the plan so far is accepted

@@ -1,6 +1,7 @@
 -- The plan part of an input: `plan 1` or `plan 2`, `base C`, a line for each level from the lowest
 -- up, `level K F C` in version 1 and `level K F C spare S` in version 2, `end`.
-use Rattle.std.specs.Prelude.{ℕ, ◌+◌, ◌==◌, ◌&&◌, List, [], ◌∷◌, drop, Option, Some, None, Result, Ok, Err, if◌then◌else◌, codes}
+use Rattle.std.specs.Prelude.{ℕ, ◌+◌, ◌==◌, ◌&&◌, List, [], ◌∷◌, drop, Option, Some, None, Result}
+use Rattle.std.specs.Prelude.{Ok, Err, if◌then◌else◌, codes}
 use Rattle.std.specs.Str.{bytes_eq}
 use Rattle.texts.specs.Lines.{lines_of, words_of}
 use Rattle.texts.specs.Shapes.{numbers_of, numbers_after}

@@ -1,5 +1,7 @@
 -- An undisturbed call has the defined outcome, or wants memory.
-use Rattle.std.proofs.Common.{◌≡◌, ℕ, suc, ◌-◌, ◌≤◌, inl, inr, Bool, true, false, cond, eqb, List, ◌++◌, length, Option, Some, None, refl, sym, ap, ◌∙◌, append-nil, arith}
+use Rattle.std.proofs.Common.{◌≡◌, ℕ, suc, ◌-◌, ◌≤◌, inl, inr, Bool, true, false, cond, eqb, List}
+use Rattle.std.proofs.Common.{◌++◌, length, Option, Some, None, refl, sym, ap, ◌∙◌, append-nil}
+use Rattle.std.proofs.Common.{arith}
 use Rattle.texts.specs.Causes.{Counted}
 use Rattle.texts.proofs.Causes.{never_counted}
 use Rattle.texts.specs.Growth.{Told, Wrote, plainly}
@@ -8,9 +10,13 @@ use Rattle.edge_io.specs.Memory.{memory_told}
 use Rattle.sync_types.specs.declared.status.Status.{Status}
 use Rattle.sync_types.specs.declared.status.Status.TheVariants as status
 use Rattle.outcomes.specs.declared.commands.Command.{Command}
-use Rattle.outcomes.specs.Commands.{Manner, nothing, all_first, as_it_goes, manner, defined, so_far, IsPending}
-use Rattle.outcomes.specs.Conduct.{ReadsPart, comes_to_end, Reads, WritesIf, comes_to_write, Answered, AnswerCut, ReadFailed, OutOfMemory, IfReads, IfCommand, Does}
-use Rattle.promises.specs.Completeness.{HasOutcome, WantsMemory, HasDefined, UndisturbedIsDefined, PlainIsDefined, RoomIsDefined, CutsAreUnseen}
+use Rattle.outcomes.specs.Commands.{Manner, nothing, all_first, as_it_goes, manner, defined, so_far}
+use Rattle.outcomes.specs.Commands.{IsPending}
+use Rattle.outcomes.specs.Conduct.{ReadsPart, comes_to_end, Reads, WritesIf, comes_to_write}
+use Rattle.outcomes.specs.Conduct.{Answered, AnswerCut, ReadFailed, OutOfMemory, IfReads, IfCommand}
+use Rattle.outcomes.specs.Conduct.{Does}
+use Rattle.promises.specs.Completeness.{HasOutcome, WantsMemory, HasDefined, UndisturbedIsDefined}
+use Rattle.promises.specs.Completeness.{PlainIsDefined, RoomIsDefined, CutsAreUnseen}
 
 -- ---- the input is what the source told
 

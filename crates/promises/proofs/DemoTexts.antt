@@ -1,6 +1,9 @@
 -- The text of the word `demo` is a plan and a script, for every seed.
-use Rattle.std.proofs.Common.{◌≡◌, ℕ, zero, suc, ◌/◌, ◌%◌, ◌^◌, ◌<◌, ◌≤◌, Bool, true, false, List, [], ◌∷◌, ◌++◌, length, Some, None, Result, Ok, Err, codes, refl, sym, ap, ◌∙◌, subst, length-append, arith}
-use Rattle.std.specs.Prelude.{◌==◌, ◌&&◌, if◌then◌else◌, nat_lt, replicate, slice_index, MatchResult}
+use Rattle.std.proofs.Common.{◌≡◌, ℕ, zero, suc, ◌/◌, ◌%◌, ◌^◌, ◌<◌, ◌≤◌, Bool, true, false, List}
+use Rattle.std.proofs.Common.{[], ◌∷◌, ◌++◌, length, Some, None, Result, Ok, Err, codes, refl, sym}
+use Rattle.std.proofs.Common.{ap, ◌∙◌, subst, length-append, arith}
+use Rattle.std.specs.Prelude.{◌==◌, ◌&&◌, if◌then◌else◌, nat_lt, replicate, slice_index}
+use Rattle.std.specs.Prelude.{MatchResult}
 use Rattle.std.specs.List.{concat, list_all}
 use Rattle.std.specs.Fmt.{digits}
 use Rattle.std.specs.Int.{w64, to_be_bytes, bytes_high_first}
@@ -10,7 +13,8 @@ use Rattle.hex.specs.Hex.{encode_with, encode_lower, lower_digits, decode_of, Is
 use Rattle.hex.proofs.HexLemmas.{length-encode_with, decode_of-encode_lower}
 use Rattle.texts.specs.Lines.{lines_of}
 use Rattle.texts.specs.Parts.{At, Found, goes, with_skips, part_from}
-use Rattle.texts.proofs.Printed.{joined, IsPlain, ArePlain, spaced_length, words_joined, counts, goes_behind}
+use Rattle.texts.proofs.Printed.{joined, IsPlain, ArePlain, spaced_length, words_joined, counts}
+use Rattle.texts.proofs.Printed.{goes_behind}
 use Rattle.sync_types.specs.declared.answers.Rule.{Rule}
 use Rattle.sync_types.specs.declared.answers.Rule.TheVariants.{Form}
 use Rattle.sync_types.specs.declared.status.Status.TheVariants as status
@@ -22,7 +26,8 @@ use Rattle.adversary_script.specs.declared.kinds.Kind.TheVariants as kind
 use Rattle.adversary_script.specs.Kinds.{kind_of}
 use Rattle.adversary_script.specs.Scripts.{Script, empty_script}
 use Rattle.adversary_script.specs.Steps.{decoded_bytes, key_of_digits, with_key}
-use Rattle.adversary_script.specs.ScriptPart.{ScriptSoFar, passed, read_as, script_step, alone, script_of}
+use Rattle.adversary_script.specs.ScriptPart.{ScriptSoFar, passed, read_as, script_step, alone}
+use Rattle.adversary_script.specs.ScriptPart.{script_of}
 use Rattle.outcomes.specs.declared.demo.Liars.{Liars}
 use Rattle.outcomes.specs.declared.refusals.Refusal.{Refusal}
 use Rattle.outcomes.specs.Outcomes.{outcome_of}

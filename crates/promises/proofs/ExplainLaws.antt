@@ -1,17 +1,21 @@
 -- What the word `explain` writes is true.
-use Rattle.std.proofs.Common.{◌≡◌, ℕ, ◌+◌, ◌<◌, ◌≤◌, inl, inr, Bool, List, [], ◌∷◌, length, Option, Some, None, IfSome, if◌then◌else◌, refl, ap, subst, arith}
+use Rattle.std.proofs.Common.{◌≡◌, ℕ, ◌+◌, ◌<◌, ◌≤◌, inl, inr, Bool, List, [], ◌∷◌, length, Option}
+use Rattle.std.proofs.Common.{Some, None, IfSome, if◌then◌else◌, refl, ap, subst, arith}
 use Rattle.std.proofs.lemmas.Bool.{cases_lt, le-ltb}
 use Rattle.sync_types.specs.States.{State}
 use Rattle.construction.specs.Plans.{Level, Plan, plan_bound, plan_depth}
 use Rattle.construction.specs.Runs.{IsLocked}
 use Rattle.adversary_script.specs.Scripts.{Script}
 use Rattle.adversary_script.specs.Eras.{era_of, first_of_era, end_of_era, faulty_of_era}
-use Rattle.round_runner.specs.Laws.{IsUpTo, IsReadFor, EraStaysLocked, EachIsOfOneEra, ErasStayLocked}
+use Rattle.round_runner.specs.Laws.{IsUpTo, IsReadFor, EraStaysLocked, EachIsOfOneEra}
+use Rattle.round_runner.specs.Laws.{ErasStayLocked}
 use Rattle.round_runner.specs.Locks.{IsFirstLocked}
 use Rattle.round_runner.specs.Played.{played_at}
 use Rattle.run_explanations.specs.declared.explanations.Explanation.{Explanation}
-use Rattle.run_explanations.specs.Explanations.{ExplainsIn, ExplainsEra, IsFirstOrNone, era_begin, explanation_of}
-use Rattle.run_explanations.specs.Laws.{ExplainedErasLock, IsExplainedByBound, LongErasAreExplained, FoundIsFirst}
+use Rattle.run_explanations.specs.Explanations.{ExplainsIn, ExplainsEra, IsFirstOrNone, era_begin}
+use Rattle.run_explanations.specs.Explanations.{explanation_of}
+use Rattle.run_explanations.specs.Laws.{ExplainedErasLock, IsExplainedByBound, LongErasAreExplained}
+use Rattle.run_explanations.specs.Laws.{FoundIsFirst}
 use Rattle.promises.specs.ExplainLaws.{LocksByPhase, IsSaidBefore, WhyIsTrue}
 use Rattle.run_lines.specs.RowTexts.{lock_played}
 use Rattle.outcomes.proofs.ExplainTexts.{levelled_is}

@@ -6,8 +6,10 @@ use Rattle.run_promises.specs.LayeredEras.{IsReadFor}
 use Rattle.run_lines.specs.LayerLaws.{AtMostOneInALine}
 use Rattle.run_promises.specs.Promises.{LinesDecide, LinesFireTogether, LinesPutOne}
 use Rattle.outcomes.specs.Layered.{Layered}
-use Rattle.outcomes.proofs.LayeredRead.{IsToPlay, so, slots_read, decisions_to_play, fires_to_play, entries_to_play}
-use Rattle.promises.specs.LayerPromises.{HoldsAreKept, DecisionsAreKept, FiresAreKept, EntriesAreKept}
+use Rattle.outcomes.proofs.LayeredRead.{IsToPlay, so, slots_read, decisions_to_play, fires_to_play}
+use Rattle.outcomes.proofs.LayeredRead.{entries_to_play}
+use Rattle.promises.specs.LayerPromises.{HoldsAreKept, DecisionsAreKept, FiresAreKept}
+use Rattle.promises.specs.LayerPromises.{EntriesAreKept}
 
 -- the script was read for the plan and the layer
 pub played : {Said Kept : Type 0} {Fits : Plan → Said → Type 0} {layer_of : Plan → Said → Layer Kept}

@@ -1,5 +1,6 @@
 -- Calls of `node` that are given one another's cells are connected nodes.
-use Rattle.std.proofs.Common.{◌≡◌, ℕ, ◌^◌, ◌≤◌, List, [], Option, Some, unwrap_or, take, Result, Ok, Err, refl, sym, ap, subst, ◌∙◌, arith}
+use Rattle.std.proofs.Common.{◌≡◌, ℕ, ◌^◌, ◌≤◌, List, [], Option, Some, unwrap_or, take, Result, Ok}
+use Rattle.std.proofs.Common.{Err, refl, sym, ap, subst, ◌∙◌, arith}
 use Rattle.std.specs.Prelude.{IfOk, IsSome}
 use Rattle.std.proofs.lemmas.List.FromFn.{get_or-map-range_with_len}
 use Rattle.texts.specs.Limits.{room_in, behind_lines}
@@ -14,14 +15,17 @@ use Rattle.node_header.specs.declared.headers.HeaderRefusal.{HeaderRefusal}
 use Rattle.node_header.specs.Headers.{Header}
 use Rattle.node_header.specs.HeaderLaws.{IsOfPlan, HeadersAreOfPlans}
 use Rattle.node_stepper.specs.Nodes.{fields_of, node_text}
-use Rattle.node_runs.specs.NodeRuns.{Nodes, cell_given, IsCorrect, SomeIsCorrect, state_at, AreConnected}
+use Rattle.node_runs.specs.NodeRuns.{Nodes, cell_given, IsCorrect, SomeIsCorrect, state_at}
+use Rattle.node_runs.specs.NodeRuns.{AreConnected}
 use Rattle.node_runs.specs.Cells.{cell_number, NodeWritesStates}
 use Rattle.node_runs.specs.Laws.{RunThrough, NodesRun}
 use Rattle.node_runs.proofs.States.{reads_back, behind_is_state}
 use Rattle.node_runs.proofs.Settled.{settle_through, lock_through, stay_through}
 use Rattle.outcomes.specs.NodeAnswers.{packets_for, cells_for, cells_so_far, behind_header}
-use Rattle.promises.specs.NodeCalls.{Call, whole, failed, bytes_of, header_of, packets_behind, packets_in, text_of, IsOfNode}
-use Rattle.promises.specs.NodePromises.{cell_written, state_written, states_written, CallsConnect, ConnectedCallsCount}
+use Rattle.promises.specs.NodeCalls.{Call, whole, failed, bytes_of, header_of, packets_behind}
+use Rattle.promises.specs.NodeCalls.{packets_in, text_of, IsOfNode}
+use Rattle.promises.specs.NodePromises.{cell_written, state_written, states_written, CallsConnect}
+use Rattle.promises.specs.NodePromises.{ConnectedCallsCount}
 
 same_some : (a b : List ℕ) → Some a ≡ Some b → a ≡ b
 same_some a b e = cc

@@ -1,5 +1,6 @@
 -- A call that ends well has read a value and written its text, of which the promise is kept.
-use Rattle.std.proofs.Common.{◌≡◌, ℕ, ◌^◌, Bool, true, false, cond, ltb, List, length, Option, Some, None, Result, Ok, Err, refl, subst}
+use Rattle.std.proofs.Common.{◌≡◌, ℕ, ◌^◌, Bool, true, false, cond, ltb, List, length, Option, Some}
+use Rattle.std.proofs.Common.{None, Result, Ok, Err, refl, subst}
 use Rattle.std.specs.Prelude.{IfOk, codes}
 use Rattle.sync_types.specs.declared.answers.Premise.{Premise}
 use Rattle.sync_types.specs.declared.status.Status.{Status}
@@ -44,10 +45,13 @@ use Rattle.outcomes.specs.Conduct.{Does}
 use Rattle.promises.specs.Completeness.{HasOutcome}
 use Rattle.promises.specs.Laws.{IsSelfStabilising, AcceptedStabilise, KeepsPromise, PromiseIsKept}
 use Rattle.promises.specs.RecordLaws.{IsRecorded, RecordsAreChecked}
-use Rattle.promises.specs.LayerPromises.{KeepsHolds, KeepsDecisions, KeepsFires, KeepsEntries, HoldsAreKept, DecisionsAreKept, FiresAreKept, EntriesAreKept}
+use Rattle.promises.specs.LayerPromises.{KeepsHolds, KeepsDecisions, KeepsFires, KeepsEntries}
+use Rattle.promises.specs.LayerPromises.{HoldsAreKept, DecisionsAreKept, FiresAreKept}
+use Rattle.promises.specs.LayerPromises.{EntriesAreKept}
 use Rattle.promises.specs.FindPromises.{IsFound, LeastIsFound}
 use Rattle.promises.specs.PlanPromises.{IsTableOf, TextsAreKept}
-use Rattle.promises.specs.Printed.{Printed, IsFoundFor, CheckPrinted, BatchPrinted, PrintedBy, Prints, PromisesArePrinted}
+use Rattle.promises.specs.Printed.{Printed, IsFoundFor, CheckPrinted, BatchPrinted, PrintedBy}
+use Rattle.promises.specs.Printed.{Prints, PromisesArePrinted}
 use Rattle.promises.proofs.Complete.{answered_outcome}
 
 -- a refusal has a status of its own

@@ -1,5 +1,6 @@
 -- Where an input is a plan and a script, the promise is kept.
-use Rattle.std.proofs.Common.{◌≡◌, ℕ, ◌+◌, ◌≤◌, List, [], length, Some, Result, Ok, Err, ap, subst, arith}
+use Rattle.std.proofs.Common.{◌≡◌, ℕ, ◌+◌, ◌≤◌, List, [], length, Some, Result, Ok, Err, ap, subst}
+use Rattle.std.proofs.Common.{arith}
 use Rattle.std.specs.Prelude.{IfOk}
 use Rattle.std.proofs.lemmas.List.Elements.{All-get_or}
 use Rattle.std.proofs.lemmas.List.{length-map}
@@ -9,7 +10,9 @@ use Rattle.adversary_script.specs.Scripts.{Script, Era, faulty_sets}
 use Rattle.adversary_script.specs.Eras.{era_of, first_of_era, faulty_of_era, faulty_at}
 use Rattle.round_runner.specs.Locks.{first_locked, era_locked, IsFirstLocked}
 use Rattle.round_runner.specs.Played.{played_at}
-use Rattle.round_runner.specs.Laws.{IsUpTo, IsReadFor, EraCountsFrom, EraStaysLocked, EachIsOfOneEra, ErasAreRuns, ErasLock, ErasCount, ErasStayLocked}
+use Rattle.round_runner.specs.Laws.{IsUpTo, IsReadFor, EraCountsFrom, EraStaysLocked}
+use Rattle.round_runner.specs.Laws.{EachIsOfOneEra, ErasAreRuns, ErasLock, ErasCount}
+use Rattle.round_runner.specs.Laws.{ErasStayLocked}
 use Rattle.round_runner.proofs.FirstLocked.{first_is_locked}
 use Rattle.run_explanations.specs.Laws.{ExplainedErasLock, LongErasAreExplained, FoundIsFirst}
 use Rattle.run_lines.specs.RunTexts.{number_word}

@@ -1,5 +1,6 @@
 -- What the word `check` says of an input of at most 2^44 bytes, by what it answers.
-use Rattle.std.specs.Prelude.{◌≡◌, ℕ, ◌^◌, ◌≤◌, List, ◌∷◌, ◌++◌, length, map, Option, Some, Result, Ok, Err}
+use Rattle.std.specs.Prelude.{◌≡◌, ℕ, ◌^◌, ◌≤◌, List, ◌∷◌, ◌++◌, length, map, Option, Some, Result}
+use Rattle.std.specs.Prelude.{Ok, Err}
 use Rattle.construction.specs.Runs.{Run}
 use Rattle.run_certificates.specs.declared.Verdict.{Verdict}
 use Rattle.run_certificates.specs.declared.Verdict.TheVariants as verdict

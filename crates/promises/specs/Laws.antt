@@ -2,7 +2,8 @@
 use Rattle.std.specs.Prelude.{◌≡◌, ℕ, ◌+◌, ◌%◌, ◌<◌, ◌≤◌, List, length, Some, false, IfOk}
 use Rattle.sync_types.specs.States.{State}
 use Rattle.construction.specs.Plans.{Plan, plan_nodes, plan_bound, plan_modulus, plan_depth}
-use Rattle.construction.specs.Runs.{is_in, configuration, IsConfiguration, IsTable, Run, IsBorne, Settles, IsLocked}
+use Rattle.construction.specs.Runs.{is_in, configuration, IsConfiguration, IsTable, Run, IsBorne}
+use Rattle.construction.specs.Runs.{Settles, IsLocked}
 use Rattle.plan_numbers.specs.Premises.{IsAccepted}
 use Rattle.plan_laws.specs.Laws.{HasOneNext, StaysLockedFrom}
 use Rattle.plan_laws.specs.VersionLaws.{in_version, AreSame}

@@ -1,5 +1,6 @@
 -- What calls of `node` promise that are given one another's cells.
-use Rattle.std.specs.Prelude.{◌≡◌, ◌≢◌, ℕ, ◌+◌, ◌<◌, ◌≤◌, true, ◌⊎◌, List, [], length, map, Option, Some, unwrap_or, IsSome, Ok}
+use Rattle.std.specs.Prelude.{◌≡◌, ◌≢◌, ℕ, ◌+◌, ◌<◌, ◌≤◌, true, ◌⊎◌, List, [], length, map, Option}
+use Rattle.std.specs.Prelude.{Some, unwrap_or, IsSome, Ok}
 use Rattle.std.specs.List.{range_with_len}
 use Rattle.sync_types.specs.declared.status.Status.TheVariants as status
 use Rattle.sync_types.specs.States.{State}
@@ -13,7 +14,8 @@ use Rattle.node_runs.specs.NodeRuns.{IsCorrect, SomeIsCorrect}
 use Rattle.node_runs.specs.Cells.{cell_number}
 use Rattle.node_runs.specs.Laws.{BorneLeavesSome, RunThrough, CountThrough, StayLockedThrough}
 use Rattle.outcomes.specs.NodeAnswers.{node_outcome}
-use Rattle.promises.specs.NodeCalls.{Call, whole, header_of, packets_in, cell_heard, text_of, IsOfNode, CallsWriteTexts}
+use Rattle.promises.specs.NodeCalls.{Call, whole, header_of, packets_in, cell_heard, text_of}
+use Rattle.promises.specs.NodeCalls.{IsOfNode, CallsWriteTexts}
 
 -- of a call for each node
 module _ (plan : Plan) (calls : ℕ → Call) where

@@ -1,6 +1,7 @@
 -- A product with the factor tells the quotient.
 use Rattle.std.proofs.Common.{◌≡◌, ℕ, ◌+◌, ◌-◌, ◌*◌, ◌/◌, ◌%◌, ◌<◌, ◌≤◌, ap, ◌∙◌, arith}
-use Rattle.std.proofs.Math.Nat.{div-add-mod, mod-lt, mul-le-mul, mul_left_comm, mul_assoc, mul-add, le_of_mul-le-mul_left, lt_of_mul-lt-mul_left}
+use Rattle.std.proofs.Math.Nat.{div-add-mod, mod-lt, mul-le-mul, mul_left_comm, mul_assoc, mul-add}
+use Rattle.std.proofs.Math.Nat.{le_of_mul-le-mul_left, lt_of_mul-lt-mul_left}
 use Rattle.quick_division.specs.Factors.{factor_of}
 
 -- a quotient by 2 ^ 32 is the one between whose multiples the number is

@@ -1,6 +1,8 @@
 -- What is read of a log is for the plan: numbers within their limits, commands of each node, and a
 -- modulus that is a multiple of an entry of each node.
-use Rattle.std.proofs.Common.{◌≡◌, ℕ, ◌+◌, ◌*◌, ◌<◌, ◌≤◌, ◌%◌, Bool, true, false, List, [], ◌∷◌, ◌++◌, length, All, Option, Some, None, Result, Ok, Err, refl, sym, subst, arith}
+use Rattle.std.proofs.Common.{◌≡◌, ℕ, ◌+◌, ◌*◌, ◌<◌, ◌≤◌, ◌%◌, Bool, true, false, List, [], ◌∷◌}
+use Rattle.std.proofs.Common.{◌++◌, length, All, Option, Some, None, Result, Ok, Err, refl, sym}
+use Rattle.std.proofs.Common.{subst, arith}
 use Rattle.std.specs.Prelude.{⊤, IfOk, nat_le, nat_lt, not, ◌==◌, if◌then◌else◌, codes}
 use Rattle.std.specs.List.{list_all}
 use Rattle.std.specs.Str.{bytes_eq}
@@ -17,8 +19,12 @@ use Rattle.construction.specs.Plans.{Plan, plan_nodes, plan_faults, plan_modulus
 use Rattle.replicated_log.specs.EntryLength.{entry_length}
 use Rattle.replicated_log.specs.LogSaid.{LogSaid}
 use Rattle.replicated_log.specs.declared.log_lines.LogStage.{LogStage}
-use Rattle.replicated_log.specs.declared.log_lines.LogStage.TheVariants.{Unread, Begun, Valued, Keeping}
-use Rattle.replicated_log.specs.LogPart.{LogSoFar, nothing_read, behind_head, values_tested, keep_tested, numbers_behind, commands_tested, commands_in, goes_at, goes_with, end_step, step_at, log_step, part_of, AreInRange, IsFor}
+use Rattle.replicated_log.specs.declared.log_lines.LogStage.TheVariants.{Unread, Begun, Valued}
+use Rattle.replicated_log.specs.declared.log_lines.LogStage.TheVariants.{Keeping}
+use Rattle.replicated_log.specs.LogPart.{LogSoFar, nothing_read, behind_head, values_tested}
+use Rattle.replicated_log.specs.LogPart.{keep_tested, numbers_behind, commands_tested, commands_in}
+use Rattle.replicated_log.specs.LogPart.{goes_at, goes_with, end_step, step_at, log_step, part_of}
+use Rattle.replicated_log.specs.LogPart.{AreInRange, IsFor}
 
 abbrev IsValues : ℕ → Type 0
 IsValues values = (2 ≤ values) × (values ≤ 65536)

@@ -1,14 +1,18 @@
 -- Every slot of a log puts one entry.
-use Rattle.std.proofs.Common.{◌≡◌, ℕ, zero, suc, ◌+◌, ◌-◌, ◌*◌, ◌/◌, ◌%◌, ◌<◌, ◌≤◌, Bool, true, false, List, [], ◌∷◌, length, take, get_or, map, unwrap_or, Option, Some, None, refl, sym, ap, ap₂, ◌∙◌, subst, arith}
+use Rattle.std.proofs.Common.{◌≡◌, ℕ, zero, suc, ◌+◌, ◌-◌, ◌*◌, ◌/◌, ◌%◌, ◌<◌, ◌≤◌, Bool, true}
+use Rattle.std.proofs.Common.{false, List, [], ◌∷◌, length, take, get_or, map, unwrap_or, Option}
+use Rattle.std.proofs.Common.{Some, None, refl, sym, ap, ap₂, ◌∙◌, subst, arith}
 use Rattle.std.specs.Prelude.{◌==◌, if◌then◌else◌}
-use Rattle.std.proofs.Math.Nat.{add-zero, mod-eq_of_lt, mod-lt, div-add-mod, mul-le-mul_left, lt_of_mul-lt-mul_left, mod-mod_of_dvd, mul-mod_left}
+use Rattle.std.proofs.Math.Nat.{add-zero, mod-eq_of_lt, mod-lt, div-add-mod, mul-le-mul_left}
+use Rattle.std.proofs.Math.Nat.{lt_of_mul-lt-mul_left, mod-mod_of_dvd, mul-mod_left}
 use Rattle.std.proofs.lemmas.Nat.Gcd.{dvd_of_mod-eq-zero, mod-eq-zero_of_dvd, dvd_trans}
 use Rattle.std.proofs.lemmas.Bool.{ne_eqb, eq-eqb}
 use Rattle.std.proofs.lemmas.List.{length-map}
 use Rattle.std.proofs.lemmas.List.Elements.{All-get_or}
 use Rattle.sync_types.specs.declared.states.Reg.{Reg}
 use Rattle.sync_types.specs.States.{State, register_at, zero_register, zero_state}
-use Rattle.construction.specs.Plans.{Plan, plan_nodes, plan_faults, plan_modulus, plan_bound, plan_depth}
+use Rattle.construction.specs.Plans.{Plan, plan_nodes, plan_faults, plan_modulus, plan_bound}
+use Rattle.construction.specs.Plans.{plan_depth}
 use Rattle.construction.specs.Shown.{shown}
 use Rattle.construction.specs.Steps.{state_of}
 use Rattle.construction.specs.Runs.{is_in, IsBorne, Counts}
@@ -22,7 +26,8 @@ use Rattle.counter_core.specs.Meanings.{cut}
 use Rattle.counter_core.specs.Overlays.{Layer}
 use Rattle.layer_laws.specs.Scenes.{Scene, kept_of, new_state}
 use Rattle.layer_laws.specs.LayerRuns.{IsLayerState, LayerRun, scene, without_layer}
-use Rattle.layer_laws.specs.Slots.{slot_length, agreed_in_turn, HasSlots, AllAre, SlotAgrees, TakesLast}
+use Rattle.layer_laws.specs.Slots.{slot_length, agreed_in_turn, HasSlots, AllAre, SlotAgrees}
+use Rattle.layer_laws.specs.Slots.{TakesLast}
 use Rattle.layer_laws.proofs.CutRuns.{layer_register, configuration_at}
 use Rattle.layer_laws.proofs.NodesSteps.{node_steps, shows_rest, common_rest, shown_at}
 use Rattle.layer_laws.proofs.PlanSlots.{quorum_of, few_of, counts_of, slots_agree}

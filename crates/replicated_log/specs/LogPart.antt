@@ -1,6 +1,8 @@
 -- The log part of an input: `log 1`, `values V`, `keep K`, a line `commands v c0 c1 ..` for each
 -- node v in order, `end`.
-use Rattle.std.specs.Prelude.{◌≡◌, ℕ, ◌+◌, ◌*◌, ◌<◌, ◌≤◌, ◌%◌, ◌==◌, nat_le, nat_lt, not, Bool, true, false, List, [], ◌∷◌, ◌++◌, length, All, Option, Some, None, Result, Ok, Err, if◌then◌else◌, codes}
+use Rattle.std.specs.Prelude.{◌≡◌, ℕ, ◌+◌, ◌*◌, ◌<◌, ◌≤◌, ◌%◌, ◌==◌, nat_le, nat_lt, not, Bool}
+use Rattle.std.specs.Prelude.{true, false, List, [], ◌∷◌, ◌++◌, length, All, Option, Some, None}
+use Rattle.std.specs.Prelude.{Result, Ok, Err, if◌then◌else◌, codes}
 use Rattle.std.specs.List.{list_all}
 use Rattle.std.specs.Str.{bytes_eq}
 use Rattle.texts.specs.Lines.{words_of}
@@ -12,7 +14,8 @@ use Rattle.construction.specs.Plans.{Plan, plan_nodes, plan_faults, plan_modulus
 use Rattle.replicated_log.specs.EntryLength.{entry_length}
 use Rattle.replicated_log.specs.LogSaid.{LogSaid}
 use Rattle.replicated_log.specs.declared.log_lines.LogStage.{LogStage}
-use Rattle.replicated_log.specs.declared.log_lines.LogStage.TheVariants.{Unread, Begun, Valued, Keeping}
+use Rattle.replicated_log.specs.declared.log_lines.LogStage.TheVariants.{Unread, Begun, Valued}
+use Rattle.replicated_log.specs.declared.log_lines.LogStage.TheVariants.{Keeping}
 
 -- how many nodes there are, whether the modulus is a multiple of an entry of each node, how far the
 -- part was read, and the commands of as many nodes as have their line

@@ -1,6 +1,7 @@
 -- From a locked configuration on all correct nodes show one number, which counts to the end of the
 -- era, with any layer above the counter.
-use Rattle.std.proofs.Common.{◌≡◌, ℕ, zero, suc, ◌+◌, ◌-◌, ◌%◌, ◌<◌, ◌≤◌, List, [], ◌∷◌, length, map, Option, Some, None, true, false, sym, ap, ◌∙◌, subst, arith}
+use Rattle.std.proofs.Common.{◌≡◌, ℕ, zero, suc, ◌+◌, ◌-◌, ◌%◌, ◌<◌, ◌≤◌, List, [], ◌∷◌, length}
+use Rattle.std.proofs.Common.{map, Option, Some, None, true, false, sym, ap, ◌∙◌, subst, arith}
 use Rattle.std.specs.Prelude.{is_some, slice_index_or}
 use Rattle.std.proofs.lemmas.Bool.{true≢false}
 use Rattle.std.proofs.Math.Nat.{mod-add-mod, mod-eq_of_lt}
@@ -11,7 +12,8 @@ use Rattle.counting.proofs.Places.{one_fails}
 use Rattle.construction.specs.Plans.{Level, Plan, plan_nodes, plan_modulus, plan_depth}
 use Rattle.construction.specs.Shown.{shown}
 use Rattle.construction.specs.Steps.{state_of}
-use Rattle.construction.specs.Runs.{is_in, IsConfiguration, Run, IsLocked, IsLockedIn, configuration}
+use Rattle.construction.specs.Runs.{is_in, IsConfiguration, Run, IsLocked, IsLockedIn}
+use Rattle.construction.specs.Runs.{configuration}
 use Rattle.plan_numbers.specs.Premises.{IsAccepted}
 use Rattle.plan_numbers.proofs.Accepted.{accepted_sized}
 use Rattle.plan_laws.specs.Laws.{StaysLockedFrom}
@@ -31,7 +33,8 @@ use Rattle.round_runner.specs.Runners.{Running, IsFor, IsPlaying, configuration_
 use Rattle.round_runner.proofs.Firsts.{in_era, era_within}
 use Rattle.round_runner.proofs.LowestCorrect.{lowest_among}
 use Rattle.round_runner.proofs.ScenesLock.{borne, known_first}
-use Rattle.round_runner.proofs.ScenesRun.{states_at, cut_at, cut_run, cut_length, cut_configuration, scenes_run}
+use Rattle.round_runner.proofs.ScenesRun.{states_at, cut_at, cut_run, cut_length, cut_configuration}
+use Rattle.round_runner.proofs.ScenesRun.{scenes_run}
 
 -- a number that counts does so for any number of rounds
 counted : (c : ℕ) (output : ℕ → ℕ) (from end : ℕ)

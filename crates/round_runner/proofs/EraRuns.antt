@@ -1,5 +1,6 @@
 -- Each era of what is played is a run of the plan.
-use Rattle.std.proofs.Common.{◌≡◌, ℕ, zero, suc, ◌+◌, ◌-◌, ◌<◌, ◌≤◌, ◌%◌, List, [], length, map, None, unwrap_or, add-one, refl, sym, ap, ◌∙◌, subst, arith}
+use Rattle.std.proofs.Common.{◌≡◌, ℕ, zero, suc, ◌+◌, ◌-◌, ◌<◌, ◌≤◌, ◌%◌, List, [], length, map}
+use Rattle.std.proofs.Common.{None, unwrap_or, add-one, refl, sym, ap, ◌∙◌, subst, arith}
 use Rattle.std.specs.List.{range_with_len}
 use Rattle.std.proofs.lemmas.List.Elements.{All-get_or}
 use Rattle.std.proofs.lemmas.List.{length-map}
@@ -7,7 +8,8 @@ use Rattle.std.proofs.lemmas.List.FromFn.{length-map-range_with_len, get_or-map-
 use Rattle.sync_types.specs.States.{State, zero_state}
 use Rattle.construction.specs.Plans.{Plan, plan_nodes, plan_bound, plan_modulus}
 use Rattle.construction.specs.Steps.{state_of, step_of}
-use Rattle.construction.specs.Runs.{IsState, IsConfiguration, IsTold, IsTable, Round, IsNext, Run, configuration, heard_by, IsBorne, AllShow, IsLocked, CountsFrom}
+use Rattle.construction.specs.Runs.{IsState, IsConfiguration, IsTold, IsTable, Round, IsNext, Run}
+use Rattle.construction.specs.Runs.{configuration, heard_by, IsBorne, AllShow, IsLocked, CountsFrom}
 use Rattle.construction.proofs.Ranges.{step_is_state}
 use Rattle.plan_laws.proofs.PlanCounter.{positive}
 use Rattle.plan_laws.specs.Laws.{EveryPlanSettles, LocksAtBound, LockedRunsCount}
@@ -20,7 +22,8 @@ use Rattle.adversary_script.specs.Eras.{first_of_era, end_of_era, faulty_of_era,
 use Rattle.adversary_script.specs.Lookup.{hit_at}
 use Rattle.adversary_script.specs.Lies.{AreStates, start_of, lie_of}
 use Rattle.adversary_script.proofs.LiesInRange.{starts_in_range, lies_in_range}
-use Rattle.round_runner.specs.Laws.{IsReadFor, EraCountsFrom, EraStaysLocked, ErasAreRuns, ErasLock, ErasCount, ErasStayLocked}
+use Rattle.round_runner.specs.Laws.{IsReadFor, EraCountsFrom, EraStaysLocked, ErasAreRuns, ErasLock}
+use Rattle.round_runner.specs.Laws.{ErasCount, ErasStayLocked}
 use Rattle.round_runner.specs.Locks.{era_locked}
 use Rattle.round_runner.specs.Played.{lies_at, heard_at, after_round, played_at, era_run}
 use Rattle.round_runner.proofs.FirstLocked.{first_locked_below, passes}

@@ -1,12 +1,14 @@
 -- The first locked one of some configurations.
-use Rattle.std.proofs.Common.{◌≡◌, ℕ, zero, suc, ◌<◌, ◌≤◌, inl, inr, Bool, true, false, Option, Some, None, List, length, refl, sym, ap, subst, ◌∙◌, arith}
+use Rattle.std.proofs.Common.{◌≡◌, ℕ, zero, suc, ◌<◌, ◌≤◌, inl, inr, Bool, true, false, Option}
+use Rattle.std.proofs.Common.{Some, None, List, length, refl, sym, ap, subst, ◌∙◌, arith}
 use Rattle.std.proofs.lemmas.Bool.{cases_lt, true≢false, and_parts, and_from, eqb-true, eq-eqb}
 use Rattle.sync_types.specs.States.{State}
 use Rattle.construction.specs.Plans.{Plan}
 use Rattle.construction.specs.Runs.{IsLocked}
 use Rattle.adversary_script.specs.Scripts.{Script, IsScript}
 use Rattle.adversary_script.specs.Eras.{era_of, first_of_era, end_of_era, faulty_of_era, faulty_at}
-use Rattle.round_runner.specs.Locks.{first_of, first_locked, era_locked, NoneIsLocked, IsFirstLocked}
+use Rattle.round_runner.specs.Locks.{first_of, first_locked, era_locked, NoneIsLocked}
+use Rattle.round_runner.specs.Locks.{IsFirstLocked}
 use Rattle.round_runner.specs.Laws.{IsUpTo}
 use Rattle.round_runner.proofs.Firsts.{in_era, era_from, era_before}
 use Rattle.round_runner.proofs.Locked.{locked_is, is_locked_true}

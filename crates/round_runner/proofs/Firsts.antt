@@ -1,5 +1,7 @@
 -- In which era a configuration is, from the first configurations of the eras.
-use Rattle.std.proofs.Common.{◌≡◌, ℕ, zero, suc, ◌+◌, ◌<◌, ◌≤◌, inl, inr, Bool, true, false, cond, ltb, leb, eqb, List, [], ◌∷◌, length, map, get_or, Option, Some, None, find, refl, sym, ap, ◌∙◌, subst, arith}
+use Rattle.std.proofs.Common.{◌≡◌, ℕ, zero, suc, ◌+◌, ◌<◌, ◌≤◌, inl, inr, Bool, true, false, cond}
+use Rattle.std.proofs.Common.{ltb, leb, eqb, List, [], ◌∷◌, length, map, get_or, Option, Some, None}
+use Rattle.std.proofs.Common.{find, refl, sym, ap, ◌∙◌, subst, arith}
 use Rattle.std.specs.List.{count_by}
 use Rattle.std.specs.List.Sorted.{IsStrictlyIncreasing}
 use Rattle.std.proofs.lemmas.Bool.{cases_lt, le-leb, lt-leb, lt-ltb, ltb-true, eqb-true}

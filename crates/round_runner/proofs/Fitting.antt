@@ -1,10 +1,15 @@
 -- A plan's shape with a layer's registers behind fits the plan's counter and the layer.
-use Rattle.std.proofs.Common.{◌≡◌, ℕ, ◌+◌, ◌-◌, ◌<◌, ◌≤◌, inl, inr, not, List, ◌++◌, length, map, replicate, take, get_or, refl, sym, ap, ap₂, ◌∙◌, subst, arith, length-append}
+use Rattle.std.proofs.Common.{◌≡◌, ℕ, ◌+◌, ◌-◌, ◌<◌, ◌≤◌, inl, inr, not, List, ◌++◌, length, map}
+use Rattle.std.proofs.Common.{replicate, take, get_or, refl, sym, ap, ap₂, ◌∙◌, subst, arith}
+use Rattle.std.proofs.Common.{length-append}
 use Rattle.std.specs.Prelude.{IfSome, slice_index}
 use Rattle.std.specs.List.{range_with_len}
 use Rattle.std.proofs.lemmas.Bool.{cases_lt, ne_eqb}
-use Rattle.std.proofs.lemmas.List.FromFn.{fill_by_all, length-map-range_with_len, get_or-map-range_with_len}
-use Rattle.std.proofs.lemmas.List.{append-nil, get_or_append_left, get_or-append-add, get_or-append_right, get_or-replicate, length-replicate, length-take-le, get_or-take}
+use Rattle.std.proofs.lemmas.List.FromFn.{fill_by_all, length-map-range_with_len}
+use Rattle.std.proofs.lemmas.List.FromFn.{get_or-map-range_with_len}
+use Rattle.std.proofs.lemmas.List.{append-nil, get_or_append_left, get_or-append-add}
+use Rattle.std.proofs.lemmas.List.{get_or-append_right, get_or-replicate, length-replicate}
+use Rattle.std.proofs.lemmas.List.{length-take-le, get_or-take}
 use Rattle.sync_types.specs.declared.states.Reg.{Reg}
 use Rattle.sync_types.specs.States.{State, register_at, zero_register}
 use Rattle.construction.specs.Plans.{Plan, plan_nodes, plan_depth}
@@ -15,7 +20,8 @@ use Rattle.plan_numbers.specs.Premises.{IsAccepted}
 use Rattle.plan_laws.specs.PlanMeaning.{plan_meaning, IsInRange}
 use Rattle.plan_laws.proofs.PlanCounter.{positive}
 use Rattle.plan_laws.proofs.Ranges.{range_from_cut, range_of_state}
-use Rattle.state_codec.specs.Shapes.{Fields, Shape, IsShape, moduli_of, shape_of, shape_over, shape_with, lows_of, fields_at}
+use Rattle.state_codec.specs.Shapes.{Fields, Shape, IsShape, moduli_of, shape_of, shape_over}
+use Rattle.state_codec.specs.Shapes.{shape_with, lows_of, fields_at}
 use Rattle.state_codec.specs.Ranges.{IsField, InRange}
 use Rattle.state_codec.proofs.Further.{fields_with_further}
 use Rattle.state_codec.proofs.Lows.{length-moduli_from}

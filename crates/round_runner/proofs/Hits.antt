@@ -1,5 +1,6 @@
 -- What holds of each state in range holds of those that nodes are put into where eras begin.
-use Rattle.std.proofs.Common.{ℕ, Bool, true, false, cond, List, [], ◌∷◌, All, Option, Some, None, find, unwrap_or}
+use Rattle.std.proofs.Common.{ℕ, Bool, true, false, cond, List, [], ◌∷◌, All, Option, Some, None}
+use Rattle.std.proofs.Common.{find, unwrap_or}
 use Rattle.std.specs.Prelude.{IfSome, ◌==◌}
 use Rattle.std.specs.Option.{option_and_then}
 use Rattle.std.proofs.lemmas.List.Elements.{All-head, All-tail}

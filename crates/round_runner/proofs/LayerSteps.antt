@@ -1,5 +1,6 @@
 -- A node's step: the counter's, and behind it that of a layer that hears what the node hears.
-use Rattle.std.proofs.Common.{◌≡◌, ℕ, ◌+◌, ◌<◌, List, ◌++◌, length, drop, All, sym, ap, ◌∙◌, subst, arith}
+use Rattle.std.proofs.Common.{◌≡◌, ℕ, ◌+◌, ◌<◌, List, ◌++◌, length, drop, All, sym, ap, ◌∙◌, subst}
+use Rattle.std.proofs.Common.{arith}
 use Rattle.std.proofs.lemmas.List.{length-append, length-drop}
 use Rattle.std.proofs.lemmas.List.Elements.{All-weaker}
 use Rattle.sync_types.specs.declared.states.Reg.{Reg}
@@ -12,7 +13,8 @@ use Rattle.plan_laws.proofs.PlanCounter.{plan_sizes}
 use Rattle.state_codec.specs.Shapes.{Shape, IsShape, fields_at}
 use Rattle.state_codec.specs.Ranges.{InRange}
 use Rattle.counter_core.specs.Meanings.{written}
-use Rattle.counter_core.specs.Overlays.{Layer, IsDeaf, StandsOver, HasRegisters, HasValues, CanStep, MayHear, AreNew, KeepsRange, after, layered}
+use Rattle.counter_core.specs.Overlays.{Layer, IsDeaf, StandsOver, HasRegisters, HasValues, CanStep}
+use Rattle.counter_core.specs.Overlays.{MayHear, AreNew, KeepsRange, after, layered}
 use Rattle.adversary_script.specs.Scripts.{Script, IsScript}
 use Rattle.adversary_script.specs.Lies.{AreStates}
 use Rattle.round_runner.specs.Fits.{Fits}

@@ -1,6 +1,7 @@
 -- A counter's step and then a layer's, written into one state that has room for both and nothing
 -- more.
-use Rattle.std.proofs.Common.{◌≡◌, ◌⊎◌, ℕ, zero, suc, ◌+◌, ◌<◌, List, [], ◌++◌, length, take, drop, refl, sym, ap, ◌∙◌, inl, inr, arith}
+use Rattle.std.proofs.Common.{◌≡◌, ◌⊎◌, ℕ, zero, suc, ◌+◌, ◌<◌, List, [], ◌++◌, length, take, drop}
+use Rattle.std.proofs.Common.{refl, sym, ap, ◌∙◌, inl, inr, arith}
 use Rattle.std.proofs.lemmas.List.{take_at, drop_all, take-append-drop, append-nil, nil_from_length}
 use Rattle.std.proofs.lemmas.Slice.{drop-append-drop}
 use Rattle.sync_types.specs.declared.states.Reg.{Reg}

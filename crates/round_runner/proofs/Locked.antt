@@ -1,5 +1,7 @@
 -- The test of a locked configuration says what it means.
-use Rattle.std.proofs.Common.{◌≡◌, ℕ, zero, suc, ◌+◌, ◌<◌, ◌≤◌, inl, inr, Bool, true, false, ◌&&◌, List, [], ◌∷◌, length, Option, Some, None, unwrap_or, refl, sym, ap, ◌∙◌, subst, arith}
+use Rattle.std.proofs.Common.{◌≡◌, ℕ, zero, suc, ◌+◌, ◌<◌, ◌≤◌, inl, inr, Bool, true, false, ◌&&◌}
+use Rattle.std.proofs.Common.{List, [], ◌∷◌, length, Option, Some, None, unwrap_or, refl, sym, ap}
+use Rattle.std.proofs.Common.{◌∙◌, subst, arith}
 use Rattle.std.specs.Prelude.{nat_eq}
 use Rattle.std.specs.List.{list_all}
 use Rattle.std.specs.Option.{option_eq}
@@ -10,9 +12,11 @@ use Rattle.construction.specs.Plans.{Level, nodes_of}
 use Rattle.construction.specs.PhaseKing.{locked_at}
 use Rattle.construction.specs.Steps.{state_of}
 use Rattle.construction.specs.Runs.{is_in, AllLocked, IsLockedIn}
-use Rattle.round_runner.specs.Locks.{is_locked_at, first_value, are_locked, correct_registers, is_locked_in}
+use Rattle.round_runner.specs.Locks.{is_locked_at, first_value, are_locked, correct_registers}
+use Rattle.round_runner.specs.Locks.{is_locked_in}
 use Rattle.round_runner.specs.Laws.{LockTestIsExact}
-use Rattle.round_runner.proofs.Correct.{correct_from, from_zero, from_end, from_faulty, from_correct}
+use Rattle.round_runner.proofs.Correct.{correct_from, from_zero, from_end, from_faulty}
+use Rattle.round_runner.proofs.Correct.{from_correct}
 
 -- a register that passes is locked at that value
 passes : (value : ℕ) (a : Option ℕ) (d : Bool) → option_eq nat_eq a (Some value) && d ≡ true

@@ -1,6 +1,8 @@
 -- From a settled configuration to the end of its era each configuration that is played is that one,
 -- with each field grown by the rounds between.
-use Rattle.std.proofs.Common.{◌≡◌, ℕ, zero, suc, ◌+◌, ◌-◌, ◌<◌, ◌≤◌, inl, inr, Bool, true, false, cond, not, List, [], length, map, Option, None, unwrap_or, refl, sym, ap, ◌∙◌, subst, arith}
+use Rattle.std.proofs.Common.{◌≡◌, ℕ, zero, suc, ◌+◌, ◌-◌, ◌<◌, ◌≤◌, inl, inr, Bool, true, false}
+use Rattle.std.proofs.Common.{cond, not, List, [], length, map, Option, None, unwrap_or, refl, sym}
+use Rattle.std.proofs.Common.{ap, ◌∙◌, subst, arith}
 use Rattle.std.specs.Prelude.{◌==◌, ◌||◌, is_some, slice_index_or}
 use Rattle.std.specs.List.{range_with_len}
 use Rattle.std.proofs.lemmas.Bool.{true≢false, cases_eq}
@@ -15,7 +17,8 @@ use Rattle.construction.specs.Steps.{state_of, step_of}
 use Rattle.plan_numbers.specs.Premises.{IsAccepted}
 use Rattle.plan_laws.specs.PlanMeaning.{plan_meaning}
 use Rattle.counter_core.specs.NoLayers.{no_layer}
-use Rattle.state_codec.specs.Shapes.{Shape, IsShape, moduli_of, shape_over, shape_of, shape_with, fields_at}
+use Rattle.state_codec.specs.Shapes.{Shape, IsShape, moduli_of, shape_over, shape_of, shape_with}
+use Rattle.state_codec.specs.Shapes.{fields_at}
 use Rattle.state_codec.proofs.Plans.{depth_of_shape, shape_of_accepted}
 use Rattle.shared_board.proofs.Stretches.{same_range}
 use Rattle.tower.specs.Settled.{IsSettled}

@@ -1,11 +1,15 @@
 -- A runner that plays a script goes on to play it, and without a layer its configurations are the
 -- played ones.
-use Rattle.std.proofs.Common.{◌≡◌, ℕ, zero, suc, ◌+◌, ◌<◌, ◌≤◌, inl, inr, List, [], length, map, get_or, set, Bool, true, false, ◌&&◌, eqb, Option, Some, None, unwrap_or, add-one, refl, sym, ap, ap₂, ◌∙◌, subst, arith}
+use Rattle.std.proofs.Common.{◌≡◌, ℕ, zero, suc, ◌+◌, ◌<◌, ◌≤◌, inl, inr, List, [], length, map}
+use Rattle.std.proofs.Common.{get_or, set, Bool, true, false, ◌&&◌, eqb, Option, Some, None}
+use Rattle.std.proofs.Common.{unwrap_or, add-one, refl, sym, ap, ap₂, ◌∙◌, subst, arith}
 use Rattle.std.proofs.Math.Path.{fun_ext}
 use Rattle.std.specs.List.{range_with_len}
 use Rattle.std.proofs.lemmas.Bool.{cases_eq, eq-eqb, eqb-true}
-use Rattle.std.proofs.lemmas.List.{append-nil, get_or_default, length-set, length-replicate, get_or-set_same, get_or-set_other, get_or-replicate}
-use Rattle.std.proofs.lemmas.List.FromFn.{fill_by_all, length-map-range_with_len, get_or-map-range_with_len}
+use Rattle.std.proofs.lemmas.List.{append-nil, get_or_default, length-set, length-replicate}
+use Rattle.std.proofs.lemmas.List.{get_or-set_same, get_or-set_other, get_or-replicate}
+use Rattle.std.proofs.lemmas.List.FromFn.{fill_by_all, length-map-range_with_len}
+use Rattle.std.proofs.lemmas.List.FromFn.{get_or-map-range_with_len}
 use Rattle.sync_types.specs.declared.states.Reg.{Reg}
 use Rattle.sync_types.specs.FaultSets.{FaultIds}
 use Rattle.sync_types.specs.States.{State}
@@ -23,7 +27,8 @@ use Rattle.round_runner.specs.Laws.{BareRunnersArePlayed}
 use Rattle.round_runner.specs.Played.{heard_at, played_at}
 use Rattle.layer_laws.specs.Scenes.{Scene}
 use Rattle.round_runner.specs.Scenes.{begun_kept, stepped_scene, next_scene, scene_at, new_state}
-use Rattle.round_runner.specs.Runners.{Running, Advances, IsPlaying, begun, begun_locks, next_locks, scene_of, played_scene, configuration_of}
+use Rattle.round_runner.specs.Runners.{Running, Advances, IsPlaying, begun, begun_locks, next_locks}
+use Rattle.round_runner.specs.Runners.{scene_of, played_scene, configuration_of}
 use Rattle.round_runner.proofs.Firsts.{begun_era, era_within}
 
 -- what is known stays known

@@ -1,6 +1,7 @@
 -- What a runner knows of an era is its first locked configuration; where it reached the bound in
 -- the era, there is one, at the bound or before.
-use Rattle.std.proofs.Common.{◌≡◌, ℕ, ◌+◌, ◌<◌, ◌≤◌, List, [], ◌∷◌, length, map, Option, None, sym, ap, ◌∙◌, subst, arith}
+use Rattle.std.proofs.Common.{◌≡◌, ℕ, ◌+◌, ◌<◌, ◌≤◌, List, [], ◌∷◌, length, map, Option, None, sym}
+use Rattle.std.proofs.Common.{ap, ◌∙◌, subst, arith}
 use Rattle.std.specs.Prelude.{slice_index_or}
 use Rattle.std.proofs.lemmas.List.{length-map}
 use Rattle.std.proofs.lemmas.List.Elements.{All-get_or}
@@ -23,7 +24,8 @@ use Rattle.round_runner.specs.Locks.{first_locked, era_locked, IsFirstLocked}
 use Rattle.round_runner.specs.Runners.{Running, IsFor, IsPlaying, configuration_of}
 use Rattle.round_runner.proofs.FirstLocked.{first_locked_below, passes, first_is_locked}
 use Rattle.round_runner.proofs.Firsts.{in_era}
-use Rattle.round_runner.proofs.ScenesRun.{states_at, cut_at, cut_run, cut_length, cut_configuration, scenes_run}
+use Rattle.round_runner.proofs.ScenesRun.{states_at, cut_at, cut_run, cut_length, cut_configuration}
+use Rattle.round_runner.proofs.ScenesRun.{scenes_run}
 
 -- a configuration is locked where its states are when they are cut
 uncut_locked : (levels : List Level) (faulty : List ℕ) (config : List State)

@@ -1,14 +1,18 @@
 -- The scenes of a script with a layer above, cut to the registers of the plan, are a run of the
 -- plan.
-use Rattle.std.proofs.Common.{◌≡◌, ℕ, zero, suc, ◌+◌, ◌<◌, ◌≤◌, Bool, true, false, cond, not, ◌||◌, ◌==◌, List, [], length, map, get_or, None, unwrap_or, add-one, refl, sym, ap, ap₂, ◌∙◌, subst, arith}
+use Rattle.std.proofs.Common.{◌≡◌, ℕ, zero, suc, ◌+◌, ◌<◌, ◌≤◌, Bool, true, false, cond, not, ◌||◌}
+use Rattle.std.proofs.Common.{◌==◌, List, [], length, map, get_or, None, unwrap_or, add-one, refl}
+use Rattle.std.proofs.Common.{sym, ap, ap₂, ◌∙◌, subst, arith}
 use Rattle.std.specs.List.{range_with_len}
 use Rattle.std.proofs.lemmas.List.{length-map, take_at}
-use Rattle.std.proofs.lemmas.List.FromFn.{fill_by_all, length-map-range_with_len, get_or-map-range_with_len}
+use Rattle.std.proofs.lemmas.List.FromFn.{fill_by_all, length-map-range_with_len}
+use Rattle.std.proofs.lemmas.List.FromFn.{get_or-map-range_with_len}
 use Rattle.sync_types.specs.declared.states.Reg.{Reg}
 use Rattle.sync_types.specs.States.{State, zero_state}
 use Rattle.construction.specs.Plans.{Plan, plan_nodes, plan_depth}
 use Rattle.construction.specs.Steps.{state_of, step_of}
-use Rattle.construction.specs.Runs.{is_in, IsState, IsConfiguration, IsTold, IsTable, IsNext, Run, configuration, heard_of, heard_by}
+use Rattle.construction.specs.Runs.{is_in, IsState, IsConfiguration, IsTold, IsTable, IsNext, Run}
+use Rattle.construction.specs.Runs.{configuration, heard_of, heard_by}
 use Rattle.construction.proofs.Ranges.{length-step_in, step_is_state}
 use Rattle.plan_numbers.specs.Premises.{IsAccepted}
 use Rattle.plan_laws.specs.PlanMeaning.{plan_meaning}

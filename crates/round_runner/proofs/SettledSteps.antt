@@ -1,6 +1,8 @@
 -- The step of a node of a settled configuration: each of its fields is one more, whatever it is
 -- told.
-use Rattle.std.proofs.Common.{◌≡◌, ℕ, ◌+◌, ◌*◌, ◌/◌, ◌%◌, ◌<◌, ◌≤◌, Bool, true, false, cond, if◌then◌else◌, List, [], ◌∷◌, ◌++◌, length, map, take, get_or, Option, refl, sym, ap, ap₂, ◌∙◌, subst, ⊎_elim, arith}
+use Rattle.std.proofs.Common.{◌≡◌, ℕ, ◌+◌, ◌*◌, ◌/◌, ◌%◌, ◌<◌, ◌≤◌, Bool, true, false, cond}
+use Rattle.std.proofs.Common.{if◌then◌else◌, List, [], ◌∷◌, ◌++◌, length, map, take, get_or, Option}
+use Rattle.std.proofs.Common.{refl, sym, ap, ap₂, ◌∙◌, subst, ⊎_elim, arith}
 use Rattle.std.specs.Prelude.{◌==◌, slice_index}
 use Rattle.std.specs.List.{range_with_len}
 use Rattle.std.proofs.lemmas.Bool.{cases_eq, cases_lt, lt-ltb, le-ltb, eq-eqb, ne_eqb}
@@ -19,13 +21,15 @@ use Rattle.phase_king.specs.Groups.{values_heard}
 use Rattle.phase_king.proofs.Registers.{locked_register}
 use Rattle.plan_laws.specs.Stretches.{stretch, step_at}
 use Rattle.plan_laws.proofs.Stretches.{steps_by_stretches}
-use Rattle.state_codec.specs.Shapes.{Fields, moduli_of, moduli_from, fields_from, fields_at, shape_of}
+use Rattle.state_codec.specs.Shapes.{Fields, moduli_of, moduli_from, fields_from, fields_at}
+use Rattle.state_codec.specs.Shapes.{shape_of}
 use Rattle.state_codec.proofs.Lows.{made_at, modulus_at, length-moduli_from}
 use Rattle.state_codec.proofs.Plans.{moduli_of-cons, length-moduli_of, shape_of_accepted}
 use Rattle.state_codec.proofs.RegisterSteps.{state_is}
 use Rattle.shared_board.specs.Groups.{Group, groups_of, group_at, index_at, nodes_in, register_for}
 use Rattle.shared_board.proofs.ByPlace.{by_places}
-use Rattle.shared_board.proofs.Descent.{group_top, group_under, step_register, step_missing, step_number, step_numberless, length-step_at}
+use Rattle.shared_board.proofs.Descent.{group_top, group_under, step_register, step_missing}
+use Rattle.shared_board.proofs.Descent.{step_number, step_numberless, length-step_at}
 use Rattle.shared_board.proofs.Nested.{group_within}
 use Rattle.shared_board.proofs.Places.{group_stands, group_has, index_less, length-groups_of}
 use Rattle.shared_board.proofs.Stretches.{stretch_of_range, same_range}

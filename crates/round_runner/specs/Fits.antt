@@ -1,5 +1,6 @@
 -- A shape of states fits a counter with a layer above.
-use Rattle.std.specs.Prelude.{◌≡◌, ℕ, ◌+◌, ◌<◌, ◌≤◌, List, [], ◌∷◌, ◌++◌, length, Option, Some, None, IfSome}
+use Rattle.std.specs.Prelude.{◌≡◌, ℕ, ◌+◌, ◌<◌, ◌≤◌, List, [], ◌∷◌, ◌++◌, length, Option, Some}
+use Rattle.std.specs.Prelude.{None, IfSome}
 use Rattle.std.proofs.Props.{props}
 use Rattle.sync_types.specs.States.{State, register_at}
 use Rattle.sync_types.specs.declared.states.Reg.{Reg}

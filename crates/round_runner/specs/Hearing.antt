@@ -1,5 +1,6 @@
 -- What a node hears of the faulty ones, and the list in which what is heard is laid.
-use Rattle.std.specs.Prelude.{◌≡◌, ℕ, ◌<◌, List, length, slice_index, All, false, ◌==◌, if◌then◌else◌}
+use Rattle.std.specs.Prelude.{◌≡◌, ℕ, ◌<◌, List, length, slice_index, All, false, ◌==◌}
+use Rattle.std.specs.Prelude.{if◌then◌else◌}
 use Rattle.sync_types.specs.FaultSets.{is_in}
 use Rattle.sync_types.specs.States.{State}
 use Rattle.construction.specs.Steps.{state_of}

@@ -1,6 +1,7 @@
 -- What is known of the rounds that are left: what correct nodes show once their era is locked, and
 -- the first locked configurations.
-use Rattle.std.specs.Prelude.{◌≡◌, ◌⊎◌, ℕ, ◌+◌, ◌-◌, ◌%◌, ◌<◌, ◌≤◌, List, length, not, true, None, is_some, position, unwrap_or, slice_index_or}
+use Rattle.std.specs.Prelude.{◌≡◌, ◌⊎◌, ℕ, ◌+◌, ◌-◌, ◌%◌, ◌<◌, ◌≤◌, List, length, not, true, None}
+use Rattle.std.specs.Prelude.{is_some, position, unwrap_or, slice_index_or}
 use Rattle.std.specs.List.{range_with_len}
 use Rattle.sync_types.specs.States.{State}
 use Rattle.construction.specs.Plans.{Plan, plan_modulus}

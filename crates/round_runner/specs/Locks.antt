@@ -1,5 +1,7 @@
 -- Whether a configuration is locked.
-use Rattle.std.specs.Prelude.{ℕ, zero, suc, ◌<◌, ◌≤◌, List, [], ◌∷◌, length, map, filter, not, nat_eq, ◌==◌, Bool, true, ◌&&◌, Option, Some, None, unwrap_or, if◌then◌else◌}
+use Rattle.std.specs.Prelude.{ℕ, zero, suc, ◌<◌, ◌≤◌, List, [], ◌∷◌, length, map, filter, not}
+use Rattle.std.specs.Prelude.{nat_eq, ◌==◌, Bool, true, ◌&&◌, Option, Some, None, unwrap_or}
+use Rattle.std.specs.Prelude.{if◌then◌else◌}
 use Rattle.std.specs.List.{list_all, range_with_len}
 use Rattle.std.specs.Option.{option_eq}
 use Rattle.sync_types.specs.declared.states.Reg.{Reg}

@@ -1,5 +1,6 @@
 -- What a runner of a script is, and that it plays the script.
-use Rattle.std.specs.Prelude.{◌≡◌, ℕ, ◌+◌, List, ◌∷◌, length, map, All, replicate, slice_set, slice_index_or, Option, None}
+use Rattle.std.specs.Prelude.{◌≡◌, ℕ, ◌+◌, List, ◌∷◌, length, map, All, replicate, slice_set}
+use Rattle.std.specs.Prelude.{slice_index_or, Option, None}
 use Rattle.std.specs.List.{range_with_len}
 use Rattle.sync_types.specs.States.{State}
 use Rattle.construction.specs.Plans.{Plan, plan_nodes}

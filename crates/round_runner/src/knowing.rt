@@ -19,7 +19,8 @@ pub fn lowest_correct(nodes: u32, faulty: &FaultSet) -> u32
 }
 
 impl<O: Overlay> Runner<O> {
-    ghost use Rattle.std.specs.Prelude.{◌≡◌, ◌↔◌, ◌≤◌, ◌<◌, ◌+◌, List, None, true, length, is_some, IfSome, slice_index_or};
+    ghost use Rattle.std.specs.Prelude.{◌≡◌, ◌↔◌, ◌≤◌, ◌<◌, ◌+◌, List, None, true, length, is_some};
+    ghost use Rattle.std.specs.Prelude.{IfSome, slice_index_or};
     ghost use Rattle.construction.specs.Plans.{plan_bound, plan_depth, plan_nodes};
     ghost use Rattle.construction.specs.Shown.{shown};
     ghost use Rattle.construction.specs.Steps.{state_of};

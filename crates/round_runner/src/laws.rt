@@ -1,6 +1,7 @@
 //! The laws of what is played of a script. Each function is empty: its clause is the law.
 
-ghost use Rattle.round_runner.specs.Laws.{EachIsOfOneEra, ErasAreRuns, ErasLock, ErasCount, ErasStayLocked, LockTestIsExact, BareRunnersArePlayed};
+ghost use Rattle.round_runner.specs.Laws.{EachIsOfOneEra, ErasAreRuns, ErasLock, ErasCount};
+ghost use Rattle.round_runner.specs.Laws.{ErasStayLocked, LockTestIsExact, BareRunnersArePlayed};
 
 use plan_laws::laws::{every_plan_settles, locked_runs_count, locks_at_bound};
 

@@ -1,6 +1,7 @@
 ghost use Rattle.std.specs.Prelude.{◌≡◌, ◌<◌, ◌≤◌, None, length};
 ghost use Rattle.construction.specs.Plans.{plan_nodes, plan_depth};
-ghost use Rattle.round_runner.specs.Locks.{are_locked, correct_registers, first_of, first_value, is_locked, is_locked_at};
+ghost use Rattle.round_runner.specs.Locks.{are_locked, correct_registers, first_of, first_value};
+ghost use Rattle.round_runner.specs.Locks.{is_locked, is_locked_at};
 ghost use Rattle.std.specs.List.{list_all};
 
 use counter_core::Counter;

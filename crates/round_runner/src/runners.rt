@@ -42,8 +42,8 @@ impl<O: Overlay> Drop for Runner<O> {
             overlay,
             room,
             states,
-            at,
-            era,
+            at: _,
+            era: _,
             locks,
         } = self;
         drop(tower);
@@ -51,8 +51,6 @@ impl<O: Overlay> Drop for Runner<O> {
         drop(overlay);
         drop(room);
         drop(states);
-        drop(at);
-        drop(era);
         drop(locks);
     }
 }
@@ -115,8 +113,10 @@ fn room_for(alloc: Global, play: &Play<'_>, shape: &StateShape) -> Result<Room, 
 }
 
 impl<O: Overlay> Runner<O> {
-    ghost use Rattle.std.specs.Prelude.{◌≡◌, ◌≢◌, ◌+◌, ◌-◌, ◌*◌, ◌^◌, ◌<◌, ◌≤◌, List, true, length, IfOk};
-    ghost use Rattle.construction.specs.Plans.{plan_nodes, plan_modulus, plan_bound, plan_depth, plan_faults};
+    ghost use Rattle.std.specs.Prelude.{◌≡◌, ◌≢◌, ◌+◌, ◌-◌, ◌*◌, ◌^◌, ◌<◌, ◌≤◌, List, true, length};
+    ghost use Rattle.std.specs.Prelude.{IfOk};
+    ghost use Rattle.construction.specs.Plans.{plan_nodes, plan_modulus, plan_bound, plan_depth};
+    ghost use Rattle.construction.specs.Plans.{plan_faults};
     ghost use Rattle.construction.specs.Shown.{shown};
     ghost use Rattle.construction.specs.Steps.{state_of};
     ghost use Rattle.sync_types.specs.FaultSets.{is_in};

@@ -24,7 +24,8 @@ impl<O: Overlay> Runner<O> {
 }
 
 impl Runner<NoOverlay> {
-    ghost use Rattle.std.specs.Prelude.{◌≡◌, ◌+◌, ◌-◌, ◌<◌, ◌≤◌, List, [], None, true, is_some, slice_index_or};
+    ghost use Rattle.std.specs.Prelude.{◌≡◌, ◌+◌, ◌-◌, ◌<◌, ◌≤◌, List, [], None, true, is_some};
+    ghost use Rattle.std.specs.Prelude.{slice_index_or};
     ghost use Rattle.counter_core.specs.NoLayers.{no_layer};
     ghost use Rattle.tower.specs.Settled.{IsSettled};
     ghost use Rattle.adversary_script.specs.Eras.{era_of, faulty_at, end_of_era};

@@ -1,5 +1,6 @@
 -- Each text is answered as it is to be.
-use Rattle.std.proofs.Common.{◌≡◌, ℕ, ◌+◌, ◌≤◌, List, [], ◌∷◌, ◌++◌, length, map, Option, Some, None, Result, Ok, Err, refl, sym, ap, subst, ◌∙◌, append_assoc, arith}
+use Rattle.std.proofs.Common.{◌≡◌, ℕ, ◌+◌, ◌≤◌, List, [], ◌∷◌, ◌++◌, length, map, Option, Some}
+use Rattle.std.proofs.Common.{None, Result, Ok, Err, refl, sym, ap, subst, ◌∙◌, append_assoc, arith}
 use Rattle.std.specs.Prelude.{All}
 use Rattle.std.specs.List.{AllByRecursion}
 use Rattle.std.proofs.lemmas.List.{append-nil, length-map, map-append}
@@ -12,14 +13,16 @@ use Rattle.run_certificates.specs.Items.{Item, HasLine, item_words, item_line}
 use Rattle.run_certificates.specs.Certificates.{Certificate, items_of, certificate_text}
 use Rattle.run_certificates.specs.Grammar.{IsCertificate, AreFirstLines}
 use Rattle.run_certificates.specs.Stated.{verdict_of}
-use Rattle.run_certificates.specs.Checking.{Stage, unread, Onward, step, line_step, accepts, unless_followed, alone, checked}
+use Rattle.run_certificates.specs.Checking.{Stage, unread, Onward, step, line_step, accepts}
+use Rattle.run_certificates.specs.Checking.{unless_followed, alone, checked}
 use Rattle.run_certificates.specs.Laws.{IsOf, IsRefusedAt, IsAnswer, Stops}
 use Rattle.texts.proofs.Texts.{IsOneLine, whole_text, cut_again}
 use Rattle.texts.proofs.LineWords.{joined_is_one}
 use Rattle.run_certificates.proofs.Lexical.{item_is_words}
 use Rattle.run_certificates.proofs.Complete.{following, followed}
 use Rattle.run_certificates.proofs.Head.{opened, certificate_read, read_whole}
-use Rattle.run_certificates.proofs.Whole.{read_lines, lines_following, done, lines_read, lines_taken, reaches, Read, Taken, Stopped}
+use Rattle.run_certificates.proofs.Whole.{read_lines, lines_following, done, lines_read}
+use Rattle.run_certificates.proofs.Whole.{lines_taken, reaches, Read, Taken, Stopped}
 use Rattle.run_certificates.proofs.Verdicts.{verdict_seen}
 use Rattle.run_certificates.proofs.Good.{good_reach, end_from}
 

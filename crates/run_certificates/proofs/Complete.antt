@@ -1,5 +1,6 @@
 -- What is written of a certificate is read, to its verdict.
-use Rattle.std.proofs.Common.{◌≡◌, ℕ, ◌+◌, Bool, true, false, cond, List, [], ◌∷◌, ◌++◌, map, Option, Some, None, refl, sym, ap, ◌∙◌}
+use Rattle.std.proofs.Common.{◌≡◌, ℕ, ◌+◌, Bool, true, false, cond, List, [], ◌∷◌, ◌++◌, map}
+use Rattle.std.proofs.Common.{Option, Some, None, refl, sym, ap, ◌∙◌}
 use Rattle.std.specs.Prelude.{⊤}
 use Rattle.texts.specs.Parts.{goes, ends, refuses}
 use Rattle.sync_types.specs.States.{State}
@@ -7,8 +8,12 @@ use Rattle.run_certificates.specs.NodeFields.{fields_of}
 use Rattle.state_codec.specs.Texts.{read_text}
 use Rattle.run_certificates.specs.declared.Verdict.{Verdict}
 use Rattle.run_certificates.specs.Items.{Item, row_item}
-use Rattle.run_certificates.specs.Certificates.{Put, Lie, Era, Turn, start_of, lie_of, era_items, turns_items}
-use Rattle.run_certificates.specs.Checking.{Known, Stage, putting, telling, Onward, refused, accepts, at_end, put_state, start_fits, first_row_fits, compared, moved, lie_fits, era_fits, renewed, next_row_fits, verdict_now}
+use Rattle.run_certificates.specs.Certificates.{Put, Lie, Era, Turn, start_of, lie_of, era_items}
+use Rattle.run_certificates.specs.Certificates.{turns_items}
+use Rattle.run_certificates.specs.Checking.{Known, Stage, putting, telling, Onward, refused}
+use Rattle.run_certificates.specs.Checking.{accepts, at_end, put_state, start_fits, first_row_fits}
+use Rattle.run_certificates.specs.Checking.{compared, moved, lie_fits, era_fits, renewed}
+use Rattle.run_certificates.specs.Checking.{next_row_fits, verdict_now}
 
 -- what follows a step
 abbrev pub following : Onward → List Item → Option Verdict

@@ -1,5 +1,7 @@
 -- The faulty nodes behind a round, by whether an era begins there.
-use Rattle.std.proofs.Common.{ap, Option, inl, inr, ◌⊎◌, ⊎_elim, ◌≡◌, ℕ, zero, suc, ◌+◌, ◌<◌, ◌≤◌, Bool, true, false, cond, eqb, leb, List, [], ◌∷◌, length, map, get_or, Some, None, find, refl, sym, subst, ◌∙◌, arith}
+use Rattle.std.proofs.Common.{ap, Option, inl, inr, ◌⊎◌, ⊎_elim, ◌≡◌, ℕ, zero, suc, ◌+◌, ◌<◌, ◌≤◌}
+use Rattle.std.proofs.Common.{Bool, true, false, cond, eqb, leb, List, [], ◌∷◌, length, map, get_or}
+use Rattle.std.proofs.Common.{Some, None, find, refl, sym, subst, ◌∙◌, arith}
 use Rattle.std.specs.List.{count_by}
 use Rattle.std.specs.List.Sorted.{IsStrictlyIncreasing}
 use Rattle.std.proofs.lemmas.Bool.{cases_lt, le-leb, lt-leb, eqb-true}

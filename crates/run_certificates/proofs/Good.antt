@@ -1,5 +1,7 @@
 -- What holds wherever the reading has come, and that it can go on to an end from there.
-use Rattle.std.proofs.Common.{inl, inr, ⊎_elim, ◌≡◌, ℕ, zero, suc, ◌+◌, ◌<◌, ◌≤◌, ◌⊎◌, Bool, true, false, cond, leb, ◌&&◌, List, [], ◌∷◌, ◌++◌, length, drop, codes, decimal, Option, Some, None, refl, sym, ap, subst, ◌∙◌, arith}
+use Rattle.std.proofs.Common.{inl, inr, ⊎_elim, ◌≡◌, ℕ, zero, suc, ◌+◌, ◌<◌, ◌≤◌, ◌⊎◌, Bool, true}
+use Rattle.std.proofs.Common.{false, cond, leb, ◌&&◌, List, [], ◌∷◌, ◌++◌, length, drop, codes}
+use Rattle.std.proofs.Common.{decimal, Option, Some, None, refl, sym, ap, subst, ◌∙◌, arith}
 use Rattle.std.specs.Prelude.{All, ⊤, ◌==◌, unwrap_or}
 use Rattle.std.specs.Option.{is_some}
 use Rattle.std.specs.List.{range_with_len, join_with_byte}
@@ -14,9 +16,15 @@ use Rattle.sync_types.specs.States.{State}
 use Rattle.construction.specs.Plans.{Level, Plan, plan_nodes, plan_faults}
 use Rattle.plan_numbers.specs.Numbers.{line, with_level}
 use Rattle.plan_numbers.specs.Premises.{base_premise, IsAccepted, FitsVersion}
-use Rattle.run_certificates.specs.Items.{Item, IsShort, HasLine, run_item, base_item, level_item, faulty_item, start_item, row_item, lie_item, era_item, end_item}
+use Rattle.run_certificates.specs.Items.{Item, IsShort, HasLine, run_item, base_item, level_item}
+use Rattle.run_certificates.specs.Items.{faulty_item, start_item, row_item, lie_item, era_item}
+use Rattle.run_certificates.specs.Items.{end_item}
 use Rattle.run_certificates.specs.Grammar.{pairs_of, plan_version}
-use Rattle.run_certificates.specs.Checking.{Known, Stage, unread, begun, planned, putting, telling, Onward, refused, step, accepts, start_fits, first_row_fits, lie_fits, era_fits, next_row_fits, has_round, is_next, is_borne, level_fits, nothing_known, put_state, compared, moved, renewed}
+use Rattle.run_certificates.specs.Checking.{Known, Stage, unread, begun, planned, putting, telling}
+use Rattle.run_certificates.specs.Checking.{Onward, refused, step, accepts, start_fits}
+use Rattle.run_certificates.specs.Checking.{first_row_fits, lie_fits, era_fits, next_row_fits}
+use Rattle.run_certificates.specs.Checking.{has_round, is_next, is_borne, level_fits, nothing_known}
+use Rattle.run_certificates.specs.Checking.{put_state, compared, moved, renewed}
 use Rattle.run_certificates.proofs.Complete.{passes}
 use Rattle.run_certificates.proofs.Tests.{borne_declared}
 use Rattle.run_certificates.proofs.Head.{none_is, back_by, least_plan, most_plan}

@@ -1,5 +1,7 @@
 -- The lines before the first row, and with them whole certificates.
-use Rattle.std.proofs.Common.{◌≡◌, ℕ, ◌+◌, ◌≤◌, Bool, true, false, cond, leb, not, ◌&&◌, List, [], ◌∷◌, ◌++◌, map, reverse, Option, Some, None, refl, sym, ap, subst, ◌∙◌, append_assoc, arith}
+use Rattle.std.proofs.Common.{◌≡◌, ℕ, ◌+◌, ◌≤◌, Bool, true, false, cond, leb, not, ◌&&◌, List, []}
+use Rattle.std.proofs.Common.{◌∷◌, ◌++◌, map, reverse, Option, Some, None, refl, sym, ap, subst}
+use Rattle.std.proofs.Common.{◌∙◌, append_assoc, arith}
 use Rattle.std.specs.Prelude.{All, ◌==◌, if◌then◌else◌, unwrap_or}
 use Rattle.std.specs.Option.{is_some}
 use Rattle.std.specs.List.{range_with_len}
@@ -11,14 +13,23 @@ use Rattle.construction.specs.Plans.{Level, Plan, plan_nodes}
 use Rattle.plan_numbers.specs.Numbers.{line, below_of, numbers_below, with_level}
 use Rattle.plan_numbers.specs.Premises.{base_premise, first_premise, LevelsAccepted, FitsVersion}
 use Rattle.run_certificates.specs.declared.Verdict.{Verdict}
-use Rattle.run_certificates.specs.Items.{Item, HasLine, run_item, base_item, level_item, faulty_item, row_item}
-use Rattle.run_certificates.specs.Certificates.{Certificate, spares_said, level_of, start_of, turns_items, items_of}
-use Rattle.run_certificates.specs.Grammar.{IsCertificate, AreTurns, plan_version, most_eras, era_count}
-use Rattle.run_certificates.specs.Checking.{Known, Stage, unread, begun, planned, putting, telling, refused, accepts, is_borne, spares_fit, level_fits, nothing_known, compared}
-use Rattle.run_certificates.proofs.Complete.{following, passes, put_all, puts_read, turns_pass, followed}
+use Rattle.run_certificates.specs.Items.{Item, HasLine, run_item, base_item, level_item}
+use Rattle.run_certificates.specs.Items.{faulty_item, row_item}
+use Rattle.run_certificates.specs.Certificates.{Certificate, spares_said, level_of, start_of}
+use Rattle.run_certificates.specs.Certificates.{turns_items, items_of}
+use Rattle.run_certificates.specs.Grammar.{IsCertificate, AreTurns, plan_version, most_eras}
+use Rattle.run_certificates.specs.Grammar.{era_count}
+use Rattle.run_certificates.specs.Checking.{Known, Stage, unread, begun, planned, putting, telling}
+use Rattle.run_certificates.specs.Checking.{refused, accepts, is_borne, spares_fit, level_fits}
+use Rattle.run_certificates.specs.Checking.{nothing_known, compared}
+use Rattle.run_certificates.proofs.Complete.{following, passes, put_all, puts_read, turns_pass}
+use Rattle.run_certificates.proofs.Complete.{followed}
 use Rattle.run_certificates.proofs.Sound.{passed, ReadPuts, read_behind}
 use Rattle.run_certificates.proofs.Starts.{starts_fit, starts_declared}
-use Rattle.run_certificates.proofs.Tests.{row_tested, row_declared, borne_tested, borne_declared, puts_fit, puts_back, turns_tested, turns_declared, plan_put_all, version_put_all, eras_put_all, faulty_put_all}
+use Rattle.run_certificates.proofs.Tests.{row_tested, row_declared, borne_tested, borne_declared}
+use Rattle.run_certificates.proofs.Tests.{puts_fit, puts_back, turns_tested, turns_declared}
+use Rattle.run_certificates.proofs.Tests.{plan_put_all, version_put_all, eras_put_all}
+use Rattle.run_certificates.proofs.Tests.{faulty_put_all}
 use Rattle.run_certificates.proofs.Complete.{at_put_all}
 
 -- a test that fails is passed

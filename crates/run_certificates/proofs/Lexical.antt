@@ -1,19 +1,28 @@
 -- What a line says, and the line of what is said.
-use Rattle.std.proofs.Common.{inl, inr, ◌≡◌, ℕ, ◌^◌, ◌<◌, ◌≤◌, ◌⊎◌, Bool, true, false, cond, leb, List, [], ◌∷◌, length, map, Option, Some, None, decimal, refl, sym, ap, subst, ◌∙◌, ⊎_elim, arith}
+use Rattle.std.proofs.Common.{inl, inr, ◌≡◌, ℕ, ◌^◌, ◌<◌, ◌≤◌, ◌⊎◌, Bool, true, false, cond, leb}
+use Rattle.std.proofs.Common.{List, [], ◌∷◌, length, map, Option, Some, None, decimal, refl, sym}
+use Rattle.std.proofs.Common.{ap, subst, ◌∙◌, ⊎_elim, arith}
 use Rattle.std.specs.List.{AllByRecursion}
 use Rattle.std.proofs.lemmas.List.Elements.{All-nil, All-cons}
 use Rattle.std.proofs.lemmas.Bool.Decides.{nat_tests}
 use Rattle.state_codec.specs.Texts.{is_lower_digit}
 use Rattle.texts.specs.Lines.{words_of}
 use Rattle.texts.specs.Words.{joined}
-use Rattle.texts.proofs.LineWords.{is_solid, all_weaker, IsWord, words_there, words_back, decimal_word, number_back, number_there}
+use Rattle.texts.proofs.LineWords.{is_solid, all_weaker, IsWord, words_there, words_back}
+use Rattle.texts.proofs.LineWords.{decimal_word, number_back, number_there}
 use Rattle.std.proofs.Common.{codes, bytes_eq, option_map}
 use Rattle.texts.specs.Shapes.{onto_numbers}
 use Rattle.std.proofs.lemmas.Option.{same_Some}
 use Rattle.std.proofs.lemmas.Slice.Eq.{bytes_eq-Decides}
 use Rattle.adversary_script.specs.WordTests.{numbers_in}
 use Rattle.std.proofs.lemmas.List.Elements.{All-head, All-tail}
-use Rattle.run_certificates.specs.Items.{Item, run_item, base_item, level_item, faulty_item, start_item, row_item, lie_item, era_item, end_item, row_word, item_words, item_line, IsShort, HasWords, HasLine, value_said, values_said, onto, with_two, with_three, with_four, row_by, era_by, one_said, level_said, start_said, lie_said, row_said, era_said, end_said, item_of, said}
+use Rattle.run_certificates.specs.Items.{Item, run_item, base_item, level_item, faulty_item}
+use Rattle.run_certificates.specs.Items.{start_item, row_item, lie_item, era_item, end_item}
+use Rattle.run_certificates.specs.Items.{row_word, item_words, item_line, IsShort, HasWords}
+use Rattle.run_certificates.specs.Items.{HasLine, value_said, values_said, onto, with_two}
+use Rattle.run_certificates.specs.Items.{with_three, with_four, row_by, era_by, one_said}
+use Rattle.run_certificates.specs.Items.{level_said, start_said, lie_said, row_said, era_said}
+use Rattle.run_certificates.specs.Items.{end_said, item_of, said}
 use Rattle.std.specs.Prelude.{All, IfSome}
 use Rattle.std.specs.List.{list_all}
 use Rattle.std.specs.Char.{is_ascii_digit}

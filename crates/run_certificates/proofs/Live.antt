@@ -1,13 +1,18 @@
 -- From wherever the reading has come, a certificate can be read to its end.
-use Rattle.std.proofs.Common.{inl, inr, ⊎_elim, ◌≡◌, ℕ, zero, suc, ◌+◌, ◌-◌, ◌*◌, ◌<◌, ◌≤◌, ◌⊎◌, Bool, true, false, cond, not, List, [], ◌∷◌, ◌++◌, length, map, drop, replicate, decimal, Option, Some, None, refl, sym, ap, subst, ◌∙◌, arith, if◌then◌else◌}
+use Rattle.std.proofs.Common.{inl, inr, ⊎_elim, ◌≡◌, ℕ, zero, suc, ◌+◌, ◌-◌, ◌*◌, ◌<◌, ◌≤◌, ◌⊎◌}
+use Rattle.std.proofs.Common.{Bool, true, false, cond, not, List, [], ◌∷◌, ◌++◌, length, map, drop}
+use Rattle.std.proofs.Common.{replicate, decimal, Option, Some, None, refl, sym, ap, subst, ◌∙◌}
+use Rattle.std.proofs.Common.{arith, if◌then◌else◌}
 use Rattle.std.specs.Prelude.{All, IfSome}
 use Rattle.std.specs.Option.{is_some}
 use Rattle.std.specs.Int.{div_ceil}
 use Rattle.std.specs.List.{range_with_len, flat_map, list_all, join_with_byte}
-use Rattle.std.proofs.lemmas.Bool.{and_parts, and_from, cases_Bool, cases_order, true≢false, ltb-true, leb-true, le-leb, lt-ltb, eq-eqb, not-true}
+use Rattle.std.proofs.lemmas.Bool.{and_parts, and_from, cases_Bool, cases_order, true≢false}
+use Rattle.std.proofs.lemmas.Bool.{ltb-true, leb-true, le-leb, lt-ltb, eq-eqb, not-true}
 use Rattle.std.proofs.lemmas.Fmt.{length-decimal-le}
 use Rattle.std.proofs.lemmas.List.{length-append, length-map, length-replicate, length-drop}
-use Rattle.std.proofs.lemmas.List.Elements.{All-nil, All-cons, All-head, All-tail, All-append, All-map, All-drop, All-filter}
+use Rattle.std.proofs.lemmas.List.Elements.{All-nil, All-cons, All-head, All-tail, All-append}
+use Rattle.std.proofs.lemmas.List.Elements.{All-map, All-drop, All-filter}
 use Rattle.std.proofs.lemmas.List.FromFn.{length-range_with_len, get_or-range_with_len}
 use Rattle.sync_types.specs.States.{State}
 use Rattle.construction.specs.Plans.{Plan, plan_nodes}
@@ -26,11 +31,14 @@ use Rattle.std.specs.Prelude.{slice_index_or, ◌==◌, ◌^◌}
 use Rattle.std.proofs.lemmas.List.Sums.{sum_by-cons}
 use Rattle.round_runner.specs.Locks.{correct_nodes}
 use Rattle.run_certificates.specs.declared.Verdict.{Verdict}
-use Rattle.run_certificates.specs.Items.{Item, IsShort, HasLine, row_word, start_item, row_item, lie_item, end_item}
+use Rattle.run_certificates.specs.Items.{Item, IsShort, HasLine, row_word, start_item, row_item}
+use Rattle.run_certificates.specs.Items.{lie_item, end_item}
 use Rattle.run_certificates.specs.Certificates.{Put, Lie, start_of, lie_of}
 use Rattle.run_certificates.specs.Grammar.{pairs_of, IsRow}
-use Rattle.run_certificates.specs.Checking.{Known, Stage, putting, telling, accepts, needs_state, has_round, all_told, compared, verdict_now}
-use Rattle.run_certificates.proofs.Complete.{put_all, all_lies, behind, lies_read, behind_read, puts_read}
+use Rattle.run_certificates.specs.Checking.{Known, Stage, putting, telling, accepts, needs_state}
+use Rattle.run_certificates.specs.Checking.{has_round, all_told, compared, verdict_now}
+use Rattle.run_certificates.proofs.Complete.{put_all, all_lies, behind, lies_read, behind_read}
+use Rattle.run_certificates.proofs.Complete.{puts_read}
 use Rattle.run_certificates.proofs.Starts.{AllFit, needs, none_needed, no_needs}
 use Rattle.run_certificates.proofs.Tests.{lies_fit, count_told, row_tested, puts_fit}
 

@@ -1,5 +1,7 @@
 -- What is recorded meets the grammar, but for the lengths of its lines.
-use Rattle.std.proofs.Common.{◌≡◌, ℕ, zero, suc, ◌+◌, ◌<◌, Bool, true, false, cond, eqb, not, ◌||◌, List, [], ◌∷◌, map, All, Option, Some, None, find, is_some, filter, refl, sym, ap, subst, ◌∙◌, arith}
+use Rattle.std.proofs.Common.{◌≡◌, ℕ, zero, suc, ◌+◌, ◌<◌, Bool, true, false, cond, eqb, not, ◌||◌}
+use Rattle.std.proofs.Common.{List, [], ◌∷◌, map, All, Option, Some, None, find, is_some, filter}
+use Rattle.std.proofs.Common.{refl, sym, ap, subst, ◌∙◌, arith}
 use Rattle.std.specs.Prelude.{IfSome}
 use Rattle.std.specs.List.{range_with_len}
 use Rattle.std.specs.List.Sorted.{IsStrictlyIncreasing}
@@ -22,7 +24,8 @@ use Rattle.round_runner.specs.Laws.{IsReadFor}
 use Rattle.run_certificates.proofs.EraBegins.{same_begun, found_faulty}
 use Rattle.run_certificates.proofs.PlayedStates.{borne_at}
 use Rattle.run_certificates.specs.Certificates.{Put, Lie}
-use Rattle.run_certificates.specs.Grammar.{pairs_of, AreStarts, IsRow, IsEra, IsTurn, AreTurns, faulty_behind}
+use Rattle.run_certificates.specs.Grammar.{pairs_of, AreStarts, IsRow, IsEra, IsTurn, AreTurns}
+use Rattle.run_certificates.specs.Grammar.{faulty_behind}
 use Rattle.run_certificates.specs.Stated.{Stand, shown_row}
 use Rattle.run_certificates.specs.Recorded.{stand_at, put_at, lie_at, is_put, era_with, turn_at}
 use Rattle.run_certificates.proofs.RecordedTrue.{is_in_filter, is_in_range}

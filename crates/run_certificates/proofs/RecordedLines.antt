@@ -1,5 +1,7 @@
 -- The lines of what is recorded are short, and its eras few.
-use Rattle.std.proofs.Common.{◌≡◌, ℕ, ◌+◌, ◌*◌, ◌^◌, ◌<◌, ◌≤◌, Bool, true, false, cond, List, [], ◌∷◌, ◌++◌, length, map, All, Option, Some, None, decimal, codes, unwrap_or, ap, arith}
+use Rattle.std.proofs.Common.{◌≡◌, ℕ, ◌+◌, ◌*◌, ◌^◌, ◌<◌, ◌≤◌, Bool, true, false, cond, List, []}
+use Rattle.std.proofs.Common.{◌∷◌, ◌++◌, length, map, All, Option, Some, None, decimal, codes}
+use Rattle.std.proofs.Common.{unwrap_or, ap, arith}
 use Rattle.std.specs.Prelude.{IfSome, ◌==◌, nat_le}
 use Rattle.std.specs.List.{range_with_len, join_with_byte, list_all}
 use Rattle.std.proofs.lemmas.Bool.{and_parts, eqb-true}
@@ -12,7 +14,8 @@ use Rattle.sync_types.specs.declared.states.Reg.{Reg}
 use Rattle.construction.specs.Plans.{Level, Plan, plan_nodes, plan_depth, low_of}
 use Rattle.construction.specs.Shown.{shown}
 use Rattle.construction.specs.Steps.{state_of}
-use Rattle.construction.specs.Runs.{is_in, IsNumber, IsRegister, HasRegisters, IsState, IsConfiguration, IsBorne}
+use Rattle.construction.specs.Runs.{is_in, IsNumber, IsRegister, HasRegisters, IsState}
+use Rattle.construction.specs.Runs.{IsConfiguration, IsBorne}
 use Rattle.plan_numbers.specs.Numbers.{below_of}
 use Rattle.plan_numbers.specs.Premises.{IsAccepted, LevelsAccepted, first_premise}
 use Rattle.plan_numbers.proofs.Accepted.{meets, accepted_sized}
@@ -22,7 +25,9 @@ use Rattle.state_codec.specs.Texts.{is_state_text, is_lower_digit}
 use Rattle.round_runner.proofs.Places.{each}
 use Rattle.run_certificates.proofs.Live.{few_bits}
 use Rattle.run_certificates.specs.NodeFields.{fields_of}
-use Rattle.run_certificates.specs.Items.{IsShort, HasLine, row_word, run_item, base_item, level_item, faulty_item, start_item, row_item, lie_item, era_item}
+use Rattle.run_certificates.specs.Items.{IsShort, HasLine, row_word, run_item, base_item}
+use Rattle.run_certificates.specs.Items.{level_item, faulty_item, start_item, row_item, lie_item}
+use Rattle.run_certificates.specs.Items.{era_item}
 use Rattle.run_certificates.specs.Certificates.{spares_said, level_of}
 use Rattle.run_certificates.specs.Stated.{Stand, shown_row}
 

@@ -1,5 +1,7 @@
 -- The first locked configuration of the last era, in what is recorded and in what is played.
-use Rattle.std.proofs.Common.{◌≡◌, ℕ, zero, suc, ◌+◌, ◌<◌, ◌≤◌, Bool, true, false, cond, not, ◌&&◌, List, [], ◌∷◌, length, map, All, Option, Some, None, is_some, filter, add-one, refl, sym, ap, subst, ◌∙◌, arith}
+use Rattle.std.proofs.Common.{◌≡◌, ℕ, zero, suc, ◌+◌, ◌<◌, ◌≤◌, Bool, true, false, cond, not, ◌&&◌}
+use Rattle.std.proofs.Common.{List, [], ◌∷◌, length, map, All, Option, Some, None, is_some, filter}
+use Rattle.std.proofs.Common.{add-one, refl, sym, ap, subst, ◌∙◌, arith}
 use Rattle.std.specs.Prelude.{◌-◌}
 use Rattle.std.specs.List.{range_with_len}
 use Rattle.std.proofs.lemmas.Bool.{eq-eqb, ne_eqb, le-leb, not-true}
@@ -15,13 +17,16 @@ use Rattle.adversary_script.specs.Scripts as scripts
 use Rattle.adversary_script.specs.Scripts.{Script}
 use Rattle.adversary_script.specs.Eras.{era_of, faulty_at}
 use Rattle.round_runner.specs.Laws.{IsReadFor}
-use Rattle.round_runner.specs.Locks.{are_locked, is_locked, is_locked_in, first_of, first_locked, era_locked}
+use Rattle.round_runner.specs.Locks.{are_locked, is_locked, is_locked_in, first_of, first_locked}
+use Rattle.round_runner.specs.Locks.{era_locked}
 use Rattle.round_runner.specs.Played.{played_at}
 use Rattle.run_certificates.specs.declared.Verdict.TheVariants as verdict
 use Rattle.run_certificates.specs.Certificates.{Turn}
-use Rattle.run_certificates.specs.Stated.{Stand, stand_behind, stands_behind, first_stand, locks_at, verdict_by, verdict_of}
+use Rattle.run_certificates.specs.Stated.{Stand, stand_behind, stands_behind, first_stand, locks_at}
+use Rattle.run_certificates.specs.Stated.{verdict_by, verdict_of}
 use Rattle.run_certificates.specs.Recorded.{stand_at, era_with, era_at, turn_at, certificate_of}
-use Rattle.run_certificates.proofs.EraBegins.{begun, begun_more, same_begun, begins_more, begun_grows}
+use Rattle.run_certificates.proofs.EraBegins.{begun, begun_more, same_begun, begins_more}
+use Rattle.run_certificates.proofs.EraBegins.{begun_grows}
 use Rattle.run_certificates.proofs.RecordedTrue.{Agrees, agree_first, agree_next, no_difference}
 use Rattle.run_certificates.proofs.Verdicts.{lock_over, locks_are}
 

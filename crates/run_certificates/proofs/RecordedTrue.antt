@@ -1,5 +1,8 @@
 -- The run that a recorded certificate states agrees with the played one at correct nodes.
-use Rattle.std.proofs.Common.{inl, inr, ⊎_elim, ◌≡◌, ◌⊎◌, ℕ, zero, suc, ◌+◌, ◌<◌, Bool, true, false, cond, eqb, not, ◌&&◌, ◌||◌, List, [], ◌∷◌, ◌++◌, length, map, set, Option, Some, None, find, unwrap_or, is_some, filter, refl, sym, ap, subst, ◌∙◌, arith}
+use Rattle.std.proofs.Common.{inl, inr, ⊎_elim, ◌≡◌, ◌⊎◌, ℕ, zero, suc, ◌+◌, ◌<◌, Bool, true, false}
+use Rattle.std.proofs.Common.{cond, eqb, not, ◌&&◌, ◌||◌, List, [], ◌∷◌, ◌++◌, length, map, set}
+use Rattle.std.proofs.Common.{Option, Some, None, find, unwrap_or, is_some, filter, refl, sym, ap}
+use Rattle.std.proofs.Common.{subst, ◌∙◌, arith}
 use Rattle.std.specs.Option.{option_map}
 use Rattle.std.specs.List.{range_with_len, flat_map, list_any}
 use Rattle.std.proofs.lemmas.Bool.{and_from, and_parts, eqb-true, eq-eqb, or_cases, true≢false}
@@ -27,8 +30,12 @@ use Rattle.state_codec.proofs.Digits.{text_reads_back}
 use Rattle.round_runner.specs.Locks.{correct_nodes}
 use Rattle.run_certificates.specs.Certificates.{Put}
 use Rattle.run_certificates.specs.Grammar.{pairs_of, faulty_behind}
-use Rattle.run_certificates.specs.Stated.{Stand, Told, told_by, told_of, lies_table, unless_faulty, with_starts, starts_of, stepped, stand_behind, stands_behind, first_stand, shown_row, same_rows, differences, first_from, first_difference}
-use Rattle.run_certificates.specs.Recorded.{stand_at, put_at, lie_at, is_put, era_with, turn_at, certificate_of}
+use Rattle.run_certificates.specs.Stated.{Stand, Told, told_by, told_of, lies_table, unless_faulty}
+use Rattle.run_certificates.specs.Stated.{with_starts, starts_of, stepped, stand_behind}
+use Rattle.run_certificates.specs.Stated.{stands_behind, first_stand, shown_row, same_rows}
+use Rattle.run_certificates.specs.Stated.{differences, first_from, first_difference}
+use Rattle.run_certificates.specs.Recorded.{stand_at, put_at, lie_at, is_put, era_with, turn_at}
+use Rattle.run_certificates.specs.Recorded.{certificate_of}
 use Rattle.std.specs.Prelude.{slice_index_or}
 use Rattle.std.proofs.lemmas.List.{same_lists}
 use Rattle.std.proofs.lemmas.List.Folds.{list_any_at}

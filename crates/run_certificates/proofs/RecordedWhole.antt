@@ -1,10 +1,13 @@
 -- What is recorded of a script is a certificate.
-use Rattle.std.proofs.Common.{◌≡◌, ℕ, zero, suc, ◌+◌, ◌^◌, ◌<◌, ◌≤◌, Bool, true, false, cond, not, List, [], ◌∷◌, ◌++◌, length, map, reverse, All, Option, Some, None, is_some, filter, refl, sym, ap, subst, ◌∙◌, arith}
+use Rattle.std.proofs.Common.{◌≡◌, ℕ, zero, suc, ◌+◌, ◌^◌, ◌<◌, ◌≤◌, Bool, true, false, cond, not}
+use Rattle.std.proofs.Common.{List, [], ◌∷◌, ◌++◌, length, map, reverse, All, Option, Some, None}
+use Rattle.std.proofs.Common.{is_some, filter, refl, sym, ap, subst, ◌∙◌, arith}
 use Rattle.std.specs.Prelude.{◌==◌}
 use Rattle.std.specs.List.{range_with_len}
 use Rattle.std.proofs.lemmas.Bool.{eqb-true, eqb-false}
 use Rattle.std.proofs.lemmas.List.{length-map}
-use Rattle.std.proofs.lemmas.List.Elements.{All-nil, All-cons, All-head, All-tail, All-append, All-map, All-filter, All-push}
+use Rattle.std.proofs.lemmas.List.Elements.{All-nil, All-cons, All-head, All-tail, All-append}
+use Rattle.std.proofs.lemmas.List.Elements.{All-map, All-filter, All-push}
 use mathlib.Core.List.{reverse-cons}
 use Rattle.std.proofs.lemmas.List.FromFn.{length-range_with_len}
 use Rattle.std.proofs.lemmas.List.Sums.{sum_by-cons}
@@ -19,15 +22,21 @@ use Rattle.round_runner.specs.Laws.{IsReadFor}
 use Rattle.round_runner.specs.Locks.{correct_nodes}
 use Rattle.round_runner.proofs.Firsts.{era_within}
 use Rattle.run_certificates.specs.NodeFields.{fields_of}
-use Rattle.run_certificates.specs.Items.{HasLine, run_item, base_item, faulty_item, era_item, end_item, row_item}
-use Rattle.run_certificates.specs.Certificates.{Turn, level_of, start_of, lie_of, era_items, turns_items, items_of}
-use Rattle.run_certificates.specs.Grammar.{pairs_of, plan_version, most_eras, era_count, IsCertificate}
-use Rattle.run_certificates.specs.Recorded.{HasItsEras, RecordsAreTrue, stand_at, put_at, lie_at, is_put, puts_at, era_with, era_at, turn_at, certificate_of}
+use Rattle.run_certificates.specs.Items.{HasLine, run_item, base_item, faulty_item, era_item}
+use Rattle.run_certificates.specs.Items.{end_item, row_item}
+use Rattle.run_certificates.specs.Certificates.{Turn, level_of, start_of, lie_of, era_items}
+use Rattle.run_certificates.specs.Certificates.{turns_items, items_of}
+use Rattle.run_certificates.specs.Grammar.{pairs_of, plan_version, most_eras, era_count}
+use Rattle.run_certificates.specs.Grammar.{IsCertificate}
+use Rattle.run_certificates.specs.Recorded.{HasItsEras, RecordsAreTrue, stand_at, put_at, lie_at}
+use Rattle.run_certificates.specs.Recorded.{is_put, puts_at, era_with, era_at, turn_at}
+use Rattle.run_certificates.specs.Recorded.{certificate_of}
 use Rattle.run_certificates.proofs.EraBegins.{same_begun, begins_more, found_faulty}
 use Rattle.run_certificates.proofs.PlayedStates.{played_is, borne_at}
 use Rattle.run_certificates.proofs.Live.{AreIds, pairs_are_ids, below_range}
 use Rattle.run_certificates.proofs.RecordedIs.{first_starts, row_is, turns_are}
-use Rattle.run_certificates.proofs.RecordedLines.{run_line, base_line, levels_lines, faulty_line, era_line, start_line, lie_line, shown_row_line}
+use Rattle.run_certificates.proofs.RecordedLines.{run_line, base_line, levels_lines, faulty_line}
+use Rattle.run_certificates.proofs.RecordedLines.{era_line, start_line, lie_line, shown_row_line}
 use Rattle.run_certificates.proofs.RecordedLock.{recorded_verdict}
 
 turned_round : (P : Level → Type 0) (levels : List Level) → All P levels → All P (reverse levels)

@@ -1,14 +1,20 @@
 -- What is read to a verdict is written of a value.
-use Rattle.std.proofs.Common.{inl, inr, ◌≡◌, ℕ, ◌+◌, ◌⊎◌, Bool, true, false, cond, List, [], ◌∷◌, ◌++◌, map, Option, Some, None, refl, ap, subst, ◌∙◌}
+use Rattle.std.proofs.Common.{inl, inr, ◌≡◌, ℕ, ◌+◌, ◌⊎◌, Bool, true, false, cond, List, [], ◌∷◌}
+use Rattle.std.proofs.Common.{◌++◌, map, Option, Some, None, refl, ap, subst, ◌∙◌}
 use Rattle.std.specs.Prelude.{⊤}
 use Rattle.std.proofs.lemmas.Bool.{and_parts, eqb-true}
 use Rattle.texts.specs.Parts.{goes}
 use Rattle.sync_types.specs.States.{State}
 use Rattle.run_certificates.specs.declared.Verdict.{Verdict}
 use Rattle.run_certificates.specs.Items.{Item, start_item, row_item, lie_item, era_item, end_item}
-use Rattle.run_certificates.specs.Certificates.{Put, Lie, Era, Turn, start_of, lie_of, era_items, turns_items}
-use Rattle.run_certificates.specs.Checking.{Known, Stage, unread, begun, planned, putting, telling, refused, accepts, put_state, start_fits, row_fits, first_row_fits, compared, moved, lie_fits, era_fits, renewed, next_row_fits, verdict_now}
-use Rattle.run_certificates.proofs.Complete.{following, put_all, PutsPass, lie_state, LiesPass, all_lies, BehindPass, behind, TurnsPass, followed}
+use Rattle.run_certificates.specs.Certificates.{Put, Lie, Era, Turn, start_of, lie_of, era_items}
+use Rattle.run_certificates.specs.Certificates.{turns_items}
+use Rattle.run_certificates.specs.Checking.{Known, Stage, unread, begun, planned, putting, telling}
+use Rattle.run_certificates.specs.Checking.{refused, accepts, put_state, start_fits, row_fits}
+use Rattle.run_certificates.specs.Checking.{first_row_fits, compared, moved, lie_fits, era_fits}
+use Rattle.run_certificates.specs.Checking.{renewed, next_row_fits, verdict_now}
+use Rattle.run_certificates.proofs.Complete.{following, put_all, PutsPass, lie_state, LiesPass}
+use Rattle.run_certificates.proofs.Complete.{all_lies, BehindPass, behind, TurnsPass, followed}
 
 -- a step that is followed to a verdict passed its test
 pub passed : (b : Bool) (s : Stage) (items : List Item) (v : Verdict) → following (cond b (goes s) refused) items ≡ Some v → (b ≡ true) × (accepts s items ≡ Some v)

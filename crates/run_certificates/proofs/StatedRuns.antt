@@ -1,5 +1,7 @@
 -- Stretches of the stated run are runs of the plan.
-use Rattle.std.proofs.Common.{inl, inr, ◌≡◌, ℕ, zero, suc, ◌+◌, ◌<◌, Bool, true, false, cond, eqb, ◌&&◌, List, [], ◌∷◌, length, map, set, All, Option, Some, None, find, unwrap_or, refl, sym, ap, subst, ◌∙◌, arith}
+use Rattle.std.proofs.Common.{inl, inr, ◌≡◌, ℕ, zero, suc, ◌+◌, ◌<◌, Bool, true, false, cond, eqb}
+use Rattle.std.proofs.Common.{◌&&◌, List, [], ◌∷◌, length, map, set, All, Option, Some, None, find}
+use Rattle.std.proofs.Common.{unwrap_or, refl, sym, ap, subst, ◌∙◌, arith}
 use Rattle.std.specs.Prelude.{IfSome, slice_index_or}
 use Rattle.std.proofs.lemmas.Bool.{and_parts, eqb-true, cases_eq}
 use Rattle.std.specs.Option.{option_map}
@@ -10,7 +12,8 @@ use Rattle.std.proofs.lemmas.List.FromFn.{length-map-range_with_len, get_or-map-
 use Rattle.sync_types.specs.States.{State, zero_state}
 use Rattle.construction.specs.Plans.{Plan, plan_nodes, plan_depth}
 use Rattle.construction.specs.Steps.{state_of, step_of}
-use Rattle.construction.specs.Runs.{is_in, IsState, IsConfiguration, IsTold, IsTable, Round, IsNext, Run, configuration, heard_by}
+use Rattle.construction.specs.Runs.{is_in, IsState, IsConfiguration, IsTold, IsTable, Round, IsNext}
+use Rattle.construction.specs.Runs.{Run, configuration, heard_by}
 use Rattle.construction.proofs.Ranges.{step_is_state}
 use Rattle.plan_numbers.specs.Premises.{IsAccepted}
 use Rattle.plan_laws.proofs.PlanCounter.{positive}
@@ -24,7 +27,9 @@ use Rattle.state_codec.proofs.Ranged.{zero_in_range, read_is_in_range}
 use Rattle.round_runner.proofs.Places.{each, placed}
 use Rattle.run_certificates.specs.Certificates.{Put, Lie, Era, Turn}
 use Rattle.run_certificates.specs.Grammar.{faulty_behind}
-use Rattle.run_certificates.specs.Stated.{Stand, Told, told_by, told_of, lies_table, unless_faulty, with_starts, starts_of, stepped, stand_behind, first_stand, stands_behind}
+use Rattle.run_certificates.specs.Stated.{Stand, Told, told_by, told_of, lies_table, unless_faulty}
+use Rattle.run_certificates.specs.Stated.{with_starts, starts_of, stepped, stand_behind}
+use Rattle.run_certificates.specs.Stated.{first_stand, stands_behind}
 use Rattle.run_certificates.specs.Laws.{AreQuiet, stand_after, StretchesAreRuns}
 
 found_by : {X : Type 0} (P : X → Type 0) (p : X → Bool) (b : Bool) (x : X) (more : Option X) → p x ≡ b → P x

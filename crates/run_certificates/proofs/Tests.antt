@@ -1,10 +1,13 @@
 -- A certificate, as it is declared and as it is tested item by item.
-use Rattle.std.proofs.Common.{◌≡◌, ℕ, zero, suc, ◌+◌, ◌<◌, ◌≤◌, Bool, true, false, cond, not, List, [], ◌∷◌, ◌++◌, length, map, drop, get_or, Option, Some, None, refl, sym, ap, subst, ◌∙◌, arith}
+use Rattle.std.proofs.Common.{◌≡◌, ℕ, zero, suc, ◌+◌, ◌<◌, ◌≤◌, Bool, true, false, cond, not, List}
+use Rattle.std.proofs.Common.{[], ◌∷◌, ◌++◌, length, map, drop, get_or, Option, Some, None, refl}
+use Rattle.std.proofs.Common.{sym, ap, subst, ◌∙◌, arith}
 use Rattle.std.specs.Prelude.{All, IfSome}
 use Rattle.std.specs.Option.{is_some}
 use Rattle.std.specs.List.{range_with_len}
 use Rattle.std.specs.List.Sorted.{IsStrictlyIncreasing}
-use Rattle.std.proofs.lemmas.Bool.{and_parts, and_from, leb-true, ltb-true, le-leb, lt-ltb, eqb-true, eq-eqb, not-true}
+use Rattle.std.proofs.lemmas.Bool.{and_parts, and_from, leb-true, ltb-true, le-leb, lt-ltb}
+use Rattle.std.proofs.lemmas.Bool.{eqb-true, eq-eqb, not-true}
 use Rattle.std.proofs.lemmas.List.{length_push, drop-drop, drop_all, length-map}
 use Rattle.std.proofs.lemmas.List.Elements.{All-nil, All-cons, All-head, All-tail}
 use Rattle.std.proofs.lemmas.List.Sums.{sum_by-cons}
@@ -15,9 +18,12 @@ use Rattle.run_certificates.specs.NodeFields.{fields_of}
 use Rattle.state_codec.specs.Texts.{is_state_text}
 use Rattle.adversary_script.specs.WordTests.{are_below, is_rising}
 use Rattle.run_certificates.specs.Certificates.{Put, Lie, Era, Turn}
-use Rattle.run_certificates.specs.Grammar.{pairs_of, faulty_behind, AreTurns, IsEra, IsRow, most_eras, era_count}
-use Rattle.run_certificates.specs.Checking.{Known, put_state, same_marks, is_row, is_next, has_round, all_told, renewed, is_borne}
-use Rattle.run_certificates.proofs.Complete.{put_all, PutsPass, lie_state, LiesPass, all_lies, BehindPass, behind, TurnsPass, at_behind}
+use Rattle.run_certificates.specs.Grammar.{pairs_of, faulty_behind, AreTurns, IsEra, IsRow}
+use Rattle.run_certificates.specs.Grammar.{most_eras, era_count}
+use Rattle.run_certificates.specs.Checking.{Known, put_state, same_marks, is_row, is_next}
+use Rattle.run_certificates.specs.Checking.{has_round, all_told, renewed, is_borne}
+use Rattle.run_certificates.proofs.Complete.{put_all, PutsPass, lie_state, LiesPass, all_lies}
+use Rattle.run_certificates.proofs.Complete.{BehindPass, behind, TurnsPass, at_behind}
 use Rattle.run_certificates.proofs.Starts.{AllFit, starts_fit, starts_declared}
 
 -- ---- rows

@@ -1,5 +1,7 @@
 -- In a certificate that is true, the rows of a stretch count.
-use Rattle.std.proofs.Common.{◌≡◌, ℕ, zero, suc, ◌+◌, ◌<◌, ◌≤◌, Bool, true, false, cond, eqb, not, List, [], ◌∷◌, ◌++◌, length, map, get_or, Option, Some, None, refl, sym, ap, subst, ◌∙◌, arith}
+use Rattle.std.proofs.Common.{◌≡◌, ℕ, zero, suc, ◌+◌, ◌<◌, ◌≤◌, Bool, true, false, cond, eqb, not}
+use Rattle.std.proofs.Common.{List, [], ◌∷◌, ◌++◌, length, map, get_or, Option, Some, None, refl}
+use Rattle.std.proofs.Common.{sym, ap, subst, ◌∙◌, arith}
 use Rattle.std.specs.Prelude.{IfSome}
 use Rattle.std.specs.Option.{option_eq}
 use Rattle.std.specs.List.{range_with_len}
@@ -14,7 +16,9 @@ use Rattle.plan_laws.specs.Laws.{EveryPlanSettles}
 use Rattle.run_certificates.specs.declared.Verdict.TheVariants as verdict
 use Rattle.run_certificates.specs.Certificates.{Era, Turn, Certificate}
 use Rattle.run_certificates.specs.Grammar.{AreTurns, IsEra, faulty_behind}
-use Rattle.run_certificates.specs.Stated.{Stand, stand_behind, first_stand, stands_behind, stated, shown_row, rows_of, same_rows, differences, first_from, first_difference, verdict_by, verdict_of}
+use Rattle.run_certificates.specs.Stated.{Stand, stand_behind, first_stand, stands_behind, stated}
+use Rattle.run_certificates.specs.Stated.{shown_row, rows_of, same_rows, differences, first_from}
+use Rattle.run_certificates.specs.Stated.{first_difference, verdict_by, verdict_of}
 use Rattle.run_certificates.specs.Laws.{AreQuiet, stand_after, TrueRowsCount}
 use Rattle.run_certificates.proofs.StatedRuns.{stretches_are_runs}
 

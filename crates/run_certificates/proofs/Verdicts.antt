@@ -1,5 +1,7 @@
 -- The verdict that is kept on the way is that of the stated run.
-use Rattle.std.proofs.Common.{◌≡◌, ℕ, zero, suc, ◌+◌, ◌-◌, ◌≤◌, Bool, true, false, cond, not, ◌||◌, List, [], ◌∷◌, ◌++◌, length, map, drop, Option, Some, None, refl, sym, ap, ◌∙◌, append_assoc, arith}
+use Rattle.std.proofs.Common.{◌≡◌, ℕ, zero, suc, ◌+◌, ◌-◌, ◌≤◌, Bool, true, false, cond, not, ◌||◌}
+use Rattle.std.proofs.Common.{List, [], ◌∷◌, ◌++◌, length, map, drop, Option, Some, None, refl, sym}
+use Rattle.std.proofs.Common.{ap, ◌∙◌, append_assoc, arith}
 use Rattle.std.specs.List.{list_any, zip}
 use Rattle.std.specs.Option.{is_some}
 use Rattle.std.proofs.lemmas.List.{append-nil}
@@ -9,9 +11,15 @@ use Rattle.round_runner.specs.Locks.{is_locked, first_of}
 use Rattle.run_certificates.specs.declared.Verdict.{Verdict}
 use Rattle.run_certificates.specs.Certificates.{Put, Lie, Era, Turn, Certificate}
 use Rattle.run_certificates.specs.Grammar.{pairs_of, IsCertificate, AreTurns}
-use Rattle.run_certificates.specs.Stated.{Stand, Told, told_by, stepped, with_starts, stand_behind, first_stand, stands_behind, stated, shown_row, same_rows, differences, first_from, first_difference, begins_at, last_start_from, last_start, locks_at, verdict_by, verdict_of}
-use Rattle.run_certificates.specs.Checking.{Known, put_state, compared, moved, renewed, attributed, nothing_known}
-use Rattle.run_certificates.proofs.Complete.{put_all, all_lies, lie_state, behind, turned, followed, at_put_all, at_behind}
+use Rattle.run_certificates.specs.Stated.{Stand, Told, told_by, stepped, with_starts, stand_behind}
+use Rattle.run_certificates.specs.Stated.{first_stand, stands_behind, stated, shown_row, same_rows}
+use Rattle.run_certificates.specs.Stated.{differences, first_from, first_difference, begins_at}
+use Rattle.run_certificates.specs.Stated.{last_start_from, last_start, locks_at, verdict_by}
+use Rattle.run_certificates.specs.Stated.{verdict_of}
+use Rattle.run_certificates.specs.Checking.{Known, put_state, compared, moved, renewed, attributed}
+use Rattle.run_certificates.specs.Checking.{nothing_known}
+use Rattle.run_certificates.proofs.Complete.{put_all, all_lies, lie_state, behind, turned, followed}
+use Rattle.run_certificates.proofs.Complete.{at_put_all, at_behind}
 use Rattle.run_certificates.proofs.Tests.{pair_of, plan_put_all, plan_behind}
 use Rattle.run_certificates.proofs.Head.{opened}
 

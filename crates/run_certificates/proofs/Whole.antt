@@ -1,11 +1,13 @@
 -- The answer to a whole text.
-use Rattle.std.proofs.Common.{◌≡◌, ℕ, zero, suc, ◌+◌, List, [], ◌∷◌, ◌++◌, length, map, Option, Some, None, Result, Ok, Err, refl, sym, ap, ◌∙◌, arith}
+use Rattle.std.proofs.Common.{◌≡◌, ℕ, zero, suc, ◌+◌, List, [], ◌∷◌, ◌++◌, length, map, Option}
+use Rattle.std.proofs.Common.{Some, None, Result, Ok, Err, refl, sym, ap, ◌∙◌, arith}
 use Rattle.std.specs.Prelude.{All}
 use Rattle.std.proofs.lemmas.List.Elements.{All-nil, All-cons, All-head, All-tail}
 use Rattle.texts.specs.Parts.{goes, ends, refuses, Found, At, part_from}
 use Rattle.run_certificates.specs.declared.Verdict.{Verdict}
 use Rattle.run_certificates.specs.Items.{Item, HasLine, item_line, said}
-use Rattle.run_certificates.specs.Checking.{Stage, Onward, step, step_by, line_step, accepts, at_end}
+use Rattle.run_certificates.specs.Checking.{Stage, Onward, step, step_by, line_step, accepts}
+use Rattle.run_certificates.specs.Checking.{at_end}
 use Rattle.run_certificates.proofs.Lexical.{said_there, said_back}
 use Rattle.run_certificates.proofs.Complete.{following}
 

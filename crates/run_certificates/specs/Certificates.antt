@@ -1,8 +1,11 @@
 -- A run certificate as a value, and its text.
-use Rattle.std.specs.Prelude.{ℕ, ◌+◌, List, [], ◌∷◌, ◌++◌, map, reverse, Option, Some, None, ◌==◌, if◌then◌else◌}
+use Rattle.std.specs.Prelude.{ℕ, ◌+◌, List, [], ◌∷◌, ◌++◌, map, reverse, Option, Some, None, ◌==◌}
+use Rattle.std.specs.Prelude.{if◌then◌else◌}
 use Rattle.construction.specs.Plans.{Level, Plan}
 use Rattle.texts.specs.Words.{text_of}
-use Rattle.run_certificates.specs.Items.{Item, run_item, base_item, level_item, faulty_item, start_item, row_item, lie_item, era_item, end_item, item_line}
+use Rattle.run_certificates.specs.Items.{Item, run_item, base_item, level_item, faulty_item}
+use Rattle.run_certificates.specs.Items.{start_item, row_item, lie_item, era_item, end_item}
+use Rattle.run_certificates.specs.Items.{item_line}
 
 -- a node is put into the state of these hex digits
 pub record Put : Type 0 where

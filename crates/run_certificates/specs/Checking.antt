@@ -1,5 +1,7 @@
 -- A certificate is checked line by line. One configuration is kept, and what was told in one round.
-use Rattle.std.specs.Prelude.{ℕ, ◌+◌, ◌-◌, ◌&&◌, nat_le, nat_lt, nat_eq, ◌==◌, List, [], ◌∷◌, ◌++◌, length, map, drop, Bool, true, false, not, Option, Some, None, unwrap_or, Result, Ok, Err, slice_set, if◌then◌else◌}
+use Rattle.std.specs.Prelude.{ℕ, ◌+◌, ◌-◌, ◌&&◌, nat_le, nat_lt, nat_eq, ◌==◌, List, [], ◌∷◌, ◌++◌}
+use Rattle.std.specs.Prelude.{length, map, drop, Bool, true, false, not, Option, Some, None}
+use Rattle.std.specs.Prelude.{unwrap_or, Result, Ok, Err, slice_set, if◌then◌else◌}
 use Rattle.std.specs.Option.{is_some}
 use Rattle.std.specs.List.{range_with_len, list_any, zip}
 use Rattle.texts.specs.Parts.{Next, goes, ends, refuses, Found, At, part_from}
@@ -15,9 +17,11 @@ use Rattle.round_runner.specs.Locks.{is_locked, first_of}
 use Rattle.run_certificates.specs.declared.Verdict.{Verdict}
 use Rattle.texts.specs.Lines.{whole_lines}
 use Rattle.texts.specs.Words.{open_rest}
-use Rattle.run_certificates.specs.Items.{Item, run_item, base_item, level_item, faulty_item, start_item, row_item, lie_item, era_item, end_item, said}
+use Rattle.run_certificates.specs.Items.{Item, run_item, base_item, level_item, faulty_item}
+use Rattle.run_certificates.specs.Items.{start_item, row_item, lie_item, era_item, end_item, said}
 use Rattle.run_certificates.specs.Grammar.{pairs_of, plan_version, most_eras}
-use Rattle.run_certificates.specs.Stated.{Stand, Told, stepped, unless_faulty, shown_row, same_rows, verdict_by}
+use Rattle.run_certificates.specs.Stated.{Stand, Told, stepped, unless_faulty, shown_row, same_rows}
+use Rattle.run_certificates.specs.Stated.{verdict_by}
 
 -- Configuration `at` of the stated run, and what its rows came to before it: how many eras have
 -- begun behind rounds, the first row that differs, and the first locked configuration of the era.

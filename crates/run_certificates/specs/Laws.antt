@@ -1,5 +1,6 @@
 -- What holds of the answer to every text.
-use Rattle.std.specs.Prelude.{◌≡◌, ℕ, ◌+◌, ◌%◌, ◌≤◌, List, [], ◌∷◌, ◌++◌, length, map, All, Option, Some, None, Result, Ok, Err, slice_index_or, if◌then◌else◌}
+use Rattle.std.specs.Prelude.{◌≡◌, ℕ, ◌+◌, ◌%◌, ◌≤◌, List, [], ◌∷◌, ◌++◌, length, map, All, Option}
+use Rattle.std.specs.Prelude.{Some, None, Result, Ok, Err, slice_index_or, if◌then◌else◌}
 use Rattle.std.specs.List.{range_with_len}
 use Rattle.construction.specs.Plans.{Plan, plan_nodes, plan_bound, plan_modulus}
 use Rattle.construction.specs.Runs.{is_in, Run}
@@ -8,7 +9,8 @@ use Rattle.run_certificates.specs.declared.Verdict.TheVariants as verdict
 use Rattle.texts.specs.Lines.{whole_lines}
 use Rattle.run_certificates.specs.Certificates.{Turn, Certificate, certificate_text}
 use Rattle.run_certificates.specs.Grammar.{IsCertificate, AreFirstLines}
-use Rattle.run_certificates.specs.Stated.{Stand, stand_behind, first_stand, stands_behind, rows_of, verdict_of}
+use Rattle.run_certificates.specs.Stated.{Stand, stand_behind, first_stand, stands_behind, rows_of}
+use Rattle.run_certificates.specs.Stated.{verdict_of}
 use Rattle.run_certificates.specs.Checking.{checked}
 
 -- the text is that of a certificate, which comes to this verdict

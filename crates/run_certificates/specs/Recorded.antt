@@ -1,5 +1,6 @@
 -- The certificate of a script's run.
-use Rattle.std.specs.Prelude.{◌≡◌, ℕ, ◌+◌, ◌==◌, ◌&&◌, ◌||◌, List, [], map, filter, length, Bool, not, Option, Some, None, find, is_some, if◌then◌else◌}
+use Rattle.std.specs.Prelude.{◌≡◌, ℕ, ◌+◌, ◌==◌, ◌&&◌, ◌||◌, List, [], map, filter, length, Bool}
+use Rattle.std.specs.Prelude.{not, Option, Some, None, find, is_some, if◌then◌else◌}
 use Rattle.std.specs.List.{range_with_len}
 use Rattle.construction.specs.Plans.{Plan, plan_nodes}
 use Rattle.construction.specs.Steps.{state_of}

@@ -1,5 +1,7 @@
 -- The run that a certificate states, and whether its rows are those of that run.
-use Rattle.std.specs.Prelude.{ℕ, ◌+◌, ◌==◌, ◌&&◌, List, [], ◌∷◌, length, map, drop, Bool, true, false, not, Option, Some, None, unwrap_or, find, nat_eq, slice_set, if◌then◌else◌}
+use Rattle.std.specs.Prelude.{ℕ, ◌+◌, ◌==◌, ◌&&◌, List, [], ◌∷◌, length, map, drop, Bool, true}
+use Rattle.std.specs.Prelude.{false, not, Option, Some, None, unwrap_or, find, nat_eq, slice_set}
+use Rattle.std.specs.Prelude.{if◌then◌else◌}
 use Rattle.std.specs.Option.{option_map, option_eq}
 use Rattle.std.specs.List.{range_with_len}
 use Rattle.sync_types.specs.States.{State, zero_state}

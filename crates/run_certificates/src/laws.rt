@@ -1,6 +1,7 @@
 //! The laws of certificates. Each function is empty: its clauses are the law.
 
-ghost use Rattle.run_certificates.specs.Laws.{TextsAreChecked, CertificatesAreChecked, StretchesAreRuns, TrueRowsCount};
+ghost use Rattle.run_certificates.specs.Laws.{TextsAreChecked, CertificatesAreChecked};
+ghost use Rattle.run_certificates.specs.Laws.{StretchesAreRuns, TrueRowsCount};
 ghost use Rattle.run_certificates.specs.Recorded.{RecordedRowsAreTrue, RecordsAreTrue};
 
 use plan_laws::laws::every_plan_settles;

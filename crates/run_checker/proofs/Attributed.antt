@@ -1,5 +1,6 @@
 -- What is told by the order of the pairs is what the statements attribute.
-use Rattle.std.proofs.Common.{◌≡◌, ℕ, Bool, true, false, cond, eqb, ◌&&◌, List, [], ◌∷◌, map, Some, find, unwrap_or, refl, sym, ap, ap₂, ◌∙◌}
+use Rattle.std.proofs.Common.{◌≡◌, ℕ, Bool, true, false, cond, eqb, ◌&&◌, List, [], ◌∷◌, map, Some}
+use Rattle.std.proofs.Common.{find, unwrap_or, refl, sym, ap, ap₂, ◌∙◌}
 use Rattle.std.specs.Option.{option_map}
 use Rattle.std.specs.List.{range_with_len, zip}
 use Rattle.sync_types.specs.States.{State, zero_state}

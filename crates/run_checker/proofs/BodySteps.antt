@@ -1,19 +1,22 @@
 -- What the lines of eras and rows do.
-use Rattle.std.proofs.Common.{◌≡◌, ℕ, Bool, true, false, cond, ◌&&◌, eqb, List, [], Option, Some, None, Ok, Err, refl, sym, ap, ◌∙◌}
+use Rattle.std.proofs.Common.{◌≡◌, ℕ, Bool, true, false, cond, ◌&&◌, eqb, List, [], Option, Some}
+use Rattle.std.proofs.Common.{None, Ok, Err, refl, sym, ap, ◌∙◌}
 use Rattle.std.proofs.lemmas.Option.{same_Some}
 use Rattle.edge_io.specs.declared.taking.TakeError.TheVariants as take
 use Rattle.edge_io.specs.Taking.{Takes}
 use Rattle.texts.specs.Parts.{goes, ends, refuses}
 use Rattle.construction.specs.Plans.{plan_nodes, plan_faults, plan_depth}
 use Rattle.run_certificates.specs.Items.{row_item, era_item, era_by, row_by}
-use Rattle.run_certificates.specs.Checking.{Stage, Onward, putting, telling, refused, step, step_by, compared, renewed, is_borne, is_row, era_fits, row_fits}
+use Rattle.run_certificates.specs.Checking.{Stage, Onward, putting, telling, refused, step, step_by}
+use Rattle.run_certificates.specs.Checking.{compared, renewed, is_borne, is_row, era_fits, row_fits}
 use Rattle.run_checker.specs.Bodies.{BodySeen, stage_of}
 use Rattle.run_certificates.specs.Stated.{same_rows, shown_row}
 use Rattle.run_checker.specs.Sets.{borne_ids}
 use Rattle.run_checker.specs.Rows.{row_compared}
 use Rattle.run_checker.specs.declared.check_lines.Phase.{Phase}
 use Rattle.run_checker.specs.Phases.{phase_seen, Enters}
-use Rattle.run_checker.specs.Changes.{may_begin, era_more, played_into, marked_by, IsMarked, Marks, may_row, at_row}
+use Rattle.run_checker.specs.Changes.{may_begin, era_more, played_into, marked_by, IsMarked, Marks}
+use Rattle.run_checker.specs.Changes.{may_row, at_row}
 
 -- ---- what an answer says
 

@@ -1,5 +1,7 @@
 -- The text of a line, word by word.
-use Rattle.std.proofs.Common.{◌≡◌, ℕ, Bool, true, false, cond, List, [], ◌∷◌, ◌++◌, map, filter, decimal, codes, Option, Some, None, eqb, refl, sym, ap, ap₂, ◌∙◌, append_assoc, append-nil}
+use Rattle.std.proofs.Common.{◌≡◌, ℕ, Bool, true, false, cond, List, [], ◌∷◌, ◌++◌, map, filter}
+use Rattle.std.proofs.Common.{decimal, codes, Option, Some, None, eqb, refl, sym, ap, ap₂, ◌∙◌}
+use Rattle.std.proofs.Common.{append_assoc, append-nil}
 use Rattle.std.proofs.lemmas.Grind.{flat_map-append}
 use Rattle.std.specs.List.{concat, flat_map, range_with_len}
 use Rattle.sync_types.specs.States.{State}
@@ -8,9 +10,12 @@ use Rattle.construction.specs.Shown.{shown}
 use Rattle.construction.specs.Steps.{state_of}
 use Rattle.construction.specs.Runs.{is_in}
 use Rattle.texts.specs.Words.{joined, ended}
-use Rattle.run_certificates.specs.Items.{Item, run_item, base_item, level_item, faulty_item, start_item, row_item, lie_item, era_item, row_word, item_line}
+use Rattle.run_certificates.specs.Items.{Item, run_item, base_item, level_item, faulty_item}
+use Rattle.run_certificates.specs.Items.{start_item, row_item, lie_item, era_item, row_word}
+use Rattle.run_certificates.specs.Items.{item_line}
 use Rattle.run_certificates.specs.Certificates.{level_of}
-use Rattle.run_checker.specs.RunLines.{number_word, version_line, base_line, level_line, node_word, row_text, faulty_text, era_text}
+use Rattle.run_checker.specs.RunLines.{number_word, version_line, base_line, level_line, node_word}
+use Rattle.run_checker.specs.RunLines.{row_text, faulty_text, era_text}
 
 -- words, each with a space in front, to the end of a line
 abbrev pub spaced : List (List ℕ) → List ℕ

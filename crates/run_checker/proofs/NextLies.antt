@@ -1,5 +1,7 @@
 -- A line whose text is known but for its digits is that of the next lie.
-use Rattle.std.proofs.Common.{◌≡◌, ℕ, suc, zero, ◌<◌, Bool, true, false, cond, Option, Some, None, eqb, List, [], ◌∷◌, ◌++◌, length, drop, get_or, decimal, codes, All, refl, sym, ap, ◌∙◌, subst, append_assoc, arith}
+use Rattle.std.proofs.Common.{◌≡◌, ℕ, suc, zero, ◌<◌, Bool, true, false, cond, Option, Some, None}
+use Rattle.std.proofs.Common.{eqb, List, [], ◌∷◌, ◌++◌, length, drop, get_or, decimal, codes, All}
+use Rattle.std.proofs.Common.{refl, sym, ap, ◌∙◌, subst, append_assoc, arith}
 use Rattle.std.specs.Prelude.{IfSome}
 use Rattle.std.proofs.lemmas.Bool.{eq-eqb, and_from}
 use Rattle.std.proofs.lemmas.List.{get_or_default}
@@ -12,7 +14,8 @@ use Rattle.state_codec.specs.Shapes.{Shape}
 use Rattle.state_codec.specs.Texts.{is_state_text, read_text}
 use Rattle.run_certificates.specs.NodeFields.{fields_of}
 use Rattle.run_certificates.specs.Items.{HasLine, lie_item, item_line, item_words}
-use Rattle.run_certificates.specs.Checking.{Stage, telling, refused, step_by, line_step, has_round, is_next, lie_fits}
+use Rattle.run_certificates.specs.Checking.{Stage, telling, refused, step_by, line_step, has_round}
+use Rattle.run_certificates.specs.Checking.{is_next, lie_fits}
 use Rattle.run_certificates.proofs.Lexical.{item_is_words, said_there}
 use Rattle.run_certificates.proofs.Live.{pairs_are_ids}
 use Rattle.run_certificates.proofs.RecordedLines.{lie_line}

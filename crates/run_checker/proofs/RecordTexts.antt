@@ -1,5 +1,7 @@
 -- What is written of a script is the text of the certificate of its run.
-use Rattle.std.proofs.Common.{◌≡◌, ℕ, zero, suc, ◌+◌, Bool, true, false, cond, not, List, [], ◌∷◌, ◌++◌, map, filter, codes, decimal, Option, Some, None, refl, sym, ap, ap₂, ◌∙◌, append_assoc, append-nil}
+use Rattle.std.proofs.Common.{◌≡◌, ℕ, zero, suc, ◌+◌, Bool, true, false, cond, not, List, [], ◌∷◌}
+use Rattle.std.proofs.Common.{◌++◌, map, filter, codes, decimal, Option, Some, None, refl, sym, ap}
+use Rattle.std.proofs.Common.{ap₂, ◌∙◌, append_assoc, append-nil}
 use Rattle.std.specs.Prelude.{reverse}
 use Rattle.std.specs.List.{concat, flat_map, range_with_len}
 use Rattle.std.proofs.lemmas.Grind.{flat_map-append}
@@ -17,14 +19,21 @@ use Rattle.texts.specs.Words.{text_of}
 use Rattle.round_runner.specs.Locks.{correct_nodes}
 use Rattle.round_runner.specs.Played.{played_at}
 use Rattle.run_certificates.specs.Items.{Item, item_line, faulty_item, row_item}
-use Rattle.run_certificates.specs.Certificates.{Lie, Turn, level_of, start_of, era_items, turns_items, items_of, certificate_text}
+use Rattle.run_certificates.specs.Certificates.{Lie, Turn, level_of, start_of, era_items}
+use Rattle.run_certificates.specs.Certificates.{turns_items, items_of, certificate_text}
 use Rattle.run_certificates.specs.Certificates as certificates
 use Rattle.run_certificates.specs.Grammar.{pairs_of}
 use Rattle.run_certificates.specs.Stated.{shown_row}
-use Rattle.run_certificates.specs.Recorded.{stand_at, put_at, lie_at, is_put, puts_at, era_with, era_at, turn_at, recorded_version, certificate_of}
+use Rattle.run_certificates.specs.Recorded.{stand_at, put_at, lie_at, is_put, puts_at, era_with}
+use Rattle.run_certificates.specs.Recorded.{era_at, turn_at, recorded_version, certificate_of}
 use Rattle.run_certificates.proofs.EraBegins.{found_faulty}
-use Rattle.run_checker.specs.RunLines.{version_line, base_line, level_line, level_lines, faulty_text, start_text, first_start, first_starts, lie_text, lie_if, lies_from, lies_text, starts_text, era_text, era_lines, row_text, turn_text, turns_text, record_text}
-use Rattle.run_checker.proofs.LineTexts.{line_of, version_is, base_is, level_is, faulty_is, era_is, row_is, start_is, lie_is, kept_lines, same_lines, nested_lines}
+use Rattle.run_checker.specs.RunLines.{version_line, base_line, level_line, level_lines}
+use Rattle.run_checker.specs.RunLines.{faulty_text, start_text, first_start, first_starts, lie_text}
+use Rattle.run_checker.specs.RunLines.{lie_if, lies_from, lies_text, starts_text, era_text}
+use Rattle.run_checker.specs.RunLines.{era_lines, row_text, turn_text, turns_text, record_text}
+use Rattle.run_checker.proofs.LineTexts.{line_of, version_is, base_is, level_is, faulty_is, era_is}
+use Rattle.run_checker.proofs.LineTexts.{row_is, start_is, lie_is, kept_lines, same_lines}
+use Rattle.run_checker.proofs.LineTexts.{nested_lines}
 
 -- the lines of items
 abbrev pub lines : List Item → List ℕ

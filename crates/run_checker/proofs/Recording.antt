@@ -1,5 +1,6 @@
 -- What is written of a script while a runner plays it.
-use Rattle.std.proofs.Common.{◌≡◌, ℕ, ◌+◌, ◌<◌, ◌≤◌, Bool, true, false, cond, List, [], ◌++◌, append-nil, Result, refl, sym, ap, ap₂, ◌∙◌, subst, arith}
+use Rattle.std.proofs.Common.{◌≡◌, ℕ, ◌+◌, ◌<◌, ◌≤◌, Bool, true, false, cond, List, [], ◌++◌}
+use Rattle.std.proofs.Common.{append-nil, Result, refl, sym, ap, ap₂, ◌∙◌, subst, arith}
 use Rattle.std.specs.Prelude.{OnErr, OnOk, Ok, Err}
 use Rattle.sync_types.specs.FaultSets.{FaultIds}
 use Rattle.adversary_script.specs.Eras.{faulty_at}

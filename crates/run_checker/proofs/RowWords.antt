@@ -1,5 +1,7 @@
 -- The words of a row, one by one, and the row that they say.
-use Rattle.std.proofs.Common.{◌≡◌, ℕ, zero, suc, ◌+◌, ◌-◌, ◌<◌, ◌≤◌, Bool, true, false, cond, not, ◌&&◌, List, [], ◌∷◌, map, nat_eq, Option, Some, None, refl, sym, ap, ◌∙◌, arith}
+use Rattle.std.proofs.Common.{◌≡◌, ℕ, zero, suc, ◌+◌, ◌-◌, ◌<◌, ◌≤◌, Bool, true, false, cond, not}
+use Rattle.std.proofs.Common.{◌&&◌, List, [], ◌∷◌, map, nat_eq, Option, Some, None, refl, sym, ap}
+use Rattle.std.proofs.Common.{◌∙◌, arith}
 use Rattle.std.specs.Option.{is_some}
 use Rattle.std.specs.List.{range_with_len}
 use Rattle.sync_types.specs.States.{State}
@@ -9,7 +11,8 @@ use Rattle.construction.specs.Steps.{state_of}
 use Rattle.run_certificates.specs.Items.{value_said, values_said, onto}
 use Rattle.run_certificates.specs.Stated.{same_rows}
 use Rattle.run_certificates.specs.Checking.{same_marks}
-use Rattle.run_checker.specs.Rows.{shown_at, compared_from, row_compared, value_compared, word_compared, behind_word, words_compared}
+use Rattle.run_checker.specs.Rows.{shown_at, compared_from, row_compared, value_compared}
+use Rattle.run_checker.specs.Rows.{word_compared, behind_word, words_compared}
 
 -- with what came before
 abbrev with_same : Bool → Option Bool → Option Bool

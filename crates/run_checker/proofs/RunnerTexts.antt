@@ -1,5 +1,6 @@
 -- The texts that are written of a runner, by the configurations that are played.
-use Rattle.std.proofs.Common.{◌≡◌, ℕ, ◌+◌, List, [], ◌++◌, length, codes, Result, sym, ap, subst, ◌∙◌, append-nil}
+use Rattle.std.proofs.Common.{◌≡◌, ℕ, ◌+◌, List, [], ◌++◌, length, codes, Result, sym, ap, subst}
+use Rattle.std.proofs.Common.{◌∙◌, append-nil}
 use Rattle.sync_types.specs.States.{State}
 use Rattle.texts.specs.Growth.{Told, Wrote, Cut, Puts}
 use Rattle.texts.proofs.Growth.{cut_more, cut_then, puts_then}
@@ -14,7 +15,8 @@ use Rattle.round_runner.specs.Played.{played_at}
 use Rattle.round_runner.specs.Runners.{Running, Advances}
 use Rattle.round_runner.proofs.Playing.{bare_is_played}
 use Rattle.run_certificates.specs.Recorded.{era_at}
-use Rattle.run_checker.specs.RunLines.{first_starts, lies_text, era_lines, row_text, turn_text, turns_text, head_text, record_text}
+use Rattle.run_checker.specs.RunLines.{first_starts, lies_text, era_lines, row_text, turn_text}
+use Rattle.run_checker.specs.RunLines.{turns_text, head_text, record_text}
 use Rattle.run_checker.specs.Playing.{Plays, IsToRecord, HasPlayedOne}
 
 -- the shape of a runner's states has a low for each node

@@ -1,5 +1,7 @@
 -- No certificate has more bytes than it may have.
-use Rattle.std.proofs.Common.{◌≡◌, ℕ, ◌+◌, ◌*◌, ◌^◌, ◌<◌, ◌≤◌, List, [], ◌∷◌, ◌++◌, length, map, reverse, filter, not, true, codes, decimal, Bool, cond, false, Option, Some, None, ap, arith}
+use Rattle.std.proofs.Common.{◌≡◌, ℕ, ◌+◌, ◌*◌, ◌^◌, ◌<◌, ◌≤◌, List, [], ◌∷◌, ◌++◌, length, map}
+use Rattle.std.proofs.Common.{reverse, filter, not, true, codes, decimal, Bool, cond, false, Option}
+use Rattle.std.proofs.Common.{Some, None, ap, arith}
 use Rattle.std.specs.Prelude.{All, IfSome}
 use Rattle.std.specs.Int.{div_ceil}
 use Rattle.std.specs.List.{flat_map, range_with_len}
@@ -18,8 +20,10 @@ use Rattle.state_codec.specs.Shapes.{bits_in, bytes_in}
 use Rattle.state_codec.specs.Texts.{is_state_text}
 use Rattle.round_runner.specs.Locks.{correct_nodes}
 use Rattle.run_certificates.specs.NodeFields.{fields_of}
-use Rattle.run_certificates.specs.Items.{Item, HasLine, item_line, run_item, base_item, faulty_item, row_item}
-use Rattle.run_certificates.specs.Certificates.{Put, Lie, Era, Turn, level_of, start_of, lie_of, era_items, turns_items, items_of}
+use Rattle.run_certificates.specs.Items.{Item, HasLine, item_line, run_item, base_item, faulty_item}
+use Rattle.run_certificates.specs.Items.{row_item}
+use Rattle.run_certificates.specs.Certificates.{Put, Lie, Era, Turn, level_of, start_of, lie_of}
+use Rattle.run_certificates.specs.Certificates.{era_items, turns_items, items_of}
 use Rattle.run_certificates.specs.Grammar.{AreStarts, IsEra, IsTurn, AreTurns, faulty_behind}
 use Rattle.run_certificates.proofs.Live.{few_bits}
 use Rattle.run_checker.specs.TrueTexts.{CertificatesAreShort}

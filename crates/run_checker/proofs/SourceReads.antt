@@ -1,5 +1,7 @@
 -- What was read of a feed, of its source.
-use Rattle.std.proofs.Common.{◌≡◌, ℕ, ◌+◌, ◌-◌, ◌^◌, ◌≤◌, Bool, true, false, List, [], ◌∷◌, ◌++◌, length, take, drop, Option, Some, None, Result, Ok, Err, refl, sym, ap, ◌∙◌, subst, append_assoc, append-nil, length-append, arith}
+use Rattle.std.proofs.Common.{◌≡◌, ℕ, ◌+◌, ◌-◌, ◌^◌, ◌≤◌, Bool, true, false, List, [], ◌∷◌, ◌++◌}
+use Rattle.std.proofs.Common.{length, take, drop, Option, Some, None, Result, Ok, Err, refl, sym}
+use Rattle.std.proofs.Common.{ap, ◌∙◌, subst, append_assoc, append-nil, length-append, arith}
 use Rattle.std.specs.Prelude.{min, nat_lt}
 use Rattle.std.specs.Io.KnownBytes.{prepend_known, Consumes, Keeps, IsAtEnd}
 use Rattle.std.proofs.lemmas.Bool.{le-ltb}
@@ -11,7 +13,8 @@ use Rattle.edge_io.specs.EndedReads.{WholeText, RefusedText, LongText, LostText,
 use Rattle.run_certificates.specs.declared.Verdict.{Verdict}
 use Rattle.run_certificates.specs.Checking.{unread, line_step, checked}
 use Rattle.run_certificates.proofs.Answers.{texts_checked}
-use Rattle.run_checker.specs.Checks.{Pending, ReadAhead, DecidesAtOnce, checked_by, unlimited, IsChecked, IsRefused, IsTooLong, IsLost, IsHalted}
+use Rattle.run_checker.specs.Checks.{Pending, ReadAhead, DecidesAtOnce, checked_by, unlimited}
+use Rattle.run_checker.specs.Checks.{IsChecked, IsRefused, IsTooLong, IsLost, IsHalted}
 use Rattle.run_checker.proofs.MoreRoom.{more_room}
 use Rattle.run_checker.proofs.PendingTexts.{pending_short}
 use Rattle.run_checker.proofs.Unlimited.{limits_matter_beyond}

@@ -1,15 +1,19 @@
 -- The states of the digits that were told.
-use Rattle.std.proofs.Common.{◌≡◌, ℕ, zero, suc, ◌+◌, ◌*◌, ◌<◌, ◌≤◌, inl, inr, true, false, ◌&&◌, eqb, List, [], ◌∷◌, ◌++◌, length, set, get_or, take, refl, sym, ap, ap₂, ◌∙◌, subst, arith}
+use Rattle.std.proofs.Common.{◌≡◌, ℕ, zero, suc, ◌+◌, ◌*◌, ◌<◌, ◌≤◌, inl, inr, true, false, ◌&&◌}
+use Rattle.std.proofs.Common.{eqb, List, [], ◌∷◌, ◌++◌, length, set, get_or, take, refl, sym, ap}
+use Rattle.std.proofs.Common.{ap₂, ◌∙◌, subst, arith}
 use Rattle.std.specs.List.{list_all}
 use Rattle.std.proofs.lemmas.Bool.{cases_eq, eqb-true, and_parts}
-use Rattle.std.proofs.lemmas.List.{length-set, length-take-le, get_or-set_other, get_or-take, get_or_default, set-get_or}
+use Rattle.std.proofs.lemmas.List.{length-set, length-take-le, get_or-set_other, get_or-take}
+use Rattle.std.proofs.lemmas.List.{get_or_default, set-get_or}
 use Rattle.std.proofs.lemmas.List.Elements.{All-nil}
 use Rattle.std.proofs.lemmas.Grind.{get_or-set_at, take-set_at}
 use Rattle.sync_types.specs.States.{State}
 use Rattle.construction.specs.Steps.{state_of}
 use Rattle.state_codec.specs.Shapes.{Shape, fields_at, bytes_in}
 use Rattle.state_codec.specs.Texts.{is_lower_digit, is_state_text, read_text}
-use Rattle.run_checker.specs.Tellings.{Telling, room_of, states_read, next_fields, AddsState, IsTelling}
+use Rattle.run_checker.specs.Tellings.{Telling, room_of, states_read, next_fields, AddsState}
+use Rattle.run_checker.specs.Tellings.{IsTelling}
 
 module _ (shape : Shape) where
   pub length_read : (pairs : List (ℕ × ℕ)) (texts : List (List ℕ)) → length texts ≤ length pairs

@@ -1,5 +1,7 @@
 -- A text that is not longer than its limit is answered as if there were none.
-use Rattle.std.proofs.Common.{◌≡◌, ℕ, zero, suc, ◌+◌, ◌<◌, ◌≤◌, Bool, true, false, cond, eqb, List, [], ◌∷◌, ◌++◌, length, drop, Option, None, Result, Ok, Err, refl, sym, ap, ap₂, ◌∙◌, arith}
+use Rattle.std.proofs.Common.{◌≡◌, ℕ, zero, suc, ◌+◌, ◌<◌, ◌≤◌, Bool, true, false, cond, eqb, List}
+use Rattle.std.proofs.Common.{[], ◌∷◌, ◌++◌, length, drop, Option, None, Result, Ok, Err, refl, sym}
+use Rattle.std.proofs.Common.{ap, ap₂, ◌∙◌, arith}
 use Rattle.std.proofs.lemmas.Bool.{le-ltb, ltb-true, leb-true}
 use Rattle.texts.specs.Lines.{lines_of, whole_from, whole_lines}
 use Rattle.texts.specs.Parts.{goes, ends, refuses, Found, At, part_from}
@@ -11,7 +13,8 @@ use Rattle.texts.specs.Words.{text_of, open_from, open_rest}
 use Rattle.texts.proofs.Texts.{whole_text}
 use Rattle.run_certificates.specs.declared.Verdict.{Verdict}
 use Rattle.run_certificates.specs.Items.{item_of}
-use Rattle.run_certificates.specs.Checking.{Stage, Onward, unread, refused, step_by, line_step, alone, checked}
+use Rattle.run_certificates.specs.Checking.{Stage, Onward, unread, refused, step_by, line_step}
+use Rattle.run_certificates.specs.Checking.{alone, checked}
 use Rattle.texts.specs.Lines.{words_of}
 use Rattle.std.specs.Prelude.{nat_le, nat_lt}
 use Rattle.run_checker.specs.Checks.{checked_by, checked_within, unlimited, LimitsMatterBeyond}

@@ -1,5 +1,7 @@
 -- What the lines behind the head of a certificate change.
-use Rattle.std.specs.Prelude.{◌≡◌, ℕ, ◌+◌, ◌&&◌, ◌==◌, nat_le, nat_lt, nat_eq, List, [], ◌∷◌, ◌++◌, length, drop, Bool, true, false, not, Option, Some, None, slice_index_or, if◌then◌else◌}
+use Rattle.std.specs.Prelude.{◌≡◌, ℕ, ◌+◌, ◌&&◌, ◌==◌, nat_le, nat_lt, nat_eq, List, [], ◌∷◌, ◌++◌}
+use Rattle.std.specs.Prelude.{length, drop, Bool, true, false, not, Option, Some, None}
+use Rattle.std.specs.Prelude.{slice_index_or, if◌then◌else◌}
 use Rattle.std.specs.List.{range_with_len}
 use Rattle.construction.specs.Plans.{Plan, plan_nodes}
 use Rattle.construction.specs.Runs.{is_in}
@@ -7,7 +9,8 @@ use Rattle.state_codec.specs.Texts.{is_state_text, read_text}
 use Rattle.round_runner.specs.Locks.{is_locked, first_of}
 use Rattle.run_certificates.specs.NodeFields.{fields_of}
 use Rattle.run_certificates.specs.Grammar.{pairs_of, most_eras}
-use Rattle.run_certificates.specs.Checking.{nothing_known, needs_state, put_state, has_round, is_next, all_told, moved, is_row, compared}
+use Rattle.run_certificates.specs.Checking.{nothing_known, needs_state, put_state, has_round}
+use Rattle.run_certificates.specs.Checking.{is_next, all_told, moved, is_row, compared}
 use Rattle.run_checker.specs.Bodies.{BodySeen}
 
 -- behind the head

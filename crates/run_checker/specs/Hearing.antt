@@ -1,5 +1,6 @@
 -- What a node hears of the faulty ones in a round, and the list in which it is laid.
-use Rattle.std.specs.Prelude.{◌≡◌, ℕ, ◌<◌, ◌≤◌, List, length, slice_index, true, ◌==◌, if◌then◌else◌}
+use Rattle.std.specs.Prelude.{◌≡◌, ℕ, ◌<◌, ◌≤◌, List, length, slice_index, true, ◌==◌}
+use Rattle.std.specs.Prelude.{if◌then◌else◌}
 use Rattle.sync_types.specs.States.{State}
 use Rattle.sync_types.specs.FaultSets.{is_in}
 use Rattle.construction.specs.Plans.{Plan, plan_nodes, plan_depth}

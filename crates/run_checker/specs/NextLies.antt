@@ -1,5 +1,6 @@
 -- The line of what is told next, whose text is known but for its digits.
-use Rattle.std.specs.Prelude.{◌≡◌, ℕ, ◌<◌, List, [], ◌∷◌, ◌++◌, length, Bool, true, false, Option, Ok, slice_index_or, codes, decimal}
+use Rattle.std.specs.Prelude.{◌≡◌, ℕ, ◌<◌, List, [], ◌∷◌, ◌++◌, length, Bool, true, false, Option}
+use Rattle.std.specs.Prelude.{Ok, slice_index_or, codes, decimal}
 use Rattle.std.specs.List.{concat}
 use Rattle.texts.specs.Lines.{is_one_line}
 use Rattle.texts.specs.Parts.{goes}

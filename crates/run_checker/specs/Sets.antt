@@ -1,5 +1,7 @@
 -- What reading ids into a set, and making sets, gives. Want of memory says nothing.
-use Rattle.std.specs.Prelude.{◌≡◌, ℕ, ◌-◌, List, [], length, slice_index, Bool, true, false, nat_le, nat_lt, ◌==◌, ◌&&◌, ◌||◌, Option, Some, None, Result, Ok, Err, if◌then◌else◌}
+use Rattle.std.specs.Prelude.{◌≡◌, ℕ, ◌-◌, List, [], length, slice_index, Bool, true, false, nat_le}
+use Rattle.std.specs.Prelude.{nat_lt, ◌==◌, ◌&&◌, ◌||◌, Option, Some, None, Result, Ok, Err}
+use Rattle.std.specs.Prelude.{if◌then◌else◌}
 use Rattle.sync_types.specs.FaultSets.{FaultIds}
 use Rattle.sync_types.specs.declared.answers.NoMemory.{NoMemory}
 use Rattle.adversary_script.specs.WordTests.{are_below, is_rising}

@@ -1,5 +1,6 @@
 -- The pairs of a round, and what was told for the first of them. There is room for so many pairs.
-use Rattle.std.specs.Prelude.{◌≡◌, ℕ, ◌-◌, ◌≤◌, ◌<◌, ◌*◌, List, [], ◌∷◌, ◌++◌, length, All, Bool, true, false, slice_index_or}
+use Rattle.std.specs.Prelude.{◌≡◌, ℕ, ◌-◌, ◌≤◌, ◌<◌, ◌*◌, List, [], ◌∷◌, ◌++◌, length, All, Bool}
+use Rattle.std.specs.Prelude.{true, false, slice_index_or}
 use Rattle.sync_types.specs.States.{State}
 use Rattle.construction.specs.Plans.{Plan, plan_nodes, plan_faults}
 use Rattle.state_codec.specs.Shapes.{Fields, Shape, fields_at, bytes_in}

@@ -41,33 +41,27 @@ pub struct Body {
 impl Drop for Body {
     fn drop(self) {
         let Body {
-            version,
+            version: _,
             tower,
             faulty,
             unknown,
             config,
             tellings,
             room,
-            is_putting,
-            from,
+            is_putting: _,
+            from: _,
             sets,
-            at,
-            differs,
-            locked,
+            at: _,
+            differs: _,
+            locked: _,
         } = self;
-        drop(version);
         drop(tower);
         drop(faulty);
         drop(unknown);
         drop(config);
         drop(tellings);
         drop(room);
-        drop(is_putting);
-        drop(from);
         drop(sets);
-        drop(at);
-        drop(differs);
-        drop(locked);
     }
 }
 

@@ -3,7 +3,8 @@ ghost use Rattle.std.specs.Prelude.{◌≡◌};
 ghost use Rattle.plan_numbers.specs.Numbers.{level_of};
 ghost use Rattle.adversary_script.specs.Eras.{faulty_at};
 ghost use Rattle.run_certificates.specs.Recorded.{recorded_version};
-ghost use Rattle.run_checker.specs.RunLines.{version_line, base_line, spares_text, level_front, level_line, level_lines, head_text};
+ghost use Rattle.run_checker.specs.RunLines.{version_line, base_line, spares_text, level_front};
+ghost use Rattle.run_checker.specs.RunLines.{level_line, level_lines, head_text};
 
 use crate::row_lines::put_faulty;
 use adversary_script::Script;

@@ -1,4 +1,5 @@
-ghost use Rattle.std.specs.Prelude.{◌≡◌, ◌≤◌, ◌+◌, ◌++◌, ◌∷◌, [], length, take, decimal, IfSome, true};
+ghost use Rattle.std.specs.Prelude.{◌≡◌, ◌≤◌, ◌+◌, ◌++◌, ◌∷◌, [], length, take, decimal, IfSome};
+ghost use Rattle.std.specs.Prelude.{true};
 ghost use Rattle.run_checker.specs.NextLies.{lie_front};
 
 use itoa::Buffer;

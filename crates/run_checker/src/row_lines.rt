@@ -2,7 +2,8 @@ ghost use Rattle.std.specs.Prelude.{◌≡◌, ◌<◌};
 ghost use Rattle.texts.specs.Growth.{Puts};
 ghost use Rattle.construction.specs.Plans.{plan_nodes};
 ghost use Rattle.adversary_script.specs.Eras.{faulty_at};
-ghost use Rattle.run_checker.specs.RunLines.{node_word, node_words, row_text, ids_text, faulty_text, era_text};
+ghost use Rattle.run_checker.specs.RunLines.{node_word, node_words, row_text, ids_text};
+ghost use Rattle.run_checker.specs.RunLines.{faulty_text, era_text};
 
 use counter_core::NoOverlay;
 use edge_io::{Piece, Sink, WriteFault, put_all, put_pieces};

@@ -3,7 +3,8 @@ ghost use Rattle.texts.specs.Growth.{Puts};
 ghost use Rattle.construction.specs.Plans.{Plan, plan_nodes};
 ghost use Rattle.run_certificates.specs.Recorded.{is_put};
 ghost use Rattle.run_checker.specs.Playing.{HasNode, Begins};
-ghost use Rattle.run_checker.specs.RunLines.{start_text, first_start, first_starts, start_if, starts_text};
+ghost use Rattle.run_checker.specs.RunLines.{start_text, first_start, first_starts, start_if};
+ghost use Rattle.run_checker.specs.RunLines.{starts_text};
 
 use adversary_script::Script;
 use counter_core::NoOverlay;

@@ -1,5 +1,7 @@
 ghost use Rattle.sync_types.specs.FaultSets.{is_in};
-ghost use Rattle.std.specs.Prelude.{if◌then◌else◌, [], ◌∷◌, ◌≡◌, ◌<◌, ◌≤◌, ◌+◌, ◌*◌, ◌^◌, ◌++◌, ℕ, false, length, drop, map, All, IfOk, IfSome, nat_eq, ◌==◌, slice_index_or, vec_capacity};
+ghost use Rattle.std.specs.Prelude.{if◌then◌else◌, [], ◌∷◌, ◌≡◌, ◌<◌, ◌≤◌, ◌+◌, ◌*◌, ◌^◌, ◌++◌, ℕ};
+ghost use Rattle.std.specs.Prelude.{false, length, drop, map, All, IfOk, IfSome, nat_eq, ◌==◌};
+ghost use Rattle.std.specs.Prelude.{slice_index_or, vec_capacity};
 ghost use Rattle.construction.specs.Plans.{plan_nodes, plan_faults};
 ghost use Rattle.run_certificates.specs.Grammar.{pairs_of};
 ghost use Rattle.round_runner.specs.Locks.{correct_nodes};
@@ -96,12 +98,11 @@ impl Drop for Tellings {
             shape,
             pairs,
             digits,
-            count,
+            count: _,
         } = self;
         drop(shape);
         drop(pairs);
         drop(digits);
-        drop(count);
     }
 }
 

@@ -1,5 +1,6 @@
 -- What explains is what is seen to explain.
-use Rattle.std.proofs.Common.{◌≡◌, ℕ, zero, suc, ◌+◌, ◌-◌, ◌%◌, ◌<◌, ◌≤◌, Bool, Option, Some, List, [], ◌∷◌, length, sym, ap, ◌∙◌, subst, add-zero, arith}
+use Rattle.std.proofs.Common.{◌≡◌, ℕ, zero, suc, ◌+◌, ◌-◌, ◌%◌, ◌<◌, ◌≤◌, Bool, Option, Some, List}
+use Rattle.std.proofs.Common.{[], ◌∷◌, length, sym, ap, ◌∙◌, subst, add-zero, arith}
 use Rattle.std.proofs.Math.Nat.{mod-add-mod, mod-eq_of_lt}
 use Rattle.sync_types.specs.States.{State}
 use Rattle.construction.specs.Plans.{Level, Plan, beat_of, nodes_of, faults_of}
@@ -7,7 +8,8 @@ use Rattle.level_laws.specs.Explained.{Explains}
 use Rattle.adversary_script.specs.Scripts.{Script}
 use Rattle.round_runner.specs.Played.{played_at}
 use Rattle.run_explanations.specs.declared.seeing.Seen.{Seen}
-use Rattle.run_explanations.specs.Explanations.{ExplainsIn, ExplainsEra, era_begin, is_faulty, outputs_in, seen_at}
+use Rattle.run_explanations.specs.Explanations.{ExplainsIn, ExplainsEra, era_begin, is_faulty}
+use Rattle.run_explanations.specs.Explanations.{outputs_in, seen_at}
 use Rattle.run_explanations.specs.Seeing.{Sees, seen_in}
 use Rattle.run_explanations.specs.Tops.{IsTop, top_over, top_in, top_of}
 use Rattle.run_explanations.proofs.Found.{Explained}

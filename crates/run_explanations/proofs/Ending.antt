@@ -1,5 +1,6 @@
 -- A search that ends when nothing more can change.
-use Rattle.std.proofs.Common.{◌≡◌, ◌↔◌, ℕ, zero, suc, ◌+◌, ◌<◌, ◌≤◌, inl, inr, Bool, true, false, Option, None, refl, sym, ap, ap₂, ◌∙◌, subst, arith}
+use Rattle.std.proofs.Common.{◌≡◌, ◌↔◌, ℕ, zero, suc, ◌+◌, ◌<◌, ◌≤◌, inl, inr, Bool, true, false}
+use Rattle.std.proofs.Common.{Option, None, refl, sym, ap, ap₂, ◌∙◌, subst, arith}
 use Rattle.std.specs.Prelude.{is_some}
 use Rattle.std.proofs.lemmas.Bool.{true≢false, cases_eq}
 use Rattle.construction.specs.Plans.{Plan}
@@ -13,7 +14,8 @@ use Rattle.run_explanations.specs.declared.searching.Stretch.{Stretch}
 use Rattle.run_explanations.specs.declared.tops.Top.{Top}
 use Rattle.run_explanations.specs.Explanations.{is_faulty, seen_at}
 use Rattle.run_explanations.specs.Playing.{IsFound, IsEnough, HasPlayed}
-use Rattle.run_explanations.specs.Searching.{first_or, no_stretch, stretch_before, explained_from, found_before}
+use Rattle.run_explanations.specs.Searching.{first_or, no_stretch, stretch_before, explained_from}
+use Rattle.run_explanations.specs.Searching.{found_before}
 use Rattle.run_explanations.proofs.Stays.{found_in_all}
 use Rattle.run_explanations.proofs.Windows.{none_before}
 

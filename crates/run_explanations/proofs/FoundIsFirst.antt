@@ -3,7 +3,8 @@ use Rattle.std.proofs.Common.{Option, Some, None, refl}
 use Rattle.construction.specs.Plans.{Plan}
 use Rattle.adversary_script.specs.Scripts.{Script}
 use Rattle.run_explanations.specs.declared.explanations.Explanation.{Explanation}
-use Rattle.run_explanations.specs.Explanations.{IsFirstOrNone, era_begin, is_faulty, seen_at, explanation_of}
+use Rattle.run_explanations.specs.Explanations.{IsFirstOrNone, era_begin, is_faulty, seen_at}
+use Rattle.run_explanations.specs.Explanations.{explanation_of}
 use Rattle.run_explanations.specs.Laws.{FoundIsFirst}
 use Rattle.run_explanations.specs.Tops.{IsTop, top_of}
 use Rattle.run_explanations.proofs.Bridge.{era_is_seen, seen_is_era}

@@ -1,5 +1,6 @@
 -- A configuration is seen to show what it shows.
-use Rattle.std.proofs.Common.{◌≡◌, ℕ, zero, suc, ◌+◌, ◌*◌, ◌/◌, ◌<◌, Bool, true, false, Some, None, if◌then◌else◌, refl, ap, ◌∙◌, subst, inl, inr, arith}
+use Rattle.std.proofs.Common.{◌≡◌, ℕ, zero, suc, ◌+◌, ◌*◌, ◌/◌, ◌<◌, Bool, true, false, Some, None}
+use Rattle.std.proofs.Common.{if◌then◌else◌, refl, ap, ◌∙◌, subst, inl, inr, arith}
 use Rattle.std.proofs.Math.Nat.{mod-lt}
 use Rattle.std.proofs.lemmas.Bool.{false≢true, leb-true, le-leb, not_from_false, not-true, cases_lt}
 use Rattle.std.proofs.lemmas.Option.{none-some, same_Some}
@@ -9,9 +10,13 @@ use Rattle.run_explanations.specs.declared.seeing.Shared.{Shared}
 use Rattle.run_explanations.specs.declared.seeing.Shared.TheVariants.{Nothing, One, Several}
 use Rattle.run_explanations.specs.declared.seeing.Seen.{Seen}
 use Rattle.run_explanations.specs.declared.tops.Top.{Top}
-use Rattle.run_explanations.specs.Seeing.{shared_by, is_sound, is_correct, pointer_at, part_at, pointed, parted, seen_parts, seen_leader, seen_in, Sees}
+use Rattle.run_explanations.specs.Seeing.{shared_by, is_sound, is_correct, pointer_at, part_at}
+use Rattle.run_explanations.specs.Seeing.{pointed, parted, seen_parts, seen_leader, seen_in, Sees}
 use Rattle.run_explanations.specs.Tops.{IsTop}
-use Rattle.run_explanations.proofs.Sharing.{Fits, Started, Holds, one_is, one_fits, gate_fits, gate_started, gate_here, gate_holds, shared_fits, shared_splits, shared_goes_on, shared_started, shared_holds}
+use Rattle.run_explanations.proofs.Sharing.{Fits, Started, Holds, one_is, one_fits, gate_fits}
+use Rattle.run_explanations.proofs.Sharing.{gate_started, gate_here, gate_holds, shared_fits}
+use Rattle.run_explanations.proofs.Sharing.{shared_splits, shared_goes_on, shared_started}
+use Rattle.run_explanations.proofs.Sharing.{shared_holds}
 
 -- a shut gate leaves what was
 gate_splits : (old new : Shared) (x : ℕ) (b : Bool) → (Fits new x → Fits old x)

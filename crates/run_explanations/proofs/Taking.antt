@@ -1,5 +1,7 @@
 -- A runner's configuration is taken by a search.
-use Rattle.std.proofs.Common.{◌≡◌, ℕ, ◌+◌, ◌-◌, ◌<◌, ◌≤◌, Bool, true, false, suc, ◌*◌, Option, Some, None, List, length, add-one, sym, ap, ap₂, ◌∙◌, if◌then◌else◌, subst, arith}
+use Rattle.std.proofs.Common.{◌≡◌, ℕ, ◌+◌, ◌-◌, ◌<◌, ◌≤◌, Bool, true, false, suc, ◌*◌, Option, Some}
+use Rattle.std.proofs.Common.{None, List, length, add-one, sym, ap, ap₂, ◌∙◌, if◌then◌else◌, subst}
+use Rattle.std.proofs.Common.{arith}
 use Rattle.sync_types.specs.FaultSets.{FaultIds}
 use Rattle.sync_types.specs.States.{State}
 use Rattle.construction.specs.Plans.{Plan, plan_depth, plan_nodes}
@@ -16,9 +18,12 @@ use Rattle.run_explanations.specs.declared.explanations.Explanation.{Explanation
 use Rattle.run_explanations.specs.declared.searching.Stretch.{Stretch}
 use Rattle.run_explanations.specs.declared.seeing.Seen.{Seen}
 use Rattle.run_explanations.specs.declared.tops.Top.{Top}
-use Rattle.run_explanations.specs.Explanations.{era_begin, is_faulty, outputs_in, seen_at, explanation_of}
-use Rattle.run_explanations.specs.Playing.{Plays, IsToPlay, IsToRead, IsFound, IsRead, HasPlayed, taken}
-use Rattle.run_explanations.specs.Searching.{goes_on, stretched, stretch_before, first_or, explained_from, found_before}
+use Rattle.run_explanations.specs.Explanations.{era_begin, is_faulty, outputs_in, seen_at}
+use Rattle.run_explanations.specs.Explanations.{explanation_of}
+use Rattle.run_explanations.specs.Playing.{Plays, IsToPlay, IsToRead, IsFound, IsRead, HasPlayed}
+use Rattle.run_explanations.specs.Playing.{taken}
+use Rattle.run_explanations.specs.Searching.{goes_on, stretched, stretch_before, first_or}
+use Rattle.run_explanations.specs.Searching.{explained_from, found_before}
 use Rattle.run_explanations.specs.Seeing.{seen_in}
 use Rattle.run_explanations.specs.Tops.{IsTop, top_of}
 use Rattle.run_explanations.proofs.SeenShown.{seen_shows}

@@ -1,9 +1,11 @@
 -- The numbers of the top level of an accepted plan.
-use Rattle.std.proofs.Common.{◌≡◌, ℕ, ◌+◌, ◌-◌, ◌*◌, ◌≤◌, List, [], ◌∷◌, ◌++◌, length, Some, get_or, refl, sym, ap, ap₂, ◌∙◌, arith}
+use Rattle.std.proofs.Common.{◌≡◌, ℕ, ◌+◌, ◌-◌, ◌*◌, ◌≤◌, List, [], ◌∷◌, ◌++◌, length, Some, get_or}
+use Rattle.std.proofs.Common.{refl, sym, ap, ap₂, ◌∙◌, arith}
 use Rattle.std.specs.List.{slice_get}
 use Rattle.std.proofs.lemmas.List.{append_assoc, get_or_at, length_push}
 use Rattle.std.proofs.lemmas.Option.{get_or_from_slice_get}
-use Rattle.construction.specs.Plans.{Level, Plan, plan_nodes, plan_depth, leaders_of, beat_of, nodes_of, faults_of}
+use Rattle.construction.specs.Plans.{Level, Plan, plan_nodes, plan_depth, leaders_of, beat_of}
+use Rattle.construction.specs.Plans.{nodes_of, faults_of}
 use Rattle.leader_pointers.proofs.Intervals.{interval_le}
 use Rattle.plan_numbers.specs.declared.numbers.LevelNums.{LevelNums}
 use Rattle.plan_numbers.specs.Numbers.{below_of, numbers_over, numbers_of, level_numbers}

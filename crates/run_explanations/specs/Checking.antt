@@ -1,5 +1,6 @@
 -- How an explanation that is given is tested, by the stretch that ends with its window.
-use Rattle.std.specs.Prelude.{ℕ, ◌+◌, ◌-◌, ◌/◌, ◌%◌, ◌≤◌, Bool, false, ◌==◌, ◌&&◌, nat_le, Option, Some, None}
+use Rattle.std.specs.Prelude.{ℕ, ◌+◌, ◌-◌, ◌/◌, ◌%◌, ◌≤◌, Bool, false, ◌==◌, ◌&&◌, nat_le, Option}
+use Rattle.std.specs.Prelude.{Some, None}
 use Rattle.run_explanations.specs.declared.explanations.Explanation.{Explanation}
 use Rattle.run_explanations.specs.declared.seeing.Seen.{Seen}
 use Rattle.run_explanations.specs.declared.searching.Stretch.{Stretch}

@@ -1,5 +1,6 @@
 -- What explains that the last era of a script locks, of the configurations that are played of it.
-use Rattle.std.specs.Prelude.{◌≡◌, ℕ, ◌+◌, ◌-◌, ◌≤◌, List, [], ◌∷◌, length, Bool, Option, Some, None}
+use Rattle.std.specs.Prelude.{◌≡◌, ℕ, ◌+◌, ◌-◌, ◌≤◌, List, [], ◌∷◌, length, Bool, Option, Some}
+use Rattle.std.specs.Prelude.{None}
 use Rattle.sync_types.specs.States.{State}
 use Rattle.construction.specs.Plans.{Level, Plan, plan_depth, nodes_of, faults_of}
 use Rattle.construction.specs.Shown.{shown}

@@ -8,7 +8,8 @@ use Rattle.adversary_script.specs.Eras.{faulty_of_era}
 use Rattle.round_runner.specs.Laws.{IsReadFor}
 use Rattle.round_runner.specs.Played.{played_at}
 use Rattle.run_explanations.specs.Tops.{top_of}
-use Rattle.run_explanations.specs.Explanations.{ExplainsEra, IsFirstOrNone, era_begin, explanation_of}
+use Rattle.run_explanations.specs.Explanations.{ExplainsEra, IsFirstOrNone, era_begin}
+use Rattle.run_explanations.specs.Explanations.{explanation_of}
 
 -- What is explained is locked when the phase has ended.
 abbrev pub ExplainedErasLock : Type 0

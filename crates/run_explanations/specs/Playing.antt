@@ -13,7 +13,8 @@ use Rattle.run_explanations.specs.declared.tops.Top.{Top}
 use Rattle.run_explanations.specs.Checking.{Fits}
 use Rattle.run_explanations.specs.Explanations.{era_begin, is_faulty, seen_at}
 use Rattle.run_explanations.specs.Reading.{Reads}
-use Rattle.run_explanations.specs.Searching.{first_or, stretched, stretch_before, explained_from, found_before}
+use Rattle.run_explanations.specs.Searching.{first_or, stretched, stretch_before, explained_from}
+use Rattle.run_explanations.specs.Searching.{found_before}
 use Rattle.run_explanations.specs.Tops.{top_of}
 
 -- it plays its script

@@ -1,6 +1,7 @@
 -- What a single configuration shows: the leader to which all correct nodes of sound blocks point,
 -- and the part of the beat at which the correct nodes of that leader's block are.
-use Rattle.std.specs.Prelude.{◌≡◌, ℕ, zero, suc, ◌+◌, ◌*◌, ◌<◌, ◌≤◌, Bool, false, not, ◌==◌, nat_le, Option, Some, None, if◌then◌else◌}
+use Rattle.std.specs.Prelude.{◌≡◌, ℕ, zero, suc, ◌+◌, ◌*◌, ◌<◌, ◌≤◌, Bool, false, not, ◌==◌, nat_le}
+use Rattle.std.specs.Prelude.{Option, Some, None, if◌then◌else◌}
 use Rattle.construction.specs.Pointers.{pointer_of, part_of}
 use Rattle.level_laws.specs.Level.{faults_in}
 use Rattle.run_explanations.specs.declared.seeing.Shared.{Shared}

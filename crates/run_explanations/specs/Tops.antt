@@ -1,6 +1,7 @@
 -- The numbers of the top level of a plan, and of the counter in its blocks.
 use Rattle.std.specs.Prelude.{ℕ, ◌*◌, ◌^◌, ◌<◌, ◌≤◌, List, [], ◌∷◌}
-use Rattle.construction.specs.Plans.{Level, Plan, leaders_of, beat_of, interval_of, nodes_of, faults_of}
+use Rattle.construction.specs.Plans.{Level, Plan, leaders_of, beat_of, interval_of, nodes_of}
+use Rattle.construction.specs.Plans.{faults_of}
 use Rattle.run_explanations.specs.declared.tops.Top.{Top}
 
 -- a level over others

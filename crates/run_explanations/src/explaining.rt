@@ -1,11 +1,14 @@
 ghost use Rattle.std.specs.Prelude.{◌≡◌, ◌↔◌, ◌≤◌, ◌+◌, ◌-◌, true, None, length};
 ghost use Rattle.construction.specs.Plans.{plan_depth};
 ghost use Rattle.adversary_script.specs.Eras.{faulty_of_era};
-ghost use Rattle.run_explanations.specs.Explanations.{IsExplanation, IsFirstOrNone, era_begin, explanation_of, is_faulty, seen_at};
+ghost use Rattle.run_explanations.specs.Explanations.{IsExplanation, IsFirstOrNone, era_begin};
+ghost use Rattle.run_explanations.specs.Explanations.{explanation_of, is_faulty, seen_at};
 ghost use Rattle.round_runner.specs.Known.{KnowsLocks};
 ghost use Rattle.run_explanations.specs.Checking.{Fits, is_of};
-ghost use Rattle.run_explanations.specs.Searching.{no_stretch, stretched, stretch_before, found_before};
-ghost use Rattle.run_explanations.specs.Playing.{IsToPlay, IsToRead, IsRead, IsEnough, HasPlayed, HasTested, taken};
+ghost use Rattle.run_explanations.specs.Searching.{no_stretch, stretched, stretch_before};
+ghost use Rattle.run_explanations.specs.Searching.{found_before};
+ghost use Rattle.run_explanations.specs.Playing.{IsToPlay, IsToRead, IsRead, IsEnough, HasPlayed};
+ghost use Rattle.run_explanations.specs.Playing.{HasTested, taken};
 
 use crate::explanations::Explanation;
 use crate::laws::found_is_first;

@@ -1,6 +1,7 @@
 //! The laws of explanations. Each function is empty: its clause is the law.
 
-ghost use Rattle.run_explanations.specs.Laws.{ExplainedErasLock, LongErasAreExplained, FoundIsFirst};
+ghost use Rattle.run_explanations.specs.Laws.{ExplainedErasLock, LongErasAreExplained};
+ghost use Rattle.run_explanations.specs.Laws.{FoundIsFirst};
 
 use plan_laws::laws::{bound_is_explained, explained_runs_lock};
 

@@ -59,7 +59,8 @@ impl<'a> Sight<'a> {
     ghost use Rattle.construction.specs.Runs.{is_in};
     ghost use Rattle.level_laws.specs.Level.{faults_in};
     ghost use Rattle.run_explanations.specs.Explanations.{outputs_in};
-    ghost use Rattle.run_explanations.specs.Seeing.{shared_by, is_sound, is_correct, pointer_at, part_at, pointed, parted, seen_in};
+    ghost use Rattle.run_explanations.specs.Seeing.{shared_by, is_sound, is_correct, pointer_at};
+    ghost use Rattle.run_explanations.specs.Seeing.{part_at, pointed, parted, seen_in};
 
     /// Whether no more nodes of block `i` are faulty than it bears.
     fn is_sound(&self, i: u32) -> bool

@@ -1,5 +1,6 @@
 -- The lines of consensus are those that are defined.
-use Rattle.std.proofs.Common.{◌≡◌, ℕ, suc, ◌+◌, ◌-◌, ◌*◌, ◌%◌, ◌≤◌, Bool, true, false, ◌&&◌, cond, List, [], ◌∷◌, refl, sym, ap, ◌∙◌, subst, arith}
+use Rattle.std.proofs.Common.{◌≡◌, ℕ, suc, ◌+◌, ◌-◌, ◌*◌, ◌%◌, ◌≤◌, Bool, true, false, ◌&&◌, cond}
+use Rattle.std.proofs.Common.{List, [], ◌∷◌, refl, sym, ap, ◌∙◌, subst, arith}
 use Rattle.std.specs.Prelude.{nat_le, ◌==◌, codes, replicate}
 use Rattle.std.specs.List.{concat, flat_map, range_with_len}
 use Rattle.std.proofs.Math.Path.{fun_ext}
@@ -18,7 +19,8 @@ use Rattle.run_lines.specs.PlayedTexts.{lines_text}
 use Rattle.run_lines.specs.SlotTexts.{counts_at, lead_output, may_end_at, ends_at, slot_lines}
 use Rattle.run_lines.proofs.SlotShift.{lines_of_slots}
 use Rattle.run_lines.proofs.LaterOutputs.{same_rest}
-use Rattle.run_lines.specs.DecisionTexts.{decision_word, slot_front, agree_scene, decision_line, decision_wording}
+use Rattle.run_lines.specs.DecisionTexts.{decision_word, slot_front, agree_scene, decision_line}
+use Rattle.run_lines.specs.DecisionTexts.{decision_wording}
 use Rattle.run_lines.specs.LayerLaws.{DecisionsAsDefined}
 
 -- a slot that ends in configuration c began so long before

@@ -1,5 +1,6 @@
 -- The lines of a log are those that are defined.
-use Rattle.std.proofs.Common.{◌≡◌, ℕ, suc, ◌+◌, ◌-◌, ◌*◌, ◌%◌, ◌<◌, ◌≤◌, Bool, true, false, cond, List, [], ◌∷◌, refl, sym, ap, ap₂, ◌∙◌, subst, arith}
+use Rattle.std.proofs.Common.{◌≡◌, ℕ, suc, ◌+◌, ◌-◌, ◌*◌, ◌%◌, ◌<◌, ◌≤◌, Bool, true, false, cond}
+use Rattle.std.proofs.Common.{List, [], ◌∷◌, refl, sym, ap, ap₂, ◌∙◌, subst, arith}
 use Rattle.std.specs.Prelude.{◌==◌, codes, replicate}
 use Rattle.std.specs.List.{concat, flat_map, range_with_len}
 use Rattle.std.proofs.Math.Nat.{mul-mod_left}
@@ -26,7 +27,8 @@ use Rattle.run_lines.specs.PlayedTexts.{lines_text}
 use Rattle.run_lines.specs.SlotTexts.{counts_at, lead_output, ends_at, slot_lines}
 use Rattle.run_lines.proofs.SlotShift.{lines_of_slots}
 use Rattle.run_lines.proofs.LaterOutputs.{later_output, same_rest}
-use Rattle.run_lines.specs.EntryTexts.{entry_word, entry_front, output_before, log_scene, slot_owner, entry_line, entry_wording}
+use Rattle.run_lines.specs.EntryTexts.{entry_word, entry_front, output_before, log_scene}
+use Rattle.run_lines.specs.EntryTexts.{slot_owner, entry_line, entry_wording}
 use Rattle.run_lines.specs.LogLaws.{EntriesAsDefined}
 use Rattle.run_lines.proofs.Rooms.{room_for_one}
 use Rattle.run_lines.proofs.Ending.{counting, long_before}

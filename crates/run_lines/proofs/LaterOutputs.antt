@@ -1,5 +1,6 @@
 -- What the lowest correct node shows a slot later, where the slot counts.
-use Rattle.std.proofs.Common.{◌≡◌, ℕ, zero, suc, ◌+◌, ◌-◌, ◌%◌, ◌<◌, ◌≤◌, Bool, true, false, ◌&&◌, List, [], length, sym, ap, ◌∙◌, subst, arith}
+use Rattle.std.proofs.Common.{◌≡◌, ℕ, zero, suc, ◌+◌, ◌-◌, ◌%◌, ◌<◌, ◌≤◌, Bool, true, false, ◌&&◌}
+use Rattle.std.proofs.Common.{List, [], length, sym, ap, ◌∙◌, subst, arith}
 use Rattle.std.specs.Prelude.{nat_le, nat_lt, ◌==◌}
 use Rattle.std.proofs.Math.Nat.{mod-add-mod, mod-mod_of_dvd, add-mod_right}
 use Rattle.std.proofs.lemmas.Nat.Gcd.{dvd_of_mod-eq-zero}
@@ -23,7 +24,8 @@ use Rattle.adversary_script.specs.Scripts.{Script, Era, IsScript, faulty_sets}
 use Rattle.adversary_script.specs.Eras.{era_of, first_of_era, end_of_era, faulty_of_era}
 use Rattle.round_runner.specs.Runners.{IsFor}
 use Rattle.round_runner.proofs.Firsts.{era_within, of_one_era}
-use Rattle.round_runner.proofs.ScenesRun.{states_at, cut_run, cut_length, cut_configuration, scenes_run}
+use Rattle.round_runner.proofs.ScenesRun.{states_at, cut_run, cut_length, cut_configuration}
+use Rattle.round_runner.proofs.ScenesRun.{scenes_run}
 use Rattle.round_runner.specs.Known.{lowest_correct}
 use Rattle.run_lines.specs.SlotTexts.{lead_output, counts_at}
 use Rattle.round_runner.proofs.LowestCorrect.{lowest_among}

@@ -1,5 +1,6 @@
 -- The lines of the first locked configurations, of a runner that knows them.
-use Rattle.std.proofs.Common.{◌≡◌, ◌≢◌, ℕ, ◌+◌, Bool, true, cond, eqb, List, [], ◌++◌, length, Option, Result, sym, ap, ◌∙◌, subst, append-nil}
+use Rattle.std.proofs.Common.{◌≡◌, ◌≢◌, ℕ, ◌+◌, Bool, true, cond, eqb, List, [], ◌++◌, length}
+use Rattle.std.proofs.Common.{Option, Result, sym, ap, ◌∙◌, subst, append-nil}
 use Rattle.std.specs.List.{flat_map, range_with_len}
 use Rattle.std.proofs.lemmas.Bool.{eq-eqb, ne_eqb}
 use Rattle.sync_types.specs.States.{State}

@@ -1,6 +1,7 @@
 -- What the word `log` writes: of each slot that counts and begins in a configuration that is shown,
 -- its owner, and the newest values in the logs where it ends.
-use Rattle.std.specs.Prelude.{ℕ, ◌+◌, ◌-◌, nat_lt, if◌then◌else◌, List, [], ◌∷◌, ◌++◌, codes, decimal, replicate}
+use Rattle.std.specs.Prelude.{ℕ, ◌+◌, ◌-◌, nat_lt, if◌then◌else◌, List, [], ◌∷◌, ◌++◌, codes}
+use Rattle.std.specs.Prelude.{decimal, replicate}
 use Rattle.std.specs.List.{concat}
 use Rattle.construction.specs.Plans.{Plan, plan_nodes, plan_faults, plan_bound}
 use Rattle.adversary_script.specs.Scripts.{Script}

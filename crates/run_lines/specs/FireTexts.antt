@@ -1,6 +1,7 @@
 -- What the word `fire` writes: which nodes fire at the end of each slot that counts and begins in a
 -- configuration that is shown.
-use Rattle.std.specs.Prelude.{ℕ, ◌+◌, ◌-◌, List, [], ◌∷◌, ◌++◌, Bool, if◌then◌else◌, codes, decimal, replicate}
+use Rattle.std.specs.Prelude.{ℕ, ◌+◌, ◌-◌, List, [], ◌∷◌, ◌++◌, Bool, if◌then◌else◌, codes, decimal}
+use Rattle.std.specs.Prelude.{replicate}
 use Rattle.std.specs.List.{concat}
 use Rattle.construction.specs.Plans.{Plan, plan_nodes, plan_faults, plan_bound}
 use Rattle.adversary_script.specs.Scripts.{Script}

@@ -1,6 +1,7 @@
 -- Lines that are written of slots: each when its slot ends, of those that begin in a configuration
 -- that is shown, later than the bound, and end in the same era.
-use Rattle.std.specs.Prelude.{ℕ, ◌+◌, ◌-◌, ◌%◌, List, [], Bool, ◌&&◌, nat_le, nat_lt, ◌==◌, if◌then◌else◌}
+use Rattle.std.specs.Prelude.{ℕ, ◌+◌, ◌-◌, ◌%◌, List, [], Bool, ◌&&◌, nat_le, nat_lt, ◌==◌}
+use Rattle.std.specs.Prelude.{if◌then◌else◌}
 use Rattle.std.specs.List.{flat_map, range_with_len}
 use Rattle.sync_types.specs.States.{State}
 use Rattle.construction.specs.Plans.{Plan, plan_nodes, plan_bound, plan_depth}

@@ -1,6 +1,7 @@
 //! The laws of what the words with a layer write. Each function is empty: its clause is the law.
 
-ghost use Rattle.run_lines.specs.LayerLaws.{RowsAsDefined, HoldsAsDefined, DecisionsAsDefined, AtMostOneInALine};
+ghost use Rattle.run_lines.specs.LayerLaws.{RowsAsDefined, HoldsAsDefined, DecisionsAsDefined};
+ghost use Rattle.run_lines.specs.LayerLaws.{AtMostOneInALine};
 ghost use Rattle.run_lines.specs.LogLaws.{FiresAsDefined, EntriesAsDefined};
 
 /// What is written of a run while a script is played is a row for each configuration that is shown.

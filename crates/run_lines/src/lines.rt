@@ -12,8 +12,8 @@ use edge_io::{RisingText, TextSink, WriteFault};
 use round_runner::Runner;
 
 /// What a word writes while a script is played with a layer: lines of some configurations, each
-/// with a front and a word of each node. In every call the runner's layer stands over the counter of
-/// its plan.
+/// with a front and a word of each node. In every call the runner's layer stands over the counter
+/// of its plan.
 pub trait Lines<O: Overlay>: Drop {
     ghost wording: { Self → Wording O.Kept };
 

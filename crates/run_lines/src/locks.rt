@@ -42,8 +42,8 @@ fn put_era<K: TextSink, O: Overlay>(
 /// Writes the first locked configuration of each era: for a script of version 1 one line, else one
 /// for each era, with the configuration that it begins with.
 ///
-/// The runner plays with any layer, and knows them. `WriteFault` comes where the sink counted one; a
-/// front of the lines was then taken.
+/// The runner plays with any layer, and knows them. `WriteFault` comes where the sink counted one;
+/// a front of the lines was then taken.
 pub fn put_locks<K: TextSink, O: Overlay>(
     sink: &mut K,
     runner: &Runner<O>,

@@ -64,8 +64,8 @@ fn put_all_lines<K: TextSink, O: Overlay, L: Lines<O>>(
 /// Plays all rounds of a script, and writes the bound, a line of each configuration that has one,
 /// and the first locked configuration of each era. It takes no memory.
 ///
-/// The runner is at configuration 0, and its layer stands over the counter of its plan. `WriteFault`
-/// comes where the sink counted one; a front of the text was then taken.
+/// The runner is at configuration 0, and its layer stands over the counter of its plan.
+/// `WriteFault` comes where the sink counted one; a front of the text was then taken.
 pub fn put_played<K: Sink, O: Overlay, L: Lines<O>>(
     sink: &mut K,
     runner: &mut Runner<O>,

@@ -1,4 +1,5 @@
-ghost use Rattle.std.specs.Prelude.{◌≡◌, ◌+◌, ◌<◌, ◌≤◌, List, [], None, false, is_some, slice_index_or, OnOk};
+ghost use Rattle.std.specs.Prelude.{◌≡◌, ◌+◌, ◌<◌, ◌≤◌, List, [], None, false, is_some};
+ghost use Rattle.std.specs.Prelude.{slice_index_or, OnOk};
 ghost use Rattle.texts.specs.Growth.{Puts};
 ghost use Rattle.counter_core.specs.NoLayers.{no_layer};
 ghost use Rattle.adversary_script.specs.Eras.{era_of, end_of_era};

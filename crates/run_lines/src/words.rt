@@ -45,7 +45,8 @@ fn put_words<K: TextSink, O: Overlay, L: Lines<O>>(
     requires { IsOver O.layer runner.now }
     ensures { Puts result
         (words_of_nodes runner.now.plan ((L.wording lines.now).word runner.now.plan
-        (scene_of O.kept runner.now)) faulty.now.ids) (K.Sink.told sink.old) (K.Sink.told sink.new) }
+        (scene_of O.kept runner.now)) faulty.now.ids)
+        (K.Sink.told sink.old) (K.Sink.told sink.new) }
 {
     for v in 0..runner.nodes() {
         match put_word(sink, runner, lines, faulty, v) {

@@ -1,8 +1,11 @@
 -- A node that is given the packets of an era makes its column.
-use Rattle.std.proofs.Common.{◌≡◌, ℕ, zero, suc, ◌+◌, ◌-◌, ◌<◌, ◌≤◌, inl, inr, cond, not, ◌||◌, List, [], ◌∷◌, length, map, get_or, unwrap_or, add-one, refl, sym, ap, ◌∙◌, subst, arith}
+use Rattle.std.proofs.Common.{◌≡◌, ℕ, zero, suc, ◌+◌, ◌-◌, ◌<◌, ◌≤◌, inl, inr, cond, not, ◌||◌}
+use Rattle.std.proofs.Common.{List, [], ◌∷◌, length, map, get_or, unwrap_or, add-one, refl, sym, ap}
+use Rattle.std.proofs.Common.{◌∙◌, subst, arith}
 use Rattle.std.specs.List.{flat_map, range_with_len}
 use Rattle.std.proofs.lemmas.Bool.{cases_eq, eq-eqb, ne_eqb}
-use Rattle.std.proofs.lemmas.List.FromFn.{fill_by_all, length-map-range_with_len, get_or-map-range_with_len}
+use Rattle.std.proofs.lemmas.List.FromFn.{fill_by_all, length-map-range_with_len}
+use Rattle.std.proofs.lemmas.List.FromFn.{get_or-map-range_with_len}
 use Rattle.sync_types.specs.States.{State, zero_state}
 use Rattle.construction.specs.Plans.{Plan, plan_nodes}
 use Rattle.construction.specs.Steps.{state_of, step_of}
@@ -30,9 +33,11 @@ use Rattle.round_runner.proofs.Hits.{hit_has, put_has}
 use Rattle.round_runner.proofs.Places.{placed}
 use Rattle.run_promises.proofs.Heard.{heard_long, heard_is}
 use Rattle.node_stepper.specs.Packets.{whole}
-use Rattle.node_stepper.specs.Nodes.{fields_of, heard_of, heard_in, state_after, state_cell, states_of}
+use Rattle.node_stepper.specs.Nodes.{fields_of, heard_of, heard_in, state_after, state_cell}
+use Rattle.node_stepper.specs.Nodes.{states_of}
 use Rattle.node_stepper.specs.Laws.{AreFull, PacketsReadBack}
-use Rattle.run_promises.specs.Columns.{round_packet, era_packets, NodesMakeColumns, EraPacketsAreRead}
+use Rattle.run_promises.specs.Columns.{round_packet, era_packets, NodesMakeColumns}
+use Rattle.run_promises.specs.Columns.{EraPacketsAreRead}
 
 module _ (plan : Plan) (s : Script) (is : IsReadFor plan s) where
   sound : IsShape s.shape

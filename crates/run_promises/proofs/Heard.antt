@@ -1,5 +1,6 @@
 -- What each node tells and hears in a round of a script is in range, where the configuration is.
-use Rattle.std.proofs.Common.{◌≡◌, ℕ, ◌<◌, eqb, not, ◌||◌, List, [], length, map, get_or, sym, ap, ◌∙◌, subst, arith}
+use Rattle.std.proofs.Common.{◌≡◌, ℕ, ◌<◌, eqb, not, ◌||◌, List, [], length, map, get_or, sym, ap}
+use Rattle.std.proofs.Common.{◌∙◌, subst, arith}
 use Rattle.std.specs.List.{range_with_len}
 use Rattle.std.proofs.lemmas.List.FromFn.{length-map-range_with_len, get_or-map-range_with_len}
 use Rattle.sync_types.specs.States.{State, zero_state}

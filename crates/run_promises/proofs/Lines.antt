@@ -1,5 +1,6 @@
 -- What the lines of slots promise.
-use Rattle.std.proofs.Common.{◌≡◌, ℕ, zero, suc, false, ◌+◌, ◌-◌, ◌<◌, ◌≤◌, inr, List, [], ◌∷◌, take, replicate, refl, sym, ap, ◌∙◌, subst, arith}
+use Rattle.std.proofs.Common.{◌≡◌, ℕ, zero, suc, false, ◌+◌, ◌-◌, ◌<◌, ◌≤◌, inr, List, [], ◌∷◌}
+use Rattle.std.proofs.Common.{take, replicate, refl, sym, ap, ◌∙◌, subst, arith}
 use Rattle.std.proofs.lemmas.List.{length-replicate}
 use Rattle.construction.specs.Plans.{plan_nodes, plan_faults}
 use Rattle.construction.specs.Runs.{is_in}
@@ -23,7 +24,8 @@ use Rattle.run_lines.specs.RunTexts.{number_word}
 use Rattle.run_lines.specs.FireTexts.{fired_word}
 use Rattle.run_lines.specs.EntryTexts.{newest_value, output_at, log_scene}
 use Rattle.run_promises.specs.Promises.{HasNewest, LinesDecide, LinesFireTogether, LinesPutOne}
-use Rattle.run_promises.proofs.Counted.{borne, is_run, past, ends, scene_is, all_are, correct_there, past_bound, leads, shows_lead}
+use Rattle.run_promises.proofs.Counted.{borne, is_run, past, ends, scene_is, all_are, correct_there}
+use Rattle.run_promises.proofs.Counted.{past_bound, leads, shows_lead}
 
 at_most : (q : ℕ) → q ≤ q
 at_most q = omega arith

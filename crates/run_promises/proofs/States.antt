@@ -1,6 +1,7 @@
 -- The states of each scene that is played of a script with a layer, and what is told and heard in
 -- each round, are the nodes' own.
-use Rattle.std.proofs.Common.{◌≡◌, ℕ, zero, suc, ◌+◌, ◌<◌, List, [], length, map, get_or, All, sym, ◌∙◌, subst, arith}
+use Rattle.std.proofs.Common.{◌≡◌, ℕ, zero, suc, ◌+◌, ◌<◌, List, [], length, map, get_or, All, sym}
+use Rattle.std.proofs.Common.{◌∙◌, subst, arith}
 use Rattle.std.specs.List.{range_with_len}
 use Rattle.std.proofs.lemmas.List.Elements.{All-from_get_or}
 use Rattle.std.proofs.lemmas.List.FromFn.{length-map-range_with_len, get_or-map-range_with_len}
@@ -12,14 +13,16 @@ use Rattle.plan_laws.specs.PlanMeaning.{plan_meaning, IsInRange}
 use Rattle.plan_laws.proofs.PlanCounter.{positive, plan_sizes}
 use Rattle.plan_laws.proofs.Ranges.{shown_of_cut, range_of_state}
 use Rattle.counter_core.specs.Meanings.{cut}
-use Rattle.counter_core.specs.Overlays.{Layer, SameNumbers, HasRegisters, HasValues, KeepsRange, MayHear, AreNew}
+use Rattle.counter_core.specs.Overlays.{Layer, SameNumbers, HasRegisters, HasValues, KeepsRange}
+use Rattle.counter_core.specs.Overlays.{MayHear, AreNew}
 use Rattle.state_codec.specs.Shapes.{Shape, IsShape, shape_with, fields_at}
 use Rattle.state_codec.specs.Ranges.{InRange}
 use Rattle.adversary_script.specs.Scripts.{Script}
 use Rattle.adversary_script.specs.Lookup.{hit_at}
 use Rattle.adversary_script.specs.Lies.{AreStates, start_of, lie_of}
 use Rattle.adversary_script.proofs.LiesInRange.{starts_in_range, depth_of_node}
-use Rattle.layer_laws.specs.LayerRuns.{IsLayerState, IsLayerConfiguration, IsLayerTold, IsLayerTable}
+use Rattle.layer_laws.specs.LayerRuns.{IsLayerState, IsLayerConfiguration, IsLayerTold}
+use Rattle.layer_laws.specs.LayerRuns.{IsLayerTable}
 use Rattle.layer_laws.proofs.NodesSteps.{each_below}
 use Rattle.round_runner.specs.Fits.{Fits}
 use Rattle.round_runner.specs.Played.{lies_at, heard_at}

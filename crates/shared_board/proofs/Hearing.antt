@@ -1,5 +1,7 @@
 -- What a level's senders tell is what is heard where the lies stand in the order of the liars.
-use Rattle.std.proofs.Common.{◌≡◌, ℕ, zero, suc, ◌+◌, ◌*◌, ◌<◌, ◌≤◌, Bool, true, false, not, cond, if◌then◌else◌, List, ◌∷◌, length, map, take, refl, sym, ap, ap₂, ◌∙◌, arith}
+use Rattle.std.proofs.Common.{◌≡◌, ℕ, zero, suc, ◌+◌, ◌*◌, ◌<◌, ◌≤◌, Bool, true, false, not, cond}
+use Rattle.std.proofs.Common.{if◌then◌else◌, List, ◌∷◌, length, map, take, refl, sym, ap, ap₂, ◌∙◌}
+use Rattle.std.proofs.Common.{arith}
 use Rattle.std.specs.List.{filter, range_with_len}
 use Rattle.std.proofs.lemmas.List.{get_or-map, length-map}
 use Rattle.std.proofs.lemmas.List.FromFn.{get_or-map-range_with_len, take-map-range_with_len}
@@ -14,7 +16,9 @@ use Rattle.plan_numbers.specs.declared.numbers.LevelNums.{LevelNums}
 use Rattle.plan_numbers.specs.Numbers.{level_of}
 use Rattle.plan_numbers.specs.Sizes.{block_nodes}
 use Rattle.plan_laws.specs.Stretches.{stretch}
-use Rattle.group_votes.specs.Senders.{Sent, is_liar, output_of, register_of, correct_in, liars_below, liars_in, told_by, IsTold, output_heard, value_heard, outputs_heard, values_heard}
+use Rattle.group_votes.specs.Senders.{Sent, is_liar, output_of, register_of, correct_in}
+use Rattle.group_votes.specs.Senders.{liars_below, liars_in, told_by, IsTold, output_heard}
+use Rattle.group_votes.specs.Senders.{value_heard, outputs_heard, values_heard}
 use Rattle.group_votes.specs.Groups.{register_heard}
 use Rattle.shared_board.specs.Sharing.{place_among, heard_at, heard_with, honest_in}
 use Rattle.shared_board.specs.Groups.{register_for}

@@ -1,5 +1,6 @@
 -- What is heard of a stretch of nodes hangs on the lies of its liars alone.
-use Rattle.std.proofs.Common.{◌≡◌, ℕ, suc, ◌+◌, ◌*◌, ◌<◌, ◌≤◌, Bool, true, false, if◌then◌else◌, List, length, refl, ap, ◌∙◌, arith}
+use Rattle.std.proofs.Common.{◌≡◌, ℕ, suc, ◌+◌, ◌*◌, ◌<◌, ◌≤◌, Bool, true, false, if◌then◌else◌}
+use Rattle.std.proofs.Common.{List, length, refl, ap, ◌∙◌, arith}
 use Rattle.counting.proofs.Places.{shorter}
 use Rattle.sync_types.specs.States.{State, register_at}
 use Rattle.construction.specs.Shown.{shown}
@@ -7,7 +8,8 @@ use Rattle.construction.specs.Steps.{state_of, register_after}
 use Rattle.plan_numbers.specs.declared.numbers.LevelNums.{LevelNums}
 use Rattle.plan_numbers.specs.Numbers.{level_of}
 use Rattle.plan_numbers.specs.Sizes.{block_nodes}
-use Rattle.group_votes.specs.Senders.{Sent, is_liar, register_of, output_of, liars_below, told_by, output_heard, value_heard, outputs_heard, values_heard}
+use Rattle.group_votes.specs.Senders.{Sent, is_liar, register_of, output_of, liars_below, told_by}
+use Rattle.group_votes.specs.Senders.{output_heard, value_heard, outputs_heard, values_heard}
 use Rattle.group_votes.specs.Groups.{register_heard}
 use Rattle.shared_board.specs.Sharing.{place_among}
 use Rattle.shared_board.proofs.Stretches.{same_range}

@@ -1,10 +1,12 @@
 -- A node's group of a lower level lies inside that of a higher one.
-use Rattle.std.proofs.Common.{ℕ, ◌+◌, ◌*◌, ◌/◌, ◌%◌, ◌<◌, ◌≤◌, List, [], ◌∷◌, length, sym, subst, ⊎_elim, arith}
+use Rattle.std.proofs.Common.{ℕ, ◌+◌, ◌*◌, ◌/◌, ◌%◌, ◌<◌, ◌≤◌, List, [], ◌∷◌, length, sym, subst}
+use Rattle.std.proofs.Common.{⊎_elim, arith}
 use Rattle.std.proofs.lemmas.Bool.{cases_eq}
 use Rattle.construction.specs.Plans.{Level, group_size, nodes_of, low_of}
 use Rattle.construction.proofs.Blocks.{block_room}
 use Rattle.shared_board.specs.Groups.{Group, group_at, nodes_in}
-use Rattle.shared_board.proofs.Descent.{InBlock, in_block, place_inner, block_below, group_top, group_under}
+use Rattle.shared_board.proofs.Descent.{InBlock, in_block, place_inner, block_below, group_top}
+use Rattle.shared_board.proofs.Descent.{group_under}
 
 -- the nodes of a group are some of those from a first one to before a last one
 pub record IsWithin (g : Group) (from to : ℕ) : Type 0 where

@@ -1,5 +1,7 @@
 -- Where a node's group stands among the groups, and where in the plan it lies.
-use Rattle.std.proofs.Common.{◌≡◌, ℕ, zero, suc, ◌+◌, ◌-◌, ◌*◌, ◌/◌, ◌%◌, ◌<◌, ◌≤◌, cond, List, [], ◌∷◌, ◌++◌, length, get_or, All, refl, sym, ap, ◌∙◌, subst, ⊎_elim, arith}
+use Rattle.std.proofs.Common.{◌≡◌, ℕ, zero, suc, ◌+◌, ◌-◌, ◌*◌, ◌/◌, ◌%◌, ◌<◌, ◌≤◌, cond, List, []}
+use Rattle.std.proofs.Common.{◌∷◌, ◌++◌, length, get_or, All, refl, sym, ap, ◌∙◌, subst, ⊎_elim}
+use Rattle.std.proofs.Common.{arith}
 use Rattle.std.specs.List.{range_with_len, flat_map}
 use Rattle.std.proofs.lemmas.Bool.{cases_eq, eq-eqb, ne_eqb}
 use Rattle.std.proofs.lemmas.List.{length-append, get_or_append_left, get_or-append_right}
@@ -7,7 +9,8 @@ use Rattle.std.proofs.lemmas.List.Elements.{All-cons, All-append, All-weaker}
 use Rattle.construction.specs.Plans.{Level, group_size, nodes_of, low_of}
 use Rattle.construction.proofs.Blocks.{block_room}
 use Rattle.shared_board.specs.Groups.{Group, groups_of, group_count, group_at, index_at, nodes_in}
-use Rattle.shared_board.proofs.Descent.{InBlock, in_block, place_inner, block_below, group_top, group_under, parted}
+use Rattle.shared_board.proofs.Descent.{InBlock, in_block, place_inner, block_below, group_top}
+use Rattle.shared_board.proofs.Descent.{group_under, parted}
 
 -- lists of one length, one behind the other
 module _ {A : Type 0} (f : ℕ → List A) (c : ℕ) (long : (i : ℕ) → length (f i) ≡ c) where

@@ -1,5 +1,6 @@
 -- A configuration by columns, and who lies in it.
-use Rattle.std.specs.Prelude.{◌≡◌, ℕ, ◌+◌, ◌<◌, ◌≤◌, List, [], length, map, All, slice_index_or, Bool, unwrap_or}
+use Rattle.std.specs.Prelude.{◌≡◌, ℕ, ◌+◌, ◌<◌, ◌≤◌, List, [], length, map, All, slice_index_or}
+use Rattle.std.specs.Prelude.{Bool, unwrap_or}
 use Rattle.std.specs.List.{range_with_len}
 use Rattle.std.specs.List.Sorted.{IsStrictlyIncreasing}
 use Rattle.sync_types.specs.declared.states.Reg.{Reg}

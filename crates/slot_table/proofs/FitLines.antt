@@ -1,10 +1,13 @@
 -- The lines of a table that is read are of nodes and outputs of the plan, and no output stands in
 -- two of them.
-use Rattle.std.proofs.Common.{◌≡◌, ℕ, zero, suc, ◌+◌, ◌<◌, ◌≤◌, inl, inr, Bool, true, false, List, [], ◌∷◌, ◌++◌, length, get_or, All, Option, Some, None, Result, Ok, Err, refl, sym, ap, ◌∙◌, subst, arith}
+use Rattle.std.proofs.Common.{◌≡◌, ℕ, zero, suc, ◌+◌, ◌<◌, ◌≤◌, inl, inr, Bool, true, false, List}
+use Rattle.std.proofs.Common.{[], ◌∷◌, ◌++◌, length, get_or, All, Option, Some, None, Result, Ok}
+use Rattle.std.proofs.Common.{Err, refl, sym, ap, ◌∙◌, subst, arith}
 use Rattle.std.specs.Prelude.{IfOk, ◌&&◌, ◌||◌, nat_le, nat_lt, if◌then◌else◌, codes}
 use Rattle.std.specs.List.{list_any}
 use Rattle.std.specs.Str.{bytes_eq}
-use Rattle.std.proofs.lemmas.Bool.{true≢false, and_parts, leb-true, le-leb, or_parts, leb-false, ltb-false, cases_lt}
+use Rattle.std.proofs.lemmas.Bool.{true≢false, and_parts, leb-true, le-leb, or_parts, leb-false}
+use Rattle.std.proofs.lemmas.Bool.{ltb-false, cases_lt}
 use Rattle.std.proofs.lemmas.List.{length_push, get_or_append_left, get_or_at}
 use Rattle.std.proofs.lemmas.List.Elements.{All-push, All-nil}
 use Rattle.texts.specs.Lines.{words_of}
@@ -16,7 +19,8 @@ use Rattle.sync_types.specs.declared.answers.Rule.TheVariants.{Form, Limit, Node
 use Rattle.construction.specs.Plans.{Plan, plan_nodes, plan_modulus}
 use Rattle.slot_table.specs.declared.lines.SlotLine.{SlotLine}
 use Rattle.slot_table.specs.Tables.{covers, meets, AreApart}
-use Rattle.slot_table.specs.SlotPart.{SlotsSoFar, nothing_read, line_tested, line_in, goes_with, slots_step, part_of, IsFor, AreFor}
+use Rattle.slot_table.specs.SlotPart.{SlotsSoFar, nothing_read, line_tested, line_in, goes_with}
+use Rattle.slot_table.specs.SlotPart.{slots_step, part_of, IsFor, AreFor}
 
 -- ---- a line that meets no other one
 

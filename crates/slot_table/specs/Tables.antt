@@ -1,5 +1,6 @@
 -- A slot table: each line gives a node some outputs, and no output stands in two lines.
-use Rattle.std.specs.Prelude.{◌≡◌, ℕ, ◌<◌, List, [], ◌∷◌, length, Bool, true, ◌&&◌, nat_le, Option, Some, None, if◌then◌else◌, slice_index_or}
+use Rattle.std.specs.Prelude.{◌≡◌, ℕ, ◌<◌, List, [], ◌∷◌, length, Bool, true, ◌&&◌, nat_le, Option}
+use Rattle.std.specs.Prelude.{Some, None, if◌then◌else◌, slice_index_or}
 use Rattle.slot_table.specs.declared.lines.SlotLine.{SlotLine}
 
 -- whether a line gives its node an output

@@ -1,7 +1,10 @@
 -- What was written reads back.
-use Rattle.std.proofs.Common.{◌≡◌, ℕ, ◌+◌, ◌-◌, ◌*◌, ◌^◌, ◌≤◌, ◌<◌, Bool, true, false, length, take, drop, List, [], ◌∷◌, ◌++◌, refl, sym, ap, ◌∙◌, append_assoc, arith, length-append, Option, Some, None, suc, nat_lt, ◌==◌, cond, not}
+use Rattle.std.proofs.Common.{◌≡◌, ℕ, ◌+◌, ◌-◌, ◌*◌, ◌^◌, ◌≤◌, ◌<◌, Bool, true, false, length, take}
+use Rattle.std.proofs.Common.{drop, List, [], ◌∷◌, ◌++◌, refl, sym, ap, ◌∙◌, append_assoc, arith}
+use Rattle.std.proofs.Common.{length-append, Option, Some, None, suc, nat_lt, ◌==◌, cond, not}
 use Rattle.std.specs.Prelude.{unwrap_or, IfSome, slice_index_or, All}
-use Rattle.std.proofs.lemmas.List.{take_at, drop_at, get_or_at, length-replicate, nil_from_length, length_push}
+use Rattle.std.proofs.lemmas.List.{take_at, drop_at, get_or_at, length-replicate, nil_from_length}
+use Rattle.std.proofs.lemmas.List.{length_push}
 use Rattle.std.proofs.lemmas.Bool.{lt-ltb, le-ltb, eq-eqb}
 use Rattle.state_codec.specs.Bits.{bits, number_of}
 use Rattle.state_codec.proofs.Numbers.{length-bits, number_of_enough}
@@ -9,13 +12,17 @@ use Rattle.state_codec.proofs.Bytes.{bits_of_bytes-bytes_of_bits, length-bytes_o
 use Rattle.construction.specs.Widths.{width}
 use Rattle.sync_types.specs.States.{State, zero_register}
 use Rattle.sync_types.specs.declared.states.Reg.{Reg}
-use Rattle.state_codec.specs.Shapes.{Fields, IsFields, register_bits, registers_bits, bits_in, bytes_in}
+use Rattle.state_codec.specs.Shapes.{Fields, IsFields, register_bits, registers_bits, bits_in}
+use Rattle.state_codec.specs.Shapes.{bytes_in}
 use Rattle.state_codec.specs.Ranges.{IsField, AreBelow, InRange}
 use Rattle.construction.specs.Runs.{IsRegister}
-use Rattle.state_codec.specs.Writing.{full_bits, bits_of_register, bits_of_registers, bits_of_state, padding, written}
-use Rattle.state_codec.specs.Reading.{below, full_register, register_from, registers_from, state_from, read}
+use Rattle.state_codec.specs.Writing.{full_bits, bits_of_register, bits_of_registers, bits_of_state}
+use Rattle.state_codec.specs.Writing.{padding, written}
+use Rattle.state_codec.specs.Reading.{below, full_register, register_from, registers_from}
+use Rattle.state_codec.specs.Reading.{state_from, read}
 use Rattle.state_codec.proofs.BitLengths.{width_fits}
-use Rattle.state_codec.proofs.RegisterSteps.{state_is, value_most, registers_bits-cons, registers_bits_of_none}
+use Rattle.state_codec.proofs.RegisterSteps.{state_is, value_most, registers_bits-cons}
+use Rattle.state_codec.proofs.RegisterSteps.{registers_bits_of_none}
 use Rattle.state_codec.proofs.Whole.{rounded}
 
 -- a value below the modulus is itself, and the modulus is infinity

@@ -1,10 +1,13 @@
 -- Bits cut into bytes, and joined again.
-use Rattle.std.proofs.Common.{◌≡◌, ℕ, zero, suc, ◌*◌, ◌^◌, ◌≤◌, ◌<◌, Bool, length, take, drop, get_or, List, [], ◌∷◌, refl, sym, ap, ◌∙◌, arith, length-append}
+use Rattle.std.proofs.Common.{◌≡◌, ℕ, zero, suc, ◌*◌, ◌^◌, ◌≤◌, ◌<◌, Bool, length, take, drop}
+use Rattle.std.proofs.Common.{get_or, List, [], ◌∷◌, refl, sym, ap, ◌∙◌, arith, length-append}
 use Rattle.std.specs.Prelude.{slice_index}
-use Rattle.std.proofs.lemmas.List.{take_at, drop_at, nil_from_length, length-take, length-take-le, length-drop, take-append-drop}
+use Rattle.std.proofs.lemmas.List.{take_at, drop_at, nil_from_length, length-take, length-take-le}
+use Rattle.std.proofs.lemmas.List.{length-drop, take-append-drop}
 use Rattle.std.proofs.Math.Nat.{pow-le-pow_right}
 use Rattle.state_codec.specs.Bits.{bits, number_of, bits_of_bytes, bytes_of_bits}
-use Rattle.state_codec.proofs.Numbers.{length-bits, number_of_enough, bits-number_of, number_of_below}
+use Rattle.state_codec.proofs.Numbers.{length-bits, number_of_enough, bits-number_of}
+use Rattle.state_codec.proofs.Numbers.{number_of_below}
 
 -- bytes are those of their bits
 pub bytes_of_bits-bits_of_bytes : (bytes : List ℕ) → ((i : ℕ) → get_or bytes i 0 < 256)

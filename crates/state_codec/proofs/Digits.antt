@@ -1,19 +1,23 @@
 -- Digits of 0-9a-f.
-use Rattle.std.proofs.Common.{◌≡◌, ℕ, suc, ◌++◌, ◌*◌, ◌/◌, ◌%◌, ◌<◌, ◌||◌, ◌&&◌, ◌==◌, Bool, true, false, length, List, [], ◌∷◌, refl, sym, ap, ◌∙◌, arith, Some, None, Result, Ok, Err, nat_le, if◌then◌else◌}
+use Rattle.std.proofs.Common.{◌≡◌, ℕ, suc, ◌++◌, ◌*◌, ◌/◌, ◌%◌, ◌<◌, ◌||◌, ◌&&◌, ◌==◌, Bool, true}
+use Rattle.std.proofs.Common.{false, length, List, [], ◌∷◌, refl, sym, ap, ◌∙◌, arith, Some, None}
+use Rattle.std.proofs.Common.{Result, Ok, Err, nat_le, if◌then◌else◌}
 use Rattle.std.specs.Prelude.{MatchResult, is_some, slice_index, slice_index_or}
 use Rattle.std.specs.List.{list_all, AllPass}
 use Rattle.std.proofs.lemmas.Bool.{eq-eqb}
 use Rattle.std.proofs.lemmas.List.Sums.{AllPass-from_list_all}
 use Rattle.hex.specs.Hex.{decode_sized, is_hex_digit, encode_with, lower_digits}
 use Rattle.hex.specs.declared.error.FromHexError.{FromHexError}
-use Rattle.hex.proofs.HexLemmas.{decode_sized-twice, decode_of-digits, decode_of-encode_lower, length-encode_with}
+use Rattle.hex.proofs.HexLemmas.{decode_sized-twice, decode_of-digits, decode_of-encode_lower}
+use Rattle.hex.proofs.HexLemmas.{length-encode_with}
 use Rattle.state_codec.proofs.Bytes.{bytes_of_bits_below, length-bytes_of_bits}
 use Rattle.sync_types.specs.States.{State}
 use Rattle.state_codec.specs.Shapes.{Fields, IsFields, bytes_in}
 use Rattle.state_codec.specs.Ranges.{InRange}
 use Rattle.state_codec.specs.Writing.{written, bits_of_state, padding}
 use Rattle.state_codec.specs.Reading.{read}
-use Rattle.state_codec.specs.Texts.{is_lower_digit, is_state_text, written_text, bytes_or_none, decoded, read_text}
+use Rattle.state_codec.specs.Texts.{is_lower_digit, is_state_text, written_text, bytes_or_none}
+use Rattle.state_codec.specs.Texts.{decoded, read_text}
 use Rattle.state_codec.proofs.Back.{written_reads_back}
 
 one_of : (u l d : Bool) (x y z : ℕ) → (d || l) ≡ true

@@ -1,12 +1,14 @@
 -- Further registers behind a plan's are every node's.
-use Rattle.std.proofs.Common.{◌≡◌, cond, ℕ, ◌+◌, ◌<◌, ◌≤◌, inl, inr, List, ◌++◌, length, get_or, replicate, refl, sym, ap, ◌∙◌, arith, length-append}
+use Rattle.std.proofs.Common.{◌≡◌, cond, ℕ, ◌+◌, ◌<◌, ◌≤◌, inl, inr, List, ◌++◌, length, get_or}
+use Rattle.std.proofs.Common.{replicate, refl, sym, ap, ◌∙◌, arith, length-append}
 use Rattle.std.specs.Prelude.{nat_lt}
 use Rattle.std.proofs.lemmas.Bool.{cases_lt, le-ltb}
 use Rattle.std.proofs.lemmas.Grind.{same_number_lists}
 use Rattle.std.proofs.lemmas.List.{get_or_append_left, get_or-append_right}
 use Rattle.construction.specs.Plans.{Plan, plan_low, plan_nodes}
 use Rattle.construction.proofs.Ranges.{low_most}
-use Rattle.state_codec.specs.Shapes.{moduli_of, moduli_from, lows_of, shape_of, shape_with, with_further, fields_at}
+use Rattle.state_codec.specs.Shapes.{moduli_of, moduli_from, lows_of, shape_of, shape_with}
+use Rattle.state_codec.specs.Shapes.{with_further, fields_at}
 use Rattle.state_codec.proofs.Plans.{length-moduli_of}
 use Rattle.state_codec.proofs.Lows.{length-moduli_from, modulus_at, made_at}
 

@@ -1,13 +1,16 @@
 -- The fields of nodes of each low.
-use Rattle.std.proofs.Common.{◌≡◌, Bool, true, false, cond, ℕ, zero, suc, ◌+◌, ◌<◌, ◌≤◌, ◌^◌, List, [], ◌∷◌, ◌++◌, length, get_or, map, refl, sym, ap, subst, ◌∙◌, arith}
+use Rattle.std.proofs.Common.{◌≡◌, Bool, true, false, cond, ℕ, zero, suc, ◌+◌, ◌<◌, ◌≤◌, ◌^◌, List}
+use Rattle.std.proofs.Common.{[], ◌∷◌, ◌++◌, length, get_or, map, refl, sym, ap, subst, ◌∙◌, arith}
 use Rattle.std.specs.Prelude.{All, nat_lt, if◌then◌else◌, slice_index, ◌==◌}
 use Rattle.std.specs.List.{range_with_len}
 use Rattle.std.proofs.lemmas.Bool.{le-ltb}
-use Rattle.std.proofs.lemmas.List.FromFn.{map-range_with_len_more, length-map-range_with_len, get_or-map-range_with_len}
+use Rattle.std.proofs.lemmas.List.FromFn.{map-range_with_len_more, length-map-range_with_len}
+use Rattle.std.proofs.lemmas.List.FromFn.{get_or-map-range_with_len}
 use Rattle.std.proofs.lemmas.Grind.{same_number_lists}
 use Rattle.construction.specs.Plans.{Plan, plan_low, plan_nodes, plan_depth}
 use Rattle.construction.proofs.Ranges.{low_most}
-use Rattle.state_codec.specs.Shapes.{Fields, Shape, IsFields, IsShape, moduli_from, fields_from, fields_at, lows_of}
+use Rattle.state_codec.specs.Shapes.{Fields, Shape, IsFields, IsShape, moduli_from, fields_from}
+use Rattle.state_codec.specs.Shapes.{fields_at, lows_of}
 use Rattle.state_codec.specs.ShapesKept.{IsKept}
 
 -- a list that is made item by item

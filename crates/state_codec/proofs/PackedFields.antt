@@ -1,16 +1,20 @@
 -- Fields of a state whose bytes stand at the front of others.
-use Rattle.std.proofs.Common.{◌≡◌, ℕ, zero, suc, ◌+◌, ◌*◌, ◌<◌, ◌≤◌, Bool, true, false, cond, length, take, drop, get_or, List, [], ◌∷◌, ◌++◌, refl, sym, ap, ap₂, ◌∙◌, arith, ◌==◌, Option}
+use Rattle.std.proofs.Common.{◌≡◌, ℕ, zero, suc, ◌+◌, ◌*◌, ◌<◌, ◌≤◌, Bool, true, false, cond}
+use Rattle.std.proofs.Common.{length, take, drop, get_or, List, [], ◌∷◌, ◌++◌, refl, sym, ap, ap₂}
+use Rattle.std.proofs.Common.{◌∙◌, arith, ◌==◌, Option}
 use Rattle.std.specs.Prelude.{unwrap_or}
 use Rattle.std.proofs.lemmas.Bool.{eq-eqb}
 use Rattle.std.proofs.lemmas.Grind.{flat_map-append}
-use Rattle.std.proofs.lemmas.List.{take-append-drop, length-take-le, length-drop, take-append-le, drop-append-le, take-take, get_or-take, drop-drop}
+use Rattle.std.proofs.lemmas.List.{take-append-drop, length-take-le, length-drop, take-append-le}
+use Rattle.std.proofs.lemmas.List.{drop-append-le, take-take, get_or-take, drop-drop}
 use Rattle.std.proofs.lemmas.List.Sums.{sum_by-take-le}
 use Rattle.state_codec.specs.Bits.{bits, number_of, bits_of_bytes}
 use Rattle.state_codec.proofs.Bytes.{length-bits_of_bytes}
 use Rattle.construction.specs.Widths.{width}
 use Rattle.sync_types.specs.States.{State, zero_state, zero_register, register_at}
 use Rattle.state_codec.specs.Shapes.{Fields, register_bits, registers_bits, bits_in, bytes_in}
-use Rattle.state_codec.specs.Reading.{below, full_register, register_from, registers_from, state_from, read}
+use Rattle.state_codec.specs.Reading.{below, full_register, register_from, registers_from}
+use Rattle.state_codec.specs.Reading.{state_from, read}
 use Rattle.state_codec.proofs.Whole.{rounded}
 use Rattle.state_codec.proofs.RegisterSteps.{registers_bits-cons, registers_bits_of_none, bits_more}
 

@@ -1,5 +1,6 @@
 -- The shape of a plan.
-use Rattle.std.proofs.Common.{◌≡◌, cond, ℕ, ◌+◌, ◌≤◌, ◌^◌, List, [], ◌∷◌, ◌++◌, length, map, refl, ap, ◌∙◌, arith, None}
+use Rattle.std.proofs.Common.{◌≡◌, cond, ℕ, ◌+◌, ◌≤◌, ◌^◌, List, [], ◌∷◌, ◌++◌, length, map, refl}
+use Rattle.std.proofs.Common.{ap, ◌∙◌, arith, None}
 use Rattle.std.specs.Prelude.{All}
 use Rattle.std.proofs.lemmas.Bool.{ne_eqb}
 use Rattle.std.proofs.lemmas.List.{length-map, length-reverse}
@@ -7,11 +8,13 @@ use Rattle.std.proofs.lemmas.List.Elements.{All-push}
 use Rattle.std.proofs.lemmas.List.FromFn.{length-map-range_with_len}
 use mathlib.Core.List.{reverse-cons}
 use Rattle.construction.specs.Widths.{width}
-use Rattle.construction.specs.Plans.{Level, Plan, bits_of, plan_bits, plan_depth, plan_low, plan_nodes}
+use Rattle.construction.specs.Plans.{Level, Plan, bits_of, plan_bits, plan_depth, plan_low}
+use Rattle.construction.specs.Plans.{plan_nodes}
 use Rattle.plan_numbers.specs.Numbers.{below_of}
 use Rattle.plan_numbers.specs.Premises.{LevelsAccepted, IsAccepted, base_premise}
 use Rattle.plan_numbers.proofs.Accepted.{meets}
-use Rattle.state_codec.specs.Shapes.{IsShape, moduli_of, fields_from, shape_over, shape_of, register_bits, registers_bits, bits_in}
+use Rattle.state_codec.specs.Shapes.{IsShape, moduli_of, fields_from, shape_over, shape_of}
+use Rattle.state_codec.specs.Shapes.{register_bits, registers_bits, bits_in}
 use Rattle.state_codec.proofs.RegisterSteps.{registers_bits_push, registers_bits_of_none}
 use Rattle.state_codec.proofs.Lows.{all_moduli}
 

@@ -1,5 +1,7 @@
 -- What is read is in range.
-use Rattle.std.proofs.Common.{◌≡◌, ◌≢◌, get_or, cond, not, ℕ, zero, suc, ◌+◌, ◌<◌, Bool, true, false, length, take, drop, List, [], ◌∷◌, refl, ap, arith, Some, None, replicate, nat_lt, ◌==◌, if◌then◌else◌}
+use Rattle.std.proofs.Common.{◌≡◌, ◌≢◌, get_or, cond, not, ℕ, zero, suc, ◌+◌, ◌<◌, Bool, true}
+use Rattle.std.proofs.Common.{false, length, take, drop, List, [], ◌∷◌, refl, ap, arith, Some, None}
+use Rattle.std.proofs.Common.{replicate, nat_lt, ◌==◌, if◌then◌else◌}
 use Rattle.std.specs.Prelude.{unwrap_or, IfSome, slice_index_or}
 use Rattle.std.proofs.lemmas.List.{length-replicate}
 use Rattle.std.proofs.lemmas.Bool.{ltb-true, eqb-false}
@@ -9,7 +11,8 @@ use Rattle.sync_types.specs.States.{zero_state, zero_register}
 use Rattle.state_codec.specs.Shapes.{Fields, IsFields, register_bits, bytes_in}
 use Rattle.state_codec.specs.Ranges.{IsField, AreBelow, InRange}
 use Rattle.construction.specs.Runs.{IsRegister}
-use Rattle.state_codec.specs.Reading.{full_register, register_from, registers_from, state_from, read}
+use Rattle.state_codec.specs.Reading.{full_register, register_from, registers_from, state_from}
+use Rattle.state_codec.specs.Reading.{read}
 
 lt_from : (c : ℕ) → c ≢ 0 → 0 < c
 lt_from zero ne = absurd (ne refl)

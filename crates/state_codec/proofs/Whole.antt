@@ -1,5 +1,6 @@
 -- All bits of a state are written.
-use Rattle.std.proofs.Common.{◌≡◌, ℕ, ◌+◌, ◌-◌, ◌*◌, ◌≤◌, ◌<◌, Bool, false, length, get_or, List, ◌++◌, refl, sym, ap, ◌∙◌, arith, replicate, []}
+use Rattle.std.proofs.Common.{◌≡◌, ℕ, ◌+◌, ◌-◌, ◌*◌, ◌≤◌, ◌<◌, Bool, false, length, get_or, List}
+use Rattle.std.proofs.Common.{◌++◌, refl, sym, ap, ◌∙◌, arith, replicate, []}
 use Rattle.std.specs.Int.{div_ceil}
 use Rattle.std.proofs.lemmas.List.{append-nil, take_all}
 use Rattle.state_codec.specs.Bits.{bits, bits_of_bytes, bytes_of_bits}

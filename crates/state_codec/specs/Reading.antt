@@ -1,5 +1,6 @@
 -- The state that bytes stand for.
-use Rattle.std.specs.Prelude.{ℕ, ◌+◌, ◌==◌, nat_lt, List, [], ◌∷◌, length, take, drop, Bool, false, if◌then◌else◌, Option, Some, None, unwrap_or, slice_index_or}
+use Rattle.std.specs.Prelude.{ℕ, ◌+◌, ◌==◌, nat_lt, List, [], ◌∷◌, length, take, drop, Bool, false}
+use Rattle.std.specs.Prelude.{if◌then◌else◌, Option, Some, None, unwrap_or, slice_index_or}
 use Rattle.sync_types.specs.States.{State, zero_state, zero_register}
 use Rattle.sync_types.specs.declared.states.Reg.{Reg}
 use Rattle.state_codec.specs.Bits.{number_of, bits_of_bytes}

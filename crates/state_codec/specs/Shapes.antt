@@ -1,6 +1,7 @@
 -- The fields of a node's state, how many bits and bytes they take, and the shape of a plan's
 -- states, which says of each node which fields it has.
-use Rattle.std.specs.Prelude.{ℕ, ◌+◌, ◌^◌, ◌≤◌, ◌==◌, nat_lt, if◌then◌else◌, List, ◌++◌, length, map, replicate, reverse, slice_index, slice_index_or, All}
+use Rattle.std.specs.Prelude.{ℕ, ◌+◌, ◌^◌, ◌≤◌, ◌==◌, nat_lt, if◌then◌else◌, List, ◌++◌, length}
+use Rattle.std.specs.Prelude.{map, replicate, reverse, slice_index, slice_index_or, All}
 use Rattle.std.specs.Int.{div_ceil}
 use Rattle.std.specs.List.{sum_by, range_with_len}
 use Rattle.construction.specs.Widths.{width}

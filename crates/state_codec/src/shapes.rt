@@ -30,12 +30,11 @@ pub struct StateShape {
 impl Drop for StateShape {
     fn drop(self) {
         let StateShape {
-            base,
+            base: _,
             moduli,
             lows,
             kinds,
         } = self;
-        drop(base);
         drop(moduli);
         drop(lows);
         drop(kinds);

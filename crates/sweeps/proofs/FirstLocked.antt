@@ -1,5 +1,6 @@
 -- What a runner knows of an era at its end is the first locked configuration of what is played.
-use Rattle.std.proofs.Common.{◌≡◌, ℕ, ◌<◌, ◌≤◌, List, [], Option, Some, None, sym, ap, ◌∙◌, subst, arith}
+use Rattle.std.proofs.Common.{◌≡◌, ℕ, ◌<◌, ◌≤◌, List, [], Option, Some, None, sym, ap, ◌∙◌, subst}
+use Rattle.std.proofs.Common.{arith}
 use Rattle.std.specs.Prelude.{IfSome, max}
 use Rattle.std.proofs.Math.Path.{fun_ext}
 use Rattle.sync_types.specs.States.{State}

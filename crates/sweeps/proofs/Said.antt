@@ -1,5 +1,6 @@
 -- What is said of a sweep, write by write.
-use Rattle.std.proofs.Common.{◌≡◌, ℕ, ◌-◌, ◌<◌, ◌≤◌, length, get_or, List, [], ◌∷◌, ◌++◌, Bool, true, false, inl, inr, refl, sym, ap, ◌∙◌, subst, arith}
+use Rattle.std.proofs.Common.{◌≡◌, ℕ, ◌-◌, ◌<◌, ◌≤◌, length, get_or, List, [], ◌∷◌, ◌++◌, Bool}
+use Rattle.std.proofs.Common.{true, false, inl, inr, refl, sym, ap, ◌∙◌, subst, arith}
 use Rattle.std.specs.List.{flat_map}
 use Rattle.std.proofs.lemmas.Bool.{true≢false}
 use Rattle.std.proofs.lemmas.List.{append-nil}
@@ -8,7 +9,8 @@ use Rattle.std.proofs.lemmas.List.Elements.{All-push}
 use Rattle.sync_types.proofs.RisingIds.{rising_push}
 use Rattle.texts.specs.Growth.{Told, Wrote, Cut}
 use Rattle.texts.proofs.Growth.{wrote_none, wrote_then, cut_then, cut_more}
-use Rattle.sweeps.specs.Progress.{Saying, SaidBy, SaidSoFar, SaysBy, Says, has_line, progress_line, progress_text, wiping}
+use Rattle.sweeps.specs.Progress.{Saying, SaidBy, SaidSoFar, SaysBy, Says, has_line, progress_line}
+use Rattle.sweeps.specs.Progress.{progress_text, wiping}
 
 -- lines of some numbers, and that of one more
 lines_more : (count : ℕ) (dones : List ℕ) (done : ℕ)

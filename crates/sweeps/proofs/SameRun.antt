@@ -1,5 +1,6 @@
 -- A script that says no noise plays the same run with every key.
-use Rattle.std.proofs.Common.{◌≡◌, ℕ, zero, suc, ◌+◌, List, [], ◌∷◌, map, Bool, true, false, cond, Option, Some, None, find, refl, ap, ◌∙◌}
+use Rattle.std.proofs.Common.{◌≡◌, ℕ, zero, suc, ◌+◌, List, [], ◌∷◌, map, Bool, true, false, cond}
+use Rattle.std.proofs.Common.{Option, Some, None, find, refl, ap, ◌∙◌}
 use Rattle.std.specs.Prelude.{unwrap_or}
 use Rattle.std.specs.List.{list_any, range_with_len}
 use Rattle.std.proofs.Math.Path.{fun_ext}
@@ -16,7 +17,8 @@ use Rattle.adversary_script.specs.declared.lies.Lie.{Lie}
 use Rattle.adversary_script.specs.Scripts.{Script}
 use Rattle.adversary_script.specs.Eras.{faulty_at}
 use Rattle.adversary_script.specs.Lookup.{hit_at, start_for, speaks}
-use Rattle.adversary_script.specs.Lies.{common_start, own_or_common, start_of, lie_state, lie_or_puppet, lie_of}
+use Rattle.adversary_script.specs.Lies.{common_start, own_or_common, start_of, lie_state}
+use Rattle.adversary_script.specs.Lies.{lie_or_puppet, lie_of}
 use Rattle.adversary_script.specs.NoiseSaid.{is_noise, says_noise, starts_with_noise}
 use Rattle.round_runner.specs.Played.{starts, lies_at, after_round, played_at}
 use Rattle.sweeps.specs.Keys.{keyed}

@@ -1,14 +1,17 @@
 -- What is written of counted runs is the text of the sweep.
-use Rattle.std.proofs.Common.{◌≡◌, ℕ, zero, suc, ◌+◌, ◌-◌, ◌<◌, ◌≤◌, List, ◌++◌, length, map, get_or, Some, None, refl, sym, ap, ap₂, ◌∙◌, arith}
+use Rattle.std.proofs.Common.{◌≡◌, ℕ, zero, suc, ◌+◌, ◌-◌, ◌<◌, ◌≤◌, List, ◌++◌, length, map}
+use Rattle.std.proofs.Common.{get_or, Some, None, refl, sym, ap, ap₂, ◌∙◌, arith}
 use Rattle.std.specs.List.{flat_map, range_with_len}
 use Rattle.std.proofs.lemmas.List.Folds.{flat_map-map}
-use Rattle.std.proofs.lemmas.List.FromFn.{fill_by_all, length-range_with_len, get_or-range_with_len, length-map-range_with_len, get_or-map-range_with_len}
+use Rattle.std.proofs.lemmas.List.FromFn.{fill_by_all, length-range_with_len, get_or-range_with_len}
+use Rattle.std.proofs.lemmas.List.FromFn.{length-map-range_with_len, get_or-map-range_with_len}
 use Rattle.construction.specs.Plans.{Plan}
 use Rattle.adversary_script.specs.Scripts.{Script}
 use Rattle.adversary_script.specs.Eras.{first_of_era, end_of_era}
 use Rattle.sweeps.specs.Sweeps.{lock_with, found_at}
 use Rattle.sweeps.specs.SweepTexts.{line_of, lock_line, era_lines, sweep_text}
-use Rattle.sweeps.specs.Tallies.{EraRuns, AreOfEra, AreTallied, nothing, no_runs, place_line, locked_text, runs_text}
+use Rattle.sweeps.specs.Tallies.{EraRuns, AreOfEra, AreTallied, nothing, no_runs, place_line}
+use Rattle.sweeps.specs.Tallies.{locked_text, runs_text}
 use Rattle.sweeps.specs.declared.tallies.Found.{Found}
 
 -- texts of numbers below n that are the same one by one

@@ -1,5 +1,6 @@
 -- What is counted, while runs are played.
-use Rattle.std.specs.Prelude.{◌≡◌, ℕ, ◌+◌, ◌-◌, ◌<◌, ◌≤◌, ◌^◌, List, ◌++◌, [], length, map, min, slice_set, slice_index_or, Option, Some, None, IfSome}
+use Rattle.std.specs.Prelude.{◌≡◌, ℕ, ◌+◌, ◌-◌, ◌<◌, ◌≤◌, ◌^◌, List, ◌++◌, [], length, map, min}
+use Rattle.std.specs.Prelude.{slice_set, slice_index_or, Option, Some, None, IfSome}
 use Rattle.std.specs.List.{flat_map, range_with_len}
 use Rattle.std.specs.Option.{option_or}
 use Rattle.construction.specs.Plans.{Plan}

@@ -1,14 +1,18 @@
 -- One write after another.
-use Rattle.std.proofs.Common.{◌≡◌, ℕ, suc, ◌+◌, ◌<◌, ◌≤◌, length, take, drop, get_or, List, [], ◌∷◌, ◌++◌, Option, Some, None, Result, Ok, Err, refl, sym, ap, ◌∙◌, subst, append_assoc, length-append, length-drop, arith, rules}
+use Rattle.std.proofs.Common.{◌≡◌, ℕ, suc, ◌+◌, ◌<◌, ◌≤◌, length, take, drop, get_or, List, [], ◌∷◌}
+use Rattle.std.proofs.Common.{◌++◌, Option, Some, None, Result, Ok, Err, refl, sym, ap, ◌∙◌, subst}
+use Rattle.std.proofs.Common.{append_assoc, length-append, length-drop, arith, rules}
 use Rattle.std.specs.Prelude.{OnOk, IsOk}
 use Rattle.std.specs.Result.{IsErrAnd}
 use Rattle.std.proofs.lemmas.Result.{err_from_is_err_and}
 use Rattle.std.specs.List.{flat_map}
-use Rattle.std.proofs.lemmas.List.{append-nil, append_cancel_left, take-append-drop, drop_more, take_more}
+use Rattle.std.proofs.lemmas.List.{append-nil, append_cancel_left, take-append-drop, drop_more}
+use Rattle.std.proofs.lemmas.List.{take_more}
 use Rattle.std.proofs.lemmas.List.Concat.{flat_map-append}
 use Rattle.std.specs.Io.KnownBytes.{Appends, Keeps, append_known}
 use Rattle.texts.specs.Causes.{Counted}
-use Rattle.texts.specs.Growth.{Told, gathering, Grows, EachGrows, Follows, AppendsFront, last_of, arrived, IsMissed, Wrote, Cut, Puts}
+use Rattle.texts.specs.Growth.{Told, gathering, Grows, EachGrows, Follows, AppendsFront, last_of}
+use Rattle.texts.specs.Growth.{arrived, IsMissed, Wrote, Cut, Puts}
 
 -- known bytes grow by nothing
 pub appends_none : (s : Option (List ℕ)) → Appends s s []

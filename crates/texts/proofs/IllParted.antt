@@ -1,5 +1,6 @@
 -- An ill parted line is refused.
-use Rattle.std.proofs.Common.{◌≡◌, ℕ, ◌+◌, Bool, true, false, List, [], ◌∷◌, ◌++◌, length, Result, Ok, Err, refl, ap, arith, ◌⊎◌, inl, inr}
+use Rattle.std.proofs.Common.{◌≡◌, ℕ, ◌+◌, Bool, true, false, List, [], ◌∷◌, ◌++◌, length, Result}
+use Rattle.std.proofs.Common.{Ok, Err, refl, ap, arith, ◌⊎◌, inl, inr}
 use Rattle.std.specs.Prelude.{not, ◌&&◌, nat_lt, ◌==◌, if◌then◌else◌}
 use Rattle.std.proofs.lemmas.List.Folds.{list_any_at}
 use Rattle.texts.specs.Lines.{words_of, is_well_parted}

@@ -1,5 +1,6 @@
 -- The words of a line, and the line of words.
-use Rattle.std.proofs.Common.{◌≡◌, ℕ, ◌^◌, ◌<◌, Bool, true, false, cond, eqb, not, ◌&&◌, List, [], ◌∷◌, Some, None, decimal, refl, sym, ap, subst, ◌∙◌, arith}
+use Rattle.std.proofs.Common.{◌≡◌, ℕ, ◌^◌, ◌<◌, Bool, true, false, cond, eqb, not, ◌&&◌, List, []}
+use Rattle.std.proofs.Common.{◌∷◌, Some, None, decimal, refl, sym, ap, subst, ◌∙◌, arith}
 use Rattle.std.specs.Prelude.{All}
 use Rattle.std.specs.List.{list_all, AllByRecursion}
 use Rattle.std.specs.Char.{is_ascii_digit}
@@ -8,7 +9,8 @@ use Rattle.std.proofs.lemmas.Bool.{and_parts, and_from, not-true, leb-true}
 use Rattle.std.proofs.lemmas.Bool.Decides.{nat_tests}
 use Rattle.std.proofs.lemmas.List.Elements.{All-nil, All-cons}
 use Rattle.std.proofs.lemmas.List.Folds.{list_all-append}
-use Rattle.std.proofs.lemmas.List.Splits.{slice_split_none, slice_split_at, join_with_byte-slice_split}
+use Rattle.std.proofs.lemmas.List.Splits.{slice_split_none, slice_split_at}
+use Rattle.std.proofs.lemmas.List.Splits.{join_with_byte-slice_split}
 use Rattle.std.proofs.lemmas.Fmt.{digits_decimal}
 use Rattle.texts.specs.Lines.{words_of}
 use Rattle.texts.specs.Numbers.{is_number, number_of}

@@ -1,5 +1,6 @@
 -- What stands behind the last newline.
-use Rattle.std.proofs.Common.{◌≡◌, inl, ℕ, zero, suc, Bool, true, false, eqb, List, [], ◌∷◌, ◌++◌, length, refl, ◌∙◌, append_assoc, append-nil, arith}
+use Rattle.std.proofs.Common.{◌≡◌, inl, ℕ, zero, suc, Bool, true, false, eqb, List, [], ◌∷◌, ◌++◌}
+use Rattle.std.proofs.Common.{length, refl, ◌∙◌, append_assoc, append-nil, arith}
 use Rattle.texts.specs.Lines.{is_one_line, whole_from, whole_lines}
 use Rattle.texts.specs.Limits.{behind_lines}
 use Rattle.texts.specs.Pending.{IsShown}

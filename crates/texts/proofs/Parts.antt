@@ -1,8 +1,10 @@
 -- What holds of each value that a part can end with.
-use Rattle.std.proofs.Common.{◌≡◌, ℕ, ◌+◌, Bool, true, false, List, [], ◌∷◌, length, Result, Ok, Err, ap, arith}
+use Rattle.std.proofs.Common.{◌≡◌, ℕ, ◌+◌, Bool, true, false, List, [], ◌∷◌, length, Result, Ok}
+use Rattle.std.proofs.Common.{Err, ap, arith}
 use Rattle.std.specs.Prelude.{IfOk, nat_lt, if◌then◌else◌}
 use Rattle.texts.specs.Lines.{is_well_parted}
-use Rattle.texts.specs.Parts.{Next, goes, ends, refuses, Found, At, is_skipped, with_skips, part_from}
+use Rattle.texts.specs.Parts.{Next, goes, ends, refuses, Found, At, is_skipped, with_skips}
+use Rattle.texts.specs.Parts.{part_from}
 
 -- a state that is kept, or a value that is good
 abbrev pub After : {S V R : Type 0} → (S → Type 0) → (V → Type 0) → Next S V R → Type 0

@@ -1,10 +1,13 @@
 -- Bytes that do not show what decides a part: what follows does.
-use Rattle.std.proofs.Common.{◌≡◌, ℕ, zero, suc, ◌+◌, ◌-◌, ◌≤◌, min, Bool, true, false, eqb, not, List, [], ◌∷◌, ◌++◌, length, Option, Some, None, Result, Ok, Err, refl, sym, ap, ◌∙◌, subst, append_assoc, length-append, arith}
+use Rattle.std.proofs.Common.{◌≡◌, ℕ, zero, suc, ◌+◌, ◌-◌, ◌≤◌, min, Bool, true, false, eqb, not}
+use Rattle.std.proofs.Common.{List, [], ◌∷◌, ◌++◌, length, Option, Some, None, Result, Ok, Err}
+use Rattle.std.proofs.Common.{refl, sym, ap, ◌∙◌, subst, append_assoc, length-append, arith}
 use Rattle.std.proofs.lemmas.Bool.{le-leb, eqb-true}
 use Rattle.std.proofs.lemmas.List.Folds.{list_all-append}
 use Rattle.texts.specs.Lines.{lines_of, is_one_line, whole_from, whole_lines}
 use Rattle.texts.specs.Parts.{Next, goes, ends, refuses, Found, At, part_from}
-use Rattle.texts.specs.Limits.{Limited, by, shows, less, room_of, with_rest, with_limit, behind_lines}
+use Rattle.texts.specs.Limits.{Limited, by, shows, less, room_of, with_rest, with_limit}
+use Rattle.texts.specs.Limits.{behind_lines}
 use Rattle.texts.specs.Pending.{IsBehind}
 use Rattle.texts.specs.Words.{open_from}
 use Rattle.texts.proofs.LineByLine.{PartsLines, longer_line}

@@ -1,5 +1,6 @@
 -- The lines and words of a text that was printed as words.
-use Rattle.std.proofs.Common.{◌≡◌, ℕ, ◌+◌, ◌^◌, ◌<◌, ◌≤◌, Bool, true, false, List, [], ◌∷◌, ◌++◌, length, length-append, refl, ap, ◌∙◌, arith, Ok}
+use Rattle.std.proofs.Common.{◌≡◌, ℕ, ◌+◌, ◌^◌, ◌<◌, ◌≤◌, Bool, true, false, List, [], ◌∷◌, ◌++◌}
+use Rattle.std.proofs.Common.{length, length-append, refl, ap, ◌∙◌, arith, Ok}
 use Rattle.std.specs.Prelude.{decimal, nat_lt, nat_le, ◌==◌, if◌then◌else◌, slice_index, ⊤}
 use Rattle.std.specs.List.{All, list_all, list_any, join_with_byte}
 use Rattle.std.specs.Char.{is_ascii_digit}

@@ -1,6 +1,7 @@
 -- A text whose lines all end with a newline, within a limit, and behind whose last line nothing
 -- stands.
-use Rattle.std.specs.Prelude.{ℕ, ◌+◌, List, [], ◌∷◌, length, Bool, true, false, nat_lt, if◌then◌else◌, Option, Result, Ok, Err}
+use Rattle.std.specs.Prelude.{ℕ, ◌+◌, List, [], ◌∷◌, length, Bool, true, false, nat_lt}
+use Rattle.std.specs.Prelude.{if◌then◌else◌, Option, Result, Ok, Err}
 use Rattle.texts.specs.Lines.{lines_of, whole_lines}
 use Rattle.texts.specs.Parts.{Next, refuses, Found, At, part_from}
 use Rattle.texts.specs.Limits.{Limited, by, beyond, shows, with_limit, room_of, behind_lines}

@@ -1,5 +1,6 @@
 -- A part of a text, which is read line by line.
-use Rattle.std.specs.Prelude.{ℕ, ◌+◌, List, [], ◌∷◌, length, Bool, ◌||◌, nat_lt, ◌==◌, if◌then◌else◌, slice_index, Result, Ok, Err}
+use Rattle.std.specs.Prelude.{ℕ, ◌+◌, List, [], ◌∷◌, length, Bool, ◌||◌, nat_lt, ◌==◌}
+use Rattle.std.specs.Prelude.{if◌then◌else◌, slice_index, Result, Ok, Err}
 use Rattle.texts.specs.Lines.{is_well_parted}
 
 -- what a line does to a part of which so much was read: it goes on, the part ends here with its

@@ -1,6 +1,7 @@
 -- Bytes of a text that do not show what decides it: a line shows at its newline, at its byte 4097
 -- or at the end.
-use Rattle.std.specs.Prelude.{◌≡◌, ◌⊎◌, ℕ, ◌+◌, ◌<◌, ◌≤◌, List, [], ◌∷◌, ◌++◌, length, Bool, true, false, Result, Ok, Err}
+use Rattle.std.specs.Prelude.{◌≡◌, ◌⊎◌, ℕ, ◌+◌, ◌<◌, ◌≤◌, List, [], ◌∷◌, ◌++◌, length, Bool, true}
+use Rattle.std.specs.Prelude.{false, Result, Ok, Err}
 use Rattle.texts.specs.Parts.{Found, At}
 use Rattle.texts.specs.Words.{open_rest}
 

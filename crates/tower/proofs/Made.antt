@@ -1,5 +1,6 @@
 -- A shared round that stands for states is one that was made.
-use Rattle.std.proofs.Common.{◌≡◌, ℕ, ◌<◌, Bool, true, false, if◌then◌else◌, List, [], length, refl, arith}
+use Rattle.std.proofs.Common.{◌≡◌, ℕ, ◌<◌, Bool, true, false, if◌then◌else◌, List, [], length, refl}
+use Rattle.std.proofs.Common.{arith}
 
 pub is_made : {X : Type 0} → (t : Bool) (xs : List X) (n : ℕ) → length (if t then xs else []) ≡ n
     → 0 < n → t ≡ true

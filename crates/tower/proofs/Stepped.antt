@@ -1,5 +1,7 @@
 -- The step of a node by the rows and groups of a shared round.
-use Rattle.std.proofs.Common.{◌≡◌, ℕ, ◌+◌, ◌*◌, ◌/◌, ◌%◌, ◌<◌, ◌≤◌, Bool, true, false, if◌then◌else◌, List, [], ◌∷◌, ◌++◌, length, map, drop, get_or, All, IfSome, refl, sym, ap, ◌∙◌, subst, ⊎_elim, arith}
+use Rattle.std.proofs.Common.{◌≡◌, ℕ, ◌+◌, ◌*◌, ◌/◌, ◌%◌, ◌<◌, ◌≤◌, Bool, true, false}
+use Rattle.std.proofs.Common.{if◌then◌else◌, List, [], ◌∷◌, ◌++◌, length, map, drop, get_or, All}
+use Rattle.std.proofs.Common.{IfSome, refl, sym, ap, ◌∙◌, subst, ⊎_elim, arith}
 use Rattle.std.specs.Prelude.{nat_le, ◌==◌}
 use Rattle.std.specs.List.{range_with_len}
 use Rattle.std.proofs.lemmas.Bool.{cases_lt, cases_eq, le-leb, lt-leb, eq-eqb, ne_eqb}
@@ -17,8 +19,10 @@ use Rattle.plan_laws.specs.Stretches.{step_at}
 use Rattle.plan_laws.proofs.Stretches.{steps_by_stretches}
 use Rattle.shared_board.specs.Sharing.{place_among, heard_at, heard_with}
 use Rattle.shared_board.specs.Groups.{Group, groups_of, group_at, index_at, nodes_in, register_for}
-use Rattle.shared_board.proofs.Descent.{step_register, step_missing, step_number, step_numberless, length-step_at, group_top, group_under}
-use Rattle.shared_board.proofs.Places.{group_stands, group_has, index_less, length-groups_of, groups_within, groups_low as levels_low}
+use Rattle.shared_board.proofs.Descent.{step_register, step_missing, step_number, step_numberless}
+use Rattle.shared_board.proofs.Descent.{length-step_at, group_top, group_under}
+use Rattle.shared_board.proofs.Places.{group_stands, group_has, index_less, length-groups_of}
+use Rattle.shared_board.proofs.Places.{groups_within, groups_low as levels_low}
 use Rattle.shared_board.specs.Boards.{Board}
 use Rattle.shared_board.proofs.Hearing.{register_is}
 use Rattle.tower.specs.Placings.{Placing}

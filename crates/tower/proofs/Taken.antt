@@ -1,5 +1,6 @@
 -- What a shared round keeps of a new board, and what counting it costs.
-use Rattle.std.proofs.Common.{◌≡◌, ℕ, ◌+◌, ◌-◌, ◌*◌, ◌≤◌, List, length, map, All, sym, ap, ◌∙◌, subst, arith}
+use Rattle.std.proofs.Common.{◌≡◌, ℕ, ◌+◌, ◌-◌, ◌*◌, ◌≤◌, List, length, map, All, sym, ap, ◌∙◌}
+use Rattle.std.proofs.Common.{subst, arith}
 use Rattle.std.specs.List.{sum_by}
 use Rattle.counting.proofs.Places.{at_most}
 use Rattle.sync_types.specs.FaultSets.{is_in}

@@ -1,11 +1,11 @@
-ghost use Rattle.std.specs.Prelude.{◌≡◌, ◌<◌, ◌≤◌, ◌+◌, ◌*◌, ℕ, List, length, All};
+ghost use Rattle.std.specs.Prelude.{◌≡◌, ◌<◌, ◌≤◌, ◌+◌, ◌*◌, ℕ, List, length};
 ghost use Rattle.sync_types.specs.States.{State};
 ghost use Rattle.construction.specs.Plans.{plan_nodes, plan_depth};
 ghost use Rattle.construction.specs.PhaseKing.{up};
 ghost use Rattle.construction.specs.Steps.{state_of, step_of};
 ghost use Rattle.counter_core.specs.Meanings.{written};
-ghost use Rattle.plan_laws.specs.PlanMeaning.{IsInRange};
 ghost use Rattle.shared_board.specs.Sharing.{heard_with, Tells};
+ghost use Rattle.tower.specs.Told.{AreTold};
 
 use crate::groups::{Placed, open_levels, write_registers};
 use crate::rows::Row;
@@ -36,23 +36,19 @@ pub struct Shared {
 impl Drop for Shared {
     fn drop(self) {
         let Shared {
-            version,
-            base,
+            version: _,
+            base: _,
             levels,
             rows,
-            is_made,
+            is_made: _,
             board,
             groups,
-            all_settled,
+            all_settled: _,
         } = self;
-        drop(version);
-        drop(base);
         drop(levels);
         drop(rows);
-        drop(is_made);
         drop(board);
         drop(groups);
-        drop(all_settled);
     }
 }
 
@@ -88,8 +84,7 @@ impl Shared {
         requires size { length self.old.states ≡ plan_nodes self.old.plan }
         requires node { node < plan_nodes self.old.plan }
         requires tells { Tells self.old node lies.now }
-        requires range { All (IsInRange self.old.plan) lies.now }
-        requires deep { All (λ s. plan_depth self.old.plan ≤ length s.registers) lies.now }
+        requires told { AreTold self.old.plan lies.now }
         requires out { plan_depth self.old.plan ≤ length out.old.registers }
         ensures out { out.new ≡ written (plan_depth self.old.plan) (step_of self.old.plan node
             (heard_with self.old.faulty lies.now self.old.states)) out.old }

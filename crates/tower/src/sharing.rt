@@ -6,6 +6,7 @@ ghost use Rattle.construction.specs.Steps.{state_of, step_of};
 ghost use Rattle.counter_core.specs.Meanings.{written};
 ghost use Rattle.plan_laws.specs.PlanMeaning.{IsInRange};
 ghost use Rattle.shared_board.specs.Sharing.{heard_with, stands_for, Tells};
+ghost use Rattle.tower.specs.Told.{AreTold};
 
 use crate::groups::{add_groups, gather_groups};
 use crate::rows::rows_of;
@@ -104,8 +105,7 @@ impl Tower {
         requires size { length config.now.current ≡ plan_nodes self.now }
         requires node { node < plan_nodes self.now }
         requires tells { Tells shared.old node lies.now }
-        requires range { All (IsInRange self.now) lies.now }
-        requires deep { All (λ s. plan_depth self.now ≤ length s.registers) lies.now }
+        requires told { AreTold self.now lies.now }
         requires out { plan_depth self.now ≤ length out.old.registers }
         ensures out { out.new ≡ written (plan_depth self.now) (step_of self.now node
             (heard_with shared.old.faulty lies.now config.now.current)) out.old }

@@ -1,5 +1,6 @@
 -- The nodes that words name.
-use Rattle.std.specs.Prelude.{◌≡◌, ℕ, nat_lt, nat_eq, List, length, filter, Bool, true, false, ◌==◌, ◌||◌, Option, Some, None}
+use Rattle.std.specs.Prelude.{◌≡◌, ℕ, nat_lt, nat_eq, List, length, filter, Bool, true, false, ◌==◌}
+use Rattle.std.specs.Prelude.{◌||◌, Option, Some, None}
 use Rattle.std.specs.List.{list_any, list_all, range_with_len}
 use Rattle.std.specs.Option.{option_eq}
 use Rattle.texts.specs.Numbers.{number_of}

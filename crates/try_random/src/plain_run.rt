@@ -43,7 +43,8 @@ fn try_plan(rt: &HostRuntime, draws: &mut Draws, plan: &Plan, scripts: u64) -> a
     for version in 1..=2 {
         let same = agreeing(rt, draws, plan, version, scripts)?;
         println!(rt;
-            "plan {plan_version} of {levels} levels and {nodes} nodes, script {version}: {same} of {scripts} runs agree"
+            "plan {plan_version} of {levels} levels and {nodes} nodes, script {version}: \
+             {same} of {scripts} runs agree"
         )?;
     }
     Ok(())

@@ -126,7 +126,8 @@ pub fn try_all(rt: &HostRuntime, draws: &mut Draws) -> anyhow::Result<()> {
     for (plan_version, script_version) in [(1, 1), (1, 2), (2, 1), (2, 2)] {
         let same = agreeing(rt, draws, plan_version, script_version)?;
         println!(rt;
-            "drawn plans {plan_version}, script {script_version}: {same} of {DRAWN_TABLES} slot tables agree"
+            "drawn plans {plan_version}, script {script_version}: \
+             {same} of {DRAWN_TABLES} slot tables agree"
         )?;
     }
     Ok(())

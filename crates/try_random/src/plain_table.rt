@@ -201,7 +201,8 @@ pub fn try_all(rt: &HostRuntime, draws: &mut Draws) -> anyhow::Result<()> {
     for version in 1..=2 {
         let (plans, tables) = agreeing(rt, draws, version)?;
         println!(rt;
-            "drawn plans {version}: {plans} of {DRAWN_PLANS} plans and {tables} of {DRAWN_PLANS} tables agree"
+            "drawn plans {version}: {plans} of {DRAWN_PLANS} plans \
+             and {tables} of {DRAWN_PLANS} tables agree"
         )?;
     }
     Ok(())

@@ -101,7 +101,8 @@ const ROWS: [Row; 9] = [
     // King 0 is faulty in the last era, as is block 0 then: the next window is that of block 1.
     (
         FOUR,
-        "script 2\nfaulty\nstart zero\nera 400000 faulty 3\nera 898555 faulty 0\nrounds 1000000\nshow 0 0\nend\n",
+        "script 2\nfaulty\nstart zero\nera 400000 faulty 3\nera 898555 faulty 0\n\
+         rounds 1000000\nshow 0 0\nend\n",
         Some(Explanation {
             window: 899_316,
             leader: 1,

@@ -1,5 +1,7 @@
 -- What the word `check` did, by what the check of its input answered.
-use Rattle.std.proofs.Common.{◌≡◌, ℕ, ◌≤◌, ◌^◌, Bool, true, false, List, [], ◌++◌, length, Option, Some, Err, refl, sym, ap, ◌∙◌, subst, append-nil, length-append, arith}
+use Rattle.std.proofs.Common.{◌≡◌, ℕ, ◌≤◌, ◌^◌, Bool, true, false, List, [], ◌++◌, length, Option}
+use Rattle.std.proofs.Common.{Some, Err, refl, sym, ap, ◌∙◌, subst, append-nil, length-append}
+use Rattle.std.proofs.Common.{arith}
 use Rattle.std.specs.Prelude.{nat_lt}
 use Rattle.std.specs.Io.KnownBytes.{Consumes, IsAtEnd}
 use Rattle.std.proofs.lemmas.Bool.{lt-ltb, le-ltb}
@@ -10,7 +12,8 @@ use Rattle.edge_io.specs.FedParts.{MayFollow}
 use Rattle.sync_types.specs.declared.status.Status.TheVariants as status
 use Rattle.run_certificates.specs.declared.Verdict.{Verdict}
 use Rattle.run_certificates.specs.declared.Verdict.TheVariants as verdict
-use Rattle.run_checker.specs.Checks.{checked_by, unlimited, LimitsMatterBeyond, IsChecked, IsRefused, IsTooLong, IsLost}
+use Rattle.run_checker.specs.Checks.{checked_by, unlimited, LimitsMatterBeyond, IsChecked}
+use Rattle.run_checker.specs.Checks.{IsRefused, IsTooLong, IsLost}
 use Rattle.outcomes.specs.declared.commands.Command.TheVariants as command
 use Rattle.outcomes.specs.declared.refusals.Refusal.TheVariants as refusal
 use Rattle.outcomes.specs.Refusals.{refusal_line}

@@ -1,5 +1,6 @@
 -- What the word `node` did whose header was not whole.
-use Rattle.std.proofs.Common.{◌≡◌, ℕ, ◌^◌, Bool, true, ltb, List, [], ◌++◌, length, Option, Some, Err, sym, ap, ◌∙◌, subst, length-append, arith}
+use Rattle.std.proofs.Common.{◌≡◌, ℕ, ◌^◌, Bool, true, ltb, List, [], ◌++◌, length, Option, Some}
+use Rattle.std.proofs.Common.{Err, sym, ap, ◌∙◌, subst, length-append, arith}
 use Rattle.std.specs.Io.KnownBytes.{prepend_known, Keeps}
 use Rattle.std.proofs.lemmas.Bool.{lt-ltb}
 use Rattle.texts.specs.Causes.{Counted}
@@ -15,7 +16,8 @@ use Rattle.node_header.specs.FedHeaders.{HeaderDecided, HeaderTooLong, HeaderLos
 use Rattle.outcomes.specs.declared.commands.Command.TheVariants as command
 use Rattle.outcomes.specs.Refusals.{refusal_status, refusal_line}
 use Rattle.outcomes.specs.Outcomes.{Outcome, outcome_of, too_long}
-use Rattle.outcomes.specs.NodeAnswers.{header_refusal, pending_behind, behind_header, node_outcome, cells_so_far, node_so_far}
+use Rattle.outcomes.specs.NodeAnswers.{header_refusal, pending_behind, behind_header, node_outcome}
+use Rattle.outcomes.specs.NodeAnswers.{cells_so_far, node_so_far}
 use Rattle.outcomes.specs.Conduct.{Does, LeavesUnmet, LeavesUntouched}
 use Rattle.workbench.proofs.Unread.{left_of}
 use Rattle.workbench.proofs.NodeReturns.{read_dry, reads_front, Input, input_of}

@@ -1,5 +1,7 @@
 -- What the word `node` did whose header was whole.
-use Rattle.std.proofs.Common.{◌≡◌, ℕ, ◌^◌, Bool, true, false, ltb, List, [], ◌++◌, length, Option, Some, None, Result, Ok, Err, refl, sym, ap, ◌∙◌, subst, append_assoc, append-nil, length-append, arith}
+use Rattle.std.proofs.Common.{◌≡◌, ℕ, ◌^◌, Bool, true, false, ltb, List, [], ◌++◌, length, Option}
+use Rattle.std.proofs.Common.{Some, None, Result, Ok, Err, refl, sym, ap, ◌∙◌, subst, append_assoc}
+use Rattle.std.proofs.Common.{append-nil, length-append, arith}
 use Rattle.std.specs.Io.KnownBytes.{prepend_known, Consumes, Keeps, IsAtEnd}
 use Rattle.std.proofs.KnownBytes.{Consumes-trans}
 use Rattle.std.proofs.lemmas.Bool.{le-ltb}
@@ -17,7 +19,9 @@ use Rattle.node_stepper.specs.Nodes.{Standing}
 use Rattle.node_stepper.specs.Serving.{served, answer, ServicePending, Serves, HasServeCause}
 use Rattle.outcomes.specs.declared.commands.Command.TheVariants as command
 use Rattle.outcomes.specs.Outcomes.{Outcome}
-use Rattle.outcomes.specs.NodeAnswers.{IsNodePending, pending_behind, ending_status, packets_for, served_outcome, behind_header, node_outcome, cells_so_far, node_so_far}
+use Rattle.outcomes.specs.NodeAnswers.{IsNodePending, pending_behind, ending_status, packets_for}
+use Rattle.outcomes.specs.NodeAnswers.{served_outcome, behind_header, node_outcome, cells_so_far}
+use Rattle.outcomes.specs.NodeAnswers.{node_so_far}
 use Rattle.workbench.specs.NodeService.{service_status}
 use Rattle.outcomes.specs.Conduct.{ReadsFront, ReadsAll, Does, LeavesUnmet, LeavesUntouched}
 use Rattle.workbench.proofs.Unread.{left_of}

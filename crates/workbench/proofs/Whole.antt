@@ -1,5 +1,6 @@
 -- What a batch command did, which reads all of its input before it writes.
-use Rattle.std.proofs.Common.{◌≡◌, ℕ, ◌<◌, ◌≤◌, ◌^◌, Bool, cond, List, [], ◌++◌, length, Option, Some, None, Result, Ok, Err, refl, sym, ap, ◌∙◌, length-append, arith}
+use Rattle.std.proofs.Common.{◌≡◌, ℕ, ◌<◌, ◌≤◌, ◌^◌, Bool, cond, List, [], ◌++◌, length, Option}
+use Rattle.std.proofs.Common.{Some, None, Result, Ok, Err, refl, sym, ap, ◌∙◌, length-append, arith}
 use Rattle.std.proofs.lemmas.Bool.{lt-ltb, le-ltb}
 use Rattle.texts.specs.Causes.{Counted}
 use Rattle.texts.specs.Growth.{Told, Wrote, Cut}
@@ -13,7 +14,8 @@ use Rattle.outcomes.specs.declared.refusals.Refusal.TheVariants as refusal
 use Rattle.outcomes.specs.Outcomes.{Outcome, outcome_of, too_long, of_whole}
 use Rattle.outcomes.specs.Answers.{answer_of}
 use Rattle.outcomes.specs.Commands.{all_first, defined}
-use Rattle.outcomes.specs.Conduct.{ReadsFront, ReadsAll, Reads, Writes, Answered, Does, LeavesUnmet, LeavesUntouched}
+use Rattle.outcomes.specs.Conduct.{ReadsFront, ReadsAll, Reads, Writes, Answered, Does, LeavesUnmet}
+use Rattle.outcomes.specs.Conduct.{LeavesUntouched}
 use Rattle.answers.specs.Ends.{Ends}
 use Rattle.answers.proofs.Ended.{ends_by}
 

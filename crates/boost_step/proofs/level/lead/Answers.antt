@@ -1,4 +1,5 @@
-use Rattle.std.proofs.Common.{◌≡◌, ℕ, ◌+◌, ◌/◌, ◌<◌, length, ◌-◌, ◌%◌, List, All, map, take, drop, ap, sym, ◌∙◌, subst, arith, refl}
+use Rattle.std.proofs.Common.{◌≡◌, ℕ, ◌+◌, ◌/◌, ◌<◌, length, ◌-◌, ◌%◌, List, All, map, take, drop}
+use Rattle.std.proofs.Common.{ap, sym, ◌∙◌, subst, arith, refl}
 use Rattle.std.specs.List.{range_with_len}
 use Rattle.std.proofs.lemmas.List.{length-set, map-id}
 use Rattle.counting.specs.Values.{majority_or_zero}
@@ -8,7 +9,8 @@ use Rattle.plan_numbers.specs.declared.numbers.LevelNums.{LevelNums}
 use Rattle.plan_numbers.specs.Numbers.{level_of}
 use Rattle.boost_step.specs.Numbers.{block_nodes, in_blocks}
 use Rattle.boost_step.proofs.Numbers.{Related, related, interval_most}
-use Rattle.boost_step.proofs.LevelVotes.{lead_below, votes_below, votes_counted, vote_of_slice, interval_more}
+use Rattle.boost_step.proofs.LevelVotes.{lead_below, votes_below, votes_counted, vote_of_slice}
+use Rattle.boost_step.proofs.LevelVotes.{interval_more}
 use Rattle.boost_step.proofs.Stepping.{output_more}
 use Rattle.boost_step.proofs.level.lead.Goals as goal
 

@@ -1,5 +1,6 @@
 use Rattle.std.proofs.Common.{refl}
-use Rattle.edge_io.proofs.LinesBehind.{lost_behind, whole_behind, open_behind, long_behind, beyond_behind}
+use Rattle.edge_io.proofs.LinesBehind.{lost_behind, whole_behind, open_behind, long_behind}
+use Rattle.edge_io.proofs.LinesBehind.{beyond_behind}
 use Rattle.edge_io.proofs.ended_texts.end_of_text.Goals as goal
 
 pub returns-in-Ok-Whole-clause-end : goal.returns-in-Ok-Whole-clause-end

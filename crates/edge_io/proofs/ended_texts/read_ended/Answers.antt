@@ -1,6 +1,8 @@
 use Rattle.std.proofs.Common.{refl, ◌∙◌}
 use Rattle.edge_io.proofs.FedLines.{takes_goes, takes_ends, takes_refuses}
-use Rattle.edge_io.proofs.EndedLines.{starts, short_step, ended_here, refused_here, line_open, no_line, too_long_line, beyond_line, goes_on, lost_line, halted_line}
+use Rattle.edge_io.proofs.EndedLines.{starts, short_step, ended_here, refused_here, line_open}
+use Rattle.edge_io.proofs.EndedLines.{no_line, too_long_line, beyond_line, goes_on, lost_line}
+use Rattle.edge_io.proofs.EndedLines.{halted_line}
 use Rattle.edge_io.proofs.AloneLines.{end_met, end_read}
 use Rattle.edge_io.proofs.ended_texts.read_ended.Goals as goal
 

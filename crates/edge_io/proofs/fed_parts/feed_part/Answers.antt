@@ -1,6 +1,7 @@
 use Rattle.std.proofs.Common.{refl, ◌∙◌}
 use Rattle.edge_io.proofs.Standing.{stands_first}
-use Rattle.edge_io.proofs.FedLines.{takes_goes, takes_ends, takes_refuses, stands_more, ends_here, refuses_here, lost_here, halted_here}
+use Rattle.edge_io.proofs.FedLines.{takes_goes, takes_ends, takes_refuses, stands_more, ends_here}
+use Rattle.edge_io.proofs.FedLines.{refuses_here, lost_here, halted_here}
 use Rattle.edge_io.proofs.FedEnds.{skips_refuse_long, long_here, end_here, too_long}
 use Rattle.edge_io.proofs.LastLines.{open_here}
 use Rattle.edge_io.proofs.fed_parts.feed_part.Goals as goal

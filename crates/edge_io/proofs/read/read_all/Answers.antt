@@ -1,5 +1,6 @@
 use Rattle.std.proofs.Common.{◌≡◌, ◌≤◌, ◌<◌, ◌-◌, length, ◌∙◌, arith}
-use Rattle.edge_io.proofs.Loops.{lost_before, lost_within, kept_within, lost_with, lost_past, at_error}
+use Rattle.edge_io.proofs.Loops.{lost_before, lost_within, kept_within, lost_with, lost_past}
+use Rattle.edge_io.proofs.Loops.{at_error}
 use Rattle.edge_io.proofs.read.read_all.Goals as goal
 
 pub returns-in-Err-clause-lost : goal.returns-in-Err-clause-lost

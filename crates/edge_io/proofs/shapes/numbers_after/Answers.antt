@@ -1,4 +1,5 @@
-use Rattle.std.proofs.Common.{◌≡◌, ◌<◌, ◌≤◌, ℕ, ◌-◌, true, take, length, List, ◌∷◌, [], Some, sym, ap, ◌∙◌, arith, refl}
+use Rattle.std.proofs.Common.{◌≡◌, ◌<◌, ◌≤◌, ℕ, ◌-◌, true, take, length, List, ◌∷◌, [], Some, sym}
+use Rattle.std.proofs.Common.{ap, ◌∙◌, arith, refl}
 use Rattle.std.proofs.lemmas.Bool.{not-false}
 use Rattle.std.proofs.lemmas.List.{take_more_set, take_all, length-set}
 use Rattle.std.specs.Str.{bytes_eq}

@@ -1,10 +1,12 @@
-use Rattle.std.proofs.Common.{◌≡◌, ◌-◌, ◌∙◌, ◌<◌, ◌++◌, ◌%◌, ap, map, sym, subst, if◌then◌else◌, nat_le, IfSome, All, ℕ, Option, List, None, arith}
+use Rattle.std.proofs.Common.{◌≡◌, ◌-◌, ◌∙◌, ◌<◌, ◌++◌, ◌%◌, ap, map, sym, subst, if◌then◌else◌}
+use Rattle.std.proofs.Common.{nat_le, IfSome, All, ℕ, Option, List, None, arith}
 use Rattle.std.proofs.Math.Nat.{mod-lt}
 use Rattle.counting.specs.Values.{count_of, least_above}
 use Rattle.sync_types.specs.declared.states.Reg.{Reg}
 use Rattle.sync_types.specs.States.{register_at}
 use Rattle.construction.specs.PhaseKing.{incremented, up}
-use Rattle.group_votes.proofs.Obeys.{king_within, king_obeys, zeroth_obeys, first_obeys, room_for_lies, laid_below, least_laid}
+use Rattle.group_votes.proofs.Obeys.{king_within, king_obeys, zeroth_obeys, first_obeys}
+use Rattle.group_votes.proofs.Obeys.{room_for_lies, laid_below, least_laid}
 use Rattle.group_votes.proofs.obeying.obey.Goals as goal
 
 -- the king's value, or the own one

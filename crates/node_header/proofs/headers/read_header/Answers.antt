@@ -1,6 +1,8 @@
 use Rattle.std.proofs.Common.{◌∙◌}
 use Rattle.std.proofs.lemmas.Result.{err_from_is_err_and}
-use Rattle.node_header.proofs.Chained.{first_failed, plan_whole, plan_cause, ends_first, halts_between, node_unread, node_whole, node_fits, node_cause, second_failed, whole_second}
+use Rattle.node_header.proofs.Chained.{first_failed, plan_whole, plan_cause, ends_first}
+use Rattle.node_header.proofs.Chained.{halts_between, node_unread, node_whole, node_fits}
+use Rattle.node_header.proofs.Chained.{node_cause, second_failed, whole_second}
 use Rattle.node_header.proofs.headers.read_header.Goals as goal
 
 -- the plan is not read

@@ -1,7 +1,8 @@
 use Rattle.std.proofs.Common.{ap, sym, ◌∙◌, ◌≡◌, ℕ, List, Some, ◌∷◌, []}
 use Rattle.std.specs.Prelude.{slice_index}
 use Rattle.texts.specs.Lines.{words_of}
-use Rattle.plan_certificate.specs.TableLines.{numbers_named, level_names, level_stated, without_spares}
+use Rattle.plan_certificate.specs.TableLines.{numbers_named, level_names, level_stated}
+use Rattle.plan_certificate.specs.TableLines.{without_spares}
 use Rattle.plan_certificate.proofs.NamedNumbers.{length_named, with_zero}
 use Rattle.plan_certificate.proofs.table_lines.level_stated.Goals as goal
 

@@ -1,4 +1,5 @@
-use Rattle.std.proofs.Common.{◌≡◌, ◌+◌, ◌-◌, ℕ, Some, None, List, ◌∷◌, length, take, drop, length-drop, eqb, sym, ap, ◌∙◌, arith}
+use Rattle.std.proofs.Common.{◌≡◌, ◌+◌, ◌-◌, ℕ, Some, None, List, ◌∷◌, length, take, drop}
+use Rattle.std.proofs.Common.{length-drop, eqb, sym, ap, ◌∙◌, arith}
 use Rattle.std.specs.List.{position}
 use Rattle.std.proofs.lemmas.List.{take_all}
 use Rattle.texts.specs.Lines.{whole_lines}

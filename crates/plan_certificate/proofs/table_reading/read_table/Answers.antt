@@ -1,5 +1,7 @@
 use Rattle.std.proofs.Common.{refl, arith, sym, ◌∙◌}
-use Rattle.plan_certificate.proofs.TableEnds.{none_left, refused_there, goes_on, ends_there, is_followed, takes_more, takes_last, takes_none, no_bytes, some_bytes}
+use Rattle.plan_certificate.proofs.TableEnds.{none_left, refused_there, goes_on, ends_there}
+use Rattle.plan_certificate.proofs.TableEnds.{is_followed, takes_more, takes_last, takes_none}
+use Rattle.plan_certificate.proofs.TableEnds.{no_bytes, some_bytes}
 use Rattle.plan_certificate.proofs.table_reading.read_table.Goals as goal
 
 pub returns-in-Err-Refused : goal.returns-in-Err-Refused

@@ -1,7 +1,8 @@
 use Rattle.std.proofs.Common.{ap, ◌∙◌, arith}
 use Rattle.adversary_script.specs.Eras.{first_of_era}
 use Rattle.round_runner.proofs.Firsts.{none_begins, era_within}
-use Rattle.round_runner.proofs.rounds.beginning_in.Goals.{else-era-gt0-via-then-era-gt0+else-era_start-t, else-era-gt0-via-else-era-gt0}
+use Rattle.round_runner.proofs.rounds.beginning_in.Goals.{else-era-gt0-via-then-era-gt0+else-era_start-t}
+use Rattle.round_runner.proofs.rounds.beginning_in.Goals.{else-era-gt0-via-else-era-gt0}
 use Rattle.round_runner.proofs.rounds.beginning_in.Goals as goal
 
 pub era_start-requires : goal.era_start-requires

@@ -67,37 +67,25 @@ advance_shared-requires-clause-tells g c =
     (λ yes. ap (λ (xs : List State). state_of xs (place_among ids c.args.turn.now.v)) is
     ∙ c.tell.ensures.own yes) c.args.room.now.shared c.requires.stands
 
-pub advance_shared-requires-clause-range : goal.advance_shared-requires-clause-range
-advance_shared-requires-clause-range g c =
-    let script = c.args.turn.now.round.now.script.now in
+pub advance_shared-requires-clause-told : goal.advance_shared-requires-clause-told
+advance_shared-requires-clause-told g c =
+    let round = c.args.turn.now.round.now in
+    let script = round.script.now in
     let long = c.tell.auto.lies ∙ c.deref_mut.ensures.len in
     let is : c.deref.result.now ≡ c.tell.new.lies = c.deref.ensures.value
     ∙ with_items_is c.args.room.now.lies c.tell.new.lies long in
-    taken_counts script c.deref.result.now
-    (subst (AreOfNodes script) (sym is) c.tell.ensures.lies) c.len-liars.result
-    (few c.args.turn.now.round.now.faulty.now script.nodes c.len-liars.result
-    (length c.args.room.now.lies.items) _ (ap (λ (s : FaultIds). s.nodes)
-    c.args.turn.now.round.now.liars)
+    let of_nodes = subst (AreOfNodes script) (sym is) c.tell.ensures.lies in
+    let enough = few round.faulty.now script.nodes c.len-liars.result
+    (length c.args.room.now.lies.items) _ (ap (λ (s : FaultIds). s.nodes) round.liars)
     c.len-liars.ensures.within c.requires.ready.told
     (ap (λ (xs : List State). length xs) is ∙ c.tell.auto.lies
-    ∙ ap (λ (xs : List State). length xs) c.deref_mut.ensures.value))
-    c.args.turn.now.round.now.tower.now c.args.turn.now.round.now.takes.counts
-
-pub advance_shared-requires-clause-deep : goal.advance_shared-requires-clause-deep
-advance_shared-requires-clause-deep g c =
-    let script = c.args.turn.now.round.now.script.now in
-    let long = c.tell.auto.lies ∙ c.deref_mut.ensures.len in
-    let is : c.deref.result.now ≡ c.tell.new.lies = c.deref.ensures.value
-    ∙ with_items_is c.args.room.now.lies c.tell.new.lies long in
-    taken_deep script c.deref.result.now
-    (subst (AreOfNodes script) (sym is) c.tell.ensures.lies) c.len-liars.result
-    (few c.args.turn.now.round.now.faulty.now script.nodes c.len-liars.result
-    (length c.args.room.now.lies.items) _ (ap (λ (s : FaultIds). s.nodes)
-    c.args.turn.now.round.now.liars)
-    c.len-liars.ensures.within c.requires.ready.told
-    (ap (λ (xs : List State). length xs) is ∙ c.tell.auto.lies
-    ∙ ap (λ (xs : List State). length xs) c.deref_mut.ensures.value))
-    (plan_depth c.args.turn.now.round.now.tower.now) c.args.turn.now.round.now.takes.deep
+    ∙ ap (λ (xs : List State). length xs) c.deref_mut.ensures.value) in
+    record {
+      range = taken_counts script c.deref.result.now of_nodes c.len-liars.result enough
+          round.tower.now round.takes.counts;
+      deep = taken_deep script c.deref.result.now of_nodes c.len-liars.result enough
+          (plan_depth round.tower.now) round.takes.deep;
+    }
 
 pub returns-clause-out : goal.returns-clause-out
 returns-clause-out g c =

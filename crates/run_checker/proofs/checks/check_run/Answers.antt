@@ -1,7 +1,9 @@
 use Rattle.std.proofs.Common.{◌≡◌, ◌≤◌, sym, ◌∙◌, arith, rules}
 use Rattle.edge_io.proofs.FeedBytes.{buffered_few}
 use Rattle.run_checker.specs.Checks.{IsChecked, IsRefused, IsTooLong, IsLost, IsHalted}
-use Rattle.run_checker.proofs.SourceReads.{whole_checked, text_refused, text_too_long, text_lost, text_halted, nothing_halted, long_within, held_none, lent_back}
+use Rattle.run_checker.proofs.SourceReads.{whole_checked, text_refused, text_too_long, text_lost}
+use Rattle.run_checker.proofs.SourceReads.{text_halted, nothing_halted, long_within, held_none}
+use Rattle.run_checker.proofs.SourceReads.{lent_back}
 use Rattle.run_checker.proofs.checks.check_run.Goals as goal
 
 pub returns-in-Err-clause-checks : goal.returns-in-Err-clause-checks

@@ -4,7 +4,9 @@ use Rattle.texts.proofs.Growth.{puts_exit}
 use Rattle.adversary_script.specs.Scripts.{Script}
 use Rattle.run_checker.specs.RunLines.{head_text}
 use Rattle.run_checker.proofs.Recording.{on_err, on_ok, stops_here, stops_as, ends_as}
-use Rattle.run_checker.proofs.RunnerTexts.{lows_of_nodes, first_starts_is, first_row_is, turns_is, wrote_as, cut_as, cut_in_head, cut_in_starts, cut_in_row, cut_in_turns, puts_record}
+use Rattle.run_checker.proofs.RunnerTexts.{lows_of_nodes, first_starts_is, first_row_is, turns_is}
+use Rattle.run_checker.proofs.RunnerTexts.{wrote_as, cut_as, cut_in_head, cut_in_starts, cut_in_row}
+use Rattle.run_checker.proofs.RunnerTexts.{cut_in_turns, puts_record}
 use Rattle.run_checker.proofs.records.put_record.Goals as goal
 
 pub returns-in_err-put_head-clause-text : goal.returns-in_err-put_head-clause-text

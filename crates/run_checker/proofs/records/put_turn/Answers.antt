@@ -1,7 +1,8 @@
 use Rattle.std.proofs.Common.{[], ◌≤◌, refl, arith}
 use Rattle.texts.proofs.Growth.{puts_exit}
 use Rattle.run_checker.proofs.Recording.{still_records, stops_here, stops_behind, on_err}
-use Rattle.run_checker.proofs.RunnerTexts.{has_played_one, told_is, era_is, row_behind_is, wrote_as, cut_as, puts_as, cut_in_lies, cut_in_era, puts_turn}
+use Rattle.run_checker.proofs.RunnerTexts.{has_played_one, told_is, era_is, row_behind_is, wrote_as}
+use Rattle.run_checker.proofs.RunnerTexts.{cut_as, puts_as, cut_in_lies, cut_in_era, puts_turn}
 use Rattle.run_checker.proofs.records.put_turn.Goals as goal
 
 pub returns-in_err-put_lies-clause-text : goal.returns-in_err-put_lies-clause-text

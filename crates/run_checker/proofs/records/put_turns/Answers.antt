@@ -1,6 +1,7 @@
 use Rattle.std.proofs.Common.{refl, ap, ◌∙◌, arith}
 use Rattle.adversary_script.specs.Scripts.{Script}
-use Rattle.run_checker.proofs.Recording.{turns_begin, turns_go_on, turns_cut, turns_end, turns_stopped, turns_played}
+use Rattle.run_checker.proofs.Recording.{turns_begin, turns_go_on, turns_cut, turns_end}
+use Rattle.run_checker.proofs.Recording.{turns_stopped, turns_played}
 use Rattle.run_checker.proofs.records.put_turns.Goals as goal
 
 pub loop-init : goal.loop-init

@@ -1,4 +1,5 @@
-use Rattle.std.proofs.Common.{ℕ, List, ◌≡◌, ◌≤◌, ◌++◌, [], ◌∷◌, cond, length, map, refl, sym, ap, ◌∙◌, arith, length-append, vec_capacity}
+use Rattle.std.proofs.Common.{ℕ, List, ◌≡◌, ◌≤◌, ◌++◌, [], ◌∷◌, cond, length, map, refl, sym, ap}
+use Rattle.std.proofs.Common.{◌∙◌, arith, length-append, vec_capacity}
 use Rattle.std.proofs.lemmas.List.{append-nil, length-map}
 use Rattle.sync_types.specs.FaultSets.{is_in}
 use Rattle.round_runner.specs.Locks.{correct_nodes}

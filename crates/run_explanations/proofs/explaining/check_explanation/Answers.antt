@@ -5,7 +5,8 @@ use Rattle.run_explanations.specs.declared.tops.Top.{Top}
 use Rattle.run_explanations.specs.Playing.{HasPlayed}
 use Rattle.run_explanations.specs.Explanations.{era_begin}
 use Rattle.run_explanations.specs.Tops.{IsTop}
-use Rattle.run_explanations.proofs.Checked.{check_passes, check_fits, result_is, fits_era, era_fits, fits_any}
+use Rattle.run_explanations.proofs.Checked.{check_passes, check_fits, result_is, fits_era, era_fits}
+use Rattle.run_explanations.proofs.Checked.{fits_any}
 use Rattle.run_explanations.proofs.Taking.{read_begin}
 use Rattle.run_explanations.proofs.explaining.check_explanation.Goals as goal
 

@@ -1,7 +1,8 @@
 use Rattle.std.proofs.Common.{◌+◌, ◌%◌, ℕ, refl, ap, ◌∙◌, arith}
 use Rattle.texts.proofs.Growth.{wrote_none}
 use Rattle.edge_io.specs.Rising.{Labelled}
-use Rattle.run_lines.proofs.CountedSoFar.{rose, not_risen, line_same, lines_more, lines_cut, lines_all}
+use Rattle.run_lines.proofs.CountedSoFar.{rose, not_risen, line_same, lines_more, lines_cut}
+use Rattle.run_lines.proofs.CountedSoFar.{lines_all}
 use Rattle.run_lines.proofs.counted.put_counted_lines.Goals as goal
 
 pub loop-init : goal.loop-init

@@ -2,7 +2,8 @@ use Rattle.std.proofs.Common.{ℕ, ◌+◌, List, sym, ap, ◌∙◌, arith}
 use Rattle.edge_io.specs.Rising.{Labelled}
 use Rattle.adversary_script.specs.Scripts.{Script}
 use Rattle.run_lines.specs.PlayedTexts.{numbered}
-use Rattle.run_lines.proofs.Played.{lines_begin, has_round, over_still, lines_cut, lines_go_on, lines_end, at_last, on_ok}
+use Rattle.run_lines.proofs.Played.{lines_begin, has_round, over_still, lines_cut, lines_go_on}
+use Rattle.run_lines.proofs.Played.{lines_end, at_last, on_ok}
 use Rattle.run_lines.proofs.playing.put_lines.Goals as goal
 
 pub loop-init : goal.loop-init

@@ -2,7 +2,8 @@ use Rattle.std.proofs.Common.{ℕ, [], sym, ap, ◌∙◌, subst, arith}
 use Rattle.counter_core.specs.NoLayers.{no_layer}
 use Rattle.adversary_script.specs.Scripts.{Script, IsScript}
 use Rattle.run_lines.proofs.Played.{LinesSoFar, lines_begin, over_still, on_ok}
-use Rattle.run_lines.proofs.RestBehind.{round_left, lines_on, lines_short, rest_behind, era_to_end, own_is_last}
+use Rattle.run_lines.proofs.RestBehind.{round_left, lines_on, lines_short, rest_behind, era_to_end}
+use Rattle.run_lines.proofs.RestBehind.{own_is_last}
 use Rattle.run_lines.proofs.shortened.put_lines.Goals as goal
 
 pub loop-runner-init : goal.loop-runner-init

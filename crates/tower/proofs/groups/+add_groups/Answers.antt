@@ -1,4 +1,5 @@
-use Rattle.std.proofs.Common.{◌+◌, ◌*◌, ◌<◌, ◌++◌, List, [], ◌∷◌, length, map, All, sym, ap, ◌∙◌, subst, arith}
+use Rattle.std.proofs.Common.{◌+◌, ◌*◌, ◌<◌, ◌++◌, List, [], ◌∷◌, length, map, All, sym, ap, ◌∙◌}
+use Rattle.std.proofs.Common.{subst, arith}
 use Rattle.plan_numbers.specs.Numbers.{levels_in}
 use Rattle.shared_board.specs.Groups.{groups_of}
 use Rattle.std.proofs.Common.{append-nil}

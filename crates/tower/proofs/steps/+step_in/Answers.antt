@@ -1,4 +1,5 @@
-use Rattle.std.proofs.Common.{Vec, ◌≡◌, subst, ℕ, All, ◌+◌, ◌*◌, ◌/◌, ◌%◌, ◌<◌, ◌≤◌, length, ap, sym, ◌∙◌, arith}
+use Rattle.std.proofs.Common.{Vec, ◌≡◌, subst, ℕ, All, ◌+◌, ◌*◌, ◌/◌, ◌%◌, ◌<◌, ◌≤◌, length, ap}
+use Rattle.std.proofs.Common.{sym, ◌∙◌, arith}
 use Rattle.std.proofs.Math.Nat.{mul-le-mul_right}
 use Rattle.std.proofs.lemmas.Nat.{div_below}
 use Rattle.std.proofs.lemmas.List.{length-replicate}
@@ -14,7 +15,9 @@ use Rattle.counter_core.specs.Meanings.{written}
 use Rattle.counter_core.specs.Working.{IsFor}
 use Rattle.boost_step.proofs.Stepping.{length_written}
 use Rattle.plan_laws.specs.PlanMeaning.{IsWithin}
-use Rattle.tower.proofs.Descent.{below_levels, top_numbers, top_sized, group_nodes, top_range, below_range, size_is, place_below, top_register_is, block_size, block_written, spare_written}
+use Rattle.tower.proofs.Descent.{below_levels, top_numbers, top_sized, group_nodes, top_range}
+use Rattle.tower.proofs.Descent.{below_range, size_is, place_below, top_register_is, block_size}
+use Rattle.tower.proofs.Descent.{block_written, spare_written}
 use Rattle.tower.proofs.steps.+step_in.Goals as goal
 use Rattle.tower.proofs.steps.+step_in.Goals.{then-place-nums, else-place-nums}
 

@@ -1,6 +1,7 @@
 use Rattle.std.proofs.Common.{[], sym, subst, arith}
 use Rattle.traces.specs.Wants.{IsAt}
-use Rattle.traces.proofs.Traced.{has_round, at_more, fit_here, fit_back, nodes_here, traced_none, traced_more, traced_cut, traced_all}
+use Rattle.traces.proofs.Traced.{has_round, at_more, fit_here, fit_back, nodes_here, traced_none}
+use Rattle.traces.proofs.Traced.{traced_more, traced_cut, traced_all}
 use Rattle.traces.proofs.tracing.put_moments.Goals as goal
 
 pub loop-init : goal.loop-init

@@ -1,5 +1,6 @@
 use Rattle.std.proofs.Common.{Err, ap}
-use Rattle.workbench.proofs.CheckWord.{verdict_touches, verdict_unmet, check_lost, check_long, check_refused, check_refused_cut, check_cut, check_done}
+use Rattle.workbench.proofs.CheckWord.{verdict_touches, verdict_unmet, check_lost, check_long}
+use Rattle.workbench.proofs.CheckWord.{check_refused, check_refused_cut, check_cut, check_done}
 use Rattle.workbench.proofs.check_word.check.Goals as goal
 
 pub returns-in-Err-TooLong-clause-does : goal.returns-in-Err-TooLong-clause-does

@@ -2,9 +2,11 @@ use Rattle.std.proofs.Common.{◌∙◌, sym, Some, rules}
 use Rattle.sync_types.specs.declared.status.Status.TheVariants as status
 use Rattle.outcomes.specs.declared.commands.Command.TheVariants as command
 use Rattle.workbench.proofs.NodeReturns.{does_end, unmet_end, none_held, dry_held}
-use Rattle.workbench.proofs.NodeHeaders.{refusal_touches, refusal_unmet, header_lost, header_long, header_cut, header_refused}
+use Rattle.workbench.proofs.NodeHeaders.{refusal_touches, refusal_unmet, header_lost, header_long}
+use Rattle.workbench.proofs.NodeHeaders.{header_cut, header_refused}
 use Rattle.workbench.proofs.NodeEngines.{is_node_of}
-use Rattle.workbench.proofs.NodeService.{service_touches, service_unmet, never_unmet, serves, serves_last, cause_of}
+use Rattle.workbench.proofs.NodeService.{service_touches, service_unmet, never_unmet, serves}
+use Rattle.workbench.proofs.NodeService.{serves_last, cause_of}
 use Rattle.workbench.proofs.node_word.node.Goals as goal
 
 pub returns-in-Err-ReadFault-clause-does : goal.returns-in-Err-ReadFault-clause-does

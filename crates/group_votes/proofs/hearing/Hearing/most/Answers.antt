@@ -1,4 +1,5 @@
-use Rattle.std.proofs.Common.{ℕ, ◌++◌, ◌∙◌, Option, Some, List, map, length, unwrap_or, ap, sym, arith}
+use Rattle.std.proofs.Common.{ℕ, ◌++◌, ◌∙◌, Option, Some, List, map, length, unwrap_or, ap, sym}
+use Rattle.std.proofs.Common.{arith}
 use Rattle.std.proofs.lemmas.List.{length-map}
 use Rattle.counting.specs.Values.{majority_of}
 use Rattle.sync_types.specs.States.{State}

@@ -1,6 +1,7 @@
 use Rattle.std.proofs.Common.{ℕ, ◌≡◌, ◌<◌, ◌∙◌, arith, inr, subst, sym}
 use Rattle.construction.specs.Plans.{plan_nodes}
-use Rattle.node_stepper.proofs.PacketByPacket.{cells_first, cells_end, cells_more, cells_whole, same_as}
+use Rattle.node_stepper.proofs.PacketByPacket.{cells_first, cells_end, cells_more, cells_whole}
+use Rattle.node_stepper.proofs.PacketByPacket.{same_as}
 use Rattle.node_stepper.proofs.engine.NodeEngine.hear_packet.Goals as goal
 
 pub loop-sender-init : goal.loop-sender-init

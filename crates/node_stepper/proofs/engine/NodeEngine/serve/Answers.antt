@@ -1,6 +1,8 @@
 use Rattle.std.proofs.Common.{◌≡◌, ◌∙◌, refl, arith}
 use Rattle.node_stepper.proofs.PacketByPacket.{all_heard}
-use Rattle.node_stepper.proofs.Answering.{forgotten, first_cut, served_none, served_more, served_cut, served_end, served_inside, served_fault, served_beyond, served_full, served_lost}
+use Rattle.node_stepper.proofs.Answering.{forgotten, first_cut, served_none, served_more}
+use Rattle.node_stepper.proofs.Answering.{served_cut, served_end, served_inside, served_fault}
+use Rattle.node_stepper.proofs.Answering.{served_beyond, served_full, served_lost}
 use Rattle.node_stepper.proofs.engine.NodeEngine.serve.Goals as goal
 
 pub loop-packet-init : goal.loop-packet-init

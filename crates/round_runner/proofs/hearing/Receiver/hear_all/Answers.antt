@@ -8,7 +8,10 @@ use Rattle.round_runner.proofs.HeardAt.{heard_long}
 use Rattle.round_runner.proofs.HeardFrom.{heard_itself, heard_other}
 use Rattle.round_runner.proofs.HeardPlaces.{heard_place, read_range}
 use Rattle.round_runner.proofs.Laid.{one_laid, all_laid}
-use Rattle.round_runner.proofs.hearing.Receiver.hear_all.Goals.{then-u-self+then-contains, else-u-self, else-u-self-via-then-u-self+else-contains, else-u-self-via-else-u-self}
+use Rattle.round_runner.proofs.hearing.Receiver.hear_all.Goals.{then-u-self+then-contains}
+use Rattle.round_runner.proofs.hearing.Receiver.hear_all.Goals.{else-u-self}
+use Rattle.round_runner.proofs.hearing.Receiver.hear_all.Goals.{else-u-self-via-then-u-self+else-contains}
+use Rattle.round_runner.proofs.hearing.Receiver.hear_all.Goals.{else-u-self-via-else-u-self}
 use Rattle.round_runner.proofs.hearing.Receiver.hear_all.Goals as goal
 
 pub loop-u-init : goal.loop-u-init

@@ -4,7 +4,8 @@ use Rattle.sync_types.specs.declared.states.Reg.{Reg}
 use Rattle.round_runner.specs.Locks.{is_locked_at}
 use Rattle.round_runner.proofs.Correct.{from_zero, from_faulty, one_is, one_is_not}
 use Rattle.round_runner.proofs.locks.Registers.all_locked_at.Goals as goal
-use Rattle.round_runner.proofs.locks.Registers.all_locked_at.Goals.{else-not-contains-via-then-not-contains+else-not-is_locked_at, else-not-contains-via-else-not-contains}
+use Rattle.round_runner.proofs.locks.Registers.all_locked_at.Goals.{else-not-contains-via-then-not-contains+else-not-is_locked_at}
+use Rattle.round_runner.proofs.locks.Registers.all_locked_at.Goals.{else-not-contains-via-else-not-contains}
 
 pub returns-then-not-is_locked_at : goal.returns-then-not-is_locked_at
 returns-then-not-is_locked_at c =

@@ -1,4 +1,5 @@
-use Rattle.std.proofs.Common.{◌+◌, ◌*◌, List, ℕ, ◌∙◌, ap, length, length-set, slice_index, take, arith}
+use Rattle.std.proofs.Common.{◌+◌, ◌*◌, List, ℕ, ◌∙◌, ap, length, length-set, slice_index, take}
+use Rattle.std.proofs.Common.{arith}
 use Rattle.std.proofs.lemmas.List.{length-take-le}
 use Rattle.hex.proofs.Pairs.{decode_start, decode_step}
 use Rattle.state_codec.specs.Texts.{decoded}

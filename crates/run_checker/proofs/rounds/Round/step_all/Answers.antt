@@ -4,7 +4,8 @@ use Rattle.sync_types.specs.States.{State}
 use Rattle.shared_board.specs.Sharing.{Shares}
 use Rattle.state_codec.specs.Packs.{Pack}
 use Rattle.run_checker.proofs.Ranges.{few_correct, count_more}
-use Rattle.run_checker.proofs.RoundSteps.{pack_deep, pack_states, gathered_in, gathered_out, none_stepped, one_stepped, all_stepped}
+use Rattle.run_checker.proofs.RoundSteps.{pack_deep, pack_states, gathered_in, gathered_out}
+use Rattle.run_checker.proofs.RoundSteps.{none_stepped, one_stepped, all_stepped}
 use Rattle.run_checker.proofs.rounds.Round.step_all.Goals as goal
 
 pub gather-requires-clause-deep : goal.gather-requires-clause-deep

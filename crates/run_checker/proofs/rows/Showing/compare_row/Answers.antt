@@ -1,6 +1,7 @@
 use Rattle.std.proofs.Common.{Bool, ◌+◌, ◌-◌, ◌<◌, ap, sym, ◌∙◌, arith}
 use Rattle.run_checker.specs.Rows.{words_compared}
-use Rattle.run_checker.proofs.RowWords.{no_place, no_value, no_match, goes_on, ends_early, ends_whole}
+use Rattle.run_checker.proofs.RowWords.{no_place, no_value, no_match, goes_on, ends_early}
+use Rattle.run_checker.proofs.RowWords.{ends_whole}
 use Rattle.run_checker.proofs.rows.Showing.compare_row.Goals as goal
 
 pub returns-then-v-nodes : goal.returns-then-v-nodes

@@ -1,6 +1,8 @@
-use Rattle.std.proofs.Common.{◌<◌, Bool, cond, ℕ, List, length, take, sym, ap, ◌∙◌, subst, arith, vec_capacity}
+use Rattle.std.proofs.Common.{◌<◌, Bool, cond, ℕ, List, length, take, sym, ap, ◌∙◌, subst, arith}
+use Rattle.std.proofs.Common.{vec_capacity}
 use Rattle.run_checker.specs.Tellings.{Telling, IsTelling, states_read}
-use Rattle.run_checker.proofs.StatesRead.{length_told, adds_none_at, same_texts, adds_kept_at, adds_one_at}
+use Rattle.run_checker.proofs.StatesRead.{length_told, adds_none_at, same_texts, adds_kept_at}
+use Rattle.run_checker.proofs.StatesRead.{adds_one_at}
 use Rattle.run_checker.proofs.tellings.Tellings.add.Goals as goal
 
 pub index_mut-requires : goal.index_mut-requires

@@ -4,7 +4,8 @@ use Rattle.construction.specs.Plans.{plan_nodes, plan_depth}
 use Rattle.plan_laws.specs.PlanMeaning.{IsInRange}
 use Rattle.plan_laws.proofs.PlanCounter.{plan_zero}
 use Rattle.run_checker.proofs.BodyKept.{shape_depth}
-use Rattle.run_checker.proofs.HeardLaid.{zero_long, laid_states, told_room, faulty_heard, correct_heard}
+use Rattle.run_checker.proofs.HeardLaid.{zero_long, laid_states, told_room, faulty_heard}
+use Rattle.run_checker.proofs.HeardLaid.{correct_heard}
 use Rattle.run_checker.proofs.ToldPlaces.{fewer_before}
 use Rattle.run_checker.proofs.RoundSteps.{pack_deep, pack_states}
 use Rattle.run_checker.proofs.turns.Turn.lay_heard.Goals as goal

@@ -1,4 +1,5 @@
-use Rattle.std.proofs.Common.{arith, ℕ, ◌≡◌, ◌<◌, ◌≤◌, ◌∙◌, ◌+◌, ◌-◌, ◌^◌, ap, set, take, length, get_or, refl, List}
+use Rattle.std.proofs.Common.{arith, ℕ, ◌≡◌, ◌<◌, ◌≤◌, ◌∙◌, ◌+◌, ◌-◌, ◌^◌, ap, set, take, length}
+use Rattle.std.proofs.Common.{get_or, refl, List}
 use Rattle.std.proofs.lemmas.List.{length-set, take_all}
 use Rattle.construction.specs.Widths.{width}
 use Rattle.state_codec.specs.Shapes.{register_bits, registers_bits}

@@ -6,7 +6,8 @@ use Rattle.state_codec.specs.Shapes.{Fields, register_bits, registers_bits}
 use Rattle.state_codec.specs.Ranges.{IsField}
 use Rattle.state_codec.specs.Writing.{bits_of_register}
 use Rattle.state_codec.specs.Cursors.{so_far}
-use Rattle.state_codec.proofs.RegisterSteps.{registers_bits_at, registers_bits_of_none, put_step, put_end}
+use Rattle.state_codec.proofs.RegisterSteps.{registers_bits_at, registers_bits_of_none, put_step}
+use Rattle.state_codec.proofs.RegisterSteps.{put_end}
 use Rattle.state_codec.proofs.fields.Fields.put_registers.Goals as goal
 
 pub bits-number-requires : goal.bits-number-requires

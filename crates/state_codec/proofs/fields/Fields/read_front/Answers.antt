@@ -1,4 +1,5 @@
-use Rattle.std.proofs.Common.{arith, ℕ, ◌≡◌, ◌+◌, ◌<◌, inl, inr, ap, ap₂, sym, subst, ◌∙◌, List, length, set, take, drop, get_or}
+use Rattle.std.proofs.Common.{arith, ℕ, ◌≡◌, ◌+◌, ◌<◌, inl, inr, ap, ap₂, sym, subst, ◌∙◌, List}
+use Rattle.std.proofs.Common.{length, set, take, drop, get_or}
 use Rattle.std.proofs.lemmas.Bool.{cases_lt}
 use Rattle.std.proofs.lemmas.List.{length-set, get_or-set_same, get_or-set_other, ext_get_or}
 use Rattle.sync_types.specs.declared.states.Reg.{Reg}

@@ -1,4 +1,5 @@
-use Rattle.std.proofs.Common.{arith, ◌≡◌, ◌<◌, ◌≤◌, ◌^◌, sym, ap, subst, ◌∙◌, length, List, ℕ, get_or}
+use Rattle.std.proofs.Common.{arith, ◌≡◌, ◌<◌, ◌≤◌, ◌^◌, sym, ap, subst, ◌∙◌, length, List, ℕ}
+use Rattle.std.proofs.Common.{get_or}
 use Rattle.state_codec.specs.Shapes.{Fields, register_bits}
 use Rattle.state_codec.proofs.Lows.{any_default}
 use Rattle.state_codec.proofs.FullNumbers.{register_short}

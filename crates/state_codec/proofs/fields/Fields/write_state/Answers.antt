@@ -1,4 +1,5 @@
-use Rattle.std.proofs.Common.{rules, arith, ℕ, ◌≡◌, ◌<◌, ◌+◌, ◌-◌, ◌*◌, ap, ◌∙◌, ◌++◌, List, Bool, length, get_or, sym}
+use Rattle.std.proofs.Common.{rules, arith, ℕ, ◌≡◌, ◌<◌, ◌+◌, ◌-◌, ◌*◌, ap, ◌∙◌, ◌++◌, List, Bool}
+use Rattle.std.proofs.Common.{length, get_or, sym}
 use Rattle.std.specs.Int.{div_ceil}
 use Rattle.state_codec.specs.Bits.{bits}
 use Rattle.construction.specs.Widths.{width}

@@ -1,6 +1,7 @@
 use Rattle.std.proofs.Common.{ℕ, ◌+◌, ◌≤◌, ◌<◌, length, refl, sym, subst, arith}
 use Rattle.tower.specs.Heeding.{LeadsIn, AreShut}
-use Rattle.tower.proofs.Heeded.{leads, all_shut, none_heeded, place_fits, group_fits, some_heeded, stretch_fits}
+use Rattle.tower.proofs.Heeded.{leads, all_shut, none_heeded, place_fits, group_fits, some_heeded}
+use Rattle.tower.proofs.Heeded.{stretch_fits}
 use Rattle.tower.proofs.shared.Shared.heeded.Goals as goal
 
 pub open_levels-open-requires-clause-leads : goal.open_levels-open-requires-clause-leads

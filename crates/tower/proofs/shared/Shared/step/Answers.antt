@@ -1,4 +1,5 @@
-use Rattle.std.proofs.Common.{◌≡◌, ℕ, ◌*◌, ◌<◌, ◌≤◌, ◌++◌, true, if◌then◌else◌, List, [], length, map, drop, All, sym, ap, ◌∙◌, subst, arith}
+use Rattle.std.proofs.Common.{◌≡◌, ℕ, ◌*◌, ◌<◌, ◌≤◌, ◌++◌, true, if◌then◌else◌, List, [], length}
+use Rattle.std.proofs.Common.{map, drop, All, sym, ap, ◌∙◌, subst, arith}
 use Rattle.std.specs.Prelude.{◌==◌}
 use Rattle.std.specs.List.{range_with_len}
 use Rattle.std.proofs.lemmas.Bool.{eq-eqb, ne_eqb}
@@ -54,9 +55,9 @@ write_registers-requires-clause-leads g c = λ l lt has.
     ∙ length-map-range_with_len (index_at levels node) 0 (length levels) in
     let less : l < length levels = omega (arith, lt, deep) in
     let long : length lies ≡ length board.faulty = c.requires.tells.size ∙ sym (ap length faulty) in
-    let range = subst (λ (p : Plan). All (IsInRange p) lies) (sym plan_is) c.requires.range in
+    let range = subst (λ (p : Plan). All (IsInRange p) lies) (sym plan_is) c.requires.told.range in
     let lies_deep = subst (λ (p : Plan). All (λ s. plan_depth p ≤ length s.registers) lies)
-    (sym plan_is) c.requires.deep in
+    (sym plan_is) c.requires.told.deep in
     subst (λ gs. Leads board row node lies gs l) (sym c.deref_mut.ensures.value) (
       place_less levels board inside.groups.items i.size i.depth i.keys i.ready row node is_row
           within l less has,

@@ -1,4 +1,5 @@
-use Rattle.std.proofs.Common.{◌≡◌, ℕ, ◌<◌, Bool, true, false, ◌||◌, length, sym, ap, ap₂, ◌∙◌, arith}
+use Rattle.std.proofs.Common.{◌≡◌, ℕ, ◌<◌, Bool, true, false, ◌||◌, length, sym, ap, ap₂, ◌∙◌}
+use Rattle.std.proofs.Common.{arith}
 use Rattle.std.proofs.Math.Bool.{or-true}
 use Rattle.sync_types.specs.FaultSets.{is_in}
 use Rattle.sync_types.specs.States.{register_at, zero_state}
@@ -8,7 +9,8 @@ use Rattle.traces.specs.LevelTexts.{all_have}
 use Rattle.traces.proofs.GroupRegisters.{one_fails, one_passes}
 use Rattle.traces.proofs.Reading.{within}
 use Rattle.traces.proofs.places.Place.all_have.Goals as goal
-use Rattle.traces.proofs.places.Place.all_have.Goals.{else-not-contains-via-then-not-contains+else-not-is_locked_at, else-not-contains-via-else-not-contains}
+use Rattle.traces.proofs.places.Place.all_have.Goals.{else-not-contains-via-then-not-contains+else-not-is_locked_at}
+use Rattle.traces.proofs.places.Place.all_have.Goals.{else-not-contains-via-else-not-contains}
 
 pub returns-then-not-is_locked_at : goal.returns-then-not-is_locked_at
 returns-then-not-is_locked_at c =
