@@ -92,17 +92,15 @@ fn heard<G: Ledger>(
     alloc: Global,
     blank: Blank,
     x: u64,
-    registers: &[Reg],
-    lies: &[NodeState],
+    registers: &[Reg; 4],
+    lies: &[NodeState; 1],
     node: usize,
 ) -> Result<(Option<Reg>, bool, Reg), NoMemory>
     requires name { blank.name ≡ G.name }
     requires parts { blank.parts ≡ G.parts }
     requires some { 0 < blank.parts }
     requires node { node < 4 }
-    requires registers { length registers.now ≡ 4 }
     requires below { AreBelow 10 registers.now }
-    requires told { length lies.now ≡ 1 }
     requires lies { AreLies 0 10 lies.now }
 {
     let mut group = Group::new(alloc, &four(), 0)?;

@@ -3,6 +3,7 @@ ghost use Rattle.sync_types.specs.FaultSets.{is_in};
 ghost use Rattle.construction.specs.Plans.{plan_nodes, plan_depth};
 ghost use Rattle.plan_numbers.specs.Numbers.{line};
 ghost use Rattle.plan_laws.specs.PlanMeaning.{IsWithin, IsInRange};
+ghost use Rattle.tower.specs.Told.{AreTold};
 
 use counter_core::{Counter, Heard};
 use majority_votes::Steps;
@@ -277,34 +278,40 @@ fn heard_step(alloc: Global, tower: &Tower, node: u32, value: u64) -> Result<Nod
     Ok(out)
 }
 
+/// A configuration of a counter, in which one node lies, and another node.
+#[derive(Clone, Copy, Drop)]
+struct Shown<'a> {
+    tower: &'a Tower,
+    config: &'a Packed,
+    liars: &'a FaultSet,
+    node: u32,
+    ghost size: { length config.now.current ≡ plan_nodes tower.now },
+    ghost deep: { plan_depth tower.now ≤ length config.now.shape.moduli },
+    ghost ids: { All (λ id. id < plan_nodes tower.now) liars.now.ids },
+    ghost one: { length liars.now.ids ≡ 1 },
+    ghost among: { node < plan_nodes tower.now },
+    ghost correct: { is_in liars.now.ids node ≡ false },
+}
+
 /// The step of a correct node by what all receivers share of a configuration, and the liars that it
 /// heeds.
 fn shared_step<G: Ledger>(
     alloc: Global,
     blank: Blank,
-    tower: &Tower,
-    node: u32,
-    config: &Packed,
-    liars: &FaultSet,
-    lies: &[NodeState],
+    shown: &Shown<'_>,
+    lies: &[NodeState; 1],
 ) -> Result<(NodeState, usize, usize), NoMemory>
     requires name { blank.name ≡ G.name }
     requires parts { blank.parts ≡ G.parts }
     requires some { 0 < blank.parts }
-    requires node { node < plan_nodes tower.now }
-    requires correct { is_in liars.now.ids node ≡ false }
-    requires size { length config.now.current ≡ plan_nodes tower.now }
-    requires deep { plan_depth tower.now ≤ length config.now.shape.moduli }
-    requires range { All (IsInRange tower.now) config.now.current }
-    requires ids { All (λ id. id < plan_nodes tower.now) liars.now.ids }
-    requires told { length lies.now ≡ length liars.now.ids }
-    requires lies_range { All (IsInRange tower.now) lies.now }
-    requires lies_deep { All (λ s. plan_depth tower.now ≤ length s.registers) lies.now }
-    ensures { IfOk result (λ r. length r.0.registers ≡ plan_depth tower.now) }
+    requires range { All (IsInRange shown.now.tower.now) shown.now.config.now.current }
+    requires told { AreTold shown.now.tower.now lies.now }
+    ensures { IfOk result (λ r. length r.0.registers ≡ plan_depth shown.now.tower.now) }
 {
+    let (tower, config, node) = (shown.tower, shown.config, shown.node);
     let mut steps = Steps::<G>::new(blank);
     let mut shared = tower.shared(alloc)?;
-    tower.gather(config, liars, &mut shared, &mut steps);
+    tower.gather(config, shown.liars, &mut shared, &mut steps);
     let (from, to) = tower.heeded(node, &shared);
     let mut out = NodeState::zero(alloc, tower.depth())?;
     out.set_x(5);
@@ -329,15 +336,13 @@ fn both_steps_are_one(rt: HostRuntime) -> Result<(), Fail> {
         let out = heard_step(rt.alloc(), &tower, node, value)?;
         assert!(rt; has_both(&out, 1, plain(first), plain(Some(1))));
         let lies = [lie(rt.alloc(), value)?];
-        let (out, from, to) = shared_step::<Brand>(
-            rt.alloc(),
-            Blank::new(1),
-            &tower,
+        let shown = Shown {
+            tower: &tower,
+            config: &config,
+            liars: &liars,
             node,
-            &config,
-            &liars,
-            &lies,
-        )?;
+        };
+        let (out, from, to) = shared_step::<Brand>(rt.alloc(), Blank::new(1), &shown, &lies)?;
         assert!(rt; has_both(&out, 1, plain(first), plain(Some(1))));
         assert!(rt; (from, to) == heeded);
     }

@@ -21,8 +21,8 @@ of_rows P first third (suc zero) lt = first
 of_rows P first third (suc (suc zero)) lt = third
 of_rows P first third (suc (suc (suc i))) lt = absurd (omega (arith, lt))
 
-pub shared_step-requires-clause-node : goal.shared_step-requires-clause-node
-shared_step-requires-clause-node g c =
+pub invariant_of-shown-clause-among : goal.invariant_of-shown-clause-among
+invariant_of-shown-clause-among g c =
     let i : ℕ = c.loop-value.value-index in
     let node : ℕ = (get_or rows i none).1 in
     let small : node < 9 =
@@ -30,8 +30,8 @@ shared_step-requires-clause-node g c =
     subst (λ (p : Plan). node < plan_nodes p)
     (sym (c.in_ok-tower.ensures.plan ∙ c.in_ok-plan.ensures)) small
 
-pub shared_step-requires-clause-correct : goal.shared_step-requires-clause-correct
-shared_step-requires-clause-correct g c =
+pub invariant_of-shown-clause-correct : goal.invariant_of-shown-clause-correct
+invariant_of-shown-clause-correct g c =
     let i : ℕ = c.loop-value.value-index in
     let node : ℕ = (get_or rows i none).1 in
     let ids : c.push.new.self.ids ≡ 1 ∷ [] =

@@ -10,10 +10,10 @@ use Rattle.try_towers.proofs.tower_calls.shared_step.Goals as goal
 
 pub returns : goal.returns
 returns g c =
-    let plan : Plan = c.args.tower.now in
+    let plan : Plan = c.args.shown.now.tower.now in
     let heard : List State =
-    heard_with c.gather.new.shared.faulty c.args.lies.now c.args.config.now.current in
-    let new : State = step_of plan c.args.node heard in
+    heard_with c.gather.new.shared.faulty c.args.lies.now c.args.shown.now.config.now.current in
+    let new : State = step_of plan c.args.shown.now.node heard in
     let old : State = c.set_x.new.self in
     let registers : State → ℕ = λ s. length s.registers in
     let has : length old.registers ≡ plan_depth plan =
@@ -21,5 +21,5 @@ returns g c =
     ∙ (ap registers c.in_ok-out.ensures
     ∙ (length-replicate c.depth.result zero_register ∙ c.depth.ensures)) in
     let is = ap registers c.advance_shared.ensures.out in
-    let deep = length-step_in plan.base plan.levels c.args.node heard in
+    let deep = length-step_in plan.base plan.levels c.args.shown.now.node heard in
     omega (arith, is, has, length_written (plan_depth plan) new old deep (omega arith))
