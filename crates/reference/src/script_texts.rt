@@ -4,7 +4,7 @@ use crate::lie_texts::{Names, lie_of};
 use crate::lines::Lines;
 use crate::plans::Plan;
 use crate::refusals::Stop;
-use crate::scripts::{Era, Rule, Script, Start};
+use crate::scripts::{Era, Script, Start};
 use std::alloc::{AllocError, Global};
 
 /// How many rounds may be played.

@@ -104,9 +104,12 @@ fn read_level(alloc: Global, lines: &mut Lines, plan: &mut Plan) -> Result<(), A
         numbers_behind(alloc, lines, 0, &LEVEL_WORDS)?
     };
     put_level(lines, plan, level_of(&numbers))?;
-    let all = numbers_of(alloc, plan)?;
-    let right = all.last().is_some_and(|right| are_right(&numbers, right));
-    lines.want(right, "value");
+    // a level that is refused may be of any size, and so its numbers take any time
+    if lines.begins("level") {
+        let all = numbers_of(alloc, plan)?;
+        let right = all.last().is_some_and(|right| are_right(&numbers, right));
+        lines.want(right, "value");
+    }
     Ok(())
 }
 
@@ -152,6 +155,7 @@ pub fn table(alloc: Global, lines: &mut Lines) -> Result<String, Stop> {
     let (version, base) = read_front(lines);
     let mut plan = Plan::of(alloc, version, base, &[])?;
     read_levels(alloc, lines, &mut plan)?;
+    lines.result()?;
     read_whole(alloc, lines, &plan)?;
     lines.result()?;
     Ok(String::from_str(alloc, "true\n")?)
