@@ -2,6 +2,7 @@ pub mod Passing
 pub mod Single
 pub mod Told
 pub mod Most
+pub mod FirstCorrect
 pub mod LockedGroups
 pub mod Heard
 pub mod Leads

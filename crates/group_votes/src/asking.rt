@@ -39,8 +39,8 @@ fn places_of(votes: &[u64], vote: u64) -> usize
     places
 }
 
-/// The vote that more than half of the votes are, 0 where there is none. It stands among those that
-/// are left without half of them.
+/// The vote that more than half of the votes are, 0 where there is none. Half of the votes have no
+/// room for all of it, so it is looked for in the others.
 fn most_of(votes: &[u64]) -> u64
     ensures { result ≡ majority_or_zero votes.now }
 {

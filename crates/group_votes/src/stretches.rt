@@ -1,4 +1,5 @@
 ghost use Rattle.std.specs.Prelude.{◌≡◌, ◌+◌, ◌<◌, ◌≤◌, ◌++◌, ◌↔◌, ℕ, false, length, IsTrue};
+ghost use Rattle.std.specs.Prelude.{None, slice_index_or};
 ghost use Rattle.group_votes.specs.Senders.{is_liar, output_of, correct_in, liars_in, values_of};
 ghost use Rattle.group_votes.specs.Senders.{numbers_of};
 ghost use Rattle.group_votes.specs.Votes.{known_number, IsMost};
@@ -96,7 +97,10 @@ impl Stretch<'_> {
     }
 
     /// What its first correct node shows, if there is one.
-    fn first_output(&self) -> Option<u64> {
+    fn first_output(&self) -> Option<u64>
+        ensures { result ≡ slice_index_or (numbers_of self.now.senders.now (λ output. output)
+            self.now.first self.now.count) 0 None }
+    {
         for u in self.first..self.end() {
             if !self.senders.is_liar(u) {
                 return Some(self.senders.output(u));
