@@ -1,5 +1,5 @@
 ghost use Rattle.std.specs.Prelude.{◌≡◌, ◌≤◌, ◌<◌, ◌*◌, ◌==◌, ◌&&◌, ℕ, true, Some, length, take};
-ghost use Rattle.std.specs.Prelude.{if◌then◌else◌};
+ghost use Rattle.std.specs.Prelude.{if◌then◌else◌, replicate};
 ghost use Rattle.std.specs.List.{list_all};
 ghost use Rattle.hex.specs.Hex.{hex_digit_value};
 ghost use Rattle.state_codec.specs.Texts.{is_lower_digit, decoded};
@@ -62,7 +62,8 @@ impl Digits {
     /// The digits of so many bytes, at most 32, that are all 0.
     pub fn zeros(bytes: usize) -> Digits
         requires { bytes ≤ 32 }
-        ensures { length result ≡ 2 * bytes }
+        ensures value { result ≡ replicate (2 * bytes) 48 }
+        ensures length { length result ≡ 2 * bytes }
     {
         Digits {
             text: [b'0'; MOST_DIGITS],

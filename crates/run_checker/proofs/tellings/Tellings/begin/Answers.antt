@@ -66,7 +66,7 @@ loop-k-preserved c =
       size = length-set texts c.loop-k.k text ∙ h.size;
       rooms = counted_more shape pairs texts c.loop-k.k text
           (omega (arith, inside, count, h.size, c.requires.room))
-          (c.zeros.ensures ∙ ap (λ (n : ℕ). 2 * n) c.bytes_of-bytes.ensures.value
+          (c.zeros.ensures.length ∙ ap (λ (n : ℕ). 2 * n) c.bytes_of-bytes.ensures.value
           ∙ ap (λ (v : ℕ). 2 * bytes_in (fields_at shape v)) c.sender.ensures
           ∙ ap (λ (p : ℕ × ℕ). 2 * bytes_in (fields_at shape p.0))
           (c.index.ensures
