@@ -92,7 +92,7 @@ impl Script {
         None
     }
 
-    /// Whether node `v` is put into a state where era `j` begins, which is not the first.
+    /// Whether a start line of era `j` gives node `v` its state.
     pub fn hits(&self, j: usize, v: u32) -> bool
         requires { j ≤ length self.now.eras }
         ensures { result ≡ is_some (start_in (starts_of_era self.now j) v) }
@@ -100,9 +100,9 @@ impl Script {
         self.start_in(j, v).is_some()
     }
 
-    /// Writes the state into which node `v` is put where era `j` begins, which is not the first,
-    /// and answers whether there is one. Else `out` is unchanged. `out` has the depth of the states
-    /// for which the script was read. It takes no memory.
+    /// Writes the state that a start line of era `j` gives node `v`, and answers whether there is
+    /// one. Else `out` is unchanged. `out` has the depth of the states for which the script was
+    /// read. It takes no memory.
     pub fn hit_into(&self, j: usize, v: u32, out: &mut NodeState) -> bool
         requires era { j ≤ length self.now.eras }
         requires depth { length out.old.registers ≡ length self.now.shape.moduli }

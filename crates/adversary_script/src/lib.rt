@@ -8,8 +8,8 @@
 //! those into which they are put where an era begins, and those that faulty nodes tell. The states
 //! of a node have the fields of that node. States of noise come from ChaCha8 by the script's key:
 //! the lies from node u to node v have the stream 256u + v, in which each round has its own words,
-//! and the start of node v has the stream 65536 + v. [`Noise`] keeps the words of these streams
-//! that were last made.
+//! and the start of node v has the stream 65536 + v. [`Noise`] keeps the words of the lies that
+//! were last made.
 #![tactic(auto)]
 
 mod drafts;

@@ -212,8 +212,8 @@ impl Noise {
         }
     }
 
-    /// Writes a state of noise of which no words were made. It has room for them, which is made
-    /// anew at each call, and so the other call is kept free of it.
+    /// Writes a state of noise, of which it makes the words. A call takes room for these on the
+    /// stack, so this is a function of its own, which `state_into` calls only where it must.
     #[inline(never)]
     #[tactic(auto, unfolding(crate::specs::Noise::noise_state))]
     pub(crate) fn make_state(&mut self, draw: &Draw, out: &mut NodeState)

@@ -24,7 +24,7 @@ pub struct Stretch {
     ghost said: { take 256 bytes ≡ noise_bytes key stream first 256 },
 }
 
-/// Leads a generator, which stands at the first word of a block, to a place of a stream.
+/// Leads a generator to a place of a stream.
 fn set_at(generator: &mut ChaCha8Rng, stream: u64, place: u64)
     ensures { generator.new ≡ record generator.old { stream = stream; word_pos = place } }
 {
