@@ -1,4 +1,3 @@
-ghost use Rattle.std.specs.Prelude.{◌≤◌, All};
 
 use edge_io::{MemSink, MemSource};
 use std::alloc::Global;
@@ -148,48 +147,50 @@ fn words_outside_the_table_are_usage(rt: HostRuntime) -> Result<(), Fail> {
     Ok(())
 }
 
+/// Words, an input, what is said of it, and the exit code.
+const REFUSED: [(&str, &str, &str, u8); 7] = [
+    ("plan", "", "refused plan line 1 premise form\n", 1),
+    (
+        "plan",
+        "plan 1\nbase 5\nend\nscript 1\n",
+        "refused plan line 4 premise form\n",
+        1,
+    ),
+    (
+        "run",
+        "plan 1\nbase 2303\nlevel 4 1 10\nend\nscript 1\n",
+        "refused plan line 3 premise multiple\n",
+        1,
+    ),
+    (
+        "run",
+        "plan 1\nbase 5\nend\n",
+        "refused script line 4 rule form\n",
+        3,
+    ),
+    (
+        "run",
+        "plan 1\nbase 5\nend\n\nscript 1\nfaulty 0\n",
+        "refused script line 6 rule faults\n",
+        3,
+    ),
+    (
+        "table",
+        "table 1\nbase 5\nplan nodes 1 faults 0 modulus 5 bound 0 bits 4 bytes 1\nend\n",
+        "refused table line 3 cause value\n",
+        4,
+    ),
+    (
+        "table",
+        "table 1\nbase 1\n",
+        "refused table line 2 cause modulus\n",
+        4,
+    ),
+];
+
 #[test]
 fn inputs_are_refused_in_the_name_of_their_part(rt: HostRuntime) -> Result<(), Fail> {
-    let rows = [
-        ("plan", "", "refused plan line 1 premise form\n", 1),
-        (
-            "plan",
-            "plan 1\nbase 5\nend\nscript 1\n",
-            "refused plan line 4 premise form\n",
-            1,
-        ),
-        (
-            "run",
-            "plan 1\nbase 2303\nlevel 4 1 10\nend\nscript 1\n",
-            "refused plan line 3 premise multiple\n",
-            1,
-        ),
-        (
-            "run",
-            "plan 1\nbase 5\nend\n",
-            "refused script line 4 rule form\n",
-            3,
-        ),
-        (
-            "run",
-            "plan 1\nbase 5\nend\n\nscript 1\nfaulty 0\n",
-            "refused script line 6 rule faults\n",
-            3,
-        ),
-        (
-            "table",
-            "table 1\nbase 5\nplan nodes 1 faults 0 modulus 5 bound 0 bits 4 bytes 1\nend\n",
-            "refused table line 3 cause value\n",
-            4,
-        ),
-        (
-            "table",
-            "table 1\nbase 1\n",
-            "refused table line 2 cause modulus\n",
-            4,
-        ),
-    ];
-    for (words, input, text, code) in rows {
+    for (words, input, text, code) in REFUSED {
         let (status, sink) = answer(rt.alloc(), words, input.as_bytes())?;
         assert_eq!(rt; status.code(), code, "at {input}");
         assert_eq!(rt; sink.taken(), text.as_bytes(), "at {input}");

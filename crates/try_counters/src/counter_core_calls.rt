@@ -2,6 +2,7 @@ ghost use Rattle.std.specs.Prelude.{◌≡◌, ◌+◌, ◌<◌, ◌≤◌, ◌+
 ghost use Rattle.construction.specs.Steps.{state_of};
 ghost use Rattle.counter_core.specs.Overlays.{StandsOver, HasValues, after};
 ghost use Rattle.counter_core.specs.Working.{IsFor, IsAsRoomy};
+ghost use Rattle.try_counters.specs.Hearing.{AreHeard};
 ghost use Rattle.try_counters.specs.Repeats.{repeat_layer, repeat_layer_keeps};
 
 use counter_core::{
@@ -80,11 +81,8 @@ fn step_with<C: Counter, O: Overlay>(
 )
     requires over { StandsOver (O.layer layer.old) (C.meaning counter.now) }
     requires node { node < (C.meaning counter.now).nodes }
-    requires heard { length heard.now ≡ (C.meaning counter.now).nodes }
-    requires range { All (C.in_range counter.now) heard.now }
-    requires deep { All (λ s. (C.meaning counter.now).depth + (O.layer layer.old).extra
-        ≤ length s.registers) heard.now }
-    requires values { All (HasValues (O.layer layer.old)) heard.now }
+    requires heard { AreHeard (C.meaning counter.now) (C.in_range counter.now)
+        (O.layer layer.old) heard.now }
     requires work { IsFor (C.meaning counter.now).nodes work.old }
     requires out { length out.old.registers
         ≡ (C.meaning counter.now).depth + (O.layer layer.old).extra }
