@@ -4,7 +4,7 @@ ghost use Rattle.sync_types.specs.FaultSets.{is_in};
 ghost use Rattle.construction.specs.Plans.{plan_nodes};
 ghost use Rattle.state_codec.specs.Shapes.{fields_at};
 ghost use Rattle.state_codec.specs.Ranges.{InRange};
-ghost use Rattle.adversary_script.specs.Scripts.{Group, IsLying, AreWithin, empty_script};
+ghost use Rattle.adversary_script.specs.Scripts.{IsLying, AreWithin, empty_script};
 ghost use Rattle.adversary_script.specs.Seen.{faulty_or_none};
 ghost use Rattle.adversary_script.specs.LieSteps.{group_at};
 ghost use Rattle.adversary_script.specs.FaultySteps.{last_era, last_first, with_era};

@@ -1,4 +1,3 @@
-ghost use Rattle.std.specs.Prelude.{◌≡◌};
 ghost use Rattle.adversary_script.specs.Answers.{Adds, ReadsFront};
 ghost use Rattle.adversary_script.specs.WordTests.{numbers_in};
 ghost use Rattle.adversary_script.specs.FaultySteps.{faulty_tested, era_front, era_step};

@@ -1,4 +1,3 @@
-ghost use Rattle.std.specs.Prelude.{◌≡◌};
 ghost use Rattle.adversary_script.specs.Answers.{Adds};
 ghost use Rattle.adversary_script.specs.Steps.{group_step};
 

@@ -5,7 +5,7 @@ ghost use Rattle.adversary_script.specs.Answers.{Adds};
 ghost use Rattle.adversary_script.specs.Scripts.{IsFormed};
 ghost use Rattle.adversary_script.specs.WordTests.{numbers_in, only};
 ghost use Rattle.adversary_script.specs.Steps.{head_tested, key_of_digits, seed_tested};
-ghost use Rattle.adversary_script.specs.Steps.{rounds_tested, show_tested, done, line_step};
+ghost use Rattle.adversary_script.specs.Steps.{rounds_tested, show_tested, line_step};
 
 use crate::drafts::Draft;
 use crate::kinds::Kind;

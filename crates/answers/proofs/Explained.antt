@@ -22,7 +22,7 @@ use Rattle.run_lines.proofs.LockLines.{puts_last}
 use Rattle.run_lines.proofs.Played.{locks_after}
 use Rattle.outcomes.specs.ExplainText.{explanation_lines, lines_over, why_lines}
 use Rattle.outcomes.proofs.ExplainTexts.{levelled_is}
-use Rattle.answers.specs.ScriptedRuns.{IsToPlayAlone, HasPlayedAlone}
+use Rattle.answers.specs.ScriptedRuns.{HasPlayedAlone}
 
 abbrev Plays : Running NoOverlay → Type 0
 Plays r = IsPlaying (λ o. no_layer) (λ o. []) [] r

@@ -1,6 +1,6 @@
 -- What an input of a plan and a script is read as, by what was read of it, and what plays it.
 use Rattle.std.proofs.Common.{◌≡◌, ℕ, ◌+◌, ◌-◌, List, [], length, take, drop, Result, Ok, sym, ap}
-use Rattle.std.proofs.Common.{◌∙◌, subst, refl}
+use Rattle.std.proofs.Common.{◌∙◌, subst}
 use Rattle.std.specs.Prelude.{IfOk}
 use Rattle.texts.specs.Lines.{lines_of}
 use Rattle.construction.specs.Plans.{Plan, plan_nodes}

@@ -1,7 +1,7 @@
 //! The word `consensus`: a plan, inputs of its nodes and a script are read, the script is played
 //! with consensus on the counter, and the decisions are written.
 
-ghost use Rattle.std.specs.Prelude.{◌≡◌, ◌≤◌, ◌^◌, length, Ok, MatchResult, IfOk};
+ghost use Rattle.std.specs.Prelude.{◌≤◌, ◌^◌, length, Ok, MatchResult};
 ghost use Rattle.outcomes.specs.Answers.{answer_of};
 ghost use Rattle.outcomes.specs.declared.commands.Batch.TheVariants as batch;
 ghost use Rattle.answers.specs.ConsensusRuns.{IsConsensusRun};

@@ -1,7 +1,7 @@
 //! The word `fire`: a plan, requests and a script are read, the script is played with firing above
 //! the plan's counter, and which nodes fire at the end of each slot is written.
 
-ghost use Rattle.std.specs.Prelude.{◌≡◌, ◌≤◌, ◌^◌, length, Ok, MatchResult, IfOk};
+ghost use Rattle.std.specs.Prelude.{◌≤◌, ◌^◌, length, Ok, MatchResult};
 ghost use Rattle.outcomes.specs.Answers.{answer_of};
 ghost use Rattle.outcomes.specs.declared.commands.Batch.TheVariants as batch;
 ghost use Rattle.answers.specs.FireRuns.{IsFireRun};

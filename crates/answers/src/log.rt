@@ -1,7 +1,7 @@
 //! The word `log`: a plan, what is said of a log, and a script are read, the script is played with
 //! the log above the plan's counter, and the entry that each slot puts is written.
 
-ghost use Rattle.std.specs.Prelude.{◌≡◌, ◌≤◌, ◌^◌, length, Ok, MatchResult, IfOk};
+ghost use Rattle.std.specs.Prelude.{◌≤◌, ◌^◌, length, Ok, MatchResult};
 ghost use Rattle.outcomes.specs.Answers.{answer_of};
 ghost use Rattle.outcomes.specs.declared.commands.Batch.TheVariants as batch;
 ghost use Rattle.answers.specs.LogRuns.{IsLogRun};

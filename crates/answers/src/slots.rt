@@ -1,7 +1,7 @@
 //! The word `slots`: a plan, a slot table and a script are read, the script is played, and who
 //! holds is written.
 
-ghost use Rattle.std.specs.Prelude.{◌≡◌, ◌≤◌, ◌^◌, length, MatchResult};
+ghost use Rattle.std.specs.Prelude.{◌≤◌, ◌^◌, length, MatchResult};
 ghost use Rattle.outcomes.specs.Answers.{answer_of};
 ghost use Rattle.outcomes.specs.declared.commands.Batch.TheVariants as batch;
 ghost use Rattle.answers.specs.SlotsRuns.{IsSlotsRun};

@@ -1,5 +1,4 @@
 ghost use Rattle.std.specs.Prelude.{◌≡◌, ◌+◌, ◌*◌, ◌/◌, ◌%◌, ◌≤◌, ◌<◌, take, length, All};
-ghost use Rattle.sync_types.specs.States.{zero_state};
 ghost use Rattle.construction.specs.Votes.{block};
 ghost use Rattle.plan_numbers.specs.Numbers.{line, level_of};
 ghost use Rattle.plan_numbers.specs.Premises.{first_premise, unless};

@@ -1,5 +1,5 @@
 ghost use Rattle.std.specs.Prelude.{◌≡◌, ◌+◌, ◌-◌, ◌<◌, ◌^◌, [], ◌∷◌, length, drop, position, ◌==◌};
-ghost use Rattle.std.specs.Prelude.{MatchOption, List, ℕ};
+ghost use Rattle.std.specs.Prelude.{List, ℕ};
 ghost use Rattle.std.specs.Iterator.{YieldsFirstBy, YieldsFirstRef, item_count};
 ghost use Rattle.texts.specs.Lines.{lines_of, words_of};
 ghost use Rattle.edge_io.specs.Items.{line_item, numbered, words_left};

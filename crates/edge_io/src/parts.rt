@@ -2,7 +2,7 @@ ghost use Rattle.std.specs.Prelude.{◌≡◌, ◌≤◌, ◌<◌, ◌+◌, ◌^
 ghost use Rattle.std.specs.Prelude.{IfOk, Ok};
 ghost use Rattle.texts.specs.Lines.{lines_of, is_well_parted, has_empty_word, words_of};
 ghost use Rattle.edge_io.specs.Taking.{Takes, FailsAt};
-ghost use Rattle.texts.specs.Parts.{Next, Found, is_skipped, with_skips, part_from};
+ghost use Rattle.texts.specs.Parts.{Next, is_skipped, with_skips, part_from};
 
 use crate::{PartError, Refused, TakeError, Words, first_line};
 

@@ -1,5 +1,5 @@
-ghost use Rattle.std.specs.Prelude.{◌≡◌, MatchResult, Ok, Err, ◌<◌, length};
-ghost use Rattle.firing.specs.FirePart.{request_tested, nothing_read, request_in};
+ghost use Rattle.std.specs.Prelude.{◌≡◌, Ok, Err};
+ghost use Rattle.firing.specs.FirePart.{nothing_read, request_in};
 
 use crate::requests::{Request, Requests};
 use consensus_layer::slot_length;

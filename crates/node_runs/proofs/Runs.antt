@@ -13,7 +13,7 @@ use Rattle.sync_types.specs.States.{State, zero_state}
 use Rattle.construction.specs.Plans.{Plan, plan_nodes}
 use Rattle.construction.specs.Steps.{state_of, step_of}
 use Rattle.construction.specs.Runs.{is_in, IsState, IsConfiguration, IsTold, IsTable, Round, IsNext}
-use Rattle.construction.specs.Runs.{Run, configuration, heard_by}
+use Rattle.construction.specs.Runs.{configuration, heard_by}
 use Rattle.construction.specs.Runs as runs
 use Rattle.plan_numbers.specs.Premises.{IsAccepted}
 use Rattle.state_codec.specs.Reading.{read}

@@ -22,18 +22,15 @@ use Rattle.adversary_script.specs.ScriptPart as script
 use Rattle.adversary_script.specs.ScriptPart.{script_of}
 use Rattle.adversary_script.proofs.ReadScripts.{script_is_for, script_is_script}
 use Rattle.round_runner.specs.Runners as runner
-use Rattle.slot_table.specs.declared.lines.SlotLine.{SlotLine}
 use Rattle.slot_table.specs.SlotPart as slots
 use Rattle.slot_table.proofs.FitLines.{lines_fit}
 use Rattle.consensus_layer.specs.AgreeSaid.{AgreeSaid}
 use Rattle.consensus_layer.specs.AgreePart as agree
 use Rattle.consensus_layer.specs.Agreements.{agree_layer}
 use Rattle.consensus_layer.proofs.FitInputs.{inputs_fit}
-use Rattle.firing.specs.declared.requests.Request.{Request}
 use Rattle.firing.specs.FirePart as fire
 use Rattle.firing.specs.Firings.{fire_layer}
 use Rattle.firing.proofs.FitRequests.{requests_fit}
-use Rattle.replicated_log.specs.LogSaid.{LogSaid}
 use Rattle.replicated_log.specs.LogPart as log
 use Rattle.replicated_log.specs.Logs.{log_layer}
 use Rattle.replicated_log.proofs.FitLogs.{log_fits}

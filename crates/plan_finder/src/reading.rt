@@ -1,4 +1,4 @@
-ghost use Rattle.std.specs.Prelude.{◌≡◌, ◌≤◌, ◌^◌, Ok, MatchResult, IfOk};
+ghost use Rattle.std.specs.Prelude.{◌≡◌, Ok, MatchResult, IfOk};
 ghost use Rattle.plan_finder.specs.FindPart.{want_of, IsFit};
 ghost use Rattle.plan_finder.specs.FindRefusals.{FailsAsDefined};
 

@@ -2,7 +2,7 @@ ghost use Rattle.std.specs.Prelude.{◌≡◌, ◌+◌, ◌*◌, ◌^◌, ◌<�
 ghost use Rattle.std.specs.Int.{div_ceil};
 ghost use Rattle.construction.specs.Widths.{width};
 ghost use Rattle.construction.specs.Plans.{interval_of, span_of};
-ghost use Rattle.plan_numbers.specs.Numbers.{line, numbers_over, to_below};
+ghost use Rattle.plan_numbers.specs.Numbers.{line, numbers_over};
 ghost use Rattle.plan_numbers.specs.Premises.{first_premise, unless, MeetsPremises};
 ghost use Rattle.plan_numbers.specs.Sizes.{IsSized, IsSizedLevel};
 

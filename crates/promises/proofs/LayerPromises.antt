@@ -1,5 +1,4 @@
 -- What the lines of words that play a layer promise, by what their parts are read as.
-use Rattle.std.proofs.Common.{ℕ, List}
 use Rattle.counter_core.specs.Overlays.{Layer}
 use Rattle.construction.specs.Plans.{Plan}
 use Rattle.run_promises.specs.LayeredEras.{IsReadFor}

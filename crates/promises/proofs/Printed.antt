@@ -8,7 +8,6 @@ use Rattle.sync_types.specs.declared.status.Status.TheVariants as status
 use Rattle.texts.specs.Parts.{At}
 use Rattle.texts.specs.Growth.{Told}
 use Rattle.construction.specs.Plans.{Plan}
-use Rattle.adversary_script.specs.Scripts.{Script}
 use Rattle.plan_certificate.specs.Tables.{table_text}
 use Rattle.plan_certificate.specs.PlanTexts.{plan_text}
 use Rattle.plan_finder.specs.declared.wants.Want.{Want}

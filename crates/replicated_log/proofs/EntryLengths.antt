@@ -1,7 +1,7 @@
 -- A log's layer has one length of entries: where an entry of one length begins, the register of
 -- agreement is loaded and not marked, and within a longer one it keeps its mark.
-use Rattle.std.proofs.Common.{◌≡◌, ℕ, ◌+◌, ◌-◌, ◌*◌, ◌/◌, ◌%◌, ◌<◌, Bool, true, false, List, []}
-use Rattle.std.proofs.Common.{◌∷◌, Option, None, sym, ap, ◌∙◌, subst, ⊎_elim, arith}
+use Rattle.std.proofs.Common.{◌≡◌, ℕ, ◌+◌, ◌-◌, ◌/◌, ◌%◌, ◌<◌, Bool, true, false, List, []}
+use Rattle.std.proofs.Common.{◌∷◌, None, sym, ap, ◌∙◌, ⊎_elim, arith}
 use Rattle.std.specs.Prelude.{replicate, slice_index_or, if◌then◌else◌, unwrap_or}
 use Rattle.std.proofs.Math.Nat.{mod-eq_of_lt, mod_self}
 use Rattle.std.proofs.lemmas.Bool.{eq-eqb, ne_eqb, false≢true, cases_lt}
@@ -14,7 +14,7 @@ use Rattle.layer_laws.specs.Slots.{agreed, agreed_in_turn}
 use Rattle.consensus_layer.specs.Agreeing.{loaded}
 use Rattle.replicated_log.specs.declared.entries.Entry.{Entry}
 use Rattle.replicated_log.specs.EntryLength.{entry_length, owner_at}
-use Rattle.replicated_log.specs.Logs.{agreement_after, log_layer_of}
+use Rattle.replicated_log.specs.Logs.{log_layer_of}
 
 mark : Reg
 mark = record { a = None; d = true }

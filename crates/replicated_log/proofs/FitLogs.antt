@@ -1,9 +1,9 @@
 -- What is read of a log is for the plan: numbers within their limits, commands of each node, and a
 -- modulus that is a multiple of an entry of each node.
-use Rattle.std.proofs.Common.{◌≡◌, ℕ, ◌+◌, ◌*◌, ◌<◌, ◌≤◌, ◌%◌, Bool, true, false, List, [], ◌∷◌}
+use Rattle.std.proofs.Common.{◌≡◌, ℕ, ◌*◌, ◌<◌, ◌≤◌, ◌%◌, Bool, true, false, List, [], ◌∷◌}
 use Rattle.std.proofs.Common.{◌++◌, length, All, Option, Some, None, Result, Ok, Err, refl, sym}
 use Rattle.std.proofs.Common.{subst, arith}
-use Rattle.std.specs.Prelude.{⊤, IfOk, nat_le, nat_lt, not, ◌==◌, if◌then◌else◌, codes}
+use Rattle.std.specs.Prelude.{⊤, IfOk, nat_lt, not, ◌==◌, if◌then◌else◌, codes}
 use Rattle.std.specs.List.{list_all}
 use Rattle.std.specs.Str.{bytes_eq}
 use Rattle.std.proofs.lemmas.Bool.{and_parts, eqb-true, ltb-false, ltb-true}
@@ -11,7 +11,7 @@ use Rattle.std.proofs.lemmas.List.{length_push}
 use Rattle.std.proofs.lemmas.List.Elements.{All-push, All-cons, All-nil}
 use Rattle.texts.specs.Lines.{words_of}
 use Rattle.texts.specs.Shapes.{numbers_after}
-use Rattle.texts.specs.Parts.{Next, goes, ends, refuses}
+use Rattle.texts.specs.Parts.{Next, ends, refuses}
 use Rattle.texts.proofs.Parts.{After, skips_keep, part_keeps}
 use Rattle.sync_types.specs.declared.answers.Rule.{Rule}
 use Rattle.sync_types.specs.declared.answers.Rule.TheVariants.{Form, Limit, Node, Range, Slot}
@@ -21,7 +21,7 @@ use Rattle.replicated_log.specs.LogSaid.{LogSaid}
 use Rattle.replicated_log.specs.declared.log_lines.LogStage.{LogStage}
 use Rattle.replicated_log.specs.declared.log_lines.LogStage.TheVariants.{Unread, Begun, Valued}
 use Rattle.replicated_log.specs.declared.log_lines.LogStage.TheVariants.{Keeping}
-use Rattle.replicated_log.specs.LogPart.{LogSoFar, nothing_read, behind_head, values_tested}
+use Rattle.replicated_log.specs.LogPart.{LogSoFar, nothing_read, values_tested}
 use Rattle.replicated_log.specs.LogPart.{keep_tested, numbers_behind, commands_tested, commands_in}
 use Rattle.replicated_log.specs.LogPart.{goes_at, goes_with, end_step, step_at, log_step, part_of}
 use Rattle.replicated_log.specs.LogPart.{AreInRange, IsFor}

@@ -1,5 +1,5 @@
 -- A list of one thing, mapped.
-use Rattle.std.proofs.Common.{◌≡◌, ℕ, zero, suc, ◌∷◌, List, map, refl, ap}
+use Rattle.std.proofs.Common.{◌≡◌, ℕ, zero, suc, ◌∷◌, map, refl, ap}
 use Rattle.std.specs.Prelude.{replicate}
 
 pub map_replicate : {X Y : Type 0} (f : X → Y) (n : ℕ) (x : X)

@@ -1,14 +1,13 @@
 -- From a slot at the bound or later on, the correct nodes put the same entries.
-use Rattle.std.proofs.Common.{◌≡◌, ℕ, zero, suc, ◌+◌, ◌-◌, ◌*◌, ◌/◌, ◌%◌, ◌<◌, ◌≤◌, inl, inr, false}
+use Rattle.std.proofs.Common.{◌≡◌, ℕ, zero, suc, ◌+◌, ◌*◌, ◌/◌, ◌%◌, ◌<◌, ◌≤◌, inl, inr, false}
 use Rattle.std.proofs.Common.{List, [], ◌∷◌, ◌++◌, length, take, map, refl, sym, ap, ◌∙◌, subst}
 use Rattle.std.proofs.Common.{arith}
 use Rattle.std.proofs.Math.Nat.{add-zero, mod-mod_of_dvd, mod-add-mod, mod-lt, mod-eq_of_lt}
-use Rattle.std.proofs.Math.Nat.{mul-mod_left, mul-mod_right, mod-le, div-add-mod, div-eq_of_lt-le}
+use Rattle.std.proofs.Math.Nat.{mul-mod_left, div-add-mod, div-eq_of_lt-le}
 use Rattle.std.proofs.Math.Nat.{zero-div}
 use Rattle.std.proofs.lemmas.Nat.Gcd.{dvd_of_mod-eq-zero, mod-eq-zero_of_dvd, dvd_trans}
 use Rattle.std.proofs.lemmas.Bool.{cases_eq}
 use Rattle.std.proofs.lemmas.List.{length-map, take-take}
-use Rattle.sync_types.specs.States.{State}
 use Rattle.construction.specs.Plans.{Plan, plan_nodes, plan_faults, plan_modulus, plan_bound}
 use Rattle.construction.specs.Plans.{plan_depth}
 use Rattle.construction.specs.Shown.{shown}
@@ -26,7 +25,7 @@ use Rattle.replicated_log.specs.declared.entries.Entry.{Entry}
 use Rattle.replicated_log.specs.EntryLength.{entry_length}
 use Rattle.replicated_log.specs.LogSaid.{LogSaid}
 use Rattle.replicated_log.specs.Logs.{agreement_after, log_layer, log_of}
-use Rattle.replicated_log.specs.PutEntries.{PutsEntry, HasEntries, AreEntries, SameSince}
+use Rattle.replicated_log.specs.PutEntries.{PutsEntry, HasEntries, SameSince}
 use Rattle.replicated_log.specs.PutEntries.{LogsAreOne}
 use Rattle.replicated_log.proofs.SlotEntries.{keeps_log, every_slot_puts_one}
 

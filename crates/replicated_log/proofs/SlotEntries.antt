@@ -1,16 +1,15 @@
 -- Every slot of a log puts one entry.
-use Rattle.std.proofs.Common.{◌≡◌, ℕ, zero, suc, ◌+◌, ◌-◌, ◌*◌, ◌/◌, ◌%◌, ◌<◌, ◌≤◌, Bool, true}
-use Rattle.std.proofs.Common.{false, List, [], ◌∷◌, length, take, get_or, map, unwrap_or, Option}
-use Rattle.std.proofs.Common.{Some, None, refl, sym, ap, ap₂, ◌∙◌, subst, arith}
-use Rattle.std.specs.Prelude.{◌==◌, if◌then◌else◌}
+use Rattle.std.proofs.Common.{◌≡◌, ℕ, zero, suc, ◌+◌, ◌-◌, ◌*◌, ◌/◌, ◌%◌, ◌<◌, ◌≤◌, Bool}
+use Rattle.std.proofs.Common.{false, List, ◌∷◌, length, take, map, unwrap_or}
+use Rattle.std.proofs.Common.{Some, refl, sym, ap, ◌∙◌, subst, arith}
+use Rattle.std.specs.Prelude.{if◌then◌else◌}
 use Rattle.std.proofs.Math.Nat.{add-zero, mod-eq_of_lt, mod-lt, div-add-mod, mul-le-mul_left}
-use Rattle.std.proofs.Math.Nat.{lt_of_mul-lt-mul_left, mod-mod_of_dvd, mul-mod_left}
+use Rattle.std.proofs.Math.Nat.{lt_of_mul-lt-mul_left, mul-mod_left}
 use Rattle.std.proofs.lemmas.Nat.Gcd.{dvd_of_mod-eq-zero, mod-eq-zero_of_dvd, dvd_trans}
 use Rattle.std.proofs.lemmas.Bool.{ne_eqb, eq-eqb}
 use Rattle.std.proofs.lemmas.List.{length-map}
-use Rattle.std.proofs.lemmas.List.Elements.{All-get_or}
 use Rattle.sync_types.specs.declared.states.Reg.{Reg}
-use Rattle.sync_types.specs.States.{State, register_at, zero_register, zero_state}
+use Rattle.sync_types.specs.States.{State, register_at}
 use Rattle.construction.specs.Plans.{Plan, plan_nodes, plan_faults, plan_modulus, plan_bound}
 use Rattle.construction.specs.Plans.{plan_depth}
 use Rattle.construction.specs.Shown.{shown}
@@ -25,7 +24,7 @@ use Rattle.plan_laws.proofs.Ranges.{range_of_state, shown_of_cut}
 use Rattle.counter_core.specs.Meanings.{cut}
 use Rattle.counter_core.specs.Overlays.{Layer}
 use Rattle.layer_laws.specs.Scenes.{Scene, kept_of, new_state}
-use Rattle.layer_laws.specs.LayerRuns.{IsLayerState, LayerRun, scene, without_layer}
+use Rattle.layer_laws.specs.LayerRuns.{LayerRun, scene, without_layer}
 use Rattle.layer_laws.specs.Slots.{slot_length, agreed_in_turn, HasSlots, AllAre, SlotAgrees}
 use Rattle.layer_laws.specs.Slots.{TakesLast}
 use Rattle.layer_laws.proofs.CutRuns.{layer_register, configuration_at}
@@ -36,7 +35,7 @@ use Rattle.replicated_log.specs.declared.entries.Entry.{Entry}
 use Rattle.replicated_log.specs.EntryLength.{entry_length, owner_at, command_at}
 use Rattle.replicated_log.specs.LogSaid.{LogSaid}
 use Rattle.replicated_log.specs.Logs.{agreement_after, log_after, log_layer, log_of}
-use Rattle.replicated_log.specs.PutEntries.{PutsEntry, PutsOne, EverySlotPutsOne, HasEntries}
+use Rattle.replicated_log.specs.PutEntries.{PutsOne, EverySlotPutsOne, HasEntries}
 
 -- a multiple below a multiple is a whole step below it
 step_below : (e a c : ℕ) → 0 < e → a % e ≡ 0 → c % e ≡ 0 → a < c → a + e ≤ c

@@ -1,12 +1,12 @@
 -- The step of the log keeps values in range.
-use Rattle.std.proofs.Common.{◌≡◌, ℕ, ◌+◌, ◌-◌, ◌*◌, ◌/◌, ◌%◌, ◌<◌, ◌≤◌, Bool, true, false, List}
+use Rattle.std.proofs.Common.{◌≡◌, ℕ, ◌+◌, ◌-◌, ◌*◌, ◌/◌, ◌%◌, ◌<◌, Bool, true, false, List}
 use Rattle.std.proofs.Common.{[], ◌∷◌, length, get_or, All, Option, Some, None, IfSome, unwrap_or}
 use Rattle.std.proofs.Common.{refl, subst, arith}
 use Rattle.std.specs.Prelude.{if◌then◌else◌, ◌==◌}
 use Rattle.std.proofs.Math.Nat.{add-zero, mod-lt}
 use Rattle.std.proofs.lemmas.List.Elements.{All-weaker, All-cons, All-nil, All-get_or}
 use Rattle.sync_types.specs.declared.states.Reg.{Reg}
-use Rattle.sync_types.specs.States.{State, zero_state, register_at}
+use Rattle.sync_types.specs.States.{zero_state, register_at}
 use Rattle.construction.specs.Steps.{state_of}
 use Rattle.counter_core.specs.Overlays.{HasValues, KeepsRange}
 use Rattle.layer_laws.specs.Slots.{agreed_in_turn}

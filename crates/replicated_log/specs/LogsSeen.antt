@@ -1,6 +1,5 @@
 -- The layer that a `Replica` is, and what the nodes keep in it.
-use Rattle.std.specs.Prelude.{List, map, reverse}
-use Rattle.circular_buffer.specs.Buffer.{Buffer}
+use Rattle.std.specs.Prelude.{List, map}
 use Rattle.counter_core.specs.Overlays.{Layer}
 use Rattle.replicated_log.specs.declared.entries.Entry.{Entry}
 use Rattle.replicated_log.specs.declared.replica.Replica.{Replica}

@@ -1,9 +1,9 @@
 ghost use Rattle.std.specs.Prelude.{◌≡◌};
 ghost use Rattle.std.specs.List.{list_all};
 ghost use Rattle.texts.specs.Lines.{words_of};
-ghost use Rattle.std.specs.Prelude.{nat_lt, length, Option, Some, None, codes};
+ghost use Rattle.std.specs.Prelude.{nat_lt, length, Option, Some, None};
 ghost use Rattle.texts.specs.Shapes.{numbers_of};
-ghost use Rattle.replicated_log.specs.LogPart.{numbers_behind, commands_in, commands_tested};
+ghost use Rattle.replicated_log.specs.LogPart.{numbers_behind, commands_in};
 ghost use Rattle.replicated_log.specs.LogAnswers.{GivesSeen, IsGiven};
 
 use crate::commands::Commands;

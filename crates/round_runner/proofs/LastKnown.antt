@@ -9,7 +9,7 @@ use Rattle.plan_laws.specs.PlanMeaning.{plan_meaning}
 use Rattle.counter_core.specs.NoLayers.{no_layer}
 use Rattle.counter_core.specs.Overlays.{Layer}
 use Rattle.adversary_script.specs.Scripts.{Script, IsScript}
-use Rattle.adversary_script.specs.Eras.{era_of, first_of_era, end_of_era}
+use Rattle.adversary_script.specs.Eras.{era_of, first_of_era}
 use Rattle.round_runner.specs.Known.{KnowsLocks, known_from}
 use Rattle.round_runner.specs.Laws.{IsUpTo}
 use Rattle.round_runner.specs.Locks.{first_locked, era_locked, IsFirstLocked}

@@ -26,7 +26,7 @@ use Rattle.state_codec.specs.Shapes.{shape_of}
 use Rattle.state_codec.proofs.Lows.{made_at, modulus_at, length-moduli_from}
 use Rattle.state_codec.proofs.Plans.{moduli_of-cons, length-moduli_of, shape_of_accepted}
 use Rattle.state_codec.proofs.RegisterSteps.{state_is}
-use Rattle.shared_board.specs.Groups.{Group, groups_of, group_at, index_at, nodes_in, register_for}
+use Rattle.shared_board.specs.Groups.{Group, group_at, index_at, nodes_in, register_for}
 use Rattle.shared_board.proofs.ByPlace.{by_places}
 use Rattle.shared_board.proofs.Descent.{group_top, group_under, step_register, step_missing}
 use Rattle.shared_board.proofs.Descent.{step_number, step_numberless, length-step_at}

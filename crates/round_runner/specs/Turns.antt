@@ -1,13 +1,11 @@
 -- A round of a script on the counter of its plan, and what goes through it.
-use Rattle.std.specs.Prelude.{◌≡◌, ℕ, ◌+◌, ◌<◌, ◌≤◌, List, length}
+use Rattle.std.specs.Prelude.{◌≡◌, ◌+◌, ◌<◌, List, length}
 use Rattle.sync_types.specs.States.{State}
-use Rattle.construction.specs.Plans.{plan_nodes, plan_depth}
+use Rattle.construction.specs.Plans.{plan_nodes}
 use Rattle.construction.specs.Runs.{IsBorne}
 use Rattle.plan_numbers.specs.Premises.{IsAccepted}
 use Rattle.plan_laws.specs.PlanMeaning.{plan_meaning, IsInRange}
-use Rattle.state_codec.specs.Shapes.{fields_at}
 use Rattle.state_codec.specs.Packs.{Pack}
-use Rattle.state_codec.specs.Ranges.{InRange}
 use Rattle.shared_board.specs.Sharing.{stands_for}
 use Rattle.counter_core.specs.Overlays.{Layer, StandsOver}
 use Rattle.adversary_script.specs.Scripts.{Script, IsScript}

@@ -1,4 +1,4 @@
-ghost use Rattle.std.specs.Prelude.{◌≡◌, ◌+◌, ◌*◌, ◌<◌, ◌≤◌, true, length, map, All, unwrap_or};
+ghost use Rattle.std.specs.Prelude.{◌≡◌, ◌+◌, ◌*◌, ◌≤◌, true, length, map, All, unwrap_or};
 ghost use Rattle.std.specs.List.{range_with_len};
 ghost use Rattle.construction.specs.Plans.{plan_nodes, plan_depth, plan_faults};
 ghost use Rattle.plan_laws.specs.PlanMeaning.{plan_meaning};

@@ -19,7 +19,7 @@ use Rattle.texts.specs.Words.{text_of}
 use Rattle.round_runner.specs.Locks.{correct_nodes}
 use Rattle.round_runner.specs.Played.{played_at}
 use Rattle.run_certificates.specs.Items.{Item, item_line, faulty_item, row_item}
-use Rattle.run_certificates.specs.Certificates.{Lie, Turn, level_of, start_of, era_items}
+use Rattle.run_certificates.specs.Certificates.{level_of, start_of, era_items}
 use Rattle.run_certificates.specs.Certificates.{turns_items, items_of, certificate_text}
 use Rattle.run_certificates.specs.Certificates as certificates
 use Rattle.run_certificates.specs.Grammar.{pairs_of}

@@ -1,14 +1,12 @@
-ghost use Rattle.sync_types.specs.FaultSets.{is_in};
-ghost use Rattle.std.specs.Prelude.{if◌then◌else◌, [], ◌∷◌, ◌≡◌, ◌<◌, ◌≤◌, ◌+◌, ◌*◌, ◌^◌, ◌++◌, ℕ};
+ghost use Rattle.std.specs.Prelude.{[], ◌≡◌, ◌<◌, ◌≤◌, ◌+◌, ◌*◌, ◌^◌, ◌++◌};
 ghost use Rattle.std.specs.Prelude.{false, length, drop, map, All, IfOk, IfSome, nat_eq, ◌==◌};
-ghost use Rattle.std.specs.Prelude.{slice_index_or, vec_capacity};
-ghost use Rattle.construction.specs.Plans.{plan_nodes, plan_faults};
+ghost use Rattle.std.specs.Prelude.{vec_capacity};
 ghost use Rattle.run_certificates.specs.Grammar.{pairs_of};
 ghost use Rattle.round_runner.specs.Locks.{correct_nodes};
 ghost use Rattle.run_certificates.specs.Checking.{is_next};
 ghost use Rattle.construction.specs.Steps.{state_of};
-ghost use Rattle.state_codec.specs.Shapes.{fields_at, bytes_in, shape_of};
-ghost use Rattle.run_checker.specs.Tellings.{room_of, most_pairs, AddsState};
+ghost use Rattle.state_codec.specs.Shapes.{shape_of};
+ghost use Rattle.run_checker.specs.Tellings.{most_pairs, AddsState};
 ghost use Rattle.run_checker.specs.NextLies.{IsNextLine};
 
 use crate::digits::Digits;

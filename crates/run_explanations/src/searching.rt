@@ -1,6 +1,6 @@
 ghost use Rattle.std.specs.Prelude.{◌≡◌, ◌+◌, ◌%◌, ◌≤◌};
 ghost use Rattle.construction.specs.Runs.{is_in};
-ghost use Rattle.run_explanations.specs.Searching.{goes_on, stretched, begins_phase, first_below};
+ghost use Rattle.run_explanations.specs.Searching.{goes_on, stretched, begins_phase};
 ghost use Rattle.run_explanations.specs.Searching.{explained_in, explained_from};
 
 use crate::explanations::Explanation;

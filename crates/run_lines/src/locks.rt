@@ -1,4 +1,4 @@
-ghost use Rattle.std.specs.Prelude.{◌≡◌, ◌≤◌, List, length};
+ghost use Rattle.std.specs.Prelude.{◌≤◌, List, length};
 ghost use Rattle.texts.specs.Growth.{Puts};
 ghost use Rattle.round_runner.specs.Known.{KnowsLocks};
 ghost use Rattle.round_runner.specs.Runners.{IsPlaying, configuration_of};

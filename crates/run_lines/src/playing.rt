@@ -1,4 +1,4 @@
-ghost use Rattle.std.specs.Prelude.{◌≡◌, OnOk};
+ghost use Rattle.std.specs.Prelude.{OnOk};
 ghost use Rattle.texts.specs.Growth.{Puts};
 ghost use Rattle.run_lines.specs.RunTexts.{bound_line};
 ghost use Rattle.run_lines.specs.PlayedTexts.{lines_text};

@@ -1,4 +1,4 @@
-ghost use Rattle.std.specs.Prelude.{◌≡◌, ◌<◌, ◌≤◌, ◌+◌, [], ℕ, length, map, replicate, All, IfOk};
+ghost use Rattle.std.specs.Prelude.{◌≡◌, ◌<◌, ◌≤◌, ◌+◌, [], length, map, replicate, All, IfOk};
 ghost use Rattle.sync_types.specs.States.{zero_state};
 ghost use Rattle.construction.specs.Steps.{state_of};
 ghost use Rattle.counter_core.specs.Meanings.{cut};

@@ -1,9 +1,7 @@
-ghost use Rattle.std.specs.Prelude.{◌≡◌, ◌<◌, ◌≤◌, ◌+◌, ℕ, List, length, map, replicate};
-ghost use Rattle.std.specs.Prelude.{slice_index_or, unwrap_or, All, IfOk};
-ghost use Rattle.std.specs.List.{range_with_len};
+ghost use Rattle.std.specs.Prelude.{◌≡◌, ◌<◌, ◌≤◌, ◌+◌, length, map, replicate};
+ghost use Rattle.std.specs.Prelude.{unwrap_or, All, IfOk};
 ghost use Rattle.sync_types.specs.declared.states.Reg.{Reg};
-ghost use Rattle.sync_types.specs.States.{zero_register, register_at};
-ghost use Rattle.construction.specs.Steps.{state_of};
+ghost use Rattle.sync_types.specs.States.{zero_register};
 ghost use Rattle.shared_board.specs.Boards.{numbers_of, registers_of, outputs_of, AreFilled};
 
 use state_codec::Packed;

@@ -1,13 +1,8 @@
 -- A holder holds, and where lines are apart it is the only one.
 use Rattle.std.proofs.Common.{◌≡◌, ℕ, zero, suc, ◌<◌, Bool, true, false, List, [], ◌∷◌, length}
-use Rattle.std.proofs.Common.{get_or, Option, Some, None, refl, sym, ap, ◌∙◌, subst, arith}
+use Rattle.std.proofs.Common.{get_or, Some, None, refl, sym, ap, ◌∙◌, subst, arith}
 use Rattle.std.specs.Prelude.{if◌then◌else◌}
-use Rattle.std.proofs.lemmas.Bool.{true≢false}
 use Rattle.slot_table.specs.declared.lines.SlotLine.{SlotLine}
-use Rattle.construction.specs.Plans.{plan_depth}
-use Rattle.construction.specs.Shown.{shown}
-use Rattle.construction.specs.Steps.{state_of}
-use Rattle.construction.specs.Runs.{configuration}
 use Rattle.plan_laws.proofs.RunLaws.{every_plan_settles}
 use Rattle.slot_table.specs.Tables.{covers, holder_of, Holds, AreApart, HolderHolds, HolderIsOne}
 use Rattle.slot_table.specs.HoldLaws.{AtMostOneHolds}

@@ -1,7 +1,6 @@
 //! What the words ask for.
 
 ghost use Rattle.std.specs.Prelude.{◌≡◌, map, string_bytes, IfSome};
-ghost use Rattle.texts.specs.Numbers.{number_of};
 ghost use Rattle.sweep.specs.Requests.{asked_alone, numbers_by, numbers_with, request_of};
 ghost use Rattle.sweep.specs.Requests.{HasFewNumbers, AreFew};
 

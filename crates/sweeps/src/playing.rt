@@ -1,6 +1,6 @@
 //! Plays a run, and asks for its first locked configurations.
 
-ghost use Rattle.std.specs.Prelude.{◌≡◌, ◌≤◌, ◌<◌, ◌+◌, [], length, IfSome};
+ghost use Rattle.std.specs.Prelude.{◌≡◌, ◌≤◌, ◌<◌, [], length, IfSome};
 ghost use Rattle.counter_core.specs.NoLayers.{no_layer};
 ghost use Rattle.adversary_script.specs.Eras.{first_of_era, end_of_era};
 ghost use Rattle.round_runner.specs.Known.{KnowsLocks, known_from};

@@ -6,7 +6,7 @@ ghost use Rattle.std.specs.List.{range_with_len};
 ghost use Rattle.construction.specs.Plans.{Plan};
 ghost use Rattle.counter_core.specs.NoLayers.{no_layer};
 ghost use Rattle.adversary_script.specs.Scripts.{Script};
-ghost use Rattle.adversary_script.specs.Eras.{first_of_era, end_of_era};
+ghost use Rattle.adversary_script.specs.Eras.{end_of_era};
 ghost use Rattle.round_runner.specs.Known.{KnowsLocks};
 ghost use Rattle.round_runner.specs.Runners.{IsPlaying};
 ghost use Rattle.sweeps.specs.Keys.{keyed};

@@ -1,4 +1,4 @@
-ghost use Rattle.std.specs.Prelude.{◌≡◌, ℕ, ◌+◌, ◌-◌, ◌<◌, ◌≤◌, [], ◌∷◌, ◌++◌, length, false};
+ghost use Rattle.std.specs.Prelude.{◌≡◌, ℕ, ◌-◌, ◌<◌, ◌≤◌, [], ◌∷◌, ◌++◌, length, false};
 ghost use Rattle.std.specs.Prelude.{slice_index, slice_index_or, IfOk, IsTrue, ◌↔◌};
 ghost use Rattle.sync_types.specs.FaultSets.{AreFaulty, is_in};
 

@@ -1,4 +1,4 @@
-ghost use Rattle.std.specs.Prelude.{◌≡◌, ◌/◌, ◌≤◌, ◌<◌, take, map, length, All};
+ghost use Rattle.std.specs.Prelude.{◌≡◌, ◌≤◌, take, map, length, All};
 ghost use Rattle.construction.specs.Shown.{shown};
 ghost use Rattle.counter_core.specs.Working.{IsFor, IsAsRoomy};
 

@@ -1,4 +1,4 @@
-ghost use Rattle.std.specs.Prelude.{◌≡◌, ◌<◌, replicate, IfOk};
+ghost use Rattle.std.specs.Prelude.{◌≡◌, replicate, IfOk};
 ghost use Rattle.construction.specs.Plans.{plan_nodes};
 ghost use Rattle.construction.specs.Runs.{Settles};
 ghost use Rattle.plan_numbers.specs.Premises.{IsAccepted};

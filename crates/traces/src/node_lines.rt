@@ -1,6 +1,6 @@
 //! The lines of a node.
 
-ghost use Rattle.std.specs.Prelude.{◌≡◌, ◌<◌, ◌≤◌, length, All};
+ghost use Rattle.std.specs.Prelude.{◌≡◌, ◌≤◌, length, All};
 ghost use Rattle.construction.specs.Plans.{nodes_of};
 ghost use Rattle.construction.specs.Shown.{shown};
 ghost use Rattle.construction.specs.Steps.{state_of};

@@ -1,6 +1,6 @@
 //! Traces the run that a runner plays.
 
-ghost use Rattle.std.specs.Prelude.{◌≡◌, ◌<◌, ◌≤◌, ◌+◌, true, nat_lt, All, length};
+ghost use Rattle.std.specs.Prelude.{◌≡◌, ◌<◌, ◌≤◌, true, nat_lt, All, length};
 ghost use Rattle.construction.specs.Plans.{plan_nodes};
 ghost use Rattle.texts.specs.Growth.{Puts};
 ghost use Rattle.round_runner.specs.Played.{heard_at};

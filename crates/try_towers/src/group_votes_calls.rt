@@ -1,4 +1,4 @@
-ghost use Rattle.std.specs.Prelude.{◌≡◌, ◌<◌, ◌≤◌, [], ◌∷◌, length, true, false, All, IfOk, IfSome};
+ghost use Rattle.std.specs.Prelude.{◌≡◌, ◌<◌, [], ◌∷◌, length, true, false, IfOk, IfSome};
 ghost use Rattle.sync_types.specs.States.{register_at};
 ghost use Rattle.group_votes.specs.Groups.{AreNumbers, AreBelow, AreLies};
 

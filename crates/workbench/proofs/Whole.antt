@@ -11,7 +11,7 @@ use Rattle.outcomes.specs.declared.commands.Batch.{Batch}
 use Rattle.outcomes.specs.declared.commands.Command.TheVariants as command
 use Rattle.outcomes.specs.declared.refusals.Refusal.{Refusal}
 use Rattle.outcomes.specs.declared.refusals.Refusal.TheVariants as refusal
-use Rattle.outcomes.specs.Outcomes.{Outcome, outcome_of, too_long, of_whole}
+use Rattle.outcomes.specs.Outcomes.{Outcome, outcome_of, too_long}
 use Rattle.outcomes.specs.Answers.{answer_of}
 use Rattle.outcomes.specs.Commands.{all_first, defined}
 use Rattle.outcomes.specs.Conduct.{ReadsFront, ReadsAll, Reads, Writes, Answered, Does, LeavesUnmet}

@@ -9,10 +9,7 @@ use Rattle.layer_laws.specs.Slots.{slot_length}
 use Rattle.run_lines.specs.DecisionTexts.{decision_text}
 use Rattle.outcomes.specs.Layered.{agree_shape}
 use Rattle.answers.specs.ConsensusRuns.{IsConsensusRun}
-use Rattle.consensus_layer.specs.Agreements.{agree_layer}
-use Rattle.state_codec.specs.Shapes.{IsShape}
-use Rattle.answers.proofs.ReadSlots.{read_is_script}
-use Rattle.answers.proofs.ReadLayers.{for_runner, layered_is}
+use Rattle.answers.proofs.ReadLayers.{layered_is}
 use Rattle.answers.proofs.RefusedScripts.{script_refused}
 use Rattle.answers.proofs.ReadConsensus.{said_is_for, agree_stands, consensus_text_is}
 use Rattle.answers.proofs.consensus.read_agreed.Goals as goal

@@ -1,4 +1,4 @@
-use Rattle.std.proofs.Common.{inr, ℕ, refl, sym, ap, ◌∙◌, subst, arith}
+use Rattle.std.proofs.Common.{inr, refl, ap, ◌∙◌, arith}
 use Rattle.sync_types.specs.declared.answers.Part.TheVariants as part
 use Rattle.adversary_script.specs.StateShapes.{HasFurther}
 use Rattle.firing.specs.FirePart.{part_of}

@@ -1,4 +1,4 @@
-use Rattle.std.proofs.Common.{inr, ℕ, List, refl, sym, ap, ◌∙◌, subst, arith}
+use Rattle.std.proofs.Common.{inr, ℕ, List, refl, ap, ◌∙◌, arith}
 use Rattle.sync_types.specs.declared.answers.Part.TheVariants as part
 use Rattle.counter_core.specs.Overlays.{Layer}
 use Rattle.state_codec.specs.Shapes.{shape_with}

@@ -1,4 +1,4 @@
-use Rattle.std.proofs.Common.{refl, ◌∙◌, arith}
+use Rattle.std.proofs.Common.{◌∙◌, arith}
 use Rattle.answers.proofs.ReadSlots.{none_behind}
 use Rattle.answers.proofs.ReadScripted.{scripted_run}
 use Rattle.answers.proofs.scripted.read_scripted.Goals as goal

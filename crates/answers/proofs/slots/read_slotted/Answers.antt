@@ -1,6 +1,5 @@
-use Rattle.std.proofs.Common.{inl, ℕ, [], refl, sym, ◌∙◌, subst, arith}
+use Rattle.std.proofs.Common.{inl, refl, ◌∙◌, arith}
 use Rattle.sync_types.specs.declared.answers.Part.TheVariants as part
-use Rattle.counter_core.specs.NoLayers.{no_layer}
 use Rattle.slot_table.specs.SlotPart.{part_of}
 use Rattle.outcomes.specs.Layered.{slots_shape}
 use Rattle.answers.proofs.ReadLayers.{layered_is}

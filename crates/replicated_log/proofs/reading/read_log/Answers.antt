@@ -1,4 +1,4 @@
-use Rattle.std.proofs.Common.{◌≡◌, List, Result, Ok, subst}
+use Rattle.std.proofs.Common.{Result, subst}
 use Rattle.std.specs.Prelude.{IfOk}
 use Rattle.texts.specs.Lines.{lines_of}
 use Rattle.texts.specs.Parts.{Found, At}

@@ -1,4 +1,4 @@
-use Rattle.std.proofs.Common.{◌≡◌, ◌∷◌, [], List, length, map, set, get_or, take, sym, ap, ap₂, ◌∙◌}
+use Rattle.std.proofs.Common.{◌∷◌, [], List, map, set, get_or, take, sym, ap, ap₂, ◌∙◌}
 use Rattle.std.specs.Prelude.{ℕ}
 use Rattle.std.proofs.lemmas.List.{map-set, get_or-map}
 use Rattle.replicated_log.specs.declared.entries.Entry.{Entry}

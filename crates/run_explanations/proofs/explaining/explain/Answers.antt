@@ -1,4 +1,4 @@
-use Rattle.std.proofs.Common.{refl, sym, ◌∙◌, ap, subst, arith}
+use Rattle.std.proofs.Common.{refl, sym, subst}
 use Rattle.run_explanations.specs.Explanations.{IsFirstOrNone}
 use Rattle.run_explanations.proofs.Taking.{read_begin, value_is}
 use Rattle.run_explanations.proofs.explaining.explain.Goals as goal

@@ -1,4 +1,4 @@
-use Rattle.std.proofs.Common.{Option, length, sym, ap, ◌∙◌, arith}
+use Rattle.std.proofs.Common.{Option, length, ap, ◌∙◌, arith}
 use Rattle.adversary_script.specs.Eras.{faulty_of_era}
 use Rattle.adversary_script.specs.Scripts.{Script}
 use Rattle.run_explanations.specs.declared.seeing.Seen.{Seen}

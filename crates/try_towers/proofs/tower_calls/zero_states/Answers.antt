@@ -1,6 +1,6 @@
-use Rattle.std.proofs.Common.{◌≡◌, ◌<◌, ℕ, List, length, replicate, All, sym, ap, ◌∙◌, subst, arith}
+use Rattle.std.proofs.Common.{◌<◌, ℕ, length, replicate, All, sym, ap, subst, arith}
 use Rattle.std.proofs.lemmas.List.{get_or-replicate, length-replicate}
-use Rattle.sync_types.specs.States.{State, zero_state}
+use Rattle.sync_types.specs.States.{zero_state}
 use Rattle.construction.specs.Plans.{Plan}
 use Rattle.plan_laws.specs.PlanMeaning.{IsInRange}
 use Rattle.plan_laws.proofs.PlanCounter.{plan_zero}

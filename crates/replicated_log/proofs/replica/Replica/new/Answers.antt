@@ -1,4 +1,4 @@
-use Rattle.std.proofs.Common.{◌≡◌, List, [], map, ap, ◌∙◌}
+use Rattle.std.proofs.Common.{List, [], map, ap, ◌∙◌}
 use Rattle.std.specs.Prelude.{replicate}
 use Rattle.replicated_log.specs.declared.entries.Entry.{Entry}
 use Rattle.replicated_log.specs.Rings.{log_seen}

@@ -1,4 +1,4 @@
-use Rattle.std.proofs.Common.{◌≡◌, ◌≢◌, ℕ, ◌+◌, ◌-◌, ◌*◌, ◌/◌, ◌%◌, ◌<◌, ◌∷◌, [], List, length}
+use Rattle.std.proofs.Common.{◌≡◌, ◌≢◌, ℕ, ◌+◌, ◌-◌, ◌/◌, ◌%◌, ◌<◌, ◌∷◌, [], List, length}
 use Rattle.std.proofs.Common.{get_or, unwrap_or, sym, ap, ◌∙◌, subst, arith}
 use Rattle.std.proofs.Math.Nat.{mod-lt}
 use Rattle.sync_types.specs.declared.states.Reg.{Reg}
@@ -12,7 +12,7 @@ use Rattle.consensus_layer.specs.Agreeing.{loaded}
 use Rattle.replicated_log.specs.declared.entries.Entry.{Entry}
 use Rattle.replicated_log.specs.declared.replica.Replica.{Replica}
 use Rattle.replicated_log.specs.EntryLength.{entry_length, owner_at, command_at}
-use Rattle.replicated_log.specs.Logs.{agreement_after, log_after}
+use Rattle.replicated_log.specs.Logs.{log_after}
 use Rattle.replicated_log.specs.LogsSeen.{logs_seen}
 use Rattle.replicated_log.proofs.Turns.{begins, goes_on}
 use Rattle.replicated_log.proofs.replica.ReplicaOverlay.heeded.Goals as goal

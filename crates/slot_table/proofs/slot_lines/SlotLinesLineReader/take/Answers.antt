@@ -1,8 +1,7 @@
-use Rattle.std.proofs.Common.{rules, ◌≡◌, List, [], ◌∷◌, ◌++◌, Ok, subst, sym}
+use Rattle.std.proofs.Common.{rules, ◌≡◌, [], ◌∷◌, ◌++◌, Ok, subst, sym}
 use Rattle.std.specs.Prelude.{codes}
 use Rattle.texts.specs.Lines.{words_of}
 use Rattle.texts.specs.Shapes.{numbers_after}
-use Rattle.slot_table.specs.declared.lines.SlotLine.{SlotLine}
 use Rattle.slot_table.specs.Tables.{AreApart}
 use Rattle.slot_table.specs.SlotPart.{line_in}
 use Rattle.slot_table.proofs.FitLines.{still_apart}
