@@ -1,35 +1,41 @@
 //! Numbers as bits, and bits as bytes.
 
-use std::alloc::{AllocError, Global};
+/// How many bytes there is room for: those of eight numbers.
+const ROOM: usize = 64;
 
-/// Puts the lowest bits of a number, the highest of them first.
-pub fn put(bits: &mut Vec<bool>, number: u64, width: u64) -> Result<(), AllocError> {
-    for i in 0..width {
-        let place = width.wrapping_sub(i).wrapping_sub(1) % 64;
-        bits.push(number >> place & 1 == 1)?;
-    }
-    Ok(())
+/// Bits, the highest bit of the first byte first, with zeros behind.
+#[derive(Clone, Copy)]
+pub struct Bits {
+    bytes: [u8; ROOM],
+    length: u64,
 }
 
-/// So many bytes of bits, the highest bit of the first byte first, with zeros behind.
-pub fn packed(alloc: Global, bits: &[bool], bytes: u64) -> Result<Vec<u8>, AllocError> {
-    let mut packed = Vec::new(alloc);
-    for i in 0..bytes {
-        let mut byte = 0u8;
-        for j in 0..8 {
-            let bit = bits.get(i.wrapping_mul(8).wrapping_add(j) as usize);
-            byte = byte.wrapping_mul(2);
-            if bit.copied().unwrap_or(false) {
-                byte = byte.wrapping_add(1);
+/// No bits.
+pub const NO_BITS: Bits = Bits {
+    bytes: [0; ROOM],
+    length: 0,
+};
+
+impl Bits {
+    /// Puts the lowest bits of a number behind the bits, the highest of them first.
+    pub fn put(&mut self, number: u64, width: u64) {
+        for i in 0..width {
+            let bit = number >> (width - i - 1) % 64 & 1;
+            if let Some(byte) = self.bytes.get_mut((self.length / 8) as usize) {
+                *byte |= (bit as u8) << (7 - self.length % 8);
             }
+            self.length = self.length.wrapping_add(1);
         }
-        packed.push(byte)?;
     }
-    Ok(packed)
+
+    /// The first bytes, so many.
+    pub fn bytes(&self, count: u64) -> &[u8] {
+        self.bytes.get(..count as usize).unwrap_or(&[])
+    }
 }
 
 /// The bit at a place of some bytes, the highest bit of the first byte being at place 0.
-pub fn bit(bytes: &[u8], place: u64) -> u64 {
+fn bit(bytes: &[u8], place: u64) -> u64 {
     let byte = bytes.get((place / 8) as usize).copied().unwrap_or(0);
     u64::from(byte >> (7 - place % 8) & 1)
 }

@@ -1,199 +1,142 @@
-//! Layers above the counter: runs of scripts in which each node has registers of a layer behind
-//! those of its levels and keeps something beside, and the lines of the layer's slots.
+//! Layers above the counter, whose nodes have registers behind those of the levels and keep
+//! something beside, and slot tables.
 
-use crate::lines::Lines;
 use crate::plans::{Plan, quotient, remainder};
-use crate::runs::Run;
-use crate::scripts::Script;
-use crate::states::{Register, State, read};
-use crate::steps::{agreed, register, shown, stepped};
-use std::alloc::{AllocError, Global};
+use crate::spans::{Span, cover};
+use crate::states::{Register, State, state_of};
+use crate::steps::{agreed, register, shown};
+use crate::texts::Text;
 
-/// The most values that the registers of a layer may have.
-const MOST_VALUES: u64 = 65536;
-
-/// A layer, with what its nodes keep.
-pub trait Layer: Drop {
-    /// Puts a node's new registers behind those of the levels, after round `at`, in which it hears
-    /// these states, its own among them.
-    fn step(
-        &mut self,
-        alloc: Global,
-        plan: &Plan,
-        at: u64,
-        node: u64,
-        heard: &[State],
-        state: &mut State,
-    ) -> Result<(), AllocError>;
-
-    /// How many rounds a slot has.
-    fn period(&self, plan: &Plan) -> u64;
-
-    /// Writes the front of the line of a slot that began at an output in configuration `at`.
-    fn write_front(
-        &self,
-        text: &mut String,
-        plan: &Plan,
-        at: u64,
-        output: u64,
-    ) -> Result<(), AllocError>;
-
-    /// Writes the word of a correct node at the end of a slot.
-    fn write_word(&self, text: &mut String, node: u64) -> Result<(), AllocError>;
-}
-
-/// Takes the line of a part that says below what the values are.
-pub fn read_values(lines: &mut Lines, part: &'static str) -> u64 {
-    lines.take(part);
-    let values = lines.only("values");
-    lines.want(values <= MOST_VALUES, "limit");
-    lines.want(values >= 2, "range");
-    values
+/// What is made of the outputs of the counter: nothing; who holds, by the slots; agreement on the
+/// inputs of the nodes; firing on requests; or a log of the commands of each node.
+#[derive(Clone, Copy)]
+pub enum Part<'a> {
+    Rows,
+    Slots(&'a [Span]),
+    Agreement(&'a [u64]),
+    Firing(&'a [Span]),
+    Log(&'a [Vec<u64>]),
 }
 
 /// A register that was loaded.
-pub fn loaded(value: u64) -> Register {
+fn loaded(value: u64) -> Register {
     Register {
         value: Some(value),
         mark: false,
     }
 }
 
-/// The first register behind those of the levels of a node, after it takes a turn of a slot of
-/// agreement.
-pub fn turned(
-    alloc: Global,
-    plan: &Plan,
-    turn: u64,
-    node: u64,
-    heard: &[State],
-) -> Result<Register, AllocError> {
-    let depth = plan.levels.len();
-    let king = quotient(turn, 3);
-    let mut values = Vec::new(alloc);
-    for state in heard {
-        values.push(register(Some(state), depth).value)?;
-    }
-    Ok(agreed(
-        plan.faults(),
-        turn % 3,
-        register(heard.get(node as usize), depth),
-        &values,
-        register(heard.get(king as usize), depth).value,
-    ))
+/// How many rounds belong to an entry of a log.
+pub fn length_of_entry(plan: &Plan) -> u64 {
+    plan.slot().wrapping_add(1)
 }
 
-/// The output that a node shows, by what it hears.
-pub fn output_of(plan: &Plan, node: u64, heard: &[State]) -> u64 {
-    let own = heard.get(node as usize);
-    own.map_or(0, |state| shown(state, plan.levels.len()))
+/// The node to whose entry an output belongs.
+fn owner(plan: &Plan, output: u64) -> u64 {
+    remainder(quotient(output, length_of_entry(plan)), plan.nodes())
 }
 
-/// The configuration behind round `at`. Some nodes are put into states where an era begins; what
-/// they keep goes on all the same.
-fn next<L: Layer>(
-    alloc: Global,
-    plan: &Plan,
-    layer: &mut L,
-    script: &Script,
-    config: &[State],
-    at: u64,
-) -> Result<Vec<State>, AllocError> {
-    let mut next = Vec::new(alloc);
-    for node in 0..plan.nodes() {
-        let heard = script.heard(alloc, plan, config, at, node)?;
-        let mut state = stepped(alloc, plan, node, &heard)?;
-        layer.step(alloc, plan, at, node, &heard, &mut state)?;
-        if let Some(bytes) = script.hit(at.wrapping_add(1), node) {
-            state = read(alloc, plan, node, bytes)?;
+/// What a node commands behind an output.
+fn command(plan: &Plan, commands: &[Vec<u64>], node: u64, output: u64) -> u64 {
+    let next = remainder(output.wrapping_add(1), plan.modulus());
+    let all = plan.nodes().wrapping_mul(length_of_entry(plan));
+    match commands.get(node as usize) {
+        Some(own) => {
+            let turn = remainder(quotient(next, all), own.len() as u64);
+            own.get(turn as usize).copied().unwrap_or(0)
         }
-        next.push(state)?;
+        None => 0,
     }
-    Ok(next)
 }
 
-/// The output of the lowest node that is correct.
-fn lowest(plan: &Plan, script: &Script, run: &Run) -> u64 {
-    for (state, node) in run.config.iter().zip(0..plan.nodes()) {
-        if !script.faulty_at(run.at()).contains(&node) {
-            return shown(state, plan.levels.len());
+impl Part<'_> {
+    /// Whether the nodes have registers of a layer.
+    pub fn is_layer(self) -> bool {
+        !matches!(self, Part::Rows | Part::Slots(_))
+    }
+
+    /// How many rounds belong to a slot.
+    pub fn period(self, plan: &Plan) -> u64 {
+        match self {
+            Part::Log(_) => length_of_entry(plan),
+            _ => plan.slot(),
         }
     }
-    0
-}
 
-/// Whether a line is written of a slot from configuration `at` to configuration `end`: it begins
-/// after the bound of its era, and ends in it.
-fn is_written(plan: &Plan, script: &Script, at: u64, end: u64) -> bool {
-    let first = script.era_at(at);
-    script.first <= at
-        && at <= script.last
-        && first.wrapping_add(plan.bound()) < at
-        && script.era_at(end) == first
-}
-
-/// Writes the line of a slot that ends, where there is one: `outputs` are those of the lowest
-/// correct node in each configuration so far.
-fn write_slot<L: Layer>(
-    text: &mut String,
-    plan: &Plan,
-    layer: &L,
-    script: &Script,
-    end: u64,
-    outputs: &[u64],
-) -> Result<(), AllocError> {
-    let period = layer.period(plan);
-    let Some(at) = end.checked_sub(period) else {
-        return Ok(());
-    };
-    let output = outputs.get(at as usize).copied().unwrap_or(1);
-    if remainder(output, period) != 0 || !is_written(plan, script, at, end) {
-        return Ok(());
-    }
-    layer.write_front(text, plan, at, output)?;
-    for node in 0..plan.nodes() {
-        if script.faulty_at(end).contains(&node) {
-            write!(text, " *")?;
-        } else {
-            layer.write_word(text, node)?;
+    /// What is loaded into the register of agreement of a node that showed an output in round `at`,
+    /// if anything is: at the end of a slot an input, and at the front of an entry what its owner
+    /// proposes.
+    fn input(self, plan: &Plan, at: u64, output: u64, node: u64, heard: &[State]) -> Option<u64> {
+        let place = remainder(output, self.period(plan));
+        let is_last = place.wrapping_add(1) == self.period(plan);
+        match self {
+            Part::Agreement(inputs) if is_last => inputs.get(node as usize).copied(),
+            Part::Firing(requests) if is_last => Some(u64::from(cover(requests, node, at))),
+            Part::Log(_) if place == 0 => {
+                let owner = state_of(heard, owner(plan, output));
+                let proposed = register(&owner, plan.levels.len().wrapping_add(1));
+                Some(proposed.value.unwrap_or(0))
+            }
+            _ => None,
         }
     }
-    writeln!(text)
-}
 
-/// Writes the bound and the lines of all slots of a run, which is played.
-fn write_slots<L: Layer>(
-    alloc: Global,
-    text: &mut String,
-    plan: &Plan,
-    layer: &mut L,
-    script: &Script,
-    run: &mut Run,
-) -> Result<(), AllocError> {
-    let bound = plan.bound();
-    writeln!(text, "bound {bound}")?;
-    let mut outputs = Vec::new(alloc);
-    for at in 0..=script.rounds {
-        if at > 0 {
-            let config = next(alloc, plan, layer, script, &run.config, at - 1)?;
-            run.go_on(plan, script, config)?;
-        }
-        outputs.push(lowest(plan, script, run))?;
-        write_slot(text, plan, layer, script, at, &outputs)?;
+    /// The register of agreement of a node that showed an output, after a round in which it hears
+    /// these states.
+    fn result(self, plan: &Plan, output: u64, node: u64, heard: &[State]) -> Register {
+        let place = remainder(output, self.period(plan));
+        let depth = plan.levels.len();
+        let own = register(&state_of(heard, node), depth);
+        let turn = match self {
+            Part::Log(_) => place.wrapping_sub(1),
+            _ => place,
+        };
+        agreed(own, heard, depth, plan.faults(), turn)
     }
-    Ok(())
-}
 
-/// What is written of a script that is played with a layer.
-pub fn answer<L: Layer>(
-    alloc: Global,
-    plan: &Plan,
-    layer: &mut L,
-    script: &Script,
-) -> Result<String, AllocError> {
-    let mut text = String::new(alloc);
-    let mut run = Run::new(alloc, plan, script)?;
-    write_slots(alloc, &mut text, plan, layer, script, &mut run)?;
-    run.write_locks(&mut text, script)?;
-    Ok(text)
+    /// Puts a node's new registers of the layer behind those of the levels, after round `at`, in
+    /// which it hears these states, its own among them.
+    pub fn step(self, plan: &Plan, at: u64, node: u64, heard: &[State], state: &mut State) {
+        let depth = plan.levels.len();
+        let output = shown(&state_of(heard, node), depth);
+        let result = self.result(plan, output, node, heard);
+        if remainder(output.wrapping_add(1), self.period(plan)) == 0 {
+            state.kept = result.value.unwrap_or(0);
+        }
+        match self.input(plan, at, output, node, heard) {
+            Some(input) => state.put(depth, loaded(input)),
+            None => state.put(depth, result),
+        }
+        if let Part::Log(commands) = self {
+            let command = command(plan, commands, node, output);
+            state.put(depth.wrapping_add(1), loaded(command));
+        }
+    }
+
+    /// Writes the front of a line of configuration `at`, in which the lowest correct node showed an
+    /// output.
+    pub fn write_front(self, out: &mut Text, plan: &Plan, at: u64, output: u64) {
+        let word = match self {
+            Part::Rows => "row",
+            Part::Slots(_) => "hold",
+            Part::Agreement(_) => "slot",
+            Part::Firing(_) => "fire",
+            Part::Log(_) => "entry",
+        };
+        out.put(word, &[at]);
+        if let Part::Log(_) = self {
+            out.put(" owner", &[owner(plan, output)]);
+        }
+    }
+
+    /// Writes the word of a correct node in a state, which shows an output.
+    pub fn write_word(self, out: &mut Text, node: u64, output: u64, state: &State) {
+        let is_marked = match self {
+            Part::Rows => return out.put("", &[output]),
+            Part::Agreement(_) | Part::Log(_) => return out.put("", &[state.kept]),
+            Part::Slots(slots) => cover(slots, node, output),
+            Part::Firing(_) => state.kept == 1,
+        };
+        out.word(if is_marked { " 1" } else { " ." });
+    }
 }

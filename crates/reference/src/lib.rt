@@ -2,19 +2,17 @@
 //! parts mean. It shares no code with the workbench, which is compared with it.
 #![tactic(auto)]
 
-pub mod agreements;
 pub mod bits;
 mod certificate_lines;
 pub mod certificates;
 pub mod explanations;
-pub mod firings;
 pub mod input_texts;
 pub mod judgements;
 pub mod layers;
 mod lie_texts;
 pub mod lines;
-pub mod logs;
 pub mod nodes;
+pub mod parts;
 mod plan_texts;
 pub mod plans;
 pub mod premises;
@@ -23,7 +21,7 @@ pub mod refusals;
 pub mod runs;
 pub mod script_texts;
 pub mod scripts;
-pub mod slot_tables;
+pub mod spans;
 pub mod states;
 pub mod steps;
 mod table_texts;

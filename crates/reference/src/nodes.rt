@@ -4,7 +4,7 @@ use crate::lines::Lines;
 use crate::plan_texts::read_plan;
 use crate::plans::Plan;
 use crate::refusals::Stop;
-use crate::states::{State, read, written, zero};
+use crate::states::{NOTHING, State, read, written};
 use crate::steps::stepped;
 use std::alloc::{AllocError, Global};
 
@@ -28,21 +28,6 @@ impl Drop for Node {
     }
 }
 
-/// The bytes of one cell of each node, without their lengths, and how many bytes they take with
-/// them.
-struct Packet {
-    cells: Vec<Vec<u8>>,
-    length: usize,
-}
-
-// Written out, so that what lets go of one calls this, and no more.
-impl Drop for Packet {
-    fn drop(self) {
-        let Packet { cells, length: _ } = self;
-        drop(cells);
-    }
-}
-
 /// Puts the length of a cell and then its bytes.
 pub fn put_cell(bytes: &mut Vec<u8>, cell: &[u8]) -> Result<(), AllocError> {
     let length = cell.len() as u64;
@@ -51,92 +36,101 @@ pub fn put_cell(bytes: &mut Vec<u8>, cell: &[u8]) -> Result<(), AllocError> {
     bytes.extend_from_slice(cell)
 }
 
-impl Packet {
-    /// The packet of so many nodes at the front of some bytes, if it is whole.
-    fn of(alloc: Global, nodes: u64, bytes: &[u8]) -> Result<Option<Packet>, AllocError> {
-        let mut cells = Vec::new(alloc);
-        let mut length = 0usize;
-        for _ in 0..nodes {
-            let first = length.saturating_add(2);
-            let Some([high, low]) = bytes.get(length..first) else {
-                return Ok(None);
-            };
-            let count = usize::from(*high).wrapping_mul(256);
-            length = first.saturating_add(count.wrapping_add(usize::from(*low)));
-            let Some(cell) = bytes.get(first..length) else {
-                return Ok(None);
-            };
-            cells.push(Vec::from_slice(alloc, cell)?)?;
-        }
-        Ok(Some(Packet { cells, length }))
-    }
-
-    /// What a node that is in a state hears: of another node the state that its cell has, if it has
-    /// its length, else the zero state.
-    fn heard(
-        &self,
-        alloc: Global,
-        plan: &Plan,
-        node: u64,
-        own: &State,
-    ) -> Result<Vec<State>, AllocError> {
-        let mut heard = Vec::new(alloc);
-        for (cell, sender) in self.cells.iter().zip(0u64..) {
-            heard.push(if sender == node {
-                own.clone()?
-            } else if cell.len() as u64 == plan.bytes(sender) {
-                read(alloc, plan, sender, cell)?
-            } else {
-                zero(alloc, plan)?
-            })?;
-        }
-        Ok(heard)
+/// The bytes of the cell at the front of some bytes, without its length, and those behind it; none
+/// where it is not whole.
+fn cell_of(bytes: &[u8]) -> Option<(&[u8], &[u8])> {
+    let [high, low, rest @ ..] = bytes else {
+        return None;
+    };
+    let length = usize::from(*high) * 256 + usize::from(*low);
+    match (rest.get(..length), rest.get(length..)) {
+        (Some(cell), Some(behind)) => Some((cell, behind)),
+        _ => None,
     }
 }
 
-/// The cells that a node writes, and the exit code: it answers each packet that is whole.
+/// What a node that is in a state hears by the packet at the front of some bytes, and the bytes
+/// behind it; none where it is not whole. Of another node it is the state that its cell has, if it
+/// has its length, else the zero state.
+fn hear<'a>(
+    plan: &Plan,
+    node: u64,
+    own: &State,
+    bytes: &'a [u8],
+    heard: &mut [State],
+) -> Option<&'a [u8]> {
+    let mut left = bytes;
+    for (state, sender) in heard.iter_mut().zip(0u64..) {
+        let (cell, behind) = cell_of(left)?;
+        left = behind;
+        *state = if sender == node {
+            *own
+        } else if cell.len() as u64 == plan.bytes(sender) {
+            read(plan, sender, cell)
+        } else {
+            NOTHING
+        };
+    }
+    Some(left)
+}
+
+/// Puts the cells that a node writes, which answers each packet that is whole, and returns the exit
+/// code. What it hears is put into `heard`.
+fn put_cells(
+    plan: &Plan,
+    node: &Node,
+    bytes: &[u8],
+    heard: &mut [State],
+    cells: &mut Vec<u8>,
+) -> Result<u8, AllocError> {
+    let length = plan.bytes(node.id);
+    let mut state = read(plan, node.id, &node.start);
+    let mut left = bytes;
+    put_cell(cells, written(plan, node.id, &state).bytes(length))?;
+    for _ in 0..MOST_PACKETS {
+        if left.is_empty() {
+            return Ok(0);
+        }
+        match hear(plan, node.id, &state, left, heard) {
+            Some(behind) => left = behind,
+            None => return Ok(9),
+        }
+        state = stepped(plan, node.id, heard);
+        put_cell(cells, written(plan, node.id, &state).bytes(length))?;
+    }
+    Ok(if left.is_empty() { 0 } else { 8 })
+}
+
+/// The cells that a node writes, and the exit code.
 pub fn answer(
     alloc: Global,
     plan: &Plan,
     node: &Node,
     bytes: &[u8],
 ) -> Result<(Vec<u8>, u8), AllocError> {
+    let mut heard = vec![in alloc; NOTHING; plan.nodes() as usize]?;
     let mut cells = Vec::new(alloc);
-    let mut state = read(alloc, plan, node.id, &node.start)?;
-    let mut left = bytes;
-    put_cell(&mut cells, &written(alloc, plan, node.id, &state)?)?;
-    for _ in 0..MOST_PACKETS {
-        if left.is_empty() {
-            return Ok((cells, 0));
-        }
-        let Some(packet) = Packet::of(alloc, plan.nodes(), left)? else {
-            return Ok((cells, 9));
-        };
-        left = left.get(packet.length..).unwrap_or(&[]);
-        let heard = packet.heard(alloc, plan, node.id, &state)?;
-        state = stepped(alloc, plan, node.id, &heard)?;
-        put_cell(&mut cells, &written(alloc, plan, node.id, &state)?)?;
-    }
-    Ok((cells, if left.is_empty() { 0 } else { 8 }))
+    let code = put_cells(plan, node, bytes, &mut heard, &mut cells)?;
+    Ok((cells, code))
 }
 
 /// Takes the lines of a node.
-fn read_node(alloc: Global, plan: &Plan, lines: &mut Lines) -> Result<Node, AllocError> {
+fn read_node(alloc: Global, plan: &Plan, lines: &mut Lines) -> Node {
     lines.take_first(PART);
     lines.take(PART);
     let id = lines.only("id");
     lines.want(id < plan.nodes(), "node");
     lines.take(PART);
     lines.want_form(2, "state");
-    let start = lines.bytes(alloc, 1, plan.bytes(id))?;
+    let start = lines.bytes(alloc, 1, plan.bytes(id));
     lines.take_end(PART);
-    Ok(Node { id, start })
+    Node { id, start }
 }
 
 /// What `node` writes, and the exit code.
 pub fn cells(alloc: Global, lines: &mut Lines, input: &[u8]) -> Result<(Vec<u8>, u8), Stop> {
     let plan = read_plan(alloc, lines)?;
-    let node = read_node(alloc, &plan, lines)?;
+    let node = read_node(alloc, &plan, lines);
     lines.result()?;
     let packets = input.get(lines.end()..).unwrap_or(&[]);
     Ok(answer(alloc, &plan, &node, packets)?)

@@ -121,13 +121,18 @@ impl Plan {
 
     /// Below what the values of a register are.
     pub fn modulus_of(&self, register: usize) -> u64 {
-        let level = self.levels.get(register);
-        level.map_or(self.values, |level| level.modulus)
+        match self.levels.get(register) {
+            Some(level) => level.modulus,
+            None => self.values,
+        }
     }
 
     /// The modulus that the nodes count by.
     pub fn modulus(&self) -> u64 {
-        self.levels.last().map_or(self.base, |level| level.modulus)
+        match self.levels.last() {
+            Some(level) => level.modulus,
+            None => self.base,
+        }
     }
 
     /// How many rounds a slot has.
@@ -151,7 +156,10 @@ impl Plan {
 
     /// How many faulty nodes the plan stands.
     pub fn faults(&self) -> u64 {
-        self.levels.last().map_or(0, |level| level.faults)
+        match self.levels.last() {
+            Some(level) => level.faults,
+            None => 0,
+        }
     }
 
     /// The configuration from which all correct nodes count.
@@ -167,14 +175,10 @@ impl Plan {
     /// level on.
     pub fn low(&self, node: u64) -> usize {
         let mut place = node;
-        for depth in (1..=self.levels.len()).rev() {
-            let below = self.group(depth.wrapping_sub(1));
-            let blocks = self
-                .levels
-                .get(depth.wrapping_sub(1))
-                .map_or(0, |level| level.blocks);
-            if place >= blocks.wrapping_mul(below) {
-                return depth;
+        for (depth, level) in self.levels.iter().enumerate().rev() {
+            let below = self.group(depth);
+            if place >= level.blocks.wrapping_mul(below) {
+                return depth.wrapping_add(1);
             }
             place = remainder(place, below);
         }
@@ -201,7 +205,7 @@ impl Plan {
     /// Whether a node has a register on the level above the lowest `depth` ones; it has those of a
     /// layer.
     pub fn has_register(&self, node: u64, depth: usize) -> bool {
-        self.low(node) <= depth.wrapping_add(1)
+        depth < self.registers() && self.low(node) <= depth.wrapping_add(1)
     }
 
     /// How many bits a state of a node has.

@@ -1,14 +1,10 @@
 //! What the program answers to a word and an input.
 
-use crate::agreements::consensus;
 use crate::explanations::explain;
-use crate::firings::fire;
 use crate::lines::Lines;
-use crate::logs::log;
 use crate::nodes::cells;
+use crate::parts::play;
 use crate::refusals::{Refusal, Stop};
-use crate::runs::rows;
-use crate::slot_tables::slots;
 use crate::table_texts::table;
 use crate::tables::{plan, upgrade};
 use crate::wants::find;
@@ -40,23 +36,19 @@ fn text_of(alloc: Global, word: &str, lines: &mut Lines) -> Result<String, Stop>
         "table" => table(alloc, lines),
         "upgrade" => upgrade(alloc, lines),
         "find" => find(alloc, lines),
-        "run" => rows(alloc, lines),
         "explain" => explain(alloc, lines),
-        "slots" => slots(alloc, lines),
-        "consensus" => consensus(alloc, lines),
-        "fire" => fire(alloc, lines),
-        _ => log(alloc, lines),
+        _ => play(alloc, word, lines),
     }
 }
 
 /// The bytes that are written of an accepted input, and the exit code.
 fn accepted(alloc: Global, word: &str, input: &[u8]) -> Result<(Vec<u8>, u8), Stop> {
-    let mut lines = Lines::of(alloc, input)?;
+    let mut lines = Lines::of(input);
     if word == "node" {
         return cells(alloc, &mut lines, input);
     }
     let text = text_of(alloc, word, &mut lines)?;
-    Ok((Vec::from_slice(alloc, text.as_bytes())?, 0))
+    Ok((text.into_bytes(), 0))
 }
 
 /// What is answered to a word, which is one of those above, and an input of at most 2^20 bytes.
@@ -68,7 +60,7 @@ pub fn answered(alloc: Global, word: &str, input: &[u8]) -> Result<Answer, Alloc
             refusal: None,
         }),
         Err(Stop::Refused(refusal)) => Ok(Answer {
-            bytes: Vec::from_slice(alloc, refusal.text(alloc)?.as_bytes())?,
+            bytes: refusal.text(alloc)?.into_bytes(),
             code: refusal.code(),
             refusal: Some(refusal),
         }),

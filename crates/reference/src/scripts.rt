@@ -1,10 +1,10 @@
 //! Scripts: who is faulty when, in which states nodes start, and what a node hears of another.
 
+use crate::bits::NO_BITS;
 use crate::plans::{Plan, quotient};
-use crate::states::{State, part_of, read, shifted, state_of, zero};
+use crate::states::{NOTHING, State, read, shifted, state_of};
 use rand_chacha::ChaCha8Rng;
 use rand_core::{Rng, SeedableRng};
-use std::alloc::{AllocError, Global};
 
 /// Whom a lie is told: all, the nodes from one to another, or the group of a number.
 #[derive(Clone, Copy)]
@@ -134,13 +134,23 @@ impl Rule {
         let listens = match self.receivers {
             Receivers::All => true,
             Receivers::Between(first, last) => first <= receiver && receiver <= last,
-            Receivers::Group(group) => script
-                .groups
-                .get(group)
-                .is_some_and(|group| group.contains(&receiver)),
+            Receivers::Group(group) => match script.groups.get(group) {
+                Some(group) => group.contains(&receiver),
+                None => false,
+            },
         };
         self.first <= at && at <= self.last && self.sender == sender && listens
     }
+}
+
+/// The bytes of a node among those in which nodes start.
+fn bytes_for(starts: &[Start], node: u64) -> Option<&[u8]> {
+    for start in starts {
+        if start.node == node {
+            return Some(&start.bytes);
+        }
+    }
+    None
 }
 
 impl Script {
@@ -168,87 +178,43 @@ impl Script {
 
     /// The state of a node that the noise of a stream is read as, from word `turn * words` on,
     /// where the state has so many words.
-    fn noise(
-        &self,
-        alloc: Global,
-        plan: &Plan,
-        node: u64,
-        stream: u64,
-        turn: u64,
-    ) -> Result<State, AllocError> {
+    fn noise(&self, plan: &Plan, node: u64, stream: u64, turn: u64) -> State {
         let words = quotient(plan.bytes(node).wrapping_add(3), 4);
         let first = turn.wrapping_mul(words);
         let key = self.key.unwrap_or([0; 32]);
-        let mut bytes = Vec::new(alloc);
+        let mut bits = NO_BITS;
         for i in 0..words {
             for byte in word(key, stream, first.wrapping_add(i)).to_le_bytes() {
-                bytes.push(byte)?;
+                bits.put(u64::from(byte), 8);
             }
         }
-        bytes.truncate(plan.bytes(node) as usize);
-        read(alloc, plan, node, &bytes)
+        read(plan, node, bits.bytes(plan.bytes(node)))
     }
 
     /// What a faulty sender tells a receiver in round `at`: by the first rule that matches, else
     /// its own state.
-    pub fn lie(
-        &self,
-        alloc: Global,
-        plan: &Plan,
-        config: &[State],
-        at: u64,
-        sender: u64,
-        receiver: u64,
-    ) -> Result<State, AllocError> {
-        let own = state_of(alloc, plan, config, sender)?;
+    pub fn lie(&self, plan: &Plan, config: &[State], at: u64, sender: u64, receiver: u64) -> State {
+        let own = state_of(config, sender);
         for rule in &self.rules {
             if rule.matches(self, at, sender, receiver) {
                 let stream = sender.wrapping_mul(256).wrapping_add(receiver);
                 return match &rule.lie {
-                    Lie::Noise => self.noise(alloc, plan, sender, stream, at),
-                    Lie::Copy(node) => {
-                        let state = state_of(alloc, plan, config, *node)?;
-                        Ok(part_of(plan, sender, state))
-                    }
-                    Lie::Bytes(bytes) => read(alloc, plan, sender, bytes),
-                    Lie::Shift(by) => Ok(shifted(plan, sender, own, *by)),
+                    Lie::Noise => self.noise(plan, sender, stream, at),
+                    Lie::Copy(node) => shifted(plan, sender, &state_of(config, *node), 0),
+                    Lie::Bytes(bytes) => read(plan, sender, bytes),
+                    Lie::Shift(by) => shifted(plan, sender, &own, *by),
                 };
             }
         }
-        Ok(own)
-    }
-
-    /// What a node hears in round `at`: its own state, those of the correct nodes, and the lies of
-    /// the other faulty ones.
-    pub fn heard(
-        &self,
-        alloc: Global,
-        plan: &Plan,
-        config: &[State],
-        at: u64,
-        receiver: u64,
-    ) -> Result<Vec<State>, AllocError> {
-        let mut heard = Vec::new(alloc);
-        for sender in 0..plan.nodes() {
-            let state = if sender != receiver && self.faulty_at(at).contains(&sender) {
-                self.lie(alloc, plan, config, at, sender, receiver)?
-            } else {
-                state_of(alloc, plan, config, sender)?
-            };
-            heard.push(state)?;
-        }
-        Ok(heard)
+        own
     }
 
     /// The state in which a node starts: by its own line, else zero or noise.
-    pub fn start(&self, alloc: Global, plan: &Plan, node: u64) -> Result<State, AllocError> {
-        if let Some(bytes) = bytes_for(&self.starts, node) {
-            return read(alloc, plan, node, bytes);
-        }
-        if self.noisy {
-            self.noise(alloc, plan, node, node.wrapping_add(65536), 0)
-        } else {
-            zero(alloc, plan)
+    pub fn start(&self, plan: &Plan, node: u64) -> State {
+        match bytes_for(&self.starts, node) {
+            Some(bytes) => read(plan, node, bytes),
+            None if self.noisy => self.noise(plan, node, node.wrapping_add(65536), 0),
+            None => NOTHING,
         }
     }
 
@@ -261,14 +227,4 @@ impl Script {
         }
         None
     }
-}
-
-/// The bytes of a node among those in which nodes start.
-fn bytes_for(starts: &[Start], node: u64) -> Option<&[u8]> {
-    for start in starts {
-        if start.node == node {
-            return Some(&start.bytes);
-        }
-    }
-    None
 }

@@ -2,7 +2,7 @@
 
 use rand_chacha::ChaCha8Rng;
 use rand_core::{Rng, SeedableRng};
-use reference::bits::{packed, put};
+use reference::bits::NO_BITS;
 use reference::plans::{Plan, remainder, width};
 use std::alloc::{AllocError, Global};
 
@@ -139,19 +139,19 @@ impl Draws {
         if self.once_in(10) {
             return self.any_bytes(plan.bytes(node));
         }
-        let mut bits = Vec::new(self.alloc);
+        let mut bits = NO_BITS;
         if plan.has_number(node) {
             let x = self.near_number(centre.x, plan.base);
-            put(&mut bits, x, width(plan.base))?;
+            bits.put(x, width(plan.base));
         }
         for (depth, value) in centre.values.iter().enumerate() {
             if plan.has_register(node, depth) {
                 let modulus = plan.modulus_of(depth);
                 let bits_of_value = width(modulus.wrapping_add(1));
-                put(&mut bits, self.near(*value, modulus), bits_of_value)?;
-                put(&mut bits, self.below(2), 1)?;
+                bits.put(self.near(*value, modulus), bits_of_value);
+                bits.put(self.below(2), 1);
             }
         }
-        packed(self.alloc, &bits, plan.bytes(node))
+        Vec::from_slice(self.alloc, bits.bytes(plan.bytes(node)))
     }
 }

@@ -4,14 +4,28 @@ use crate::comparing::agrees;
 use crate::drawn_layers::{PLANS_WITH_SLOTS, plan_with_slots};
 use crate::draws::Draws;
 use crate::inputs::{plan_text, refusal_of};
-use reference::agreements::Agreement;
 use reference::input_texts::{write_numbers, write_script};
-use reference::layers::answer;
+use reference::layers::Part;
 use reference::plans::{Plan, remainder};
+use reference::runs::answer;
 use std::alloc::{AllocError, Global};
 
 /// How many scripts are drawn, for each plan and each version of scripts.
 const DRAWN_SCRIPTS: u64 = 2;
+
+/// Agreement on values below some number, and the input of each node.
+struct Agreement {
+    values: u64,
+    inputs: Vec<u64>,
+}
+
+// Written out, so that what lets go of one calls this, and no more.
+impl Drop for Agreement {
+    fn drop(self) {
+        let Agreement { values: _, inputs } = self;
+        drop(inputs);
+    }
+}
 
 /// What is written where the part is refused, and none where it is not.
 fn refusal(
@@ -52,7 +66,7 @@ impl Draws {
             let other = self.below(values);
             inputs.push(if is_other { other } else { common })?;
         }
-        Agreement::new(self.alloc, values, inputs)
+        Ok(Agreement { values, inputs })
     }
 
     /// Makes a number of an agreement wrong.
@@ -97,12 +111,13 @@ fn try_script(
     plan: &mut Plan,
     version: u64,
 ) -> anyhow::Result<bool> {
-    let mut agreement = draws.agreement(plan)?;
+    let agreement = draws.agreement(plan)?;
     plan.set_layer(1, agreement.values);
     let script = draws.long_script(plan, version)?;
     let mut input = agreement_input(rt.alloc(), plan, &agreement)?;
     write_script(&mut input, &script)?;
-    let wanted = answer(rt.alloc(), plan, &mut agreement, &script)?;
+    let part = Part::Agreement(&agreement.inputs);
+    let wanted = answer(rt.alloc(), plan, &script, part)?;
     agrees(rt, "consensus", input.as_str(), wanted.as_str(), 0)
 }
 

@@ -5,17 +5,18 @@ use crate::comparing::agrees;
 use crate::drawn_layers::{PLANS_WITH_SLOTS, plan_with_slots};
 use crate::draws::Draws;
 use crate::inputs::{plan_text, refusal_of};
-use reference::firings::{Firing, Request, broken_rule};
 use reference::input_texts::write_script;
-use reference::layers::answer;
+use reference::layers::Part;
 use reference::plans::{Plan, remainder};
+use reference::runs::answer;
+use reference::spans::{Span, broken_request};
 use std::alloc::{AllocError, Global};
 
 /// How many scripts are drawn, for each plan and each version of scripts.
 const DRAWN_SCRIPTS: u64 = 2;
 
 /// What is written where the part is refused, or else the script that is not there.
-fn refusal(alloc: Global, plan: &Plan, requests: &[Request]) -> Result<String, AllocError> {
+fn refusal(alloc: Global, plan: &Plan, requests: &[Span]) -> Result<String, AllocError> {
     let mut line = (plan.levels.len() as u64).wrapping_add(4);
     let mut rule = None;
     if remainder(plan.modulus(), plan.slot()) != 0 {
@@ -24,7 +25,7 @@ fn refusal(alloc: Global, plan: &Plan, requests: &[Request]) -> Result<String, A
     for request in requests {
         if rule.is_none() {
             line = line.wrapping_add(1);
-            rule = broken_rule(plan, request);
+            rule = broken_request(plan, request);
         }
     }
     match rule {
@@ -41,14 +42,14 @@ fn refusal(alloc: Global, plan: &Plan, requests: &[Request]) -> Result<String, A
 
 impl Draws {
     /// Requests of most nodes in the same rounds.
-    fn common_requests(&mut self, plan: &Plan, rounds: u64) -> Result<Vec<Request>, AllocError> {
+    fn common_requests(&mut self, plan: &Plan, rounds: u64) -> Result<Vec<Span>, AllocError> {
         let mut requests = Vec::new(self.alloc);
         for _ in 0..self.below(3) {
             let first = self.below(rounds);
             let last = first.wrapping_add(self.below(plan.slot().wrapping_mul(4)));
             for node in 0..plan.nodes() {
                 if !self.once_in(8) {
-                    requests.push(Request { node, first, last })?;
+                    requests.push(Span { node, first, last })?;
                 }
             }
         }
@@ -56,11 +57,11 @@ impl Draws {
     }
 
     /// Requests in so many rounds: mostly many, so that all correct nodes request at times.
-    fn requests(&mut self, plan: &Plan, rounds: u64) -> Result<Vec<Request>, AllocError> {
+    fn requests(&mut self, plan: &Plan, rounds: u64) -> Result<Vec<Span>, AllocError> {
         let mut requests = self.common_requests(plan, rounds)?;
         for _ in 0..self.below(plan.nodes().wrapping_mul(8)) {
             let first = self.below(rounds);
-            requests.push(Request {
+            requests.push(Span {
                 node: self.below(plan.nodes()),
                 first,
                 last: first.wrapping_add(self.below(plan.slot())),
@@ -70,8 +71,8 @@ impl Draws {
     }
 
     /// A request that may be refused.
-    fn any_request(&mut self, plan: &Plan) -> Request {
-        Request {
+    fn any_request(&mut self, plan: &Plan) -> Span {
+        Span {
             node: self.below(plan.nodes().wrapping_add(1)),
             first: self.below(20),
             last: self.below(40),
@@ -80,17 +81,17 @@ impl Draws {
 }
 
 /// Writes the lines of requests.
-fn write_requests(text: &mut String, requests: &[Request]) -> Result<(), AllocError> {
+fn write_requests(text: &mut String, requests: &[Span]) -> Result<(), AllocError> {
     writeln!(text, "fire 1")?;
     for request in requests {
-        let Request { node, first, last } = *request;
+        let Span { node, first, last } = *request;
         writeln!(text, "request {node} {first} {last}")?;
     }
     writeln!(text, "end")
 }
 
 /// The lines of a plan and of requests.
-fn requests_input(alloc: Global, plan: &Plan, requests: &[Request]) -> Result<String, AllocError> {
+fn requests_input(alloc: Global, plan: &Plan, requests: &[Span]) -> Result<String, AllocError> {
     let mut input = plan_text(alloc, plan)?;
     write_requests(&mut input, requests)?;
     Ok(input)
@@ -109,8 +110,7 @@ fn try_script(
     let requests = draws.requests(plan, script.rounds)?;
     let mut input = requests_input(alloc, plan, &requests)?;
     write_script(&mut input, &script)?;
-    let mut firing = Firing::new(alloc, plan, requests)?;
-    let wanted = answer(alloc, plan, &mut firing, &script)?;
+    let wanted = answer(alloc, plan, &script, Part::Firing(&requests))?;
     agrees(rt, "fire", input.as_str(), wanted.as_str(), 0)
 }
 

@@ -5,13 +5,34 @@ use crate::drawn_layers::{PLANS_WITH_SLOTS, plan_with_slots};
 use crate::draws::Draws;
 use crate::inputs::{plan_text, refusal_of};
 use reference::input_texts::{write_numbers, write_script};
-use reference::layers::answer;
-use reference::logs::{Commands, Replica, broken_commands, length_of_entry};
+use reference::layers::{Part, length_of_entry};
+use reference::parts::broken_commands;
 use reference::plans::{Plan, remainder};
+use reference::runs::answer;
 use std::alloc::{AllocError, Global};
 
 /// How many scripts are drawn, for each plan and each version of scripts.
 const DRAWN_SCRIPTS: u64 = 2;
+
+/// What the lines of a log say: below what values are, how many entries are kept, and the commands
+/// of each node.
+struct Commands {
+    values: u64,
+    keep: u64,
+    commands: Vec<Vec<u64>>,
+}
+
+// Written out, so that what lets go of one calls this, and no more.
+impl Drop for Commands {
+    fn drop(self) {
+        let Commands {
+            values: _,
+            keep: _,
+            commands,
+        } = self;
+        drop(commands);
+    }
+}
 
 /// The first rule that fails, and on which line behind that of `log 1`.
 fn broken(plan: &Plan, lines: &Commands) -> Option<(u64, &'static str)> {
@@ -28,7 +49,7 @@ fn broken(plan: &Plan, lines: &Commands) -> Option<(u64, &'static str)> {
         return Some((2, if is_large { "limit" } else { "range" }));
     }
     for (own, node) in lines.commands.iter().zip(0u64..) {
-        if let Some(rule) = broken_commands(lines, own) {
+        if let Some(rule) = broken_commands(lines.values, own) {
             return Some((node.wrapping_add(3), rule));
         }
     }
@@ -131,8 +152,7 @@ fn try_script(
     let script = draws.long_script(plan, version)?;
     let mut input = log_input(alloc, plan, &lines)?;
     write_script(&mut input, &script)?;
-    let mut replica = Replica::new(alloc, plan, lines)?;
-    let wanted = answer(alloc, plan, &mut replica, &script)?;
+    let wanted = answer(alloc, plan, &script, Part::Log(&lines.commands))?;
     agrees(rt, "log", input.as_str(), wanted.as_str(), 0)
 }
 

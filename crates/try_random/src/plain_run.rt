@@ -3,6 +3,7 @@
 use crate::comparing::agrees;
 use crate::draws::Draws;
 use crate::inputs::input_of;
+use reference::layers::Part;
 use reference::plans::Plan;
 use reference::runs::answer;
 use reference::scripts::Script;
@@ -13,7 +14,7 @@ const DRAWN_PLANS: u64 = 30;
 /// Whether a script agrees.
 fn try_script(rt: &HostRuntime, plan: &Plan, script: &Script) -> anyhow::Result<bool> {
     let input = input_of(rt.alloc(), plan, script)?;
-    let wanted = answer(rt.alloc(), plan, script)?;
+    let wanted = answer(rt.alloc(), plan, script, Part::Rows)?;
     agrees(rt, "run", input.as_str(), wanted.as_str(), 0)
 }
 

@@ -4,20 +4,22 @@ use crate::comparing::agrees;
 use crate::draws::Draws;
 use crate::inputs::{plan_text, refusal_of};
 use reference::input_texts::write_script;
+use reference::layers::Part;
 use reference::plans::Plan;
+use reference::runs::answer;
 use reference::scripts::Script;
-use reference::slot_tables::{Slot, broken_rule, played};
+use reference::spans::{Span, broken_slot};
 use std::alloc::{AllocError, Global};
 
 /// How many slot tables are drawn, for each version of plans and of scripts.
 const DRAWN_TABLES: u64 = 30;
 
 /// What is written where a line is refused.
-fn refusal(alloc: Global, plan: &Plan, slots: &[Slot]) -> Result<Option<String>, AllocError> {
+fn refusal(alloc: Global, plan: &Plan, slots: &[Span]) -> Result<Option<String>, AllocError> {
     let mut line = (plan.levels.len() as u64).wrapping_add(5);
     for (place, slot) in slots.iter().enumerate() {
         let others = slots.get(..place).unwrap_or(&[]);
-        if let Some(rule) = broken_rule(plan, slot, others) {
+        if let Some(rule) = broken_slot(plan, slot, others) {
             return Ok(Some(refusal_of(alloc, "slots", line, rule)?));
         }
         line = line.wrapping_add(1);
@@ -28,7 +30,7 @@ fn refusal(alloc: Global, plan: &Plan, slots: &[Slot]) -> Result<Option<String>,
 impl Draws {
     /// Slots that do not overlap, in rising or falling order, and at times one more that may be
     /// refused.
-    fn slots(&mut self, plan: &Plan) -> Result<Vec<Slot>, AllocError> {
+    fn slots(&mut self, plan: &Plan) -> Result<Vec<Span>, AllocError> {
         let mut slots = Vec::new(self.alloc);
         let mut first = self.below(3);
         for _ in 0..self.below(12) {
@@ -37,14 +39,14 @@ impl Draws {
                 break;
             }
             let node = self.below(plan.nodes());
-            slots.push(Slot { node, first, last })?;
+            slots.push(Span { node, first, last })?;
             first = last.wrapping_add(self.between(1, 3));
         }
         if self.once_in(2) {
             slots.reverse();
         }
         if self.once_in(4) {
-            slots.push(Slot {
+            slots.push(Span {
                 node: self.below(plan.nodes().wrapping_add(1)),
                 first: self.below(plan.modulus()),
                 last: self.below(plan.modulus().wrapping_add(1)),
@@ -55,10 +57,10 @@ impl Draws {
 }
 
 /// Writes the lines of slots.
-fn write_slots(text: &mut String, slots: &[Slot]) -> Result<(), AllocError> {
+fn write_slots(text: &mut String, slots: &[Span]) -> Result<(), AllocError> {
     writeln!(text, "slots 1")?;
     for slot in slots {
-        let Slot { node, first, last } = *slot;
+        let Span { node, first, last } = *slot;
         writeln!(text, "slot {node} {first} {last}")?;
     }
     writeln!(text, "end")
@@ -68,7 +70,7 @@ fn write_slots(text: &mut String, slots: &[Slot]) -> Result<(), AllocError> {
 fn slots_input(
     alloc: Global,
     plan: &Plan,
-    slots: &[Slot],
+    slots: &[Span],
     script: &Script,
 ) -> Result<String, AllocError> {
     let mut input = plan_text(alloc, plan)?;
@@ -81,12 +83,12 @@ fn slots_input(
 fn wanted_of(
     alloc: Global,
     plan: &Plan,
-    slots: &[Slot],
+    slots: &[Span],
     script: &Script,
 ) -> Result<(String, u8), AllocError> {
     match refusal(alloc, plan, slots)? {
         Some(wanted) => Ok((wanted, 3)),
-        None => Ok((played(alloc, plan, slots, script)?, 0)),
+        None => Ok((answer(alloc, plan, script, Part::Slots(slots))?, 0)),
     }
 }
 

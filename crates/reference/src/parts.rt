@@ -1,0 +1,163 @@
+//! The words that play a script, most of which read a part between the plan and it.
+
+use crate::layers::{Part, length_of_entry};
+use crate::lines::Lines;
+use crate::plan_texts::{read_plan, want_none_broken};
+use crate::plans::{Plan, remainder};
+use crate::refusals::Stop;
+use crate::runs::answer;
+use crate::script_texts::read_script;
+use crate::spans::{Span, read_spans};
+use std::alloc::Global;
+
+/// The most values that the registers of a layer may have.
+const MOST_VALUES: u64 = 65536;
+
+/// How many entries of a log may be kept.
+const MOST_KEPT: u64 = 1024;
+
+/// How many commands a node of a log may have.
+const MOST_COMMANDS: usize = 16;
+
+/// The part of a word: slots or requests, or the inputs of agreement, or the commands of a log.
+struct Parts {
+    spans: Vec<Span>,
+    inputs: Vec<u64>,
+    commands: Vec<Vec<u64>>,
+}
+
+// Written out, so that what lets go of one calls this, and no more.
+impl Drop for Parts {
+    fn drop(self) {
+        let Parts {
+            spans,
+            inputs,
+            commands,
+        } = self;
+        drop(spans);
+        drop(inputs);
+        drop(commands);
+    }
+}
+
+/// Takes the line of a part that says below what the values are.
+fn read_values(lines: &mut Lines, part: &'static str) -> u64 {
+    lines.take(part);
+    let values = lines.only("values");
+    lines.want(values <= MOST_VALUES, "limit");
+    lines.want(values >= 2, "range");
+    values
+}
+
+/// Takes the lines of an agreement: below what the inputs are, and the input of each node.
+fn read_agreement(plan: &Plan, lines: &mut Lines, inputs: &mut Vec<u64>) -> u64 {
+    let values = read_values(lines, "agree");
+    lines.take("agree");
+    let is_named = lines.is(0, "inputs");
+    lines.want(is_named, "form");
+    let mut are_below = true;
+    for place in 1..lines.words() {
+        let input = lines.number(place);
+        are_below &= input < values;
+        lines.put(inputs, input);
+    }
+    lines.want(inputs.len() as u64 == plan.nodes(), "form");
+    lines.want(are_below, "range");
+    lines.take_end("agree");
+    values
+}
+
+/// The first rule that the commands of a node fail, which are to be below `values`.
+pub fn broken_commands(values: u64, own: &[u64]) -> Option<&'static str> {
+    if own.is_empty() {
+        return Some("form");
+    }
+    if own.len() > MOST_COMMANDS {
+        return Some("limit");
+    }
+    for command in own {
+        if *command >= values {
+            return Some("range");
+        }
+    }
+    None
+}
+
+/// Takes the lines of a log: below what the commands are, how many entries are kept, and the
+/// commands of each node.
+fn read_log(alloc: Global, plan: &Plan, lines: &mut Lines, commands: &mut Vec<Vec<u64>>) -> u64 {
+    let values = read_values(lines, "log");
+    lines.take("log");
+    let keep = lines.only("keep");
+    lines.want(keep <= MOST_KEPT, "limit");
+    lines.want(keep >= 1, "range");
+    for node in 0..plan.nodes() {
+        lines.take("log");
+        let has_form = lines.words() >= 3 && lines.is(0, "commands");
+        lines.want(has_form, "form");
+        let named = lines.number(1);
+        let own = lines.numbers(alloc, 2);
+        lines.want(own.len() <= MOST_COMMANDS, "limit");
+        lines.want(named == node, "node");
+        want_none_broken(lines, broken_commands(values, &own));
+        lines.put(commands, own);
+    }
+    lines.take_end("log");
+    values
+}
+
+impl Parts {
+    /// Takes the lines of the part of a word, if it has one, and puts its layer on the plan.
+    fn read(&mut self, alloc: Global, word: &str, plan: &mut Plan, lines: &mut Lines) {
+        match word {
+            "slots" => {
+                lines.take_first("slots");
+                read_spans(plan, lines, "slots", &mut self.spans);
+            }
+            "fire" => {
+                lines.take_first("fire");
+                lines.want(remainder(plan.modulus(), plan.slot()) == 0, "slot");
+                read_spans(plan, lines, "fire", &mut self.spans);
+                plan.set_layer(1, 2);
+            }
+            "consensus" => {
+                lines.take_first("agree");
+                lines.want(remainder(plan.modulus(), plan.slot()) == 0, "slot");
+                let values = read_agreement(plan, lines, &mut self.inputs);
+                plan.set_layer(1, values);
+            }
+            "log" => {
+                lines.take_first("log");
+                let all = plan.nodes().wrapping_mul(length_of_entry(plan));
+                lines.want(remainder(plan.modulus(), all) == 0, "slot");
+                let values = read_log(alloc, plan, lines, &mut self.commands);
+                plan.set_layer(2, values);
+            }
+            _ => {}
+        }
+    }
+
+    /// The part of a word.
+    fn part(&self, word: &str) -> Part<'_> {
+        match word {
+            "slots" => Part::Slots(&self.spans),
+            "fire" => Part::Firing(&self.spans),
+            "consensus" => Part::Agreement(&self.inputs),
+            "log" => Part::Log(&self.commands),
+            _ => Part::Rows,
+        }
+    }
+}
+
+/// What a word writes that plays a script.
+pub fn play(alloc: Global, word: &str, lines: &mut Lines) -> Result<String, Stop> {
+    let mut plan = read_plan(alloc, lines)?;
+    let mut parts = Parts {
+        spans: Vec::new(alloc),
+        inputs: Vec::new(alloc),
+        commands: Vec::new(alloc),
+    };
+    parts.read(alloc, word, &mut plan, lines);
+    let script = read_script(alloc, &plan, lines)?;
+    Ok(answer(alloc, &plan, &script, parts.part(word))?)
+}
