@@ -31,8 +31,7 @@ impl Drop for Node {
 /// Puts the length of a cell and then its bytes.
 pub fn put_cell(bytes: &mut Vec<u8>, cell: &[u8]) -> Result<(), AllocError> {
     let length = cell.len() as u64;
-    bytes.push((length / 256 % 256) as u8)?;
-    bytes.push((length % 256) as u8)?;
+    bytes.extend_from_slice(&[(length / 256 % 256) as u8, (length % 256) as u8])?;
     bytes.extend_from_slice(cell)
 }
 
@@ -60,7 +59,8 @@ fn hear<'a>(
     heard: &mut [State],
 ) -> Option<&'a [u8]> {
     let mut left = bytes;
-    for (state, sender) in heard.iter_mut().zip(0u64..) {
+    for (place, state) in heard.iter_mut().enumerate() {
+        let sender = place as u64;
         let (cell, behind) = cell_of(left)?;
         left = behind;
         *state = if sender == node {

@@ -40,6 +40,11 @@ impl Drop for Parts {
     }
 }
 
+/// Refuses the line, unless the nodes count by a multiple of so many rounds.
+fn want_slots(plan: &Plan, lines: &mut Lines, rounds: u64) {
+    lines.want(remainder(plan.modulus(), rounds) == 0, "slot");
+}
+
 /// Takes the line of a part that says below what the values are.
 fn read_values(lines: &mut Lines, part: &'static str) -> u64 {
     lines.take(part);
@@ -51,6 +56,8 @@ fn read_values(lines: &mut Lines, part: &'static str) -> u64 {
 
 /// Takes the lines of an agreement: below what the inputs are, and the input of each node.
 fn read_agreement(plan: &Plan, lines: &mut Lines, inputs: &mut Vec<u64>) -> u64 {
+    lines.take_first("agree");
+    want_slots(plan, lines, plan.slot());
     let values = read_values(lines, "agree");
     lines.take("agree");
     let is_named = lines.is(0, "inputs");
@@ -83,23 +90,35 @@ pub fn broken_commands(values: u64, own: &[u64]) -> Option<&'static str> {
     None
 }
 
+/// The commands of a node, by its line in a log.
+fn commands_of(alloc: Global, lines: &mut Lines, node: u64, values: u64) -> Vec<u64> {
+    lines.take("log");
+    let has_form = lines.words() >= 3 && lines.is(0, "commands");
+    lines.want(has_form, "form");
+    let named = lines.number(1);
+    let own = lines.numbers(alloc, 2);
+    lines.want(own.len() <= MOST_COMMANDS, "limit");
+    lines.want(named == node, "node");
+    want_none_broken(lines, broken_commands(values, &own));
+    own
+}
+
 /// Takes the lines of a log: below what the commands are, how many entries are kept, and the
 /// commands of each node.
 fn read_log(alloc: Global, plan: &Plan, lines: &mut Lines, commands: &mut Vec<Vec<u64>>) -> u64 {
+    lines.take_first("log");
+    want_slots(
+        plan,
+        lines,
+        plan.nodes().wrapping_mul(length_of_entry(plan)),
+    );
     let values = read_values(lines, "log");
     lines.take("log");
     let keep = lines.only("keep");
     lines.want(keep <= MOST_KEPT, "limit");
     lines.want(keep >= 1, "range");
     for node in 0..plan.nodes() {
-        lines.take("log");
-        let has_form = lines.words() >= 3 && lines.is(0, "commands");
-        lines.want(has_form, "form");
-        let named = lines.number(1);
-        let own = lines.numbers(alloc, 2);
-        lines.want(own.len() <= MOST_COMMANDS, "limit");
-        lines.want(named == node, "node");
-        want_none_broken(lines, broken_commands(values, &own));
+        let own = commands_of(alloc, lines, node, values);
         lines.put(commands, own);
     }
     lines.take_end("log");
@@ -108,42 +127,30 @@ fn read_log(alloc: Global, plan: &Plan, lines: &mut Lines, commands: &mut Vec<Ve
 
 impl Parts {
     /// Takes the lines of the part of a word, if it has one, and puts its layer on the plan.
-    fn read(&mut self, alloc: Global, word: &str, plan: &mut Plan, lines: &mut Lines) {
+    fn read(&mut self, alloc: Global, word: &str, plan: &mut Plan, lines: &mut Lines) -> Part<'_> {
         match word {
             "slots" => {
                 lines.take_first("slots");
                 read_spans(plan, lines, "slots", &mut self.spans);
+                Part::Slots(&self.spans)
             }
             "fire" => {
                 lines.take_first("fire");
-                lines.want(remainder(plan.modulus(), plan.slot()) == 0, "slot");
+                want_slots(plan, lines, plan.slot());
                 read_spans(plan, lines, "fire", &mut self.spans);
                 plan.set_layer(1, 2);
+                Part::Firing(&self.spans)
             }
             "consensus" => {
-                lines.take_first("agree");
-                lines.want(remainder(plan.modulus(), plan.slot()) == 0, "slot");
                 let values = read_agreement(plan, lines, &mut self.inputs);
                 plan.set_layer(1, values);
+                Part::Agreement(&self.inputs)
             }
             "log" => {
-                lines.take_first("log");
-                let all = plan.nodes().wrapping_mul(length_of_entry(plan));
-                lines.want(remainder(plan.modulus(), all) == 0, "slot");
                 let values = read_log(alloc, plan, lines, &mut self.commands);
                 plan.set_layer(2, values);
+                Part::Log(&self.commands)
             }
-            _ => {}
-        }
-    }
-
-    /// The part of a word.
-    fn part(&self, word: &str) -> Part<'_> {
-        match word {
-            "slots" => Part::Slots(&self.spans),
-            "fire" => Part::Firing(&self.spans),
-            "consensus" => Part::Agreement(&self.inputs),
-            "log" => Part::Log(&self.commands),
             _ => Part::Rows,
         }
     }
@@ -157,7 +164,7 @@ pub fn play(alloc: Global, word: &str, lines: &mut Lines) -> Result<String, Stop
         inputs: Vec::new(alloc),
         commands: Vec::new(alloc),
     };
-    parts.read(alloc, word, &mut plan, lines);
+    let part = parts.read(alloc, word, &mut plan, lines);
     let script = read_script(alloc, &plan, lines)?;
-    Ok(answer(alloc, &plan, &script, parts.part(word))?)
+    Ok(answer(alloc, &plan, &script, part)?)
 }

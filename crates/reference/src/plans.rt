@@ -143,8 +143,10 @@ impl Plan {
     /// How many nodes a group of the lowest `depth` levels has.
     pub fn group(&self, depth: usize) -> u64 {
         let mut nodes = 1;
-        for level in self.levels.iter().take(depth) {
-            nodes = level.blocks.wrapping_mul(nodes).wrapping_add(level.spares);
+        for (place, level) in self.levels.iter().enumerate() {
+            if place < depth {
+                nodes = level.blocks.wrapping_mul(nodes).wrapping_add(level.spares);
+            }
         }
         nodes
     }
@@ -175,9 +177,14 @@ impl Plan {
     /// level on.
     pub fn low(&self, node: u64) -> usize {
         let mut place = node;
-        for (depth, level) in self.levels.iter().enumerate().rev() {
+        for depth in (0..self.levels.len()).rev() {
+            let above = self.group(depth.wrapping_add(1));
             let below = self.group(depth);
-            if place >= level.blocks.wrapping_mul(below) {
+            let spares = match self.levels.get(depth) {
+                Some(level) => level.spares,
+                None => 0,
+            };
+            if place >= above.wrapping_sub(spares) {
                 return depth.wrapping_add(1);
             }
             place = remainder(place, below);

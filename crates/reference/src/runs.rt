@@ -17,6 +17,12 @@ struct Seen {
     output: u64,
 }
 
+/// What is seen of a configuration that is not reached.
+const UNSEEN: Seen = Seen {
+    is_locked: false,
+    output: 1,
+};
+
 /// A run that is at a configuration, and what was seen of the configurations so far.
 pub struct Run<'a> {
     plan: &'a Plan,
@@ -55,8 +61,8 @@ pub fn is_locked(plan: &Plan, faulty: &[u64], config: &[State]) -> bool {
         return true;
     };
     let mut common: Option<u64> = None;
-    for (state, node) in config.iter().zip(0u64..) {
-        if !faulty.contains(&node) {
+    for (node, state) in config.iter().enumerate() {
+        if !faulty.contains(&(node as u64)) {
             let register = register(state, top);
             let is_other = common.is_some() && common != register.value;
             if register.value.is_none() || !register.mark || is_other {
@@ -78,10 +84,6 @@ impl<'a> Run<'a> {
     ) -> Result<Run<'a>, AllocError> {
         let nodes = plan.nodes() as usize;
         let rounds = (script.rounds as usize).saturating_add(1);
-        let nothing = Seen {
-            is_locked: false,
-            output: 1,
-        };
         let mut run = Run {
             plan,
             script,
@@ -89,11 +91,11 @@ impl<'a> Run<'a> {
             config: vec![in alloc; NOTHING; nodes]?,
             next: vec![in alloc; NOTHING; nodes]?,
             heard: vec![in alloc; NOTHING; nodes]?,
-            seen: vec![in alloc; nothing; rounds]?,
+            seen: vec![in alloc; UNSEEN; rounds]?,
             at: 0,
         };
-        for (state, node) in run.config.iter_mut().zip(0u64..) {
-            *state = script.start(plan, node);
+        for (node, state) in run.config.iter_mut().enumerate() {
+            *state = script.start(plan, node as u64);
         }
         run.see();
         Ok(run)
@@ -111,8 +113,8 @@ impl<'a> Run<'a> {
 
     /// What the lowest node that is correct shows.
     fn lowest(&self) -> u64 {
-        for (state, node) in self.config.iter().zip(0u64..) {
-            if !self.is_faulty(node) {
+        for (node, state) in self.config.iter().enumerate() {
+            if !self.is_faulty(node as u64) {
                 return shown(state, self.plan.levels.len());
             }
         }
@@ -175,10 +177,18 @@ impl<'a> Run<'a> {
         self.see();
     }
 
+    /// What was seen of configuration `at`.
+    fn seen_at(&self, at: u64) -> Seen {
+        match self.seen.get(at as usize) {
+            Some(seen) => *seen,
+            None => UNSEEN,
+        }
+    }
+
     /// The first of the configurations from `first` to before `end` that is locked.
     fn first_locked(&self, first: u64, end: u64) -> Option<u64> {
-        for (seen, at) in self.seen.iter().zip(0u64..) {
-            if seen.is_locked && first <= at && at < end {
+        for at in first..end {
+            if self.seen_at(at).is_locked {
                 return Some(at);
             }
         }
@@ -207,19 +217,11 @@ impl<'a> Run<'a> {
         self.write_era(out, first, self.seen.len() as u64);
     }
 
-    /// What the lowest correct node showed in configuration `at`.
-    fn output_at(&self, at: u64) -> u64 {
-        match self.seen.get(at as usize) {
-            Some(seen) => seen.output,
-            None => 1,
-        }
-    }
-
     /// Whether a line is written of a slot from configuration `at` to the configuration: it begins
     /// after the bound of its era, and ends in it.
     fn is_slot(&self, at: u64) -> bool {
         let first = self.script.era_at(at);
-        let is_begun = remainder(self.output_at(at), self.part.period(self.plan)) == 0;
+        let is_begun = remainder(self.seen_at(at).output, self.part.period(self.plan)) == 0;
         let is_behind = first.wrapping_add(self.plan.bound()) < at;
         is_begun && is_behind && self.script.era_at(self.at) == first
     }
@@ -227,8 +229,9 @@ impl<'a> Run<'a> {
     /// Writes a line of what began with configuration `at` and is in the configuration.
     pub fn write_line(&self, out: &mut Text, at: u64) {
         self.part
-            .write_front(out, self.plan, at, self.output_at(at));
-        for (state, node) in self.config.iter().zip(0u64..) {
+            .write_front(out, self.plan, at, self.seen_at(at).output);
+        for (place, state) in self.config.iter().enumerate() {
+            let node = place as u64;
             if self.is_faulty(node) {
                 out.word(" *");
             } else {

@@ -154,26 +154,31 @@ fn bytes_for(starts: &[Start], node: u64) -> Option<&[u8]> {
 }
 
 impl Script {
-    /// The nodes that are faulty in configuration `at`.
-    pub fn faulty_at(&self, at: u64) -> &[u64] {
-        let mut faulty = &self.faulty;
+    /// The era of configuration `at`, unless it is the first one.
+    fn era(&self, at: u64) -> Option<&Era> {
+        let mut last = None;
         for era in &self.eras {
             if era.first <= at {
-                faulty = &era.faulty;
+                last = Some(era);
             }
         }
-        faulty
+        last
+    }
+
+    /// The nodes that are faulty in configuration `at`.
+    pub fn faulty_at(&self, at: u64) -> &[u64] {
+        match self.era(at) {
+            Some(era) => &era.faulty,
+            None => &self.faulty,
+        }
     }
 
     /// With which configuration the era of configuration `at` begins.
     pub fn era_at(&self, at: u64) -> u64 {
-        let mut first = 0;
-        for era in &self.eras {
-            if era.first <= at {
-                first = era.first;
-            }
+        match self.era(at) {
+            Some(era) => era.first,
+            None => 0,
         }
-        first
     }
 
     /// The state of a node that the noise of a stream is read as, from word `turn * words` on,
@@ -220,11 +225,9 @@ impl Script {
 
     /// The bytes of the state that a node is put into in configuration `at`, where it is.
     pub fn hit(&self, at: u64, node: u64) -> Option<&[u8]> {
-        for era in &self.eras {
-            if era.first == at {
-                return bytes_for(&era.starts, node);
-            }
+        match self.era(at) {
+            Some(era) if era.first == at => bytes_for(&era.starts, node),
+            _ => None,
         }
-        None
     }
 }
