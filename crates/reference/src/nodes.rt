@@ -86,19 +86,21 @@ fn put_cells(
     let length = plan.bytes(node.id);
     let mut state = read(plan, node.id, &node.start);
     let mut left = bytes;
-    put_cell(cells, written(plan, node.id, &state).bytes(length))?;
-    for _ in 0..MOST_PACKETS {
+    for packet in 0..=MOST_PACKETS {
+        put_cell(cells, written(plan, node.id, &state).bytes(length))?;
         if left.is_empty() {
             return Ok(0);
+        }
+        if packet == MOST_PACKETS {
+            break;
         }
         match hear(plan, node.id, &state, left, heard) {
             Some(behind) => left = behind,
             None => return Ok(9),
         }
         state = stepped(plan, node.id, heard);
-        put_cell(cells, written(plan, node.id, &state).bytes(length))?;
     }
-    Ok(if left.is_empty() { 0 } else { 8 })
+    Ok(8)
 }
 
 /// The cells that a node writes, and the exit code.
@@ -131,7 +133,11 @@ fn read_node(alloc: Global, plan: &Plan, lines: &mut Lines) -> Node {
 pub fn cells(alloc: Global, lines: &mut Lines, input: &[u8]) -> Result<(Vec<u8>, u8), Stop> {
     let plan = read_plan(alloc, lines)?;
     let node = read_node(alloc, &plan, lines);
-    lines.result()?;
-    let packets = input.get(lines.end()..).unwrap_or(&[]);
-    Ok(answer(alloc, &plan, &node, packets)?)
+    match lines.result() {
+        Ok(()) => {
+            let packets = input.get(lines.end()..).unwrap_or(&[]);
+            Ok(answer(alloc, &plan, &node, packets)?)
+        }
+        Err(stop) => Err(stop),
+    }
 }

@@ -45,20 +45,20 @@ fn want_slots(plan: &Plan, lines: &mut Lines, rounds: u64) {
     lines.want(remainder(plan.modulus(), rounds) == 0, "slot");
 }
 
-/// Takes the line of a part that says below what the values are.
-fn read_values(lines: &mut Lines, part: &'static str) -> u64 {
+/// Takes the line of a part that says a number, from `least` to `most`.
+fn read_number(lines: &mut Lines, part: &'static str, word: &str, least: u64, most: u64) -> u64 {
     lines.take(part);
-    let values = lines.only("values");
-    lines.want(values <= MOST_VALUES, "limit");
-    lines.want(values >= 2, "range");
-    values
+    let number = lines.only(word);
+    lines.want(number <= most, "limit");
+    lines.want(number >= least, "range");
+    number
 }
 
 /// Takes the lines of an agreement: below what the inputs are, and the input of each node.
 fn read_agreement(plan: &Plan, lines: &mut Lines, inputs: &mut Vec<u64>) -> u64 {
     lines.take_first("agree");
     want_slots(plan, lines, plan.slot());
-    let values = read_values(lines, "agree");
+    let values = read_number(lines, "agree", "values", 2, MOST_VALUES);
     lines.take("agree");
     let is_named = lines.is(0, "inputs");
     lines.want(is_named, "form");
@@ -112,11 +112,8 @@ fn read_log(alloc: Global, plan: &Plan, lines: &mut Lines, commands: &mut Vec<Ve
         lines,
         plan.nodes().wrapping_mul(length_of_entry(plan)),
     );
-    let values = read_values(lines, "log");
-    lines.take("log");
-    let keep = lines.only("keep");
-    lines.want(keep <= MOST_KEPT, "limit");
-    lines.want(keep >= 1, "range");
+    let values = read_number(lines, "log", "values", 2, MOST_VALUES);
+    let _kept = read_number(lines, "log", "keep", 1, MOST_KEPT);
     for node in 0..plan.nodes() {
         let own = commands_of(alloc, lines, node, values);
         lines.put(commands, own);

@@ -29,31 +29,29 @@ impl Drop for Answer {
     }
 }
 
-/// The text that is written of an accepted input.
-fn text_of(alloc: Global, word: &str, lines: &mut Lines) -> Result<String, Stop> {
-    match word {
+/// The bytes that are written of the lines of an accepted input, and the exit code.
+fn accepted(
+    alloc: Global,
+    word: &str,
+    lines: &mut Lines,
+    input: &[u8],
+) -> Result<(Vec<u8>, u8), Stop> {
+    let text = match word {
+        "node" => return cells(alloc, lines, input),
         "plan" => plan(alloc, lines),
         "table" => table(alloc, lines),
         "upgrade" => upgrade(alloc, lines),
         "find" => find(alloc, lines),
         "explain" => explain(alloc, lines),
         _ => play(alloc, word, lines),
-    }
-}
-
-/// The bytes that are written of an accepted input, and the exit code.
-fn accepted(alloc: Global, word: &str, input: &[u8]) -> Result<(Vec<u8>, u8), Stop> {
-    let mut lines = Lines::of(input);
-    if word == "node" {
-        return cells(alloc, &mut lines, input);
-    }
-    let text = text_of(alloc, word, &mut lines)?;
-    Ok((text.into_bytes(), 0))
+    };
+    Ok((text?.into_bytes(), 0))
 }
 
 /// What is answered to a word, which is one of those above, and an input of at most 2^20 bytes.
 pub fn answered(alloc: Global, word: &str, input: &[u8]) -> Result<Answer, AllocError> {
-    match accepted(alloc, word, input) {
+    let mut lines = Lines::of(input);
+    match accepted(alloc, word, &mut lines, input) {
         Ok((bytes, code)) => Ok(Answer {
             bytes,
             code,

@@ -189,9 +189,8 @@ impl Script {
         let key = self.key.unwrap_or([0; 32]);
         let mut bits = NO_BITS;
         for i in 0..words {
-            for byte in word(key, stream, first.wrapping_add(i)).to_le_bytes() {
-                bits.put(u64::from(byte), 8);
-            }
+            let word = word(key, stream, first.wrapping_add(i));
+            bits.put(u64::from(word.swap_bytes()), 32);
         }
         read(plan, node, bits.bytes(plan.bytes(node)))
     }
