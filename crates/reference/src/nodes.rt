@@ -1,5 +1,6 @@
 //! One node: the cells that it writes, from the packets that it hears.
 
+use crate::bits::number;
 use crate::lines::Lines;
 use crate::plan_texts::read_plan;
 use crate::plans::Plan;
@@ -35,22 +36,9 @@ pub fn put_cell(bytes: &mut Vec<u8>, cell: &[u8]) -> Result<(), AllocError> {
     bytes.extend_from_slice(cell)
 }
 
-/// The bytes of the cell at the front of some bytes, without its length, and those behind it; none
-/// where it is not whole.
-fn cell_of(bytes: &[u8]) -> Option<(&[u8], &[u8])> {
-    let [high, low, rest @ ..] = bytes else {
-        return None;
-    };
-    let length = usize::from(*high) * 256 + usize::from(*low);
-    match (rest.get(..length), rest.get(length..)) {
-        (Some(cell), Some(behind)) => Some((cell, behind)),
-        _ => None,
-    }
-}
-
 /// What a node that is in a state hears by the packet at the front of some bytes, and the bytes
-/// behind it; none where it is not whole. Of another node it is the state that its cell has, if it
-/// has its length, else the zero state.
+/// behind it; none where it is not whole. A cell stands behind its length. Of another node it is
+/// the state that its cell has, if it has its length, else the zero state.
 fn hear<'a>(
     plan: &Plan,
     node: u64,
@@ -61,8 +49,9 @@ fn hear<'a>(
     let mut left = bytes;
     for (place, state) in heard.iter_mut().enumerate() {
         let sender = place as u64;
-        let (cell, behind) = cell_of(left)?;
-        left = behind;
+        let end = (number(left, 0, 16) as usize).wrapping_add(2);
+        let cell = left.get(2..end)?;
+        left = left.get(end..)?;
         *state = if sender == node {
             *own
         } else if cell.len() as u64 == plan.bytes(sender) {
