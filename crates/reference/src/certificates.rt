@@ -1,163 +1,88 @@
 //! The certificate of a script's run.
 
-use crate::input_texts::{write_bytes, write_numbers};
+use crate::input_texts::write_levels;
+use crate::layers::Part;
 use crate::plans::Plan;
 use crate::runs::Run;
-use crate::scripts::{Era, Script};
-use crate::states::{State, written};
+use crate::scripts::Script;
+use crate::states::written;
+use crate::texts::Text;
 use std::alloc::{AllocError, Global};
 
 /// Writes the first lines, down to that of the faulty nodes.
-fn write_head(text: &mut String, plan: &Plan, script: &Script) -> Result<(), AllocError> {
+fn write_head(out: &mut Text, plan: &Plan, script: &Script) {
     let version = if plan.version == 2 { 3 } else { script.version };
-    let base = plan.base;
-    writeln!(text, "run {version}\nbase {base}")?;
-    for level in &plan.levels {
-        let blocks = level.blocks;
-        let faults = level.faults;
-        let modulus = level.modulus;
-        write!(text, "level {blocks} {faults} {modulus}")?;
-        if plan.version == 2 {
-            let spares = level.spares;
-            write!(text, " spare {spares}")?;
-        }
-        writeln!(text)?;
-    }
-    write!(text, "faulty")?;
-    write_numbers(text, &script.faulty)?;
-    writeln!(text)
+    out.line("run", &[version]);
+    out.line("base", &[plan.base]);
+    write_levels(out, plan.version, &plan.levels);
+    out.line("faulty", &script.faulty);
 }
 
-/// Writes the states of those nodes of the configuration of a run that `wanted` says.
-fn write_starts(
-    alloc: Global,
-    text: &mut String,
-    plan: &Plan,
-    run: &Run,
-    wanted: &[bool],
-) -> Result<(), AllocError> {
-    for ((state, node), is_wanted) in run.config.iter().zip(0u64..).zip(wanted) {
-        if *is_wanted {
-            write!(text, "start {node}")?;
-            write_bytes(text, &written(alloc, plan, node, state)?)?;
-            writeln!(text)?;
+/// Whether a node has a state stated in configuration `at`: where it is correct, and before was not
+/// there, was faulty, or is put into a state.
+fn is_stated(script: &Script, at: u64, node: u64) -> bool {
+    let was_faulty = script.faulty_at(at.wrapping_sub(1)).contains(&node);
+    let is_new = (at == 0) | was_faulty | script.hit(at, node).is_some();
+    is_new & !script.faulty_at(at).contains(&node)
+}
+
+/// Writes the states that are stated in the configuration of a run, and its row.
+fn write_config(out: &mut Text, plan: &Plan, script: &Script, run: &Run) {
+    for (node, state) in run.config.iter().enumerate() {
+        let node = node as u64;
+        if is_stated(script, run.at(), node) {
+            out.put("start", &[node]);
+            out.bytes(written(plan, node, state).bytes(plan.bytes(node)));
+            out.word("\n");
         }
     }
-    Ok(())
+    run.write_line(out, run.at());
 }
 
 /// Writes what each faulty node tells each correct one in the coming round of a run.
-fn write_lies(
-    alloc: Global,
-    text: &mut String,
-    plan: &Plan,
-    script: &Script,
-    run: &Run,
-) -> Result<(), AllocError> {
+fn write_lies(out: &mut Text, plan: &Plan, script: &Script, run: &Run) {
     let at = run.at();
     let faulty = script.faulty_at(at);
     for sender in faulty {
         for receiver in 0..plan.nodes() {
             if !faulty.contains(&receiver) {
-                let told: State = script.lie(alloc, plan, &run.config, at, *sender, receiver)?;
-                write!(text, "lie {sender} {receiver}")?;
-                write_bytes(text, &written(alloc, plan, *sender, &told)?)?;
-                writeln!(text)?;
+                let told = script.lie(plan, &run.config, at, *sender, receiver);
+                out.put("lie", &[*sender, receiver]);
+                out.bytes(written(plan, *sender, &told).bytes(plan.bytes(*sender)));
+                out.word("\n");
             }
         }
     }
-    Ok(())
 }
 
-/// Which nodes are correct in the first configuration.
-fn correct(alloc: Global, plan: &Plan, script: &Script) -> Result<Vec<bool>, AllocError> {
-    let mut correct = Vec::new(alloc);
-    for node in 0..plan.nodes() {
-        correct.push(!script.faulty.contains(&node))?;
-    }
-    Ok(correct)
-}
-
-/// Which nodes have a state stated where an era begins: those that are correct in it, and were
-/// faulty before or are put into one.
-fn stated(alloc: Global, plan: &Plan, script: &Script, era: &Era) -> Result<Vec<bool>, AllocError> {
-    let before = script.faulty_at(era.first.wrapping_sub(1));
-    let mut stated = Vec::new(alloc);
-    for node in 0..plan.nodes() {
-        let is_correct = !era.faulty.contains(&node);
-        let is_put = script.hit(era.first, node).is_some();
-        stated.push(is_correct && (before.contains(&node) || is_put))?;
-    }
-    Ok(stated)
-}
-
-/// Writes the lines of the era that begins with the configuration of a run, if one does.
-fn write_era(
-    alloc: Global,
-    text: &mut String,
-    plan: &Plan,
-    script: &Script,
-    run: &Run,
-) -> Result<(), AllocError> {
+/// Writes the line of the era that begins with configuration `at`, if one does.
+fn write_era(out: &mut Text, script: &Script, at: u64) {
     for era in &script.eras {
-        let first = era.first;
-        if first == run.at() {
-            write!(text, "era {first}")?;
-            write_numbers(text, &era.faulty)?;
-            writeln!(text)?;
-            let stated = stated(alloc, plan, script, era)?;
-            write_starts(alloc, text, plan, run, &stated)?;
+        if era.first == at {
+            out.put("era", &[at]);
+            out.line("", &era.faulty);
         }
     }
-    Ok(())
-}
-
-/// Writes the first states and the first row of a run.
-fn write_first(
-    alloc: Global,
-    text: &mut String,
-    plan: &Plan,
-    script: &Script,
-    run: &Run,
-) -> Result<(), AllocError> {
-    let correct = correct(alloc, plan, script)?;
-    write_starts(alloc, text, plan, run, &correct)?;
-    run.write_row(text, plan, script)
-}
-
-/// Writes the coming round of a run, which is played.
-fn write_round(
-    alloc: Global,
-    text: &mut String,
-    plan: &Plan,
-    script: &Script,
-    run: &mut Run,
-) -> Result<(), AllocError> {
-    write_lies(alloc, text, plan, script, run)?;
-    run.round(alloc, plan, script)?;
-    write_era(alloc, text, plan, script, run)?;
-    run.write_row(text, plan, script)
-}
-
-/// Writes what is behind the first lines.
-fn write_run(
-    alloc: Global,
-    text: &mut String,
-    plan: &Plan,
-    script: &Script,
-) -> Result<(), AllocError> {
-    let mut run = Run::new(alloc, plan, script)?;
-    write_first(alloc, text, plan, script, &run)?;
-    for _ in 0..script.rounds {
-        write_round(alloc, text, plan, script, &mut run)?;
-    }
-    writeln!(text, "end")
 }
 
 /// The certificate of a script's run.
-pub fn certificate(alloc: Global, plan: &Plan, script: &Script) -> Result<String, AllocError> {
+pub fn certificate<'a>(
+    alloc: Global,
+    plan: &'a Plan,
+    script: &'a Script,
+) -> Result<String, AllocError> {
     let mut text = String::new(alloc);
-    write_head(&mut text, plan, script)?;
-    write_run(alloc, &mut text, plan, script)?;
+    let mut run = Run::new(alloc, plan, script, Part::Rows)?;
+    let mut out = Text::behind(&mut text);
+    write_head(&mut out, plan, script);
+    write_config(&mut out, plan, script, &run);
+    for _ in 0..script.rounds {
+        write_lies(&mut out, plan, script, &run);
+        run.round();
+        write_era(&mut out, script, run.at());
+        write_config(&mut out, plan, script, &run);
+    }
+    out.word("end\n");
+    out.end()?;
     Ok(text)
 }

@@ -1,6 +1,7 @@
 //! Why the last era of a script locks. All windows and phases are tried, in their order, by what
 //! explains.
 
+use crate::layers::Part;
 use crate::lines::Lines;
 use crate::plan_texts::read_plan;
 use crate::plans::{Level, Plan, quotient, remainder};
@@ -9,30 +10,21 @@ use crate::runs::Run;
 use crate::script_texts::read_script;
 use crate::scripts::Script;
 use crate::steps::shown;
+use crate::texts::Text;
 use std::alloc::{AllocError, Global};
 
-/// A plan with levels, and what its nodes show below the top level in the configurations of a run.
-struct Shown {
+/// A plan with levels: how many nodes it has, how many a block of the top level has, and how many
+/// of these may be faulty. Besides, what its nodes show below the top level in the configurations
+/// of a run, one configuration behind the other.
+#[derive(Drop)]
+struct Shown<'a> {
     top: Level,
+    all: u64,
     nodes: u64,
     faults: u64,
-    outputs: Vec<Vec<u64>>,
-    faulty: Vec<u64>,
-}
-
-// Written out, so that what lets go of one calls this, and no more.
-impl Drop for Shown {
-    fn drop(self) {
-        let Shown {
-            top: _,
-            nodes: _,
-            faults: _,
-            outputs,
-            faulty,
-        } = self;
-        drop(outputs);
-        drop(faulty);
-    }
+    outputs: &'a [u64],
+    faulty: &'a [u64],
+    last: u64,
 }
 
 /// A window that begins at a configuration, of a leader, and in it a phase of a king.
@@ -44,81 +36,65 @@ struct Explanation {
     king: u64,
 }
 
-impl Shown {
+impl Shown<'_> {
     /// What a node shows in a configuration.
     fn output(&self, at: u64, node: u64) -> u64 {
-        let outputs = self.outputs.get(at as usize);
-        outputs.map_or(
-            0,
-            |outputs| outputs.get(node as usize).copied().unwrap_or(0),
-        )
-    }
-
-    /// The number of the last configuration.
-    fn last(&self) -> u64 {
-        (self.outputs.len() as u64).wrapping_sub(1)
-    }
-
-    /// Whether a node is correct.
-    fn is_correct(&self, node: u64) -> bool {
-        !self.faulty.contains(&node)
-    }
-
-    /// The first node of a block.
-    fn first_of(&self, block: u64) -> u64 {
-        block.wrapping_mul(self.nodes)
+        let place = at.wrapping_mul(self.all).wrapping_add(node);
+        match self.outputs.get(place as usize) {
+            Some(output) => *output,
+            None => 0,
+        }
     }
 
     /// Whether at most as many nodes of a block are faulty as it stands.
     fn is_sound(&self, block: u64) -> bool {
-        let first = self.first_of(block);
+        let first = block.wrapping_mul(self.nodes);
         let mut faulty = 0u64;
         for node in first..first.wrapping_add(self.nodes) {
-            if !self.is_correct(node) {
+            if self.faulty.contains(&node) {
                 faulty = faulty.wrapping_add(1);
             }
         }
         faulty <= self.faults
     }
 
-    /// Whether in a configuration all correct nodes of a block point to a leader.
-    fn points(&self, at: u64, block: u64, leader: u64) -> bool {
-        let first = self.first_of(block);
+    /// Whether in a configuration all correct nodes of a block show a number that, counted by a
+    /// unit, is `wanted` in a modulus.
+    fn shows(&self, at: u64, block: u64, unit: u64, modulus: u64, wanted: u64) -> bool {
+        let first = block.wrapping_mul(self.nodes);
+        let mut shows = true;
         for node in first..first.wrapping_add(self.nodes) {
-            let turn = quotient(self.output(at, node), self.top.interval(block));
-            if self.is_correct(node) && remainder(turn, self.top.leaders()) != leader {
-                return false;
+            if !self.faulty.contains(&node) {
+                let turn = quotient(self.output(at, node), unit);
+                shows &= remainder(turn, modulus) == wanted;
             }
         }
-        true
+        shows
     }
 
-    /// Whether in a configuration all correct nodes of a block are at a place in the beat.
-    fn is_at(&self, at: u64, block: u64, place: u64) -> bool {
-        let first = self.first_of(block);
-        for node in first..first.wrapping_add(self.nodes) {
-            let part = remainder(self.output(at, node), self.top.beat());
-            if self.is_correct(node) && part != place {
-                return false;
+    /// Whether in a configuration the correct nodes of all sound blocks point to a leader.
+    fn points(&self, at: u64, leader: u64) -> bool {
+        let leaders = self.top.leaders();
+        let mut points = true;
+        for block in 0..self.top.blocks {
+            if self.is_sound(block) {
+                points &= self.shows(at, block, self.top.interval(block), leaders, leader);
             }
         }
-        true
+        points
     }
 
     /// Whether for a beat from configuration `window` on the correct nodes of all sound blocks
     /// point to a leader, and those of its block are at a place in the beat that is `place` at
     /// first and grows by one.
     fn is_window(&self, window: u64, leader: u64, place: u64) -> bool {
-        for i in 0..self.top.beat() {
+        let beat = self.top.beat();
+        for i in 0..beat {
             let at = window.wrapping_add(i);
-            let now = remainder(place.wrapping_add(i), self.top.beat());
-            if at > self.last() || !self.is_at(at, leader, now) {
+            let now = remainder(place.wrapping_add(i), beat);
+            let is_at = at <= self.last && self.shows(at, leader, 1, beat, now);
+            if !is_at || !self.points(at, leader) {
                 return false;
-            }
-            for block in 0..self.top.blocks {
-                if self.is_sound(block) && !self.points(at, block, leader) {
-                    return false;
-                }
             }
         }
         true
@@ -129,9 +105,9 @@ impl Shown {
         for i in 0..self.top.beat().saturating_sub(2) {
             let phase = window.wrapping_add(i);
             let now = remainder(place.wrapping_add(i), self.top.beat());
-            let king = quotient(now, 3);
-            let is_begun = now % 3 == 0 && self.is_correct(king);
-            if is_begun && phase.wrapping_add(3) <= self.last() {
+            let king = now / 3;
+            let is_begun = now % 3 == 0 && !self.faulty.contains(&king);
+            if is_begun && phase.wrapping_add(3) <= self.last {
                 return Some(Explanation {
                     window,
                     leader,
@@ -143,12 +119,12 @@ impl Shown {
         None
     }
 
-    /// The first explanation from configuration `first` on.
-    fn explanation(&self, first: u64) -> Option<Explanation> {
-        for window in first..=self.last() {
-            for leader in 0..self.top.leaders() {
+    /// The first explanation in a window.
+    fn in_window(&self, window: u64) -> Option<Explanation> {
+        for leader in 0..self.top.leaders() {
+            if self.is_sound(leader) {
                 for place in 0..self.top.beat() {
-                    if self.is_sound(leader) && self.is_window(window, leader, place) {
+                    if self.is_window(window, leader, place) {
                         let found = self.phase(window, leader, place);
                         if found.is_some() {
                             return found;
@@ -159,15 +135,20 @@ impl Shown {
         }
         None
     }
-}
 
-/// What the nodes show at a depth in the configuration of a run.
-fn row_of(alloc: Global, run: &Run, depth: usize) -> Result<Vec<u64>, AllocError> {
-    let mut row = Vec::new(alloc);
-    for state in &run.config {
-        row.push(shown(state, depth))?;
+    /// Writes the first explanation from configuration `first` on, if there is one.
+    fn write(&self, out: &mut Text, first: u64) {
+        for window in first..=self.last {
+            if let Some(found) = self.in_window(window) {
+                out.put("window", &[found.window]);
+                out.line(" leader", &[found.leader]);
+                out.put("phase", &[found.phase]);
+                out.line(" king", &[found.king]);
+                return;
+            }
+        }
+        out.word("explain none\n");
     }
-    Ok(row)
 }
 
 /// What the nodes show below the top level, in each configuration of a run, which is played.
@@ -176,76 +157,52 @@ fn outputs_of(
     plan: &Plan,
     script: &Script,
     run: &mut Run,
-) -> Result<Vec<Vec<u64>>, AllocError> {
+) -> Result<Vec<u64>, AllocError> {
     let below = plan.levels.len().saturating_sub(1);
     let mut outputs = Vec::new(alloc);
-    outputs.push(row_of(alloc, run, below)?)?;
-    for _ in 0..script.rounds {
-        run.round(alloc, plan, script)?;
-        outputs.push(row_of(alloc, run, below)?)?;
+    for at in 0..=script.rounds {
+        if at > 0 {
+            run.round();
+        }
+        for state in &run.config {
+            outputs.push(shown(state, below))?;
+        }
     }
     Ok(outputs)
 }
 
-/// A plan with a top level, and what its nodes show below that.
-fn shown_in(
-    alloc: Global,
-    plan: &Plan,
-    script: &Script,
-    top: Level,
-    outputs: Vec<Vec<u64>>,
-) -> Result<Shown, AllocError> {
-    let below = plan.levels.len().saturating_sub(1);
-    let under = below
-        .checked_sub(1)
-        .and_then(|place| plan.levels.get(place));
-    Ok(Shown {
-        top,
-        nodes: plan.group(below),
-        faults: under.map_or(0, |under| under.faults),
-        outputs,
-        faulty: Vec::from_slice(alloc, script.faulty_at(script.rounds))?,
-    })
-}
-
-/// Writes an explanation, if there is one.
-fn write_explanation(
-    text: &mut String,
-    explanation: Option<Explanation>,
-) -> Result<(), AllocError> {
-    match explanation {
-        None => writeln!(text, "explain none"),
-        Some(explanation) => {
-            let Explanation {
-                window,
-                leader,
-                phase,
-                king,
-            } = explanation;
-            writeln!(
-                text,
-                "window {window} leader {leader}\nphase {phase} king {king}"
-            )
+/// Writes why the last era of a script locks, with these outputs.
+fn write_why(out: &mut Text, plan: &Plan, script: &Script, outputs: &[u64]) {
+    match plan.levels.as_slice() {
+        [] => out.word("explain base\n"),
+        [lower @ .., top] => {
+            let shown = Shown {
+                top: *top,
+                all: plan.nodes(),
+                nodes: plan.group(lower.len()),
+                faults: match lower.last() {
+                    Some(under) => under.faults,
+                    None => 0,
+                },
+                outputs,
+                faulty: script.faulty_at(script.rounds),
+                last: script.rounds,
+            };
+            shown.write(out, script.era_at(script.rounds));
         }
     }
 }
 
 /// What `explain` writes of a plan and a script.
-pub fn answer(alloc: Global, plan: &Plan, script: &Script) -> Result<String, AllocError> {
+pub fn answer<'a>(alloc: Global, plan: &'a Plan, script: &'a Script) -> Result<String, AllocError> {
     let mut text = String::new(alloc);
-    let bound = plan.bound();
-    writeln!(text, "bound {bound}")?;
-    let mut run = Run::new(alloc, plan, script)?;
+    let mut run = Run::new(alloc, plan, script, Part::Rows)?;
     let outputs = outputs_of(alloc, plan, script, &mut run)?;
-    match plan.levels.last().copied() {
-        None => writeln!(text, "explain base")?,
-        Some(top) => {
-            let shown = shown_in(alloc, plan, script, top, outputs)?;
-            let first = script.eras.last().map_or(0, |era| era.first);
-            write_explanation(&mut text, shown.explanation(first))?;
-        }
-    }
-    run.write_locks(&mut text, script)?;
+    let mut out = Text::behind(&mut text);
+    out.line("bound", &[plan.bound()]);
+    write_why(&mut out, plan, script, &outputs);
+    run.write_locks(&mut out);
+    out.end()?;
     Ok(text)
 }
 

@@ -1,157 +1,135 @@
 //! The texts of plans and scripts.
 
-use crate::plans::Plan;
+use crate::plans::{Level, Plan};
 use crate::scripts::{Lie, Receivers, Rule, Script, Start};
-use std::alloc::{AllocError, Global};
+use crate::texts::Text;
+use std::alloc::AllocError;
 
 /// The name of a group of that number.
 fn name_of(group: usize) -> &'static str {
     match group {
-        0 => "left",
-        1 => "a",
-        2 => "sixteenletterssx",
-        _ => "alle",
+        0 => " left",
+        1 => " a",
+        2 => " sixteenletterssx",
+        _ => " alle",
+    }
+}
+
+/// Writes the lines of levels, in a plan of a version.
+pub fn write_levels(out: &mut Text, version: u64, levels: &[Level]) {
+    for level in levels {
+        out.put("level", &[level.blocks, level.faults, level.modulus]);
+        if version == 2 {
+            out.put(" spare", &[level.spares]);
+        }
+        out.word("\n");
     }
 }
 
 /// Writes the lines of a plan.
 pub fn write_plan(text: &mut String, plan: &Plan) -> Result<(), AllocError> {
-    let version = plan.version;
-    let base = plan.base;
-    writeln!(text, "plan {version}\nbase {base}")?;
-    for level in &plan.levels {
-        let blocks = level.blocks;
-        let faults = level.faults;
-        let modulus = level.modulus;
-        write!(text, "level {blocks} {faults} {modulus}")?;
-        if version == 2 {
-            let spares = level.spares;
-            write!(text, " spare {spares}")?;
-        }
-        writeln!(text)?;
-    }
-    writeln!(text, "end")
+    let mut out = Text::behind(text);
+    out.line("plan", &[plan.version]);
+    out.line("base", &[plan.base]);
+    write_levels(&mut out, plan.version, &plan.levels);
+    out.word("end\n");
+    out.end()
 }
 
 /// Writes numbers, each behind a space.
 pub fn write_numbers(text: &mut String, numbers: &[u64]) -> Result<(), AllocError> {
-    for number in numbers {
-        write!(text, " {number}")?;
-    }
-    Ok(())
+    let mut out = Text::behind(text);
+    out.put("", numbers);
+    out.end()
 }
 
 /// Writes bytes as hex digits behind a space.
 pub fn write_bytes(text: &mut String, bytes: &[u8]) -> Result<(), AllocError> {
-    write!(text, " ")?;
-    for byte in bytes {
-        write!(text, "{byte:02x}")?;
-    }
-    Ok(())
+    let mut out = Text::behind(text);
+    out.bytes(bytes);
+    out.end()
 }
 
 /// Writes to whom a lie is told.
-fn write_receivers(text: &mut String, receivers: Receivers) -> Result<(), AllocError> {
+fn write_receivers(out: &mut Text, receivers: Receivers) {
+    out.word(" to");
     match receivers {
-        Receivers::All => write!(text, " to all"),
-        Receivers::Between(first, last) => write!(text, " to {first} {last}"),
-        Receivers::Group(group) => {
-            let name = name_of(group);
-            write!(text, " to {name}")
-        }
+        Receivers::All => out.word(" all"),
+        Receivers::Between(first, last) => out.put("", &[first, last]),
+        Receivers::Group(group) => out.word(name_of(group)),
     }
 }
 
 /// Writes a line of lies.
-fn write_rule(text: &mut String, rule: &Rule) -> Result<(), AllocError> {
-    let first = rule.first;
-    let last = rule.last;
-    let sender = rule.sender;
-    write!(text, "lie {first} {last} {sender}")?;
-    write_receivers(text, rule.receivers)?;
+fn write_rule(out: &mut Text, rule: &Rule) {
+    out.put("lie", &[rule.first, rule.last, rule.sender]);
+    write_receivers(out, rule.receivers);
     match &rule.lie {
-        Lie::Noise => write!(text, " noise")?,
-        Lie::Copy(node) => write!(text, " copy {node}")?,
+        Lie::Noise => out.word(" noise"),
+        Lie::Copy(node) => out.put(" copy", &[*node]),
         Lie::Bytes(bytes) => {
-            write!(text, " hex")?;
-            write_bytes(text, bytes)?;
+            out.word(" hex");
+            out.bytes(bytes);
         }
-        Lie::Shift(by) => write!(text, " shift {by}")?,
+        Lie::Shift(by) => out.put(" shift", &[*by]),
     }
-    writeln!(text)
-}
-
-/// Writes the line of a key.
-fn write_key(text: &mut String, key: [u8; 32]) -> Result<(), AllocError> {
-    write!(text, "seed")?;
-    write_bytes(text, &key)?;
-    writeln!(text)
+    out.word("\n");
 }
 
 /// Writes the lines of nodes' starts.
-fn write_starts(text: &mut String, starts: &[Start]) -> Result<(), AllocError> {
+fn write_starts(out: &mut Text, starts: &[Start]) {
     for start in starts {
-        let node = start.node;
-        write!(text, "start node {node}")?;
-        write_bytes(text, &start.bytes)?;
-        writeln!(text)?;
+        out.put("start node", &[start.node]);
+        out.bytes(&start.bytes);
+        out.word("\n");
     }
-    Ok(())
+}
+
+/// Writes the line of a key.
+fn write_key(out: &mut Text, key: [u8; 32]) {
+    out.word("seed");
+    out.bytes(&key);
+    out.word("\n");
 }
 
 /// Writes the first lines of a script.
-fn write_front(text: &mut String, script: &Script) -> Result<(), AllocError> {
-    let version = script.version;
-    write!(text, "script {version}\nfaulty")?;
-    write_numbers(text, &script.faulty)?;
-    writeln!(text)?;
+fn write_front(out: &mut Text, script: &Script) {
+    out.line("script", &[script.version]);
+    out.line("faulty", &script.faulty);
     if let Some(key) = script.key {
-        write_key(text, key)?;
+        write_key(out, key);
     }
-    let start = if script.noisy { "noise" } else { "zero" };
-    writeln!(text, "start {start}")
+    out.word(if script.noisy {
+        "start noise\n"
+    } else {
+        "start zero\n"
+    });
 }
 
-/// Writes the lines of the eras of a script.
-fn write_eras(text: &mut String, script: &Script) -> Result<(), AllocError> {
+/// Writes the lines of the eras of a script, and those of its groups.
+fn write_eras(out: &mut Text, script: &Script) {
     for era in &script.eras {
-        let first = era.first;
-        write!(text, "era {first} faulty")?;
-        write_numbers(text, &era.faulty)?;
-        writeln!(text)?;
-        write_starts(text, &era.starts)?;
+        out.put("era", &[era.first]);
+        out.line(" faulty", &era.faulty);
+        write_starts(out, &era.starts);
     }
-    Ok(())
-}
-
-/// Writes the lines of the groups of a script.
-fn write_groups(text: &mut String, script: &Script) -> Result<(), AllocError> {
     for (number, group) in script.groups.iter().enumerate() {
-        let name = name_of(number);
-        write!(text, "group {name}")?;
-        write_numbers(text, group)?;
-        writeln!(text)?;
+        out.word("group");
+        out.line(name_of(number), group);
     }
-    Ok(())
-}
-
-/// Writes the lines of the lies of a script.
-fn write_rules(text: &mut String, script: &Script) -> Result<(), AllocError> {
-    for rule in &script.rules {
-        write_rule(text, rule)?;
-    }
-    Ok(())
 }
 
 /// Writes the lines of a script.
 pub fn write_script(text: &mut String, script: &Script) -> Result<(), AllocError> {
-    write_front(text, script)?;
-    write_starts(text, &script.starts)?;
-    write_eras(text, script)?;
-    write_groups(text, script)?;
-    write_rules(text, script)?;
-    let rounds = script.rounds;
-    let first = script.first;
-    let last = script.last;
-    writeln!(text, "rounds {rounds}\nshow {first} {last}\nend")
+    let mut out = Text::behind(text);
+    write_front(&mut out, script);
+    write_starts(&mut out, &script.starts);
+    write_eras(&mut out, script);
+    for rule in &script.rules {
+        write_rule(&mut out, rule);
+    }
+    out.line("rounds", &[script.rounds]);
+    out.line("show", &[script.first, script.last]);
+    out.word("end\n");
+    out.end()
 }

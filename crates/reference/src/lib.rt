@@ -3,7 +3,6 @@
 #![tactic(auto)]
 
 pub mod bits;
-mod certificate_lines;
 pub mod certificates;
 pub mod explanations;
 pub mod input_texts;
@@ -26,4 +25,5 @@ pub mod states;
 pub mod steps;
 mod table_texts;
 pub mod tables;
+pub mod texts;
 pub mod wants;

@@ -6,240 +6,177 @@ use std::alloc::{AllocError, Global};
 /// How many bytes a line may have.
 const LONGEST_LINE: usize = 4096;
 
-/// A line of a text, and where in the text the next one begins. It has no words where it is too
-/// long, or has an empty word or a carriage return.
-struct Line {
-    words: Vec<Vec<u8>>,
-    is_skipped: bool,
-    is_ended: bool,
-    end: usize,
-}
-
-// Written out, so that what lets go of one calls this, and no more.
-impl Drop for Line {
-    fn drop(self) {
-        let Line {
-            words,
-            is_skipped: _,
-            is_ended: _,
-            end: _,
-        } = self;
-        drop(words);
-    }
-}
-
-/// The lines of a text, how many of them were taken, for which part the last one was, and what is
-/// refused first. The line is the last one that was taken.
-pub struct Lines {
-    lines: Vec<Line>,
-    taken: usize,
+/// The lines of a text, one of which is taken at a time, for a part, and why reading stops first.
+/// The line is the last one that was taken: the first `end` bytes are those up to its end. Strictly
+/// read, no line is skipped, and a newline ends each.
+#[derive(Drop)]
+pub struct Lines<'a> {
+    text: &'a [u8],
+    is_strict: bool,
     part: &'static str,
-    refusal: Option<Refusal>,
-}
-
-// Written out, so that what lets go of one calls this, and no more.
-impl Drop for Lines {
-    fn drop(self) {
-        let Lines {
-            lines,
-            taken: _,
-            part: _,
-            refusal: _,
-        } = self;
-        drop(lines);
-    }
+    line: &'a [u8],
+    words: usize,
+    is_ended: bool,
+    taken: u64,
+    end: usize,
+    stop: Option<Stop>,
 }
 
 /// The number that a word is, of at most fifteen digits and without a zero in front.
 fn number_of(word: &[u8]) -> Option<u64> {
     let is_led_by_zero = word.len() > 1 && word.first() == Some(&48);
-    if word.is_empty() || word.len() > 15 || is_led_by_zero {
-        return None;
-    }
+    let mut is_number = !word.is_empty() && word.len() <= 15;
     let mut number = 0u64;
     for digit in word {
-        if *digit < 48 || *digit > 57 {
-            return None;
-        }
-        number = number.wrapping_mul(10).wrapping_add(u64::from(*digit - 48));
+        is_number &= digit.is_ascii_digit();
+        let value = u64::from(digit.wrapping_sub(48));
+        number = number.wrapping_mul(10).wrapping_add(value);
     }
-    Some(number)
-}
-
-/// The half of a byte that a hex digit is.
-fn half_of(digit: u8) -> Option<u8> {
-    match digit {
-        48..=57 => Some(digit - 48),
-        97..=102 => Some(digit - 87),
-        _ => None,
+    if is_number && !is_led_by_zero {
+        Some(number)
+    } else {
+        None
     }
 }
 
-/// The bytes that a word is in hex digits.
-fn bytes_of(alloc: Global, word: &[u8]) -> Result<Option<Vec<u8>>, AllocError> {
-    let mut bytes = Vec::new(alloc);
-    let mut high: Option<u8> = None;
-    for digit in word {
-        let Some(half) = half_of(*digit) else {
-            return Ok(None);
-        };
-        match high {
-            None => high = Some(half),
-            Some(first) => {
-                bytes.push(first.wrapping_mul(16).wrapping_add(half))?;
-                high = None;
-            }
-        }
-    }
-    Ok(if high.is_none() { Some(bytes) } else { None })
-}
-
-/// The words of a line, which single spaces part; none where there would be an empty one, or where
-/// there is a carriage return or too much.
-fn words_of(alloc: Global, line: &[u8]) -> Result<Vec<Vec<u8>>, AllocError> {
-    let mut words = Vec::new(alloc);
-    let mut word = Vec::new(alloc);
-    let mut is_malformed = line.len() > LONGEST_LINE;
+/// How many words a line has, which single spaces part; none where there would be an empty one, or
+/// where there is a carriage return or too much.
+fn words_of(line: &[u8]) -> usize {
+    let mut words = 1usize;
+    let mut is_good = line.len() <= LONGEST_LINE;
+    let mut before = 32;
     for byte in line {
-        is_malformed = is_malformed || *byte == 13;
+        is_good &= *byte != 13;
         if *byte == 32 {
-            is_malformed = is_malformed || word.is_empty();
-            words.push(word)?;
-            word = Vec::new(alloc);
-        } else {
-            word.push(*byte)?;
+            is_good &= before != 32;
+            words = words.wrapping_add(1);
         }
+        before = *byte;
     }
-    is_malformed = is_malformed || word.is_empty();
-    words.push(word)?;
-    if is_malformed {
-        words.clear();
-    }
-    Ok(words)
+    if is_good && before != 32 { words } else { 0 }
 }
 
-/// The line of these bytes, with its end.
-fn line_of(alloc: Global, bytes: &[u8], end: usize) -> Result<Line, AllocError> {
-    let is_short = bytes.len() <= LONGEST_LINE;
-    Ok(Line {
-        words: words_of(alloc, bytes)?,
-        is_skipped: is_short && (bytes.is_empty() || bytes.first() == Some(&35)),
-        is_ended: true,
-        end,
-    })
+/// How many bytes stand before the first that is `end`, or all where none is.
+fn length_to(bytes: &[u8], end: u8) -> usize {
+    let place = bytes.iter().position(|byte| *byte == end);
+    place.unwrap_or(bytes.len())
 }
 
-impl Lines {
+/// The bytes from a place on, none where there is no such place.
+fn from_place(bytes: &[u8], place: usize) -> &[u8] {
+    bytes.get(place..).unwrap_or(&[])
+}
+
+/// So many bytes in front.
+fn front(bytes: &[u8], length: usize) -> &[u8] {
+    bytes.get(..length).unwrap_or(&[])
+}
+
+impl<'a> Lines<'a> {
     /// The lines of a text.
-    pub fn of(alloc: Global, text: &[u8]) -> Result<Lines, AllocError> {
-        let mut lines = Vec::new(alloc);
-        let mut line = Vec::new(alloc);
-        for (place, byte) in text.iter().enumerate() {
-            if *byte == 10 {
-                lines.push(line_of(alloc, &line, place.saturating_add(1))?)?;
-                line.clear();
-            } else {
-                line.push(*byte)?;
-            }
-        }
-        if !line.is_empty() {
-            let mut open = line_of(alloc, &line, text.len())?;
-            open.is_ended = false;
-            lines.push(open)?;
-        }
-        Ok(Lines {
-            lines,
-            taken: 0,
+    pub fn of(text: &'a [u8]) -> Lines<'a> {
+        Lines {
+            text,
+            is_strict: false,
             part: "",
-            refusal: None,
-        })
+            line: &[],
+            words: 0,
+            is_ended: false,
+            taken: 0,
+            end: 0,
+            stop: None,
+        }
     }
 
-    /// How many lines there are.
-    pub fn len(&self) -> usize {
-        self.lines.len()
+    /// Reads strictly from now on.
+    pub fn be_strict(&mut self) {
+        self.is_strict = true;
     }
 
-    /// The line that was taken last.
-    fn line(&self) -> Option<&Line> {
-        self.lines.get(self.taken.wrapping_sub(1))
-    }
-
-    /// The words of the line.
-    fn line_words(&self) -> &[Vec<u8>] {
-        self.line().map_or(&[], |line| line.words.as_slice())
-    }
-
-    /// Whether the line is one to be skipped.
-    fn is_skipped(&self) -> bool {
-        self.line().is_some_and(|line| line.is_skipped)
-    }
-
-    /// Whether a newline ends the line.
-    pub fn is_ended(&self) -> bool {
-        self.line().is_some_and(|line| line.is_ended)
+    /// No fewer than there are lines.
+    pub fn most(&self) -> usize {
+        self.text.len()
     }
 
     /// Where in the text the line behind the line begins.
     pub fn end(&self) -> usize {
-        self.line().map_or(0, |line| line.end)
+        self.end
     }
 
-    /// What is refused first, if anything is.
+    /// Why reading stops first, if it does.
     pub fn result(&self) -> Result<(), Stop> {
-        match self.refusal {
-            Some(refusal) => Err(Stop::Refused(refusal)),
+        match self.stop {
+            Some(stop) => Err(stop),
             None => Ok(()),
         }
     }
 
-    /// Refuses a line by a rule, unless something is refused already.
-    fn refuse(&mut self, line: u64, rule: &'static str) {
-        if self.refusal.is_none() {
-            self.refusal = Some(Refusal {
-                part: self.part,
-                line,
-                rule,
-            });
+    /// Whether reading stops.
+    pub fn is_stopped(&self) -> bool {
+        self.stop.is_some()
+    }
+
+    /// Stops, unless it did.
+    fn stop(&mut self, stop: Stop) {
+        if self.stop.is_none() {
+            self.stop = Some(stop);
         }
     }
 
     /// Refuses the line by a rule, unless something holds.
     pub fn want(&mut self, holds: bool, rule: &'static str) {
         if !holds {
-            self.refuse(self.taken as u64, rule);
+            let part = self.part;
+            let line = self.taken;
+            self.stop(Stop::Refused(Refusal { part, line, rule }));
+        }
+    }
+
+    /// Puts an item behind a list, and stops where there is no memory.
+    pub fn put<T: Drop>(&mut self, list: &mut Vec<T>, item: T) {
+        if let Err(failed) = list.push(item) {
+            self.stop(Stop::NoMemory(AllocError::from(failed)));
         }
     }
 
     /// How many words the line has.
     pub fn words(&self) -> usize {
-        self.line_words().len()
+        self.words
     }
 
-    /// The word of the line at a place.
-    pub fn word(&self, place: usize) -> &[u8] {
-        let word = self.line_words().get(place);
-        word.map_or(&[], |word| word.as_slice())
+    /// The word of the line at a place, none where the line has no such word.
+    pub fn word(&self, place: usize) -> &'a [u8] {
+        let mut rest = self.line;
+        for _ in 0..place {
+            rest = from_place(rest, length_to(rest, 32).wrapping_add(1));
+        }
+        front(rest, length_to(rest, 32))
     }
 
     /// Whether that word stands at a place of the line.
     pub fn is(&self, place: usize, word: &str) -> bool {
-        place < self.words() && self.word(place) == word.as_bytes()
+        place < self.words && self.word(place) == word.as_bytes()
     }
 
     /// Whether the line has so many words, the first of which is that one.
     pub fn has(&self, words: usize, first: &str) -> bool {
-        self.words() == words && self.is(0, first)
+        self.words == words && self.is(0, first)
     }
 
-    /// Whether a part ends: by its end, or since something is refused.
+    /// Whether a part ends: by its end, or since reading stops.
     pub fn is_over(&self) -> bool {
-        self.refusal.is_some() || self.has(1, "end")
+        self.stop.is_some() || self.has(1, "end")
     }
 
-    /// Whether a line begins with that word, and nothing is refused.
+    /// Whether a line begins with that word, and reading does not stop.
     pub fn begins(&self, word: &str) -> bool {
-        self.refusal.is_none() && self.is(0, word)
+        self.stop.is_none() && self.is(0, word)
+    }
+
+    /// Refuses the line by its form, unless that word stands at a place of it.
+    pub fn want_word(&mut self, place: usize, word: &str) {
+        let is_there = self.is(place, word);
+        self.want(is_there, "form");
     }
 
     /// Refuses the line by its form, unless it has so many words, the first of which is that one.
@@ -250,27 +187,28 @@ impl Lines {
 
     /// The number at a place of the line, if one stands there.
     pub fn is_number(&self, place: usize) -> Option<u64> {
-        number_of(self.word(place))
+        if place < self.words {
+            number_of(self.word(place))
+        } else {
+            None
+        }
     }
 
     /// The number that has to stand at a place of the line.
     pub fn number(&mut self, place: usize) -> u64 {
-        match self.is_number(place) {
-            Some(number) => number,
-            None => {
-                self.want(false, "form");
-                0
-            }
-        }
+        let number = self.is_number(place);
+        self.want(number.is_some(), "form");
+        number.unwrap_or(0)
     }
 
     /// The numbers that have to be all words of the line from a place on.
-    pub fn numbers(&mut self, alloc: Global, first: usize) -> Result<Vec<u64>, AllocError> {
+    pub fn numbers(&mut self, alloc: Global, first: usize) -> Vec<u64> {
         let mut numbers = Vec::new(alloc);
-        for place in first..self.words() {
-            numbers.push(self.number(place))?;
+        for place in first..self.words {
+            let number = self.number(place);
+            self.put(&mut numbers, number);
         }
-        Ok(numbers)
+        numbers
     }
 
     /// The number behind a word, which have to be the whole line.
@@ -279,36 +217,57 @@ impl Lines {
         self.number(1)
     }
 
-    /// The bytes whose hex digits have to stand at a place of the line, so many.
-    pub fn bytes(
-        &mut self,
-        alloc: Global,
-        place: usize,
-        count: u64,
-    ) -> Result<Vec<u8>, AllocError> {
-        match bytes_of(alloc, self.word(place))? {
-            Some(bytes) if bytes.len() as u64 == count => Ok(bytes),
-            _ => {
-                self.want(false, "hex");
-                Ok(Vec::new(alloc))
-            }
-        }
+    /// The half of a byte whose hex digit has to stand at a place of a word.
+    fn half(&mut self, word: &[u8], place: usize) -> u8 {
+        let half = match word.get(place).copied().unwrap_or(0) {
+            digit @ 48..=57 => Some(digit - 48),
+            digit @ 97..=102 => Some(digit - 87),
+            _ => None,
+        };
+        self.want(half.is_some(), "hex");
+        half.unwrap_or(0)
     }
 
-    /// Takes the next line, which may be one to be skipped. The answer is whether there is one.
-    pub fn take_any(&mut self, part: &'static str) -> bool {
-        self.part = part;
-        let is_there = self.taken < self.lines.len();
-        if is_there {
-            self.taken = self.taken.saturating_add(1);
+    /// The bytes whose hex digits have to stand at a place of the line, so many.
+    pub fn bytes(&mut self, alloc: Global, place: usize, count: u64) -> Vec<u8> {
+        let word = self.word(place);
+        self.want(word.len() as u64 == count.wrapping_mul(2), "hex");
+        let mut bytes = Vec::new(alloc);
+        for byte in 0..word.len() / 2 {
+            let high = self.half(word, byte.wrapping_mul(2));
+            let low = self.half(word, byte.wrapping_mul(2).wrapping_add(1));
+            self.put(&mut bytes, high.wrapping_mul(16).wrapping_add(low));
         }
-        is_there
+        bytes
+    }
+
+    /// Takes the next line, if there is one. The answer is whether there is one.
+    fn go_on(&mut self) -> bool {
+        let rest = from_place(self.text, self.end);
+        if rest.is_empty() {
+            return false;
+        }
+        let length = length_to(rest, 10);
+        self.line = front(rest, length);
+        self.words = words_of(self.line);
+        self.is_ended = length < rest.len();
+        let newline = usize::from(self.is_ended);
+        self.end = self.end.wrapping_add(length).wrapping_add(newline);
+        self.taken = self.taken.wrapping_add(1);
+        true
+    }
+
+    /// Whether the line is one to be skipped.
+    fn is_skipped(&self) -> bool {
+        let is_comment = self.line.is_empty() || self.line.first() == Some(&35);
+        is_comment && !self.is_strict && self.line.len() <= LONGEST_LINE
     }
 
     /// Takes the next line that is not to be skipped. The answer is whether there is one.
     fn take_next(&mut self, part: &'static str) -> bool {
-        for _ in 0..=self.lines.len() {
-            if !self.take_any(part) {
+        self.part = part;
+        for _ in 0..=self.text.len() {
+            if !self.go_on() {
                 return false;
             }
             if !self.is_skipped() {
@@ -318,16 +277,14 @@ impl Lines {
         false
     }
 
-    /// Refuses that a part has no end: the line behind the last one.
-    pub fn refuse_end(&mut self) {
-        let line = (self.lines.len() as u64).wrapping_add(1);
-        self.refuse(line, "form");
-    }
-
-    /// Takes the next line of a part.
+    /// Takes the next line of a part. Where there is none, the line behind the last is refused.
     pub fn take(&mut self, part: &'static str) {
-        if !self.take_next(part) {
-            self.refuse_end();
+        if self.take_next(part) {
+            let is_whole = self.is_ended || !self.is_strict;
+            self.want(is_whole, "form");
+        } else {
+            self.taken = self.taken.wrapping_add(1);
+            self.want(false, "form");
         }
     }
 
@@ -337,11 +294,17 @@ impl Lines {
         self.want_form(1, "end");
     }
 
-    /// Takes the first line of a part of version 1.
-    pub fn take_first(&mut self, part: &'static str) {
+    /// Takes the first line of a part, which says the version, from 1 to the last.
+    pub fn take_version(&mut self, part: &'static str, last: u64) -> u64 {
         self.take(part);
         let version = self.only(part);
-        self.want(version == 1, "form");
+        self.want(1 <= version && version <= last, "form");
+        version
+    }
+
+    /// Takes the first line of a part of version 1.
+    pub fn take_first(&mut self, part: &'static str) {
+        self.take_version(part, 1);
     }
 
     /// Wants no line behind the last part.

@@ -24,28 +24,24 @@ impl From<AllocError> for Stop {
 }
 
 impl Refusal {
-    /// What a rule of the part is called.
-    fn kind(&self) -> &'static str {
+    /// What a rule of the part is called, and the exit code.
+    fn kind(&self) -> (&'static str, u8) {
         match self.part {
-            "plan" => "premise",
-            "table" => "cause",
-            _ => "rule",
+            "plan" => ("premise", 1),
+            "table" => ("cause", 4),
+            _ => ("rule", 3),
         }
     }
 
     /// The exit code.
     pub fn code(&self) -> u8 {
-        match self.part {
-            "plan" => 1,
-            "table" => 4,
-            _ => 3,
-        }
+        self.kind().1
     }
 
     /// The line that is written.
     pub fn text(&self, alloc: Global) -> Result<String, AllocError> {
         let Refusal { part, line, rule } = *self;
-        let kind = self.kind();
+        let (kind, _) = self.kind();
         let mut text = String::new(alloc);
         writeln!(text, "refused {part} line {line} {kind} {rule}")?;
         Ok(text)

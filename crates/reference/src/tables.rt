@@ -5,7 +5,21 @@ use crate::lines::Lines;
 use crate::plan_texts::read_plan;
 use crate::plans::{Level, Plan, width};
 use crate::refusals::Stop;
+use crate::texts::Text;
 use std::alloc::{AllocError, Global};
+
+/// What the numbers of the line of a level are called, behind its index.
+const LEVEL_WORDS: [&str; 9] = [
+    "blocks", "leaders", "nodes", "faults", "beat", "span", "modulus", "bound", "bits",
+];
+
+/// What they are called in version 2.
+const SPARE_LEVEL_WORDS: [&str; 10] = [
+    "blocks", "leaders", "nodes", "faults", "beat", "span", "modulus", "bound", "bits", "spare",
+];
+
+/// What the numbers of the line of a plan are called.
+pub const PLAN_WORDS: [&str; 6] = ["nodes", "faults", "modulus", "bound", "bits", "bytes"];
 
 /// The numbers of a level that follow from those of its line and the levels below.
 #[derive(Clone, Copy)]
@@ -30,23 +44,33 @@ pub struct Whole {
     pub bytes: u64,
 }
 
+/// The numbers of the highest of the lowest levels of a plan, of so many.
+pub fn numbers_at(plan: &Plan, height: usize) -> Numbers {
+    let mut numbers = Numbers {
+        index: height as u64,
+        leaders: 0,
+        nodes: plan.group(height),
+        beat: 0,
+        span: 0,
+        bound: 0,
+        bits: width(plan.base),
+    };
+    for level in plan.levels.get(..height).unwrap_or(&[]) {
+        let value = width(level.modulus.wrapping_add(1));
+        numbers.leaders = level.leaders();
+        numbers.beat = level.beat();
+        numbers.span = level.span();
+        numbers.bound = numbers.bound.wrapping_add(numbers.span);
+        numbers.bits = numbers.bits.wrapping_add(value).wrapping_add(1);
+    }
+    numbers
+}
+
 /// The numbers of each level.
 pub fn numbers_of(alloc: Global, plan: &Plan) -> Result<Vec<Numbers>, AllocError> {
     let mut all = Vec::new(alloc);
-    let mut bound = 0u64;
-    let mut bits = width(plan.base);
-    for (depth, level) in plan.levels.iter().enumerate() {
-        bound = bound.wrapping_add(level.span());
-        bits = bits.wrapping_add(width(level.modulus.wrapping_add(1)).wrapping_add(1));
-        all.push(Numbers {
-            index: (depth as u64).wrapping_add(1),
-            leaders: level.leaders(),
-            nodes: plan.group(depth.saturating_add(1)),
-            beat: level.beat(),
-            span: level.span(),
-            bound,
-            bits,
-        })?;
+    for height in 1..=plan.levels.len() {
+        all.push(numbers_at(plan, height))?;
     }
     Ok(all)
 }
@@ -63,54 +87,53 @@ pub fn whole_of(plan: &Plan) -> Whole {
     }
 }
 
-/// Writes words and numbers behind them.
-fn write_pairs(text: &mut String, pairs: &[(&'static str, u64)]) -> Result<(), AllocError> {
-    for (word, number) in pairs {
-        write!(text, " {word} {number}")?;
-    }
-    Ok(())
-}
-
-/// Writes the line of a level.
-fn write_level(
-    text: &mut String,
-    version: u64,
-    level: &Level,
-    numbers: Numbers,
-) -> Result<(), AllocError> {
-    let index = numbers.index;
-    write!(text, "level {index}")?;
-    let pairs = [
-        ("blocks", level.blocks),
-        ("leaders", numbers.leaders),
-        ("nodes", numbers.nodes),
-        ("faults", level.faults),
-        ("beat", numbers.beat),
-        ("span", numbers.span),
-        ("modulus", level.modulus),
-        ("bound", numbers.bound),
-        ("bits", numbers.bits),
-    ];
-    write_pairs(text, &pairs)?;
+/// What the numbers of the line of a level are called in a table of a version.
+pub fn level_words(version: u64) -> &'static [&'static str] {
     if version == 2 {
-        write_pairs(text, &[("spare", level.spares)])?;
+        &SPARE_LEVEL_WORDS
+    } else {
+        &LEVEL_WORDS
     }
-    writeln!(text)
 }
 
-/// Writes the line of a plan, and the end.
-fn write_whole(text: &mut String, whole: Whole) -> Result<(), AllocError> {
-    let pairs = [
-        ("nodes", whole.nodes),
-        ("faults", whole.faults),
-        ("modulus", whole.modulus),
-        ("bound", whole.bound),
-        ("bits", whole.bits),
-        ("bytes", whole.bytes),
-    ];
-    write!(text, "plan")?;
-    write_pairs(text, &pairs)?;
-    writeln!(text, "\nend")
+/// The numbers of the line of a level, behind its index.
+pub fn in_line(level: &Level, numbers: &Numbers) -> [u64; 10] {
+    [
+        level.blocks,
+        numbers.leaders,
+        numbers.nodes,
+        level.faults,
+        numbers.beat,
+        numbers.span,
+        level.modulus,
+        numbers.bound,
+        numbers.bits,
+        level.spares,
+    ]
+}
+
+impl Whole {
+    /// The numbers of the line of a plan.
+    pub fn in_line(&self) -> [u64; 6] {
+        let Whole {
+            nodes,
+            faults,
+            modulus,
+            bound,
+            bits,
+            bytes,
+        } = *self;
+        [nodes, faults, modulus, bound, bits, bytes]
+    }
+}
+
+/// Writes words, each with its number behind it, and the end of the line.
+fn write_pairs(out: &mut Text, words: &[&'static str], numbers: &[u64]) {
+    for (word, number) in words.iter().zip(numbers) {
+        out.word(" ");
+        out.put(word, &[*number]);
+    }
+    out.word("\n");
 }
 
 /// Writes a table of a plan with these numbers.
@@ -120,13 +143,21 @@ pub fn write_table(
     all: &[Numbers],
     whole: Whole,
 ) -> Result<(), AllocError> {
-    let version = plan.version;
-    let base = plan.base;
-    writeln!(text, "table {version}\nbase {base}")?;
+    let mut out = Text::behind(text);
+    out.line("table", &[plan.version]);
+    out.line("base", &[plan.base]);
     for (level, numbers) in plan.levels.iter().zip(all) {
-        write_level(text, version, level, *numbers)?;
+        out.put("level", &[numbers.index]);
+        write_pairs(
+            &mut out,
+            level_words(plan.version),
+            &in_line(level, numbers),
+        );
     }
-    write_whole(text, whole)
+    out.word("plan");
+    write_pairs(&mut out, &PLAN_WORDS, &whole.in_line());
+    out.word("end\n");
+    out.end()
 }
 
 /// The text of the table of a plan.
@@ -137,19 +168,23 @@ pub fn table_of(alloc: Global, plan: &Plan) -> Result<String, AllocError> {
     Ok(table)
 }
 
-/// What `plan` writes.
-pub fn plan(alloc: Global, lines: &mut Lines) -> Result<String, Stop> {
+/// The plan that is the whole input.
+fn only_plan(alloc: Global, lines: &mut Lines) -> Result<Plan, Stop> {
     let plan = read_plan(alloc, lines)?;
     lines.want_none("plan");
     lines.result()?;
+    Ok(plan)
+}
+
+/// What `plan` writes.
+pub fn plan(alloc: Global, lines: &mut Lines) -> Result<String, Stop> {
+    let plan = only_plan(alloc, lines)?;
     Ok(table_of(alloc, &plan)?)
 }
 
 /// What `upgrade` writes.
 pub fn upgrade(alloc: Global, lines: &mut Lines) -> Result<String, Stop> {
-    let mut plan = read_plan(alloc, lines)?;
-    lines.want_none("plan");
-    lines.result()?;
+    let mut plan = only_plan(alloc, lines)?;
     plan.version = 2;
     let mut text = String::new(alloc);
     write_plan(&mut text, &plan)?;

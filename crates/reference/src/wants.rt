@@ -6,6 +6,7 @@ use crate::plan_texts::want_none_broken;
 use crate::plans::{Level, Plan, quotient};
 use crate::premises::MOST;
 use crate::refusals::Stop;
+use crate::texts::Text;
 use std::alloc::{AllocError, Global};
 
 /// The name of the part.
@@ -19,27 +20,26 @@ pub struct Want {
     pub most: u64,
 }
 
-/// Levels without moduli, the nodes of the highest, the faults that it stands, and the sum of the
-/// spans.
-#[derive(Clone)]
+/// How many levels a tower has at most.
+const MOST_LEVELS: usize = 5;
+
+/// No level.
+const NO_LEVEL: Level = Level {
+    blocks: 0,
+    faults: 0,
+    modulus: 0,
+    spares: 0,
+};
+
+/// Levels without moduli, so many, the nodes of the highest, the faults that it stands, and the sum
+/// of the spans.
+#[derive(Clone, Copy)]
 struct Tower {
-    levels: Vec<Level>,
+    levels: [Level; MOST_LEVELS],
+    height: usize,
     nodes: u64,
     faults: u64,
     bound: u64,
-}
-
-// Written out, so that what lets go of one calls this, and no more.
-impl Drop for Tower {
-    fn drop(self) {
-        let Tower {
-            levels,
-            nodes: _,
-            faults: _,
-            bound: _,
-        } = self;
-        drop(levels);
-    }
 }
 
 impl Want {
@@ -55,27 +55,7 @@ impl Want {
     }
 }
 
-/// Whether of two lists the first number that differs is less in the first.
-fn comes_before(numbers: &[u64], others: &[u64]) -> bool {
-    for (number, other) in numbers.iter().zip(others) {
-        if number != other {
-            return number < other;
-        }
-    }
-    false
-}
-
 impl Tower {
-    /// No level.
-    fn new(alloc: Global) -> Tower {
-        Tower {
-            levels: Vec::new(alloc),
-            nodes: 1,
-            faults: 0,
-            bound: 0,
-        }
-    }
-
     /// Whether a level may stand on it, where so many nodes may be.
     fn stands(&self, level: &Level, most: u64) -> bool {
         let nodes = level.blocks.wrapping_mul(self.nodes);
@@ -88,139 +68,159 @@ impl Tower {
     }
 
     /// It and a level more.
-    fn with(&self, level: Level) -> Result<Tower, AllocError> {
-        let mut tower = self.clone()?;
-        tower.levels.push(level)?;
-        tower.nodes = level.blocks.wrapping_mul(self.nodes);
-        tower.faults = level.faults;
-        tower.bound = self.bound.wrapping_add(level.span());
-        Ok(tower)
-    }
-
-    /// The bound, the nodes, the number of levels, and their blocks and faults.
-    fn key(&self, alloc: Global) -> Result<Vec<u64>, AllocError> {
-        let first = [self.bound, self.nodes, self.levels.len() as u64];
-        let mut key = Vec::from_slice(alloc, &first)?;
-        for level in &self.levels {
-            key.push(level.blocks)?;
-            key.push(level.faults)?;
+    fn with(&self, level: Level) -> Tower {
+        let mut levels = self.levels;
+        if let Some(next) = levels.get_mut(self.height) {
+            *next = level;
         }
-        Ok(key)
+        Tower {
+            levels,
+            height: self.height.wrapping_add(1),
+            nodes: level.blocks.wrapping_mul(self.nodes),
+            faults: level.faults,
+            bound: self.bound.wrapping_add(level.span()),
+        }
     }
 
-    /// Whether it comes before another: by the bound, the nodes, the number of levels, and their
-    /// blocks and faults.
-    fn is_before(&self, alloc: Global, other: &Tower) -> Result<bool, AllocError> {
-        let own = self.key(alloc)?;
-        let others = other.key(alloc)?;
-        Ok(comes_before(&own, &others))
+    /// By what it comes before another: the bound, the nodes, the number of levels, and their blocks
+    /// and faults.
+    fn key(&self) -> [u64; 13] {
+        let [a, b, c, d, e] = self.levels;
+        [
+            self.bound,
+            self.nodes,
+            self.height as u64,
+            a.blocks,
+            a.faults,
+            b.blocks,
+            b.faults,
+            c.blocks,
+            c.faults,
+            d.blocks,
+            d.faults,
+            e.blocks,
+            e.faults,
+        ]
     }
 
     /// The plan of these levels that counts by a modulus: each modulus is the span above it.
-    fn plan(&self, modulus: u64) -> Result<Plan, AllocError> {
-        let mut levels = self.levels.clone()?;
+    fn plan(&self, alloc: Global, modulus: u64) -> Result<Plan, AllocError> {
+        let mut levels = self.levels;
         let mut next = modulus;
-        for level in levels.iter_mut().rev() {
-            level.modulus = next;
-            next = level.span();
+        for depth in (0..self.height).rev() {
+            if let Some(level) = levels.get_mut(depth) {
+                level.modulus = next;
+                next = level.span();
+            }
         }
+        let levels = levels.get(..self.height).unwrap_or(&[]);
         Ok(Plan {
             version: 1,
             base: next,
-            levels,
+            levels: Vec::from_slice(alloc, levels)?,
             behind: 0,
             values: 0,
         })
     }
 }
 
-/// A tower and one more level, in each way that there is.
-fn higher(alloc: Global, tower: &Tower, most: u64) -> Result<Vec<Tower>, AllocError> {
-    let mut higher = Vec::new(alloc);
+/// Puts a tower and one more level, in each way that there is, behind towers.
+fn put_higher(towers: &mut Vec<Tower>, tower: &Tower, most: u64) -> Result<(), AllocError> {
     for blocks in 3..=quotient(most, tower.nodes).min(16) {
         for faults in 0..=quotient(most, 3) {
             let level = Level {
                 blocks,
                 faults,
-                modulus: 0,
-                spares: 0,
+                ..NO_LEVEL
             };
             if tower.stands(&level, most) {
-                higher.push(tower.with(level)?)?;
-            }
-        }
-    }
-    Ok(higher)
-}
-
-/// All towers of at most so many nodes: they have at most five levels.
-fn towers(alloc: Global, most: u64) -> Result<Vec<Tower>, AllocError> {
-    let mut all = Vec::new(alloc);
-    all.push(Tower::new(alloc))?;
-    let mut begin = 0usize;
-    for _ in 0..5 {
-        let mut next = Vec::new(alloc);
-        for tower in all.iter().skip(begin) {
-            for tower in higher(alloc, tower, most)? {
-                next.push(tower)?;
-            }
-        }
-        begin = all.len();
-        for tower in next {
-            all.push(tower)?;
-        }
-    }
-    Ok(all)
-}
-
-/// The first of some towers that stands just so many faults.
-fn first(alloc: Global, towers: &[Tower], faults: u64) -> Result<Option<Tower>, AllocError> {
-    let mut first: Option<Tower> = None;
-    for tower in towers {
-        let is_first = match &first {
-            Some(first) => tower.is_before(alloc, first)?,
-            None => true,
-        };
-        if tower.faults == faults && is_first {
-            first = Some(tower.clone()?);
-        }
-    }
-    Ok(first)
-}
-
-/// Writes the least bound of each number of nodes and faults that there is.
-fn write_potentials(text: &mut String, towers: &[Tower], most: u64) -> Result<(), AllocError> {
-    for nodes in 1..=most {
-        for faults in 0..=quotient(nodes, 3) {
-            let mut least: Option<u64> = None;
-            for tower in towers {
-                let is_less = least.is_none_or(|least| tower.bound < least);
-                if tower.nodes == nodes && tower.faults == faults && is_less {
-                    least = Some(tower.bound);
-                }
-            }
-            if let Some(least) = least {
-                writeln!(text, "pot {nodes} {faults} {least}")?;
+                towers.push(tower.with(level))?;
             }
         }
     }
     Ok(())
 }
 
+/// All towers of at most so many nodes.
+fn towers(alloc: Global, most: u64) -> Result<Vec<Tower>, AllocError> {
+    let mut towers = Vec::new(alloc);
+    towers.push(Tower {
+        levels: [NO_LEVEL; MOST_LEVELS],
+        height: 0,
+        nodes: 1,
+        faults: 0,
+        bound: 0,
+    })?;
+    let mut begin = 0usize;
+    for _ in 0..MOST_LEVELS {
+        let end = towers.len();
+        for place in begin..end {
+            if let Some(tower) = towers.get(place).copied() {
+                put_higher(&mut towers, &tower, most)?;
+            }
+        }
+        begin = end;
+    }
+    Ok(towers)
+}
+
+/// The first of some towers that stands just so many faults.
+fn first(towers: &[Tower], faults: u64) -> Option<Tower> {
+    let mut first: Option<Tower> = None;
+    for tower in towers {
+        let is_first = match first {
+            Some(first) => tower.key() < first.key(),
+            None => true,
+        };
+        if tower.faults == faults && is_first {
+            first = Some(*tower);
+        }
+    }
+    first
+}
+
+/// The least bound of some towers that have so many nodes and stand so many faults.
+fn least_bound(towers: &[Tower], nodes: u64, faults: u64) -> Option<u64> {
+    let mut least: Option<u64> = None;
+    for tower in towers {
+        let is_less = match least {
+            Some(least) => tower.bound < least,
+            None => true,
+        };
+        if tower.nodes == nodes && tower.faults == faults && is_less {
+            least = Some(tower.bound);
+        }
+    }
+    least
+}
+
+/// Writes the least bound of each number of nodes and faults that there is.
+fn write_potentials(text: &mut String, towers: &[Tower], most: u64) -> Result<(), AllocError> {
+    let mut out = Text::behind(text);
+    for nodes in 1..=most {
+        for faults in 0..=quotient(nodes, 3) {
+            if let Some(least) = least_bound(towers, nodes, faults) {
+                out.line("pot", &[nodes, faults, least]);
+            }
+        }
+    }
+    out.end()
+}
+
 /// What `find` writes of a want that is accepted.
 pub fn answer(alloc: Global, want: Want) -> Result<String, AllocError> {
     let mut text = String::new(alloc);
     let towers = towers(alloc, want.most)?;
-    match first(alloc, &towers, want.faults)? {
-        Some(tower) => write_plan(&mut text, &tower.plan(want.modulus)?)?,
-        None => writeln!(text, "none")?,
+    match first(&towers, want.faults) {
+        Some(tower) => write_plan(&mut text, &tower.plan(alloc, want.modulus)?)?,
+        None => text.push_str("none\n")?,
     }
     write_potentials(&mut text, &towers, want.most)?;
     Ok(text)
 }
 
-/// Takes the lines of a want.
-fn read_want(lines: &mut Lines) -> Want {
+/// What `find` writes.
+pub fn find(alloc: Global, lines: &mut Lines) -> Result<String, Stop> {
     lines.take_first(PART);
     lines.take(PART);
     lines.want_form(4, "want");
@@ -232,12 +232,6 @@ fn read_want(lines: &mut Lines) -> Want {
     want_none_broken(lines, want.broken_rule());
     lines.take_end(PART);
     lines.want_none(PART);
-    want
-}
-
-/// What `find` writes.
-pub fn find(alloc: Global, lines: &mut Lines) -> Result<String, Stop> {
-    let want = read_want(lines);
     lines.result()?;
     Ok(answer(alloc, want)?)
 }
