@@ -71,8 +71,8 @@ pub fn certificate<'a>(
     plan: &'a Plan,
     script: &'a Script,
 ) -> Result<String, AllocError> {
-    let mut text = String::new(alloc);
     let mut run = Run::new(alloc, plan, script, Part::Rows)?;
+    let mut text = String::new(alloc);
     let mut out = Text::behind(&mut text);
     write_head(&mut out, plan, script);
     write_config(&mut out, plan, script, &run);

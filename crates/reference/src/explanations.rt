@@ -195,9 +195,9 @@ fn write_why(out: &mut Text, plan: &Plan, script: &Script, outputs: &[u64]) {
 
 /// What `explain` writes of a plan and a script.
 pub fn answer<'a>(alloc: Global, plan: &'a Plan, script: &'a Script) -> Result<String, AllocError> {
-    let mut text = String::new(alloc);
     let mut run = Run::new(alloc, plan, script, Part::Rows)?;
     let outputs = outputs_of(alloc, plan, script, &mut run)?;
+    let mut text = String::new(alloc);
     let mut out = Text::behind(&mut text);
     out.line("bound", &[plan.bound()]);
     write_why(&mut out, plan, script, &outputs);

@@ -162,8 +162,8 @@ pub fn write_table(
 
 /// The text of the table of a plan.
 pub fn table_of(alloc: Global, plan: &Plan) -> Result<String, AllocError> {
-    let mut table = String::new(alloc);
     let all = numbers_of(alloc, plan)?;
+    let mut table = String::new(alloc);
     write_table(&mut table, plan, &all, whole_of(plan))?;
     Ok(table)
 }

@@ -1,9 +1,9 @@
 //! Plans of least bound: all plans that there are are tried.
 
-use crate::input_texts::write_plan;
+use crate::input_texts::write_levels;
 use crate::lines::Lines;
 use crate::plan_texts::want_none_broken;
-use crate::plans::{Level, Plan, quotient};
+use crate::plans::{Level, quotient};
 use crate::premises::MOST;
 use crate::refusals::Stop;
 use crate::texts::Text;
@@ -103,8 +103,8 @@ impl Tower {
         ]
     }
 
-    /// The plan of these levels that counts by a modulus: each modulus is the span above it.
-    fn plan(&self, alloc: Global, modulus: u64) -> Result<Plan, AllocError> {
+    /// Writes the plan of these levels that counts by a modulus: each modulus is the span above it.
+    fn write_plan(&self, out: &mut Text, modulus: u64) {
         let mut levels = self.levels;
         let mut next = modulus;
         for depth in (0..self.height).rev() {
@@ -113,14 +113,10 @@ impl Tower {
                 next = level.span();
             }
         }
-        let levels = levels.get(..self.height).unwrap_or(&[]);
-        Ok(Plan {
-            version: 1,
-            base: next,
-            levels: Vec::from_slice(alloc, levels)?,
-            behind: 0,
-            values: 0,
-        })
+        out.line("plan", &[1]);
+        out.line("base", &[next]);
+        write_levels(out, 1, levels.get(..self.height).unwrap_or(&[]));
+        out.word("end\n");
     }
 }
 
@@ -195,8 +191,7 @@ fn least_bound(towers: &[Tower], nodes: u64, faults: u64) -> Option<u64> {
 }
 
 /// Writes the least bound of each number of nodes and faults that there is.
-fn write_potentials(text: &mut String, towers: &[Tower], most: u64) -> Result<(), AllocError> {
-    let mut out = Text::behind(text);
+fn write_potentials(out: &mut Text, towers: &[Tower], most: u64) {
     for nodes in 1..=most {
         for faults in 0..=quotient(nodes, 3) {
             if let Some(least) = least_bound(towers, nodes, faults) {
@@ -204,18 +199,19 @@ fn write_potentials(text: &mut String, towers: &[Tower], most: u64) -> Result<()
             }
         }
     }
-    out.end()
 }
 
 /// What `find` writes of a want that is accepted.
 pub fn answer(alloc: Global, want: Want) -> Result<String, AllocError> {
-    let mut text = String::new(alloc);
     let towers = towers(alloc, want.most)?;
+    let mut text = String::new(alloc);
+    let mut out = Text::behind(&mut text);
     match first(&towers, want.faults) {
-        Some(tower) => write_plan(&mut text, &tower.plan(alloc, want.modulus)?)?,
-        None => text.push_str("none\n")?,
+        Some(tower) => tower.write_plan(&mut out, want.modulus),
+        None => out.word("none\n"),
     }
-    write_potentials(&mut text, &towers, want.most)?;
+    write_potentials(&mut out, &towers, want.most);
+    out.end()?;
     Ok(text)
 }
 
