@@ -4,24 +4,18 @@ ghost use Rattle.std.specs.Prelude.{map, string_bytes};
 ghost use Rattle.texts.specs.Growth.{Puts};
 ghost use Rattle.draw.specs.Asked.{Tells, help_text, text_alone, text_for, version_text};
 
-use edge_io::{Piece, Sink, WriteFault, put_all, put_pieces};
+use edge_io::{Sink, WriteFault, put_all};
 
 /// Writes how the program is used.
 fn put_help<K: Sink>(sink: &mut K) -> Result<(), WriteFault>
     ensures { Puts result help_text (K.told sink.old) (K.told sink.new) }
 {
-    put_pieces(
+    put_all(
         sink,
-        &[
-            Piece::Text(b"usage: draw < RUN > PICTURE.svg\n       draw < TRACE > PICTURE.svg\n"),
-            Piece::Text(
-                b"Draws what `counterlab run` or `trace` writes: a picture in SVG with a column\n",
-            ),
-            Piece::Text(
-                b"for each configuration and a line of cells for each node. Of a trace it\n",
-            ),
-            Piece::Text(b"draws each level too, with the kings' turns.\n"),
-        ],
+        b"usage: draw < RUN > PICTURE.svg\n       draw < TRACE > PICTURE.svg\n\
+        Draws what `counterlab run` or `trace` writes: a picture in SVG with a column\n\
+        for each configuration and a line of cells for each node. Of a trace it\n\
+        draws each level too, with the kings' turns.\n",
     )
 }
 

@@ -11,6 +11,16 @@
 //! is read, how wide columns are, how a trace is laid out, and who is found hit, is not.
 #![tactic(auto)]
 
+// As `?` behind a part of a text that is written, but with no call of its own.
+macro_rules! written {
+    ($part:expr) => {
+        match $part {
+            Ok(()) => {}
+            Err(WriteFault) => return Err(WriteFault),
+        }
+    };
+}
+
 mod asking;
 mod charts;
 mod drawing;

@@ -199,8 +199,8 @@ fn put_caption_front<K: Sink>(sink: &mut K, y: u64) -> Result<(), WriteFault>
 fn put_caption_at<K: Sink>(sink: &mut K, y: u64, end: End) -> Result<(), WriteFault>
     ensures { Puts result (caption_at y end) (K.told sink.old) (K.told sink.new) }
 {
-    put_caption_front(sink, y)?;
-    put_end(sink, end)?;
+    written!(put_caption_front(sink, y));
+    written!(put_end(sink, end));
     put_all(sink, b"</text>\n")
 }
 
@@ -219,9 +219,9 @@ fn put_caption<K: Sink>(sink: &mut K, chart: &Chart, end: End) -> Result<(), Wri
 fn put_end_picture<K: Sink>(sink: &mut K, chart: &Chart, end: End) -> Result<(), WriteFault>
     ensures { Puts result (end_picture chart.now end) (K.told sink.old) (K.told sink.new) }
 {
-    put_era_mark(sink, chart, end.era)?;
-    put_bound_mark(sink, chart, end)?;
-    put_locked_mark(sink, chart, end.locked)?;
+    written!(put_era_mark(sink, chart, end.era));
+    written!(put_bound_mark(sink, chart, end));
+    written!(put_locked_mark(sink, chart, end.locked));
     put_caption(sink, chart, end)
 }
 
@@ -231,10 +231,7 @@ pub fn put_ends<K: Sink>(sink: &mut K, chart: &Chart, ends: &[End]) -> Result<()
         (K.told sink.old) (K.told sink.new) }
 {
     for i in 0..ends.len() {
-        match put_end_picture(sink, chart, ends[i]) {
-            Ok(()) => {}
-            Err(WriteFault) => return Err(WriteFault),
-        }
+        written!(put_end_picture(sink, chart, ends[i]));
     }
     Ok(())
 }

@@ -51,15 +51,11 @@ fn put_sized_front<K: Sink>(sink: &mut K, chart: &Chart) -> Result<(), WriteFaul
 pub fn put_ground<K: Sink>(sink: &mut K) -> Result<(), WriteFault>
     ensures { Puts result picture_ground (K.told sink.old) (K.told sink.new) }
 {
-    put_pieces(
+    put_all(
         sink,
-        &[
-            Piece::Text(
-                b"<defs><pattern id='faulty' width='6' height='6' patternUnits='userSpaceOnUse'>",
-            ),
-            Piece::Text(b"<path d='M0 0H6V6H0Z' fill='white'/><path d='M0 6L6 0' stroke='black'/>"),
-            Piece::Text(b"</pattern></defs>\n<rect width='100%' height='100%' fill='white'/>\n"),
-        ],
+        b"<defs><pattern id='faulty' width='6' height='6' patternUnits='userSpaceOnUse'>\
+        <path d='M0 0H6V6H0Z' fill='white'/><path d='M0 6L6 0' stroke='black'/>\
+        </pattern></defs>\n<rect width='100%' height='100%' fill='white'/>\n",
     )
 }
 
@@ -133,8 +129,8 @@ fn put_facts_in<K: Sink>(
 ) -> Result<(), WriteFault>
     ensures { Puts result (facts_in frame nodes bound) (K.told sink.old) (K.told sink.new) }
 {
-    put_span(sink, frame)?;
-    put_number_caption(sink, bottom(frame) + 28, b"nodes", nodes)?;
+    written!(put_span(sink, frame));
+    written!(put_number_caption(sink, bottom(frame) + 28, b"nodes", nodes));
     put_number_caption(sink, bottom(frame) + 44, b"bound", bound)
 }
 
@@ -149,11 +145,11 @@ fn put_facts<K: Sink>(sink: &mut K, chart: &Chart) -> Result<(), WriteFault>
 fn put_parts<K: Sink>(sink: &mut K, chart: &Chart) -> Result<(), WriteFault>
     ensures { Puts result (picture_text chart.now) (K.told sink.old) (K.told sink.new) }
 {
-    put_sized_front(sink, chart)?;
-    put_ground(sink)?;
-    put_cells(sink, chart.frame(), chart.words())?;
-    put_facts(sink, chart)?;
-    put_ends(sink, chart, chart.lines())?;
+    written!(put_sized_front(sink, chart));
+    written!(put_ground(sink));
+    written!(put_cells(sink, chart.frame(), chart.words()));
+    written!(put_facts(sink, chart));
+    written!(put_ends(sink, chart, chart.lines()));
     put_all(sink, b"</svg>\n")
 }
 

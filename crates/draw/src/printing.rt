@@ -50,8 +50,8 @@ fn put_row_end<K: Sink>(sink: &mut K, nodes: u16, cell: Cell) -> Result<(), Writ
 fn put_cell<K: Sink>(sink: &mut K, first: u32, nodes: u16, cell: Cell) -> Result<(), WriteFault>
     ensures { Puts result (cell_words first nodes cell) (K.told sink.old) (K.told sink.new) }
 {
-    put_front(sink, first, cell)?;
-    put_word(sink, cell.shown)?;
+    written!(put_front(sink, first, cell));
+    written!(put_word(sink, cell.shown));
     put_row_end(sink, nodes, cell)
 }
 
@@ -61,10 +61,7 @@ fn put_rows<K: Sink>(sink: &mut K, first: u32, nodes: u16, cells: &[Cell]) -> Re
         (K.told sink.old) (K.told sink.new) }
 {
     for i in 0..cells.len() {
-        match put_cell(sink, first, nodes, cells[i]) {
-            Ok(()) => {}
-            Err(WriteFault) => return Err(WriteFault),
-        }
+        written!(put_cell(sink, first, nodes, cells[i]));
     }
     Ok(())
 }
@@ -103,7 +100,7 @@ fn put_locked<K: Sink>(sink: &mut K, locked: Option<u32>) -> Result<(), WriteFau
 pub fn put_end<K: Sink>(sink: &mut K, end: End) -> Result<(), WriteFault>
     ensures { Puts result (end_words end) (K.told sink.old) (K.told sink.new) }
 {
-    put_era(sink, end.era)?;
+    written!(put_era(sink, end.era));
     put_locked(sink, end.locked)
 }
 
@@ -111,7 +108,7 @@ pub fn put_end<K: Sink>(sink: &mut K, end: End) -> Result<(), WriteFault>
 fn put_end_line<K: Sink>(sink: &mut K, end: End) -> Result<(), WriteFault>
     ensures { Puts result (end_line end) (K.told sink.old) (K.told sink.new) }
 {
-    put_end(sink, end)?;
+    written!(put_end(sink, end));
     put_all(sink, b"\n")
 }
 
@@ -120,10 +117,7 @@ fn put_ends<K: Sink>(sink: &mut K, ends: &[End]) -> Result<(), WriteFault>
     ensures { Puts result (flat_map end_line ends.now) (K.told sink.old) (K.told sink.new) }
 {
     for i in 0..ends.len() {
-        match put_end_line(sink, ends[i]) {
-            Ok(()) => {}
-            Err(WriteFault) => return Err(WriteFault),
-        }
+        written!(put_end_line(sink, ends[i]));
     }
     Ok(())
 }
@@ -146,7 +140,7 @@ fn put_bound<K: Sink>(sink: &mut K, bound: u64) -> Result<(), WriteFault>
 pub fn put_chart<K: Sink>(sink: &mut K, chart: &Chart) -> Result<(), WriteFault>
     ensures { Puts result (chart_text chart.now) (K.told sink.old) (K.told sink.new) }
 {
-    put_bound(sink, chart.bound)?;
-    put_rows(sink, chart.first, chart.nodes, chart.words())?;
+    written!(put_bound(sink, chart.bound));
+    written!(put_rows(sink, chart.first, chart.nodes, chart.words()));
     put_ends(sink, chart.lines())
 }

@@ -86,7 +86,7 @@ fn put_column_number<K: Sink>(sink: &mut K, frame: Frame, column: u32) -> Result
 pub fn put_column_head<K: Sink>(sink: &mut K, frame: Frame, column: u32) -> Result<(), WriteFault>
     ensures { Puts result (column_head frame column) (K.told sink.old) (K.told sink.new) }
 {
-    put_axes_at(sink, frame, column)?;
+    written!(put_axes_at(sink, frame, column));
     put_column_number(sink, frame, column)
 }
 
@@ -154,8 +154,8 @@ fn put_inscription<K: Sink>(sink: &mut K, spot: Spot, shown: Option<u64>) -> Res
 fn put_square<K: Sink>(sink: &mut K, spot: Spot, shown: Option<u64>) -> Result<(), WriteFault>
     ensures { Puts result (square spot shown) (K.told sink.old) (K.told sink.new) }
 {
-    put_rectangle(sink, spot)?;
-    put_filling(sink, shown)?;
+    written!(put_rectangle(sink, spot));
+    written!(put_filling(sink, shown));
     put_inscription(sink, spot, shown)
 }
 
@@ -187,7 +187,7 @@ pub fn put_shown<K: Sink>(
 ) -> Result<(), WriteFault>
     ensures { Puts result (shown_at spot shown hit) (K.told sink.old) (K.told sink.new) }
 {
-    put_square(sink, spot, shown)?;
+    written!(put_square(sink, spot, shown));
     put_hit_mark(sink, spot, hit)
 }
 
@@ -217,8 +217,8 @@ fn cell_spot(frame: Frame, cell: Cell) -> Spot
 fn put_cell_at<K: Sink>(sink: &mut K, spot: Spot, cell: Cell) -> Result<(), WriteFault>
     ensures { Puts result (cell_at spot cell) (K.told sink.old) (K.told sink.new) }
 {
-    put_cell_head(sink, spot.frame, cell)?;
-    put_node_label(sink, spot, u64::from(cell.node))?;
+    written!(put_cell_head(sink, spot.frame, cell));
+    written!(put_node_label(sink, spot, u64::from(cell.node)));
     put_shown(sink, spot, cell.shown, cell.is_hit)
 }
 
@@ -235,10 +235,7 @@ pub fn put_cells<K: Sink>(sink: &mut K, frame: Frame, cells: &[Cell]) -> Result<
         (K.told sink.old) (K.told sink.new) }
 {
     for i in 0..cells.len() {
-        match put_cell(sink, frame, cells[i]) {
-            Ok(()) => {}
-            Err(WriteFault) => return Err(WriteFault),
-        }
+        written!(put_cell(sink, frame, cells[i]));
     }
     Ok(())
 }

@@ -93,9 +93,9 @@ fn put_value<K: Sink>(sink: &mut K, spot: Spot, value: Option<u64>) -> Result<()
 fn put_register_at<K: Sink>(sink: &mut K, spot: Spot, register: &Register) -> Result<(), WriteFault>
     ensures { Puts result (register_at spot register.now) (K.told sink.old) (K.told sink.new) }
 {
-    put_rectangle(sink, spot)?;
-    put_register_ground(sink, register.value, register.held)?;
-    put_cover(sink, spot, register.held)?;
+    written!(put_rectangle(sink, spot));
+    written!(put_register_ground(sink, register.value, register.held));
+    written!(put_cover(sink, spot, register.held));
     put_value(sink, spot, register.value)
 }
 
@@ -171,8 +171,8 @@ fn note_spot(frame: Frame, note: &Note) -> Spot
 fn put_note_at<K: Sink>(sink: &mut K, spot: Spot, note: &Note) -> Result<(), WriteFault>
     ensures { Puts result (note_at spot note.now) (K.told sink.old) (K.told sink.new) }
 {
-    put_note_head(sink, spot.frame, note)?;
-    put_node_label(sink, spot, note.node)?;
+    written!(put_note_head(sink, spot.frame, note));
+    written!(put_node_label(sink, spot, note.node));
     put_seen_cell(sink, spot, note, &note.seen)
 }
 
@@ -193,10 +193,7 @@ pub fn put_note_pictures<K: Sink>(
         (K.told sink.old) (K.told sink.new) }
 {
     for note in notes {
-        match put_note_picture(sink, frame, note) {
-            Ok(()) => {}
-            Err(WriteFault) => return Err(WriteFault),
-        }
+        written!(put_note_picture(sink, frame, note));
     }
     Ok(())
 }
@@ -231,10 +228,7 @@ pub fn put_titles<K: Sink>(sink: &mut K, frame: Frame, titles: &[Title]) -> Resu
         (K.told sink.old) (K.told sink.new) }
 {
     for i in 0..titles.len() {
-        match put_title(sink, frame, titles[i]) {
-            Ok(()) => {}
-            Err(WriteFault) => return Err(WriteFault),
-        }
+        written!(put_title(sink, frame, titles[i]));
     }
     Ok(())
 }

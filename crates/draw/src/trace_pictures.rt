@@ -19,14 +19,10 @@ use edge_io::{Gathered, Piece, Sink, WriteFault, put_all, put_pieces};
 fn put_dots<K: Sink>(sink: &mut K) -> Result<(), WriteFault>
     ensures { Puts result dots (K.told sink.old) (K.told sink.new) }
 {
-    put_pieces(
+    put_all(
         sink,
-        &[
-            Piece::Text(
-                b"<defs><pattern id='marked' width='5' height='5' patternUnits='userSpaceOnUse'>",
-            ),
-            Piece::Text(b"<circle cx='2' cy='2' r='1' fill='#3a6ea5'/></pattern></defs>\n"),
-        ],
+        b"<defs><pattern id='marked' width='5' height='5' patternUnits='userSpaceOnUse'>\
+        <circle cx='2' cy='2' r='1' fill='#3a6ea5'/></pattern></defs>\n",
     )
 }
 
@@ -48,10 +44,7 @@ fn put_starts<K: Sink>(
         (K.told sink.old) (K.told sink.new) }
 {
     for i in 0..eras.len() {
-        match put_start(sink, frame, cells, eras[i]) {
-            Ok(()) => {}
-            Err(WriteFault) => return Err(WriteFault),
-        }
+        written!(put_start(sink, frame, cells, eras[i]));
     }
     Ok(())
 }
@@ -92,7 +85,7 @@ fn put_level_front<K: Sink>(sink: &mut K, y: u64, level: u64) -> Result<(), Writ
 fn put_level_at<K: Sink>(sink: &mut K, y: u64, level: Level) -> Result<(), WriteFault>
     ensures { Puts result (level_at y level) (K.told sink.old) (K.told sink.new) }
 {
-    put_level_front(sink, y, level.level)?;
+    written!(put_level_front(sink, y, level.level));
     put_blocks(sink, level.blocks)
 }
 
@@ -113,10 +106,7 @@ fn put_levels<K: Sink>(sink: &mut K, frame: Frame, levels: &[Level]) -> Result<(
         (K.told sink.old) (K.told sink.new) }
 {
     for i in 0..levels.len() {
-        match put_level(sink, frame, levels[i]) {
-            Ok(()) => {}
-            Err(WriteFault) => return Err(WriteFault),
-        }
+        written!(put_level(sink, frame, levels[i]));
     }
     Ok(())
 }
@@ -130,33 +120,29 @@ fn put_legend<K: Sink>(sink: &mut K, y: u64) -> Result<(), WriteFault>
         &[
             Piece::Text(b"<g text-anchor='start' transform='translate(4,"),
             Piece::Number(y),
-            Piece::Text(b")'>\n<rect width='18' height='18' fill='whitesmoke'/>"),
             Piece::Text(
-                b"<path d='M6 6l6 6m0 -6l-6 6' stroke='dimgray'/><text x='24' y='13'>none</text>\n",
+                b")'>\n<rect width='18' height='18' fill='whitesmoke'/>\
+                <path d='M6 6l6 6m0 -6l-6 6' stroke='dimgray'/><text x='24' y='13'>none</text>\n\
+                <rect x='110' width='18' height='18' fill='#fde9b0'/>\
+                <text x='134' y='13'>unmarked</text>\n\
+                <rect y='22' width='18' height='18' fill='#b5d3f2'/>\
+                <rect y='22' width='18' height='18' fill='url(#marked)'/>\
+                <text x='24' y='35'>marked</text>\n\
+                <rect x='110' y='22' width='18' height='18' fill='#a6dba0'/>\
+                <path d='M112 24h14v14H112z' fill='none' stroke='darkgreen' stroke-width='2'/>\
+                <text x='134' y='35'>locked</text>\n\
+                <rect y='44' width='18' height='18' fill='url(#faulty)'/>\
+                <text x='24' y='57'>faulty</text>\n\
+                <rect x='110' y='44' width='18' height='18' fill='silver'/>\
+                <path d='M110 44h8l-8 8z'/>\
+                <text x='134' y='57'>hit by an era's start</text>\n\
+                <path d='M0 68h6v14H0zM18 68h12v14H18zM36 68h18v14H36z' fill='gold'/>\
+                <path d='M0 68h18v14H0zM18 68h18v14H18zM36 68h18v14H36z' \
+                fill='none' stroke='black'/>\
+                <text x='60' y='79'>a king's turn: keep, mark, king</text>\n\
+                <path d='M0 88h18v14H0z' fill='none' stroke='black' stroke-dasharray='2'/>\
+                <text x='24' y='99'>a turn that not all hear</text>\n</g>\n",
             ),
-            Piece::Text(b"<rect x='110' width='18' height='18' fill='#fde9b0'/>"),
-            Piece::Text(b"<text x='134' y='13'>unmarked</text>\n"),
-            Piece::Text(b"<rect y='22' width='18' height='18' fill='#b5d3f2'/>"),
-            Piece::Text(b"<rect y='22' width='18' height='18' fill='url(#marked)'/>"),
-            Piece::Text(b"<text x='24' y='35'>marked</text>\n"),
-            Piece::Text(b"<rect x='110' y='22' width='18' height='18' fill='#a6dba0'/>"),
-            Piece::Text(
-                b"<path d='M112 24h14v14H112z' fill='none' stroke='darkgreen' stroke-width='2'/>",
-            ),
-            Piece::Text(b"<text x='134' y='35'>locked</text>\n"),
-            Piece::Text(b"<rect y='44' width='18' height='18' fill='url(#faulty)'/>"),
-            Piece::Text(b"<text x='24' y='57'>faulty</text>\n"),
-            Piece::Text(b"<rect x='110' y='44' width='18' height='18' fill='silver'/>"),
-            Piece::Text(b"<path d='M110 44h8l-8 8z'/>"),
-            Piece::Text(b"<text x='134' y='57'>hit by an era's start</text>\n"),
-            Piece::Text(b"<path d='M0 68h6v14H0zM18 68h12v14H18zM36 68h18v14H36z' fill='gold'/>"),
-            Piece::Text(b"<path d='M0 68h18v14H0zM18 68h18v14H18zM36 68h18v14H36z'"),
-            Piece::Text(b" fill='none' stroke='black'/>"),
-            Piece::Text(b"<text x='60' y='79'>a king's turn: keep, mark, king</text>\n"),
-            Piece::Text(
-                b"<path d='M0 88h18v14H0z' fill='none' stroke='black' stroke-dasharray='2'/>",
-            ),
-            Piece::Text(b"<text x='24' y='99'>a turn that not all hear</text>\n</g>\n"),
         ],
     )
 }
@@ -173,7 +159,7 @@ fn put_legend_below<K: Sink>(sink: &mut K, frame: Frame, levels: &[Level]) -> Re
 fn put_trace_facts<K: Sink>(sink: &mut K, trace: &Trace) -> Result<(), WriteFault>
     ensures { Puts result (trace_facts trace.now) (K.told sink.old) (K.told sink.new) }
 {
-    put_span(sink, trace.frame)?;
+    written!(put_span(sink, trace.frame));
     put_number_caption(
         sink,
         bottom(trace.frame) + 28,
@@ -194,7 +180,7 @@ fn put_trace_front<K: Sink>(sink: &mut K, trace: &Trace) -> Result<(), WriteFaul
 fn put_captions<K: Sink>(sink: &mut K, trace: &Trace) -> Result<(), WriteFault>
     ensures { Puts result (trace_captions trace.now) (K.told sink.old) (K.told sink.new) }
 {
-    put_levels(sink, trace.frame, trace.captions())?;
+    written!(put_levels(sink, trace.frame, trace.captions()));
     put_legend_below(sink, trace.frame, trace.captions())
 }
 
@@ -202,9 +188,9 @@ fn put_captions<K: Sink>(sink: &mut K, trace: &Trace) -> Result<(), WriteFault>
 fn put_bands<K: Sink>(sink: &mut K, trace: &Trace) -> Result<(), WriteFault>
     ensures { Puts result (bands trace.now) (K.told sink.old) (K.told sink.new) }
 {
-    put_note_pictures(sink, trace.frame, trace.lines())?;
-    put_reigns(sink, trace.frame, trace.turns())?;
-    put_titles(sink, trace.frame, trace.heads())?;
+    written!(put_note_pictures(sink, trace.frame, trace.lines()));
+    written!(put_reigns(sink, trace.frame, trace.turns()));
+    written!(put_titles(sink, trace.frame, trace.heads()));
     put_starts(sink, trace.frame, trace.cells, trace.starts())
 }
 
@@ -212,12 +198,12 @@ fn put_bands<K: Sink>(sink: &mut K, trace: &Trace) -> Result<(), WriteFault>
 fn put_parts<K: Sink>(sink: &mut K, trace: &Trace) -> Result<(), WriteFault>
     ensures { Puts result (trace_picture trace.now) (K.told sink.old) (K.told sink.new) }
 {
-    put_trace_front(sink, trace)?;
-    put_ground(sink)?;
-    put_dots(sink)?;
-    put_bands(sink, trace)?;
-    put_trace_facts(sink, trace)?;
-    put_captions(sink, trace)?;
+    written!(put_trace_front(sink, trace));
+    written!(put_ground(sink));
+    written!(put_dots(sink));
+    written!(put_bands(sink, trace));
+    written!(put_trace_facts(sink, trace));
+    written!(put_captions(sink, trace));
     put_all(sink, b"</svg>\n")
 }
 

@@ -65,10 +65,7 @@ fn put_votes<K: Sink>(sink: &mut K, votes: &[u64]) -> Result<(), WriteFault>
     ensures { Puts result (flat_map vote_word votes.now) (K.told sink.old) (K.told sink.new) }
 {
     for i in 0..votes.len() {
-        match put_vote(sink, votes[i]) {
-            Ok(()) => {}
-            Err(WriteFault) => return Err(WriteFault),
-        }
+        written!(put_vote(sink, votes[i]));
     }
     Ok(())
 }
@@ -97,9 +94,9 @@ fn put_counts<K: Sink>(sink: &mut K, heard: &Heard) -> Result<(), WriteFault>
 fn put_heard<K: Sink>(sink: &mut K, heard: &Heard) -> Result<(), WriteFault>
     ensures { Puts result (heard_words heard.now) (K.told sink.old) (K.told sink.new) }
 {
-    put_all(sink, b" votes")?;
-    put_votes(sink, &heard.votes)?;
-    put_counts(sink, heard)?;
+    written!(put_all(sink, b" votes"));
+    written!(put_votes(sink, &heard.votes));
+    written!(put_counts(sink, heard));
     put_number_or_none(sink, heard.least)
 }
 
@@ -124,8 +121,8 @@ fn put_output_word<K: Sink>(sink: &mut K, output: u64) -> Result<(), WriteFault>
 fn put_output<K: Sink>(sink: &mut K, shown: Output) -> Result<(), WriteFault>
     ensures { Puts result (output_words shown) (K.told sink.old) (K.told sink.new) }
 {
-    put_all(sink, b" number ")?;
-    put_number_or_none(sink, shown.number)?;
+    written!(put_all(sink, b" number "));
+    written!(put_number_or_none(sink, shown.number));
     put_output_word(sink, shown.output)
 }
 
@@ -147,9 +144,9 @@ fn put_level<K: Sink>(sink: &mut K, level: u64) -> Result<(), WriteFault>
 fn put_register<K: Sink>(sink: &mut K, register: &Register) -> Result<(), WriteFault>
     ensures { Puts result (register_words register.now) (K.told sink.old) (K.told sink.new) }
 {
-    put_level(sink, register.level)?;
-    put_number_or_none(sink, register.value)?;
-    put_all(sink, held_word(register.held))?;
+    written!(put_level(sink, register.level));
+    written!(put_number_or_none(sink, register.value));
+    written!(put_all(sink, held_word(register.held)));
     put_heard_or_nothing(sink, &register.heard)
 }
 
@@ -183,8 +180,8 @@ fn put_front<K: Sink>(sink: &mut K, first: u32, note: &Note) -> Result<(), Write
 fn put_note<K: Sink>(sink: &mut K, first: u32, note: &Note) -> Result<(), WriteFault>
     ensures { Puts result (note_line first note.now) (K.told sink.old) (K.told sink.new) }
 {
-    put_front(sink, first, note)?;
-    put_seen(sink, &note.seen)?;
+    written!(put_front(sink, first, note));
+    written!(put_seen(sink, &note.seen));
     put_all(sink, b"\n")
 }
 
@@ -193,10 +190,7 @@ pub fn put_trace<K: Sink>(sink: &mut K, first: u32, notes: &[Note]) -> Result<()
     ensures { Puts result (trace_text first notes.now) (K.told sink.old) (K.told sink.new) }
 {
     for note in notes {
-        match put_note(sink, first, note) {
-            Ok(()) => {}
-            Err(WriteFault) => return Err(WriteFault),
-        }
+        written!(put_note(sink, first, note));
     }
     Ok(())
 }

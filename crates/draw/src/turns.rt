@@ -79,7 +79,7 @@ fn put_reign_box<K: Sink>(sink: &mut K, spot: Spot, reign: Reign) -> Result<(), 
 fn put_reign_at<K: Sink>(sink: &mut K, spot: Spot, reign: Reign) -> Result<(), WriteFault>
     ensures { Puts result (reign_at spot reign) (K.told sink.old) (K.told sink.new) }
 {
-    put_reign_box(sink, spot, reign)?;
+    written!(put_reign_box(sink, spot, reign));
     put_number_at(sink, middle(spot), spot_top(spot) + 11, reign.king)
 }
 
@@ -107,10 +107,7 @@ pub fn put_reigns<K: Sink>(sink: &mut K, frame: Frame, reigns: &[Reign]) -> Resu
         (K.told sink.old) (K.told sink.new) }
 {
     for i in 0..reigns.len() {
-        match put_reign(sink, frame, reigns[i]) {
-            Ok(()) => {}
-            Err(WriteFault) => return Err(WriteFault),
-        }
+        written!(put_reign(sink, frame, reigns[i]));
     }
     Ok(())
 }

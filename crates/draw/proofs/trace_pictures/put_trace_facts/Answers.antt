@@ -1,13 +1,12 @@
-use Rattle.texts.proofs.Growth.{cut_more, puts_exit, puts_then}
+use Rattle.texts.proofs.Growth.{cut_more, puts_then}
 use Rattle.draw.specs.Pictures.{span_caption}
 use Rattle.draw.proofs.trace_pictures.put_trace_facts.Goals as goal
 
-pub returns-in_err-put_span : goal.returns-in_err-put_span
-returns-in_err-put_span g c =
-    puts_exit _ _ _ _ _ c.from_residual.ensures.1
-    (cut_more _ _ (span_caption c.args.trace.now.frame) _ c.in_err-put_span.ensures)
+pub returns-in-Err : goal.returns-in-Err
+returns-in-Err g c =
+    cut_more _ _ (span_caption c.args.trace.now.frame) _ c.in-Err.ensures
 
 pub returns : goal.returns
 returns g c =
-    puts_then _ _ _ _ (span_caption c.args.trace.now.frame) _ c.in_ok-put_span.ensures
+    puts_then _ _ _ _ (span_caption c.args.trace.now.frame) _ c.in-Ok.ensures
     (rw (c.bottom.ensures.value, c.from.ensures) at c.put_number_caption.ensures)
