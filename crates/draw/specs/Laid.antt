@@ -1,7 +1,6 @@
 -- Where the words of a chart's rows belong, and the lines behind the rows.
 use Rattle.std.specs.Prelude.{◌≡◌, ◌+◌, ◌*◌, ◌<◌, List, [], ◌∷◌, length, map, All, None}
 use Rattle.std.specs.List.{range_with_len}
-use Rattle.draw.specs.declared.charts.Cell.{Cell}
 use Rattle.draw.specs.declared.charts.End.{End}
 use Rattle.draw.specs.declared.charts.Chart.{Chart}
 

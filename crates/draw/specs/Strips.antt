@@ -7,7 +7,6 @@ use Rattle.draw.specs.declared.traces.Held.{Held}
 use Rattle.draw.specs.declared.traces.Held.TheVariants.{Unmarked, Marked, Locked}
 use Rattle.draw.specs.declared.traces.Turn.{Turn}
 use Rattle.draw.specs.declared.traces.Turn.TheVariants.{Keep, Mark, King}
-use Rattle.draw.specs.declared.traces.Output.{Output}
 use Rattle.draw.specs.declared.traces.Register.{Register}
 use Rattle.draw.specs.declared.traces.Seen.{Seen}
 use Rattle.draw.specs.declared.traces.Seen.TheVariants.{Shows, Holds}

@@ -31,11 +31,11 @@ fn tell_alone<K: Sink>(word: &str, sink: &mut K) -> Result<bool, WriteFault>
     ensures { Tells (text_alone word.now) (K.told sink.old) (K.told sink.new) result }
 {
     if word == "--help" {
-        put_help(sink)?;
+        written!(put_help(sink));
         return Ok(true);
     }
     if word == "--version" {
-        put_version(sink)?;
+        written!(put_version(sink));
         return Ok(true);
     }
     Ok(false)

@@ -21,7 +21,7 @@ use std::alloc::Global;
 use thiserror::Error;
 
 /// Why nothing was drawn, or not all.
-#[derive(Clone, Copy, Debug, PartialEq, Eq, Error)]
+#[derive(Clone, Copy, Debug, Error)]
 pub enum DrawError {
     /// A line is not what should stand there.
     #[error("{0}")]
@@ -60,9 +60,9 @@ impl From<NoMemory> for DrawError {
 fn is_text_of(alloc: Global, chart: &Chart, text: &[u8]) -> Result<bool, NoMemory>
     ensures { IfOk result (λ same. same ≡ true → chart_text chart.now ≡ text.now) }
 {
-    let mut sink = MemSink::new(alloc, text.len(), Vec::new(alloc), Vec::new(alloc))?;
-    match put_chart(&mut sink, chart) {
-        Ok(()) => Ok(sink.taken() == text),
+    let mut written = MemSink::new(alloc, text.len(), Vec::new(alloc), Vec::new(alloc))?;
+    match put_chart(&mut written, chart) {
+        Ok(()) => Ok(written.taken() == text),
         Err(WriteFault) => Ok(false),
     }
 }
@@ -79,18 +79,30 @@ fn is_text_of_trace(alloc: Global, trace: &Trace, text: &[u8]) -> Result<bool, N
     }
 }
 
+/// Draws a chart, if its text is this one.
+fn draw_chart<K: Sink>(
+    alloc: Global,
+    chart: &Chart,
+    text: &[u8],
+    sink: &mut K,
+) -> Result<(), DrawError>
+    ensures { Does result (DrawsRows text.now) (K.told sink.old) (K.told sink.new) }
+{
+    if !is_text_of(alloc, chart, text)? || !is_laid(chart) {
+        return Err(DrawError::Open);
+    }
+    match put_picture(sink, chart) {
+        Ok(()) => Ok(()),
+        Err(WriteFault) => Err(DrawError::Write),
+    }
+}
+
 /// Draws a text that `run` wrote.
 fn draw_rows<K: Sink>(alloc: Global, text: &[u8], sink: &mut K) -> Result<(), DrawError>
     ensures { Does result (DrawsRows text.now) (K.told sink.old) (K.told sink.new) }
 {
     let chart = read_chart(alloc, text)?;
-    if !is_text_of(alloc, &chart, text)? || !is_laid(&chart) {
-        return Err(DrawError::Open);
-    }
-    match put_picture(sink, &chart) {
-        Ok(()) => Ok(()),
-        Err(WriteFault) => Err(DrawError::Write),
-    }
+    draw_chart(alloc, &chart, text, sink)
 }
 
 /// Reads a trace, with all that is drawn of it.
@@ -101,18 +113,30 @@ fn trace_of(alloc: Global, text: &[u8]) -> Result<Trace, ChartError> {
     Ok(trace)
 }
 
+/// Draws a trace, if its text is this one.
+fn draw_lines<K: Sink>(
+    alloc: Global,
+    trace: &Trace,
+    text: &[u8],
+    sink: &mut K,
+) -> Result<(), DrawError>
+    ensures { Does result (DrawsTrace text.now) (K.told sink.old) (K.told sink.new) }
+{
+    if !is_text_of_trace(alloc, trace, text)? {
+        return Err(DrawError::Open);
+    }
+    match put_trace_picture(sink, trace) {
+        Ok(()) => Ok(()),
+        Err(WriteFault) => Err(DrawError::Write),
+    }
+}
+
 /// Draws a text that `trace` wrote.
 fn draw_trace<K: Sink>(alloc: Global, text: &[u8], sink: &mut K) -> Result<(), DrawError>
     ensures { Does result (DrawsTrace text.now) (K.told sink.old) (K.told sink.new) }
 {
     let trace = trace_of(alloc, text)?;
-    if !is_text_of_trace(alloc, &trace, text)? {
-        return Err(DrawError::Open);
-    }
-    match put_trace_picture(sink, &trace) {
-        Ok(()) => Ok(()),
-        Err(WriteFault) => Err(DrawError::Write),
-    }
+    draw_lines(alloc, &trace, text, sink)
 }
 
 /// Draws a text that `run` or `trace` wrote. Where it answers Ok, the text is that of a chart or of

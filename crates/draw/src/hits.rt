@@ -3,7 +3,7 @@
 ghost use Rattle.std.specs.Prelude.{◌≡◌};
 ghost use Rattle.draw.specs.Hits.{may_follow};
 
-use crate::charts::{Cell, Chart};
+use crate::charts::{Cell, Chart, End};
 use crate::reading::ChartError;
 use crate::traces::{Note, Seen, Trace};
 use std::alloc::{AllocFailed, Global};
@@ -46,23 +46,25 @@ fn mark_row(cells: &mut [Cell], nodes: usize, row: usize, most: u64) {
     }
 }
 
-/// The row in which an era begins whose start is seen: the one before is shown, and locked.
-fn seen_start(chart: &Chart, i: usize) -> Option<u32> {
-    let begin = chart.ends.get(i)?.era?;
-    let locked = chart.ends.get(i.checked_sub(1)?)?.locked?;
-    if locked >= begin || begin <= chart.first {
-        return None;
+/// The row in which the next era begins, if its start is seen: the row before is shown, and locked.
+fn seen_start(first: u32, end: End) -> Option<u32> {
+    match (end.locked, end.next) {
+        (Some(locked), Some(next)) if locked < next && first < next => Some(next - first),
+        _ => None,
     }
-    Some(begin - chart.first)
 }
 
 /// Marks the nodes that the starts of eras hit, as far as the rows show it.
 pub fn mark_hits(chart: &mut Chart) {
     let most = most_shown(&chart.cells);
-    for i in 0..chart.ends.len() {
-        if let Some(row) = seen_start(chart, i) {
-            let nodes = usize::from(chart.nodes);
-            mark_row(&mut chart.cells, nodes, row as usize, most);
+    for end in chart.ends.iter() {
+        if let Some(row) = seen_start(chart.first, *end) {
+            mark_row(
+                &mut chart.cells,
+                usize::from(chart.nodes),
+                row as usize,
+                most,
+            );
         }
     }
 }
@@ -114,28 +116,45 @@ fn add_era(eras: &mut Vec<u32>, column: u32) -> Result<(), AllocFailed<u32>> {
     eras.push(column)
 }
 
+/// Takes a line on a node's state, of the node at a place, and marks a hit. Answers whether an era
+/// must begin here.
+fn follow(
+    pasts: &mut Vec<Past>,
+    place: usize,
+    note: &mut Note,
+    most: u64,
+) -> Result<bool, AllocFailed<Past>> {
+    let now = past_of(note);
+    if place < pasts.len() {
+        let begins = compare(note, pasts[place], most);
+        pasts[place] = now;
+        return Ok(begins);
+    }
+    pasts.push(now)?;
+    Ok(false)
+}
+
+/// Does the same for all lines, and keeps what the nodes were.
+fn mark_notes(trace: &mut Trace, pasts: &mut Vec<Past>) -> Result<(), ChartError> {
+    let most = most_numbered(&trace.notes);
+    let mut place: usize = 0;
+    for note in trace.notes.iter_mut() {
+        if matches!(note.seen, Seen::Shows(_)) {
+            if note.is_first {
+                place = 0;
+            }
+            if follow(pasts, place, note, most)? {
+                add_era(&mut trace.eras, note.column)?;
+            }
+            place = place.saturating_add(1);
+        }
+    }
+    Ok(())
+}
+
 /// Marks the nodes that the starts of eras hit, as far as their numbers show it, and finds where an
 /// era must begin.
 pub fn mark_trace(alloc: Global, trace: &mut Trace) -> Result<(), ChartError> {
-    let most = most_numbered(&trace.notes);
-    let mut pasts: Vec<Past> = Vec::new(alloc);
-    let mut place: usize = 0;
-    for note in trace.notes.iter_mut() {
-        if matches!(note.seen, Seen::Holds(_)) {
-            continue;
-        }
-        if note.is_first {
-            place = 0;
-        }
-        if place < pasts.len() {
-            if compare(note, pasts[place], most) {
-                add_era(&mut trace.eras, note.column)?;
-            }
-            pasts[place] = past_of(note);
-        } else {
-            pasts.push(past_of(note))?;
-        }
-        place = place.saturating_add(1);
-    }
-    Ok(())
+    let mut pasts = Vec::new(alloc);
+    mark_notes(trace, &mut pasts)
 }

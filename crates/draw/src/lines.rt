@@ -2,20 +2,26 @@
 
 use edge_io::{Words, number, numbers_after};
 
-/// A number that a row or a line behind the rows may name.
-fn small(n: u64) -> Option<u32> {
-    u32::try_from(n).ok()
-}
-
 /// The number of a line that is a key and a number behind it.
 pub fn number_after(line: &[u8], key: &[u8]) -> Option<u64> {
     let numbers: [u64; 1] = numbers_after(line, key)?;
     Some(numbers[0])
 }
 
+/// What a word is as a number of 32 bits, as a row or a line behind the rows may name.
+fn small(word: &[u8]) -> Option<u32> {
+    match number(word) {
+        Some(n) => u32::try_from(n).ok(),
+        None => None,
+    }
+}
+
 /// The next word as a number of 32 bits.
 pub fn next_number(words: &mut Words<'_>) -> Option<u32> {
-    small(number(words.next()?)?)
+    match words.next() {
+        Some(word) => small(word),
+        None => None,
+    }
 }
 
 /// Whether the next word is this one.
@@ -26,44 +32,65 @@ pub fn next_is(words: &mut Words<'_>, key: &[u8]) -> bool {
     }
 }
 
+/// The number of 32 bits behind a key that is the next word.
+pub fn number_behind(words: &mut Words<'_>, key: &[u8]) -> Option<u32> {
+    if next_is(words, key) {
+        next_number(words)
+    } else {
+        None
+    }
+}
+
 /// What a word of a row says: an output, or None for a star.
 pub fn shown(word: &[u8]) -> Option<Option<u64>> {
     if word == b"*".as_slice() {
         return Some(None);
     }
-    Some(Some(number(word)?))
+    match number(word) {
+        Some(output) => Some(Some(output)),
+        None => None,
+    }
+}
+
+/// The number that a word is, or None for `none`.
+fn small_or_none(word: &[u8]) -> Option<Option<u32>> {
+    if word == b"none".as_slice() {
+        return Some(None);
+    }
+    match small(word) {
+        Some(n) => Some(Some(n)),
+        None => None,
+    }
 }
 
 /// The number that a last word is, or None for `none`. Nothing follows.
 fn last_number(words: &mut Words<'_>) -> Option<Option<u32>> {
-    let word = words.next()?;
-    if words.next().is_some() {
-        return None;
+    match (words.next(), words.next()) {
+        (Some(word), None) => small_or_none(word),
+        _ => None,
     }
-    if word == b"none".as_slice() {
-        return Some(None);
+}
+
+/// What `locked W` says, with which a line ends.
+fn locked_behind(words: &mut Words<'_>) -> Option<Option<u32>> {
+    if next_is(words, b"locked") {
+        last_number(words)
+    } else {
+        None
     }
-    Some(Some(small(number(word)?)?))
 }
 
 /// What a line `locked W` says.
 pub fn locked_line(line: &[u8]) -> Option<Option<u32>> {
-    let mut words = Words::new(line);
-    if !next_is(&mut words, b"locked") {
-        return None;
-    }
-    last_number(&mut words)
+    locked_behind(&mut Words::new(line))
 }
 
 /// What a line `era A locked W` says.
 pub fn era_line(line: &[u8]) -> Option<(u32, Option<u32>)> {
     let mut words = Words::new(line);
-    if !next_is(&mut words, b"era") {
-        return None;
+    let begin = number_behind(&mut words, b"era");
+    match (begin, locked_behind(&mut words)) {
+        (Some(begin), Some(locked)) => Some((begin, locked)),
+        _ => None,
     }
-    let begin = next_number(&mut words)?;
-    if !next_is(&mut words, b"locked") {
-        return None;
-    }
-    Some((begin, last_number(&mut words)?))
 }

@@ -45,7 +45,7 @@ mod turns;
 use crate::asking::tell;
 use crate::drawing::{DrawError, draw};
 use crate::reading::ChartError;
-use edge_io::{StdSink, StdSource, first_line, read_all};
+use edge_io::{Sink, StdSink, StdSource, first_line, read_all};
 use program_words::{arguments, words};
 use std::io;
 use std::process::ExitCode;
@@ -63,23 +63,35 @@ fn refusal(input: &[u8]) -> Option<&str> {
     str::from_utf8(line).ok()
 }
 
-fn main(rt: HostRuntime) -> anyhow::Result<ExitCode> {
-    let arguments = arguments(&rt)?;
-    let mut sink = StdSink::new(io::writer(&rt));
-    if tell(words(&arguments), &mut sink)? {
-        return Ok(ExitCode::SUCCESS);
-    }
-    let mut source = StdSource::new(rt.stdin());
-    let input = read_all(rt.alloc(), &mut source, LONGEST_INPUT)?;
-    if let Some(line) = refusal(&input) {
+/// Draws what was read, or tells why it does not.
+fn draw_input<K: Sink>(rt: &HostRuntime, input: &[u8], sink: &mut K) -> anyhow::Result<ExitCode> {
+    if let Some(line) = refusal(input) {
         eprintln!(rt; "no run to draw: {line}")?;
         return Ok(ExitCode::FAILURE);
     }
-    match draw(rt.alloc(), &input, &mut sink) {
-        Ok(()) => Ok(ExitCode::SUCCESS),
-        Err(error) => {
-            eprintln!(rt; "no run to draw: {error}")?;
-            Ok(ExitCode::FAILURE)
-        }
+    if let Err(error) = draw(rt.alloc(), input, sink) {
+        eprintln!(rt; "no run to draw: {error}")?;
+        return Ok(ExitCode::FAILURE);
     }
+    Ok(ExitCode::SUCCESS)
+}
+
+/// Reads standard input and draws it.
+fn draw_stdin<K: Sink>(rt: &HostRuntime, sink: &mut K) -> anyhow::Result<ExitCode> {
+    let input = read_all(rt.alloc(), &mut StdSource::new(rt.stdin()), LONGEST_INPUT)?;
+    draw_input(rt, &input, sink)
+}
+
+/// Whether a word asked for a text, which was then written.
+fn is_told<K: Sink>(rt: &HostRuntime, sink: &mut K) -> anyhow::Result<bool> {
+    let arguments = arguments(rt)?;
+    Ok(tell(words(&arguments), sink)?)
+}
+
+fn main(rt: HostRuntime) -> anyhow::Result<ExitCode> {
+    let mut sink = StdSink::new(io::writer(&rt));
+    if is_told(&rt, &mut sink)? {
+        return Ok(ExitCode::SUCCESS);
+    }
+    draw_stdin(&rt, &mut sink)
 }

@@ -2,9 +2,10 @@
 
 use crate::charts::{Cell, Chart, End};
 use crate::hits::mark_hits;
-use crate::lines::{era_line, locked_line, next_is, next_number, number_after, shown};
+use crate::lines::{era_line, locked_line, number_after, number_behind, shown};
 use edge_io::{Lines, Words};
 use std::alloc::{AllocError, AllocFailed, Global};
+use std::fmt;
 use thiserror::Error;
 
 /// How many nodes a row has at most.
@@ -17,26 +18,39 @@ const MOST_ERAS: usize = 17;
 const MOST_BOUND: u64 = 1 << 50;
 
 /// Which line should stand at a place.
-#[derive(Clone, Copy, Debug, PartialEq, Eq, Error)]
+#[derive(Clone, Copy, Debug)]
 pub enum Wanted {
-    #[error("`bound` and a number")]
     Bound,
-    #[error("a row: `row`, the number of a configuration, and a number or a star for each node")]
     Row,
-    #[error("the next row, with as many words, or the first line on what is locked")]
     Further,
-    #[error("the line of a later era, or nothing")]
     Era,
-    #[error("nothing")]
     Nothing,
-    #[error("the next line of a trace: the next node, or the next level of the same one")]
     Trace,
-    #[error("the line of a trace for the next node")]
     Node,
 }
 
+impl fmt::Display for Wanted {
+    fn fmt<W: fmt::Write>(&self, f: &mut fmt::Formatter<W>) -> Result<(), fmt::Error> {
+        f.write_str(match self {
+            Wanted::Bound => "`bound` and a number",
+            Wanted::Row => {
+                "a row: `row`, the number of a configuration, and a number or a star for each node"
+            }
+            Wanted::Further => {
+                "the next row, with as many words, or the first line on what is locked"
+            }
+            Wanted::Era => "the line of a later era, or nothing",
+            Wanted::Nothing => "nothing",
+            Wanted::Trace => {
+                "the next line of a trace: the next node, or the next level of the same one"
+            }
+            Wanted::Node => "the line of a trace for the next node",
+        })
+    }
+}
+
 /// Why there is no chart.
-#[derive(Clone, Copy, Debug, PartialEq, Eq, Error)]
+#[derive(Clone, Copy, Debug, Error)]
 pub enum ChartError {
     /// A line, counted from 1, is not what should stand there.
     #[error("line {line} should be {wanted}")]
@@ -92,27 +106,32 @@ fn take_bound(draft: &mut Draft, line: &[u8]) -> Result<(), LineError> {
     }
 }
 
+/// Takes a word of a row.
+fn take_word(chart: &mut Chart, node: u16, word: &[u8]) -> Result<(), LineError> {
+    match shown(word) {
+        Some(shown) if node < MOST_NODES => {
+            let row = chart.rows;
+            chart.digits = chart.digits.max(u16::try_from(word.len()).unwrap_or(15));
+            chart.cells.push(Cell {
+                row,
+                node,
+                shown,
+                is_hit: false,
+            })?;
+            Ok(())
+        }
+        _ => Err(LineError::Unwanted),
+    }
+}
+
 /// Takes the words of a row, and answers how many these are.
 fn take_words(chart: &mut Chart, words: Words<'_>) -> Result<u16, LineError> {
-    let mut node = 0;
+    let mut nodes: u16 = 0;
     for word in words {
-        let Some(shown) = shown(word) else {
-            return Err(LineError::Unwanted);
-        };
-        if node >= MOST_NODES {
-            return Err(LineError::Unwanted);
-        }
-        let row = chart.rows;
-        chart.cells.push(Cell {
-            row,
-            node,
-            shown,
-            is_hit: false,
-        })?;
-        chart.digits = chart.digits.max(u16::try_from(word.len()).unwrap_or(15));
-        node += 1;
+        take_word(chart, nodes, word)?;
+        nodes = nodes.saturating_add(1);
     }
-    Ok(node)
+    Ok(nodes)
 }
 
 /// Whether a configuration is the one of the next row. That of the first row is kept.
@@ -123,27 +142,27 @@ fn is_next(chart: &mut Chart, t: u32) -> bool {
     u64::from(chart.first) + u64::from(chart.rows) == u64::from(t)
 }
 
-/// Takes a row.
-fn take_row(draft: &mut Draft, line: &[u8]) -> Result<(), LineError> {
-    let mut words = Words::new(line);
-    if !next_is(&mut words, b"row") {
-        return Err(LineError::Unwanted);
-    }
-    let Some(t) = next_number(&mut words) else {
-        return Err(LineError::Unwanted);
-    };
-    let chart = &mut draft.chart;
-    if !is_next(chart, t) || t > 1000000 {
-        return Err(LineError::Unwanted);
-    }
-    let nodes = take_words(chart, words)?;
+/// Ends a row, which has as many words as each one before.
+fn end_row(chart: &mut Chart, nodes: u16) -> Result<(), LineError> {
     if nodes == 0 || (chart.rows > 0 && nodes != chart.nodes) {
         return Err(LineError::Unwanted);
     }
     chart.nodes = nodes;
     chart.rows = chart.rows.saturating_add(1);
-    draft.wanted = Wanted::Further;
     Ok(())
+}
+
+/// Takes a row.
+fn take_row(draft: &mut Draft, line: &[u8]) -> Result<(), LineError> {
+    let mut words = Words::new(line);
+    match number_behind(&mut words, b"row") {
+        Some(t) if is_next(&mut draft.chart, t) && t <= 1000000 => {
+            let nodes = take_words(&mut draft.chart, words)?;
+            draft.wanted = Wanted::Further;
+            end_row(&mut draft.chart, nodes)
+        }
+        _ => Err(LineError::Unwanted),
+    }
 }
 
 /// How many digits the configurations of up to 1000000 have.
@@ -248,17 +267,12 @@ fn empty(alloc: Global) -> Chart {
     }
 }
 
-/// Reads a chart. The error is the first line that is not what should stand there, which is the
-/// line after the last where one is missing; or want of memory.
-pub fn read_chart(alloc: Global, text: &[u8]) -> Result<Chart, ChartError> {
-    let mut draft = Draft {
-        chart: empty(alloc),
-        wanted: Wanted::Bound,
-    };
+/// Takes all lines, of which the last is behind the rows.
+fn take_lines(draft: &mut Draft, text: &[u8]) -> Result<(), ChartError> {
     let mut next = 1;
     for (line, bytes) in Lines::new(text, 1) {
         let wanted = draft.wanted;
-        match take(&mut draft, bytes) {
+        match take(draft, bytes) {
             Ok(()) => next = line.saturating_add(1),
             Err(LineError::Unwanted) => return Err(ChartError::Line { line, wanted }),
             Err(LineError::NoMemory) => return Err(ChartError::NoMemory),
@@ -268,9 +282,25 @@ pub fn read_chart(alloc: Global, text: &[u8]) -> Result<Chart, ChartError> {
         let wanted = draft.wanted;
         return Err(ChartError::Line { line: next, wanted });
     }
-    let last = draft.chart.first.saturating_add(draft.chart.rows);
-    draft.chart.digits = draft.chart.digits.max(digits_of(last.saturating_sub(1)));
-    let mut chart = draft.chart;
-    mark_hits(&mut chart);
-    Ok(chart)
+    Ok(())
+}
+
+/// Ends a chart whose lines are all taken: its columns are as wide as configurations need, and hits
+/// are marked.
+fn end_chart(chart: &mut Chart) {
+    let last = chart.first.saturating_add(chart.rows);
+    chart.digits = chart.digits.max(digits_of(last.saturating_sub(1)));
+    mark_hits(chart);
+}
+
+/// Reads a chart. The error is the first line that is not what should stand there, which is the
+/// line after the last where one is missing; or want of memory.
+pub fn read_chart(alloc: Global, text: &[u8]) -> Result<Chart, ChartError> {
+    let mut draft = Draft {
+        chart: empty(alloc),
+        wanted: Wanted::Bound,
+    };
+    take_lines(&mut draft, text)?;
+    end_chart(&mut draft.chart);
+    Ok(draft.chart)
 }

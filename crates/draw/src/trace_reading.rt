@@ -134,8 +134,8 @@ fn longest_of(register: &Register) -> u16 {
     length_of(king).max(length_of(register.value.unwrap_or(0)))
 }
 
-/// Takes a line.
-fn take(draft: &mut Draft, line: TraceLine) -> Result<(), TraceFault> {
+/// Takes what a line says.
+fn take(draft: &mut Draft, line: &TraceLine) -> Result<(), TraceFault> {
     if line.t > 1000000 {
         return Err(TraceFault::Unwanted);
     }
@@ -145,11 +145,16 @@ fn take(draft: &mut Draft, line: TraceLine) -> Result<(), TraceFault> {
             length_of(shown.output)
         }
         Seen::Holds(register) => {
-            take_level(draft, &line, register.level)?;
+            take_level(draft, line, register.level)?;
             longest_of(register)
         }
     };
     draft.digits = draft.digits.max(digits);
+    Ok(())
+}
+
+/// Adds a line that was taken.
+fn add_note(draft: &mut Draft, line: TraceLine) -> Result<(), TraceFault> {
     let is_first = draft.place == 0 && draft.level == 0;
     let column = draft.trace.frame.columns.saturating_sub(1);
     draft.trace.notes.push(line.into_note(column, is_first))?;
@@ -193,7 +198,8 @@ fn finished(draft: Draft, line: u64) -> Result<Trace, ChartError> {
 /// Reads a line and takes it.
 fn take_bytes(alloc: Global, draft: &mut Draft, bytes: &[u8]) -> Result<(), TraceFault> {
     let line = trace_line(alloc, bytes)?;
-    take(draft, line)
+    take(draft, &line)?;
+    add_note(draft, line)
 }
 
 /// Reads a trace. The error is the first line that is not what should stand there, which is the

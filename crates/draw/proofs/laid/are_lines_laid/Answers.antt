@@ -1,4 +1,3 @@
-use Rattle.std.proofs.Common.{arith}
 use Rattle.draw.proofs.Laying.{one_more}
 use Rattle.draw.proofs.laid.are_lines_laid.Goals as goal
 
