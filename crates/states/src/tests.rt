@@ -1,47 +1,73 @@
-use crate::answer;
+use crate::{LONGEST_INPUT, answer};
+use std::alloc::Global;
 use std::test::Fail;
 
 const FOUR: &str = "plan 2\nbase 576\nlevel 3 1 10 spare 1\nend\n";
 
-#[test]
-fn states_without_a_layer_are_turned(rt: HostRuntime) -> Result<(), Fail> {
-    let text = format!(in rt.alloc(); "{FOUR}node 0 0014\n#\nnode 3 registers infinite marked\n")?;
-    let turned = answer(rt.alloc(), text.as_bytes())?;
-    assert_eq!(rt; turned.as_str(), "node 0 number 0 registers 5\nnode 3 a8\n");
-    Ok(())
+const ONE: &str = "plan 1\nbase 5\nend\n";
+
+macro_rules! not_values {
+    ($line:literal) => {
+        concat!(
+            "line ",
+            $line,
+            " should be `values V`, V from 2 to 65536, at most twice and with one V"
+        )
+    };
+}
+
+macro_rules! not_a_state {
+    ($line:literal) => {
+        concat!(
+            "line ",
+            $line,
+            " should be `node V`, and behind it hex digits or `number X registers R, R`"
+        )
+    };
+}
+
+/// A plan, lines behind it, and what is answered.
+const CASES: [(&str, &str, &str); 10] = [
+    // States without a layer are turned.
+    (
+        FOUR,
+        "node 0 0014\n#\nnode 3 registers infinite marked\n",
+        "node 0 number 0 registers 5\nnode 3 a8\n",
+    ),
+    // A plan without levels has the registers of a layer.
+    (
+        ONE,
+        "values 2\nnode 0 bc\n",
+        "node 0 number 0 registers infinite marked\n",
+    ),
+    // Lines of values are refused.
+    (FOUR, "values\n", not_values!(5)),
+    (FOUR, "values 1\n", not_values!(5)),
+    (FOUR, "values 65537\n", not_values!(5)),
+    (FOUR, "values 5 5\n", not_values!(5)),
+    (FOUR, "values 5\nvalues 4\n", not_values!(6)),
+    (FOUR, "values 5\n\nvalues 5\nvalues 5\n", not_values!(8)),
+    (FOUR, "node 3 00\nvalues 5\n", not_a_state!(6)),
+    (FOUR, "Values 5\n", not_a_state!(5)),
+];
+
+/// Whether this is answered to lines behind a plan: their other forms, or why they are refused.
+fn are_answered(alloc: Global, plan: &str, lines: &str, wanted: &str) -> Result<bool, Fail> {
+    let input = format!(in alloc; "{plan}{lines}")?;
+    if input.len() > LONGEST_INPUT {
+        return Ok(false);
+    }
+    match answer(alloc, input.as_bytes()) {
+        Ok(turned) => Ok(turned.as_str() == wanted),
+        Err(error) => Ok(format!(in alloc; "{error}")?.as_str() == wanted),
+    }
 }
 
 #[test]
-fn a_plan_without_levels_has_the_registers_of_a_layer(rt: HostRuntime) -> Result<(), Fail> {
-    let text = "plan 1\nbase 5\nend\nvalues 2\nnode 0 bc\n";
-    let turned = answer(rt.alloc(), text.as_bytes())?;
-    assert_eq!(rt;
-        turned.as_str(),
-        "node 0 number 0 registers infinite marked\n"
-    );
-    Ok(())
-}
-
-#[test]
-fn lines_of_values_are_refused(rt: HostRuntime) -> Result<(), Fail> {
-    let values = "should be `values V`, V from 2 to 65536, at most twice and with one V";
-    let state = "should be `node V`, and behind it hex digits or `number X registers R, R`";
-    let rows = [
-        ("values\n", 5, values),
-        ("values 1\n", 5, values),
-        ("values 65537\n", 5, values),
-        ("values 5 5\n", 5, values),
-        ("values 5\nvalues 4\n", 6, values),
-        ("values 5\n\nvalues 5\nvalues 5\n", 8, values),
-        ("node 3 00\nvalues 5\n", 6, state),
-        ("Values 5\n", 5, state),
-    ];
-    for (behind, line, what) in rows {
-        let text = format!(in rt.alloc(); "{FOUR}{behind}")?;
-        let refused = answer(rt.alloc(), text.as_bytes()).err();
-        let wanted = format!(in rt.alloc(); "line {line} {what}")?;
-        let said = refused.map(|error| format!(in rt.alloc(); "{error}"));
-        assert!(rt; said == Some(Ok(wanted)), "at {behind}");
+fn lines_behind_a_plan_are_turned_or_refused(rt: HostRuntime) -> Result<(), Fail> {
+    for (plan, lines, wanted) in CASES {
+        let is_answered = are_answered(rt.alloc(), plan, lines, wanted)?;
+        assert!(rt; is_answered, "at {lines}");
     }
     Ok(())
 }
