@@ -116,22 +116,25 @@ fn add_era(eras: &mut Vec<u32>, column: u32) -> Result<(), AllocFailed<u32>> {
     eras.push(column)
 }
 
-/// Takes a line on a node's state, of the node at a place, and marks a hit. Answers whether an era
-/// must begin here.
+/// Takes a line on the state of the node at a place: marks a hit, and adds the line's column where
+/// an era must begin.
 fn follow(
+    eras: &mut Vec<u32>,
     pasts: &mut Vec<Past>,
     place: usize,
     note: &mut Note,
     most: u64,
-) -> Result<bool, AllocFailed<Past>> {
+) -> Result<(), ChartError> {
     let now = past_of(note);
-    if place < pasts.len() {
-        let begins = compare(note, pasts[place], most);
-        pasts[place] = now;
-        return Ok(begins);
+    if place >= pasts.len() {
+        pasts.push(now)?;
+        return Ok(());
     }
-    pasts.push(now)?;
-    Ok(false)
+    if compare(note, pasts[place], most) {
+        add_era(eras, note.column)?;
+    }
+    pasts[place] = now;
+    Ok(())
 }
 
 /// Does the same for all lines, and keeps what the nodes were.
@@ -143,9 +146,7 @@ fn mark_notes(trace: &mut Trace, pasts: &mut Vec<Past>) -> Result<(), ChartError
             if note.is_first {
                 place = 0;
             }
-            if follow(pasts, place, note, most)? {
-                add_era(&mut trace.eras, note.column)?;
-            }
+            follow(&mut trace.eras, pasts, place, note, most)?;
             place = place.saturating_add(1);
         }
     }

@@ -60,11 +60,13 @@ impl TraceLine {
     }
 }
 
-/// The words of a line that are still to be read, and whether one so far was not wanted.
+/// The words of a line that are still to be read, whether one so far was not wanted, and whether
+/// memory ran out.
 #[derive(Drop)]
 struct Reader<'a> {
     words: Words<'a>,
     is_unwanted: bool,
+    lacks_memory: bool,
 }
 
 impl<'a> Reader<'a> {
@@ -169,56 +171,58 @@ impl<'a> Reader<'a> {
     }
 
     /// The votes up to the word `lead`, which is read too.
-    fn votes(&mut self, alloc: Global) -> Result<Vec<u64>, AllocFailed<u64>> {
+    fn votes(&mut self, alloc: Global) -> Vec<u64> {
         let mut votes = Vec::new(alloc);
         for _ in 0..MOST_BLOCKS {
             let word = self.word();
             if word == b"lead".as_slice() {
-                return Ok(votes);
+                return votes;
             }
             let vote = self.number_of(word);
             if self.is_unwanted {
-                return Ok(votes);
+                return votes;
             }
-            votes.push(vote)?;
+            if votes.push(vote).is_err() {
+                self.lacks_memory = true;
+                return votes;
+            }
         }
         self.want(false);
-        Ok(votes)
+        votes
     }
 
     /// What a node hears, behind the word `votes`.
-    fn heard(&mut self, alloc: Global) -> Result<Heard, TraceFault> {
-        Ok(Heard {
-            votes: self.votes(alloc)?,
+    fn heard(&mut self, alloc: Global) -> Heard {
+        Heard {
+            votes: self.votes(alloc),
             lead: self.number(),
             position: self.number_after(b"position"),
             turn: self.turn(),
             king: self.number_after(b"king"),
             same: self.number_after(b"same"),
             least: self.number_or_none_after(b"least"),
-        })
+        }
     }
 
     /// What a node hears, if the line goes on.
-    fn heard_or_nothing(&mut self, alloc: Global) -> Result<Option<Heard>, TraceFault> {
-        let Some(word) = self.words.next() else {
-            return Ok(None);
-        };
-        self.want(word == b"votes".as_slice());
-        if self.is_unwanted {
-            return Ok(None);
+    fn heard_or_nothing(&mut self, alloc: Global) -> Option<Heard> {
+        match self.words.next() {
+            Some(word) => {
+                self.want(word == b"votes".as_slice());
+                Some(self.heard(alloc))
+            }
+            None => None,
         }
-        Ok(Some(self.heard(alloc)?))
     }
 
     /// A register, behind the word `level`.
-    fn register(&mut self, alloc: Global) -> Result<Register, TraceFault> {
-        Ok(Register {
+    fn register(&mut self, alloc: Global) -> Register {
+        Register {
             level: self.number(),
             value: self.number_or_none_after(b"value"),
             held: self.held(),
-            heard: self.heard_or_nothing(alloc)?,
-        })
+            heard: self.heard_or_nothing(alloc),
+        }
     }
 
     /// What a node shows, behind the word `number`.
@@ -230,12 +234,23 @@ impl<'a> Reader<'a> {
     }
 
     /// What a line is about, of which this is the first word.
-    fn seen(&mut self, alloc: Global, word: &[u8]) -> Result<Seen, TraceFault> {
+    fn seen(&mut self, alloc: Global, word: &[u8]) -> Seen {
         if word == b"level".as_slice() {
-            return Ok(Seen::Holds(self.register(alloc)?));
+            return Seen::Holds(self.register(alloc));
         }
         self.want(word == b"number".as_slice());
-        Ok(Seen::Shows(self.output()))
+        Seen::Shows(self.output())
+    }
+
+    /// Ends the line: each word was wanted, and there are no more.
+    fn end(&mut self) -> Result<(), TraceFault> {
+        if self.lacks_memory {
+            return Err(TraceFault::NoMemory);
+        }
+        if self.is_unwanted || self.words.next().is_some() {
+            return Err(TraceFault::Unwanted);
+        }
+        Ok(())
     }
 }
 
@@ -247,6 +262,7 @@ pub fn trace_line(alloc: Global, line: &[u8]) -> Result<TraceLine, TraceFault> {
     let mut reader = Reader {
         words: Words::new(line),
         is_unwanted: false,
+        lacks_memory: false,
     };
     reader.pass(b"at");
     let t = reader.small_number();
@@ -256,10 +272,8 @@ pub fn trace_line(alloc: Global, line: &[u8]) -> Result<TraceLine, TraceFault> {
     if is_faulty {
         word = reader.word();
     }
-    let seen = reader.seen(alloc, word)?;
-    if reader.is_unwanted || reader.words.next().is_some() {
-        return Err(TraceFault::Unwanted);
-    }
+    let seen = reader.seen(alloc, word);
+    reader.end()?;
     Ok(TraceLine {
         t,
         node,

@@ -10,3 +10,6 @@ returns-else-chart-behind g c =
     let t : ℕ = era_begin c.args.end.era + chart.bound in
     let far : chart.first + chart.rows ≤ t = omega (arith, c.if-chart-behind.false) in
     rw (bound_behind chart t c.args.end.next far) (wrote_none _)
+
+pub returns-then-chart-behind : goal.returns-then-chart-behind
+returns-then-chart-behind g c = rw c.era_begin.ensures.value at c.put_bound_at.ensures
