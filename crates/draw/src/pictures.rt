@@ -1,6 +1,6 @@
 //! Draws a chart.
 
-ghost use Rattle.std.specs.Prelude.{◌≡◌, length};
+ghost use Rattle.std.specs.Prelude.{◌≡◌};
 ghost use Rattle.texts.specs.Growth.{Puts};
 ghost use Rattle.draw.specs.Pictures.{facts, facts_in, last_of, number_caption};
 ghost use Rattle.draw.specs.Pictures.{picture_front, picture_ground, picture_text, picture_width};
