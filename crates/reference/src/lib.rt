@@ -2,7 +2,6 @@
 //! parts mean. It shares no code with the workbench, which is compared with it.
 #![tactic(auto)]
 
-pub mod bits;
 pub mod certificates;
 pub mod explanations;
 pub mod input_texts;
@@ -13,16 +12,11 @@ pub mod lines;
 pub mod nodes;
 pub mod parts;
 mod plan_texts;
-pub mod plans;
-pub mod premises;
 pub mod program;
 pub mod refusals;
 pub mod runs;
 pub mod script_texts;
-pub mod scripts;
 pub mod spans;
-pub mod states;
-pub mod steps;
 mod table_texts;
 pub mod tables;
 pub mod texts;

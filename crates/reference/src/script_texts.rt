@@ -2,9 +2,9 @@
 
 use crate::lie_texts::{group_of, lie_of};
 use crate::lines::Lines;
-use crate::plans::Plan;
 use crate::refusals::Stop;
-use crate::scripts::{Era, Script, Start};
+use reference_steps::plans::Plan;
+use reference_steps::scripts::{Era, Script, Start};
 use std::alloc::Global;
 
 /// How many rounds may be played.
