@@ -2,27 +2,35 @@
 //! it. It fails where one differs, or has no answer beside it.
 #![tactic(auto)]
 
-use edge_io::{MemSink, MemSource};
+use edge_io::{MemSink, PlainSource};
 use std::alloc::Global;
 use std::process::ExitCode;
 use std::rt::Files;
 use std::{env, fs, io};
 use workbench::counterlab;
 
-/// How many bytes an answer may have.
-const LONGEST_ANSWER: usize = 1 << 16;
-
 /// What the workbench answers to words, which are parted by points, and an input: the exit code,
-/// and the sink that it wrote to.
-fn answer(alloc: Global, line: &str, input: Vec<u8>) -> anyhow::Result<(u8, MemSink)> {
-    let mut source = MemSource::new(input, Vec::new(alloc), Vec::new(alloc));
-    let mut sink = MemSink::new(alloc, LONGEST_ANSWER, Vec::new(alloc), Vec::new(alloc))?;
+/// and whether the bytes are those that are wanted. There is room for one byte more.
+fn answer(alloc: Global, line: &str, input: &[u8], wanted: &[u8]) -> anyhow::Result<(u8, bool)> {
     let mut words = Vec::new(alloc);
     for word in line.split('.') {
         words.push(String::from_str(alloc, word)?)?;
     }
-    let status = counterlab(alloc, &words, &mut source, &mut sink);
-    Ok((status.code(), sink))
+    let room = wanted.len().saturating_add(1);
+    let mut sink = MemSink::new(alloc, room, Vec::new(alloc), Vec::new(alloc))?;
+    let status = counterlab(alloc, &words, &mut PlainSource::new(input), &mut sink);
+    Ok((status.code(), sink.taken() == wanted))
+}
+
+/// The bytes of a file of a folder.
+fn bytes_of<R: Files + AllocGlobal>(
+    rt: &R,
+    folder: &str,
+    name: &str,
+    ending: &str,
+) -> io::Result<Vec<u8>> {
+    let path = format!(in rt.alloc(); "{folder}/{name}{ending}")?;
+    fs::read(rt, path.as_str())
 }
 
 /// Whether the answer of some words to an example is the one that is written in a file. Its name,
@@ -34,12 +42,9 @@ fn is_answered<R: Files + Print + AllocGlobal>(
     line: &str,
     file: &str,
 ) -> anyhow::Result<bool> {
-    let alloc = rt.alloc();
-    let input = format!(in alloc; "{folder}/{name}.txt")?;
-    let output = format!(in alloc; "{folder}/{file}")?;
-    let wanted = fs::read(rt, output.as_str())?;
-    let (code, sink) = answer(alloc, line, fs::read(rt, input.as_str())?)?;
-    let same = sink.taken() == wanted.as_slice();
+    let input = bytes_of(rt, folder, name, ".txt")?;
+    let wanted = bytes_of(rt, folder, file, "")?;
+    let (code, same) = answer(rt.alloc(), line, &input, &wanted)?;
     let but = if same { "" } else { ", with other bytes" };
     println!(rt; "{name} {line} {code}{but}")?;
     Ok(same)
@@ -86,33 +91,35 @@ fn try_example(
 
 /// Whether a file is an answer to no example among these files.
 fn is_stray(files: &[String], file: &str) -> bool {
-    if !file.ends_with(".out") {
-        return false;
-    }
+    let mut is_stray = file.ends_with(".out");
     for other in files {
         if let Some(name) = other.strip_suffix(".txt") {
-            if words_of(name, file).is_some() {
-                return false;
-            }
+            is_stray &= words_of(name, file).is_none();
         }
     }
-    true
+    is_stray
 }
 
-/// Tries the examples of a folder, which are its files `NAME.txt`. Whether all are as they should
-/// be.
+/// Tries a file of a folder: its answers, if it is an example `NAME.txt`. Whether all are as they
+/// should be.
+fn try_file(rt: &HostRuntime, folder: &str, file: &str, files: &[String]) -> anyhow::Result<bool> {
+    if let Some(name) = file.strip_suffix(".txt") {
+        return try_example(rt, folder, name, files);
+    }
+    let is_stray = is_stray(files, file);
+    if is_stray {
+        println!(rt; "{file} is the answer to no example")?;
+    }
+    Ok(!is_stray)
+}
+
+/// Tries the files of a folder. Whether all are as they should be.
 fn try_folder(rt: &HostRuntime, folder: &str) -> anyhow::Result<bool> {
     println!(rt; "{folder}:")?;
     let files = names_of(rt, folder)?;
     let mut same = true;
     for file in &files {
-        if let Some(name) = file.strip_suffix(".txt") {
-            same = try_example(rt, folder, name, &files)? && same;
-        }
-        if is_stray(&files, file.as_str()) {
-            println!(rt; "{file} is the answer to no example")?;
-            same = false;
-        }
+        same = try_file(rt, folder, file.as_str(), &files)? && same;
     }
     Ok(same)
 }
