@@ -1,70 +1,51 @@
 //! What the workbench answers, beside what it should.
 
-use edge_io::{MemSink, MemSource};
+use crate::cases::Case;
+use edge_io::{MemSink, PlainSource};
 use std::alloc::Global;
 use workbench::counterlab;
 
-/// How many bytes a short answer may have.
-const LONGEST_ANSWER: usize = 1 << 18;
-
-/// What the workbench answers to an input of a word, in at most so many bytes: the exit code, and
-/// the sink that it wrote to.
-fn answer(
-    alloc: Global,
-    word: &str,
-    input: &[u8],
-    longest: usize,
-) -> anyhow::Result<(u8, MemSink)> {
-    let bytes = Vec::from_slice(alloc, input)?;
-    let mut source = MemSource::new(bytes, Vec::new(alloc), Vec::new(alloc));
-    let mut sink = MemSink::new(alloc, longest, Vec::new(alloc), Vec::new(alloc))?;
-    let mut words = Vec::new(alloc);
-    words.push(String::from_str(alloc, word)?)?;
+/// What the workbench answers to a case: the exit code, and whether the bytes are those that are
+/// wanted. There is room for one byte more.
+fn answer(alloc: Global, case: &Case) -> anyhow::Result<(u8, bool)> {
+    let words = [String::from_str(alloc, case.word)?];
+    let room = case.wanted.len().saturating_add(1);
+    let mut sink = MemSink::new(alloc, room, Vec::new(alloc), Vec::new(alloc))?;
+    let mut source = PlainSource::new(&case.input);
     let status = counterlab(alloc, &words, &mut source, &mut sink);
-    Ok((status.code(), sink))
+    Ok((status.code(), sink.taken() == case.wanted.as_slice()))
 }
 
-/// Whether the workbench answers an input of a word with these bytes, at most so many, and this
-/// exit code. Where it does not, the word and the code are printed.
-pub fn is_answered_within(
-    rt: &HostRuntime,
-    word: &str,
-    input: &[u8],
-    wanted: &[u8],
-    wanted_code: u8,
-    longest: usize,
-) -> anyhow::Result<bool> {
-    let (code, sink) = answer(rt.alloc(), word, input, longest)?;
-    let same = code == wanted_code && sink.taken() == wanted;
-    if !same {
-        println!(rt; "{word} differs, with code {code}, wanted {wanted_code}, on")?;
+/// Prints bytes: as text where they are one, else in hex digits.
+fn print_bytes(rt: &HostRuntime, bytes: &[u8]) -> anyhow::Result<()> {
+    match str::from_utf8(bytes) {
+        Ok(text) => println!(rt; "{text}")?,
+        Err(_) => {
+            for byte in bytes {
+                print!(rt; "{byte:02x}")?;
+            }
+            println!(rt)?;
+        }
     }
-    Ok(same)
+    Ok(())
 }
 
-/// The same of a short answer.
-pub fn is_answered(
-    rt: &HostRuntime,
-    word: &str,
-    input: &[u8],
-    wanted: &[u8],
-    wanted_code: u8,
-) -> anyhow::Result<bool> {
-    is_answered_within(rt, word, input, wanted, wanted_code, LONGEST_ANSWER)
+/// Prints a case that is answered otherwise, with an exit code.
+fn print_case(rt: &HostRuntime, case: &Case, code: u8) -> anyhow::Result<()> {
+    let word = case.word;
+    let wanted_code = case.code;
+    println!(rt; "{word} differs, with code {code}, wanted {wanted_code}, on")?;
+    print_bytes(rt, &case.input)?;
+    println!(rt; "which should be")?;
+    print_bytes(rt, &case.wanted)
 }
 
-/// Whether the workbench answers a text of a word with this text and this exit code. Where it does
-/// not, both texts are printed.
-pub fn agrees(
-    rt: &HostRuntime,
-    word: &str,
-    input: &str,
-    wanted: &str,
-    code: u8,
-) -> anyhow::Result<bool> {
-    let same = is_answered(rt, word, input.as_bytes(), wanted.as_bytes(), code)?;
+/// Whether the workbench answers a case as it should. Where it does not, the case is printed.
+pub fn is_answered(rt: &HostRuntime, case: &Case) -> anyhow::Result<bool> {
+    let (code, are_wanted) = answer(rt.alloc(), case)?;
+    let same = are_wanted && code == case.code;
     if !same {
-        println!(rt; "{input}which should be\n{wanted}")?;
+        print_case(rt, case, code)?;
     }
     Ok(same)
 }

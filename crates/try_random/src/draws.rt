@@ -2,29 +2,17 @@
 
 use rand_chacha::ChaCha8Rng;
 use rand_core::{Rng, SeedableRng};
-use reference::bits::NO_BITS;
-use reference::plans::{Plan, remainder, width};
+use reference::plans::{Plan, remainder};
+use reference::states::{NOTHING, Register, State, written};
+use reference::steps::register;
 use std::alloc::{AllocError, Global};
 
-/// What choices are drawn from.
+/// What choices are drawn from, and whether there was memory for all that was drawn.
 #[derive(Drop)]
 pub struct Draws {
     generator: ChaCha8Rng,
     pub alloc: Global,
-}
-
-/// What states are near to: a number, and a value for each register.
-pub struct Centre {
-    x: u64,
-    values: Vec<u64>,
-}
-
-// Written out, so that what lets go of one calls this, and no more.
-impl Drop for Centre {
-    fn drop(self) {
-        let Centre { x: _, values } = self;
-        drop(values);
-    }
+    memory: Result<(), AllocError>,
 }
 
 impl Draws {
@@ -33,7 +21,27 @@ impl Draws {
         Draws {
             generator: ChaCha8Rng::from_seed([7; 32]),
             alloc,
+            memory: Ok(()),
         }
+    }
+
+    /// Notes whether there was memory for something.
+    pub fn note(&mut self, done: Result<(), AllocError>) {
+        if done.is_err() {
+            self.memory = done;
+        }
+    }
+
+    /// Puts an item behind others, where there is memory for it.
+    pub fn put<T: Drop>(&mut self, items: &mut Vec<T>, item: T) {
+        if items.push(item).is_err() {
+            self.memory = Err(AllocError);
+        }
+    }
+
+    /// Whether there was memory for all that was drawn so far.
+    pub fn result(&self) -> Result<(), AllocError> {
+        self.memory
     }
 
     /// A number below `count`, or 0 where that is 0.
@@ -54,13 +62,19 @@ impl Draws {
         self.below(of) == 0
     }
 
+    /// A byte of any kind.
+    fn byte(&mut self) -> u8 {
+        (self.generator.next_u32() % 256) as u8
+    }
+
     /// So many bytes of any kind.
-    pub fn any_bytes(&mut self, count: u64) -> Result<Vec<u8>, AllocError> {
+    pub fn any_bytes(&mut self, count: u64) -> Vec<u8> {
         let mut bytes = Vec::new(self.alloc);
         for _ in 0..count {
-            bytes.push((self.generator.next_u32() % 256) as u8)?;
+            let byte = self.byte();
+            self.put(&mut bytes, byte);
         }
-        Ok(bytes)
+        bytes
     }
 
     /// A key, or none.
@@ -70,43 +84,42 @@ impl Draws {
         }
         let mut key = [0; 32];
         for byte in &mut key {
-            *byte = (self.generator.next_u32() % 256) as u8;
+            *byte = self.byte();
         }
         Some(key)
     }
 
     /// Some numbers below `count`, rising, `wanted` of them.
-    pub fn some(&mut self, count: u64, wanted: u64) -> Result<Vec<u64>, AllocError> {
+    pub fn some(&mut self, count: u64, wanted: u64) -> Vec<u64> {
         let mut some = Vec::new(self.alloc);
         let mut left = wanted;
         for number in 0..count {
             if self.below(count - number) < left {
-                some.push(number)?;
+                self.put(&mut some, number);
                 left = left.wrapping_sub(1);
             }
         }
-        Ok(some)
+        some
     }
 
     /// What states are near to.
-    pub fn centre(&mut self, plan: &Plan) -> Result<Centre, AllocError> {
-        let mut values = Vec::new(self.alloc);
+    pub fn centre(&mut self, plan: &Plan) -> State {
+        let mut centre = NOTHING;
         for depth in 0..plan.registers() {
-            values.push(self.below(plan.modulus_of(depth)))?;
+            let value = Some(self.below(plan.modulus_of(depth)));
+            centre.put(depth, Register { value, mark: false });
         }
-        Ok(Centre {
-            x: self.below(plan.base),
-            values,
-        })
+        centre.x = self.below(plan.base);
+        centre
     }
 
     /// What states of the same number may be near to beside this, or something else altogether.
-    pub fn other(&mut self, plan: &Plan, centre: &Centre) -> Result<Centre, AllocError> {
-        let mut other = self.centre(plan)?;
+    pub fn other(&mut self, plan: &Plan, centre: &State) -> State {
+        let mut other = self.centre(plan);
         if !self.once_in(4) {
             other.x = centre.x;
         }
-        Ok(other)
+        other
     }
 
     /// A number near to another: mostly that, else any, or the first that is too large.
@@ -129,29 +142,44 @@ impl Draws {
         }
     }
 
-    /// The bytes of a state of a node near to others, or any bytes.
-    pub fn state(
-        &mut self,
-        plan: &Plan,
-        node: u64,
-        centre: &Centre,
-    ) -> Result<Vec<u8>, AllocError> {
-        if self.once_in(10) {
-            return self.any_bytes(plan.bytes(node));
+    /// A register near to that of a state above a depth, with any mark.
+    fn near_register(&mut self, centre: &State, depth: usize, modulus: u64) -> Register {
+        let value = register(centre, depth).value.unwrap_or(modulus);
+        Register {
+            value: Some(self.near(value, modulus)),
+            mark: self.below(2) == 1,
         }
-        let mut bits = NO_BITS;
+    }
+
+    /// A state of a node near to another.
+    fn near_state(&mut self, plan: &Plan, node: u64, centre: &State) -> State {
+        let mut state = *centre;
         if plan.has_number(node) {
-            let x = self.near_number(centre.x, plan.base);
-            bits.put(x, width(plan.base));
+            state.x = self.near_number(centre.x, plan.base);
         }
-        for (depth, value) in centre.values.iter().enumerate() {
+        for depth in 0..plan.registers() {
             if plan.has_register(node, depth) {
-                let modulus = plan.modulus_of(depth);
-                let bits_of_value = width(modulus.wrapping_add(1));
-                bits.put(self.near(*value, modulus), bits_of_value);
-                bits.put(self.below(2), 1);
+                let register = self.near_register(centre, depth, plan.modulus_of(depth));
+                state.put(depth, register);
             }
         }
-        Vec::from_slice(self.alloc, bits.bytes(plan.bytes(node)))
+        state
+    }
+
+    /// The bytes of a state of a node near to another, or any bytes.
+    pub fn state(&mut self, plan: &Plan, node: u64, centre: &State) -> Vec<u8> {
+        let count = plan.bytes(node);
+        if self.once_in(10) {
+            return self.any_bytes(count);
+        }
+        let state = self.near_state(plan, node, centre);
+        self.copied(written(plan, node, &state).bytes(count))
+    }
+
+    /// A copy of some bytes.
+    pub fn copied(&mut self, bytes: &[u8]) -> Vec<u8> {
+        let mut copy = Vec::new(self.alloc);
+        self.note(copy.extend_from_slice(bytes));
+        copy
     }
 }

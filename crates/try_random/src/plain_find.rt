@@ -1,14 +1,21 @@
 //! The word `find`: the plan of least bound, among all plans that there are.
 
-use crate::comparing::agrees;
+use crate::cases::Case;
 use crate::draws::Draws;
-use crate::inputs::refusal_of;
 use reference::premises::MOST;
+use reference::refusals::Refusal;
+use reference::texts::Text;
 use reference::wants::{Want, answer};
-use std::alloc::{AllocError, Global};
+use std::alloc::AllocError;
 
-/// How many wants are drawn.
-const DRAWN_WANTS: u64 = 40;
+/// Writes the lines of a want.
+fn write_want(text: &mut String, want: Want) -> Result<(), AllocError> {
+    let mut out = Text::behind(text);
+    out.line("find", &[1]);
+    out.line("want", &[want.faults, want.modulus, want.most]);
+    out.line("end", &[]);
+    out.end()
+}
 
 impl Draws {
     /// A want, mostly of few faults and nodes.
@@ -28,43 +35,21 @@ impl Draws {
         }
         want
     }
-}
 
-/// The lines of a want.
-fn find_input(alloc: Global, want: Want) -> Result<String, AllocError> {
-    let Want {
-        faults,
-        modulus,
-        most,
-    } = want;
-    let mut input = String::new(alloc);
-    writeln!(input, "find 1\nwant {faults} {modulus} {most}\nend")?;
-    Ok(input)
-}
-
-/// What is written, and the exit code.
-fn wanted_of(alloc: Global, want: Want) -> Result<(String, u8), AllocError> {
-    match want.broken_rule() {
-        Some(rule) => Ok((refusal_of(alloc, "find", 2, rule)?, 3)),
-        None => Ok((answer(alloc, want)?, 0)),
-    }
-}
-
-/// Whether a want is answered.
-fn try_want(rt: &HostRuntime, want: Want) -> anyhow::Result<bool> {
-    let input = find_input(rt.alloc(), want)?;
-    let (wanted, code) = wanted_of(rt.alloc(), want)?;
-    agrees(rt, "find", input.as_str(), wanted.as_str(), code)
-}
-
-/// Tries wants that are drawn.
-pub fn try_all(rt: &HostRuntime, draws: &mut Draws) -> anyhow::Result<()> {
-    let mut same = 0u64;
-    for _ in 0..DRAWN_WANTS {
-        if try_want(rt, draws.want())? {
-            same = same.wrapping_add(1);
+    /// A want that is drawn.
+    pub fn find_case(&mut self) -> Result<Case, AllocError> {
+        let want = self.want();
+        let mut input = String::new(self.alloc);
+        self.note(write_want(&mut input, want));
+        if let Some(rule) = want.broken_rule() {
+            let refusal = Refusal {
+                part: "find",
+                line: 2,
+                rule,
+            };
+            return Case::refused(self.alloc, "find", input.into_bytes(), refusal);
         }
+        let wanted = answer(self.alloc, want)?;
+        Ok(Case::of("find", input, wanted))
     }
-    println!(rt; "{same} of {DRAWN_WANTS} wants agree")?;
-    Ok(())
 }

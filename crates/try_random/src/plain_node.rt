@@ -1,211 +1,113 @@
 //! The word `node`: the cells that one node writes, from the packets that it hears.
 
-use crate::comparing::{is_answered, is_answered_within};
-use crate::draws::{Centre, Draws};
-use crate::inputs::{plan_text, refusal_of};
-use reference::input_texts::write_bytes;
+use crate::cases::{Case, refusal_of};
+use crate::draws::Draws;
 use reference::nodes::{MOST_PACKETS, Node, answer, put_cell};
-use reference::plans::Plan;
-use std::alloc::{AllocError, Global};
+use reference::plans::{Plan, remainder};
+use reference::states::State;
+use reference::texts::Text;
+use std::alloc::AllocError;
 
-/// How many bytes of cells a node may write for them, where a cell has three.
-const LONGEST_CELLS: usize = 3_000_064;
+/// The lines of a node that hears only itself, and counts modulo 4.
+const COUNTING: &[u8] = b"plan 1\nbase 4\nend\nnode 1\nid 0\nstate 00\nend\n";
 
-/// How many nodes are drawn, for each version of plans.
-const DRAWN_NODES: u64 = 60;
-
-/// An input: the lines of a plan and of a node, and some bytes of packets.
-struct Input {
-    header: String,
-    bytes: Vec<u8>,
-}
-
-// Written out, so that what lets go of one calls this, and no more.
-impl Drop for Input {
-    fn drop(self) {
-        let Input { header, bytes } = self;
-        drop(header);
-        drop(bytes);
+/// The rule that fails, and on which line behind that of `node 1`.
+fn broken(plan: &Plan, node: &Node) -> Option<(u64, &'static str)> {
+    if node.id >= plan.nodes() {
+        Some((1, "node"))
+    } else if node.start.len() as u64 != plan.bytes(node.id) {
+        Some((2, "hex"))
+    } else {
+        None
     }
 }
 
-/// What is written where a line of the node is refused, and none where none is.
-fn refusal(alloc: Global, plan: &Plan, node: &Node) -> Result<Option<String>, AllocError> {
-    let first = (plan.levels.len() as u64).wrapping_add(4);
-    let (line, rule) = if node.id >= plan.nodes() {
-        (first.wrapping_add(1), "node")
-    } else if node.start.len() as u64 != plan.bytes(node.id) {
-        (first.wrapping_add(2), "hex")
-    } else {
-        return Ok(None);
-    };
-    Ok(Some(refusal_of(alloc, "node", line, rule)?))
-}
-
-/// The lines of a plan and of a node.
-fn header_of(alloc: Global, plan: &Plan, node: &Node) -> Result<String, AllocError> {
-    let mut header = plan_text(alloc, plan)?;
-    let id = node.id;
-    write!(header, "node 1\nid {id}\nstate")?;
-    write_bytes(&mut header, &node.start)?;
-    writeln!(header, "\nend")?;
-    Ok(header)
+/// Writes the lines of a node.
+fn write_node(text: &mut String, node: &Node) -> Result<(), AllocError> {
+    let mut out = Text::behind(text);
+    out.line("node", &[1]);
+    out.line("id", &[node.id]);
+    out.word("state");
+    out.bytes(&node.start);
+    out.word("\nend\n");
+    out.end()
 }
 
 impl Draws {
     /// A node, and at times one that is refused.
-    fn node(&mut self, plan: &Plan, centre: &Centre) -> Result<Node, AllocError> {
+    fn node(&mut self, plan: &Plan, centre: &State) -> Node {
         if self.once_in(15) {
             let id = self.below(plan.nodes().wrapping_add(2));
             let length = self.between(1, 6);
-            let start = self.any_bytes(length)?;
-            return Ok(Node { id, start });
+            let start = self.any_bytes(length);
+            return Node { id, start };
         }
         let id = self.below(plan.nodes());
-        let start = self.state(plan, id, centre)?;
-        Ok(Node { id, start })
+        let start = self.state(plan, id, centre);
+        Node { id, start }
     }
 
-    /// Puts the cells of a packet, most of which are states near to others.
-    fn put_packet(
-        &mut self,
-        bytes: &mut Vec<u8>,
-        plan: &Plan,
-        centre: &Centre,
-    ) -> Result<(), AllocError> {
-        for sender in 0..plan.nodes() {
-            let cell = if self.once_in(20) {
-                let length = self.below(plan.bytes(sender).wrapping_mul(2).wrapping_add(2));
-                self.any_bytes(length)?
-            } else {
-                self.state(plan, sender, centre)?
-            };
-            put_cell(bytes, &cell)?;
+    /// The bytes of a cell, mostly of a state near to others.
+    fn cell(&mut self, plan: &Plan, sender: u64, centre: &State) -> Vec<u8> {
+        if self.once_in(20) {
+            let length = self.below(plan.bytes(sender).wrapping_mul(2).wrapping_add(2));
+            return self.any_bytes(length);
         }
-        Ok(())
+        self.state(plan, sender, centre)
     }
 
-    /// The bytes of some packets.
-    fn packets(&mut self, plan: &Plan, centre: &Centre) -> Result<Vec<u8>, AllocError> {
+    /// The bytes of some packets, the last of which is cut at times.
+    fn packets(&mut self, plan: &Plan, centre: &State) -> Vec<u8> {
         let mut bytes = Vec::new(self.alloc);
-        for _ in 0..self.below(14) {
-            self.put_packet(&mut bytes, plan, centre)?;
+        let cells = self.below(14).wrapping_mul(plan.nodes());
+        for i in 0..cells {
+            let cell = self.cell(plan, remainder(i, plan.nodes()), centre);
+            self.note(put_cell(&mut bytes, &cell));
         }
         if self.once_in(4) {
             bytes.truncate(self.below(bytes.len() as u64) as usize);
         }
-        Ok(bytes)
+        bytes
     }
 
-    /// An input for a node of a plan, which at times ends within a packet.
-    fn node_input(
-        &mut self,
-        plan: &Plan,
-        node: &Node,
-        centre: &Centre,
-    ) -> Result<Input, AllocError> {
-        let header = header_of(self.alloc, plan, node)?;
-        let bytes = self.packets(plan, centre)?;
-        Ok(Input { header, bytes })
+    /// A node and packets that are drawn.
+    pub fn node_case(&mut self, plan: &Plan) -> Result<Case, AllocError> {
+        let centre = self.centre(plan);
+        let node = self.node(plan, &centre);
+        let mut header = self.plan_text(plan);
+        self.note(write_node(&mut header, &node));
+        let packets = self.packets(plan, &centre);
+        let mut input = header.into_bytes();
+        self.note(input.extend_from_slice(&packets));
+        if let Some((place, rule)) = broken(plan, &node) {
+            let refusal = refusal_of(plan, "node", place, rule);
+            return Case::refused(self.alloc, "node", input, refusal);
+        }
+        let (wanted, code) = answer(self.alloc, plan, &node, &packets)?;
+        Ok(Case {
+            word: "node",
+            input,
+            wanted,
+            code,
+        })
     }
-}
 
-/// All bytes of an input.
-fn all_bytes(alloc: Global, input: &Input) -> Result<Vec<u8>, AllocError> {
-    let mut all = Vec::from_slice(alloc, input.header.as_bytes())?;
-    all.extend_from_slice(&input.bytes)?;
-    Ok(all)
-}
-
-/// What is written, and the exit code.
-fn wanted_of(
-    alloc: Global,
-    plan: &Plan,
-    node: &Node,
-    bytes: &[u8],
-) -> Result<(Vec<u8>, u8), AllocError> {
-    match refusal(alloc, plan, node)? {
-        Some(text) => Ok((Vec::from_slice(alloc, text.as_bytes())?, 3)),
-        None => answer(alloc, plan, node, bytes),
-    }
-}
-
-/// Prints an input.
-fn print_input(rt: &HostRuntime, input: &Input) -> anyhow::Result<()> {
-    let header = input.header.as_str();
-    let mut digits = String::new(rt.alloc());
-    write_bytes(&mut digits, &input.bytes)?;
-    println!(rt; "{header}{digits}")?;
-    Ok(())
-}
-
-/// Whether an input for a node is answered. Where it is not, it is printed.
-fn try_input(rt: &HostRuntime, plan: &Plan, node: &Node, input: &Input) -> anyhow::Result<bool> {
-    let all = all_bytes(rt.alloc(), input)?;
-    let (wanted, code) = wanted_of(rt.alloc(), plan, node, &input.bytes)?;
-    let same = is_answered(rt, "node", &all, &wanted, code)?;
-    if !same {
-        print_input(rt, input)?;
-    }
-    Ok(same)
-}
-
-/// Whether a node that is drawn for a plan answers its packets.
-fn try_node(rt: &HostRuntime, draws: &mut Draws, plan: &Plan) -> anyhow::Result<bool> {
-    let centre = draws.centre(plan)?;
-    let node = draws.node(plan, &centre)?;
-    let input = draws.node_input(plan, &node, &centre)?;
-    try_input(rt, plan, &node, &input)
-}
-
-/// So many packets of a node that hears only itself, and counts modulo 4.
-fn count_input(alloc: Global, packets: u64) -> Result<Vec<u8>, AllocError> {
-    let header = b"plan 1\nbase 4\nend\nnode 1\nid 0\nstate 00\nend\n";
-    let mut all = Vec::from_slice(alloc, header)?;
-    for _ in 0..packets {
-        put_cell(&mut all, &[0])?;
-    }
-    Ok(all)
-}
-
-/// The cells that it writes for so many packets.
-fn count_cells(alloc: Global, packets: u64) -> Result<Vec<u8>, AllocError> {
-    let mut cells = Vec::new(alloc);
-    put_cell(&mut cells, &[0])?;
-    for t in 0..packets {
-        put_cell(&mut cells, &[(t.wrapping_add(1) % 4 * 64) as u8])?;
-    }
-    Ok(cells)
-}
-
-/// Whether a node that hears only itself, and counts modulo 4, answers so many packets: each of
-/// them, up to the most that it takes.
-fn try_count(rt: &HostRuntime, packets: u64, code: u8) -> anyhow::Result<bool> {
-    let all = count_input(rt.alloc(), packets)?;
-    let cells = count_cells(rt.alloc(), packets.min(MOST_PACKETS))?;
-    is_answered_within(rt, "node", &all, &cells, code, LONGEST_CELLS)
-}
-
-/// How many nodes of plans of a version agree.
-fn agreeing(rt: &HostRuntime, draws: &mut Draws, version: u64) -> anyhow::Result<u64> {
-    let mut same = 0u64;
-    for _ in 0..DRAWN_NODES {
-        let plan = draws.plan(version)?;
-        if try_node(rt, draws, &plan)? {
-            same = same.wrapping_add(1);
+    /// So many packets of a node that hears only itself. It answers each of them, up to the most
+    /// that it takes.
+    pub fn count_case(&mut self, packets: u64, code: u8) -> Case {
+        let mut input = self.copied(COUNTING);
+        for _ in 0..packets {
+            self.note(put_cell(&mut input, &[0]));
+        }
+        let mut wanted = Vec::new(self.alloc);
+        for t in 0..=packets.min(MOST_PACKETS) {
+            self.note(put_cell(&mut wanted, &[(t % 4 * 64) as u8]));
+        }
+        Case {
+            word: "node",
+            input,
+            wanted,
+            code,
         }
     }
-    Ok(same)
-}
-
-/// Tries nodes of plans that are drawn, the most packets, and one more.
-pub fn try_all(rt: &HostRuntime, draws: &mut Draws) -> anyhow::Result<()> {
-    for version in 1..=2 {
-        let same = agreeing(rt, draws, version)?;
-        println!(rt; "drawn plans {version}: {same} of {DRAWN_NODES} nodes agree")?;
-    }
-    let most = try_count(rt, MOST_PACKETS, 0)?;
-    let more = try_count(rt, MOST_PACKETS.wrapping_add(1), 8)?;
-    println!(rt; "{MOST_PACKETS} packets: {most}, and one more: {more}")?;
-    Ok(())
 }

@@ -1,16 +1,32 @@
 //! The words `plan`, `table` and `upgrade`: tables of plans, with a number or an end that is wrong
 //! at times, plans that are refused, and plans of version 2.
 
-use crate::comparing::{agrees, is_answered};
+use crate::cases::Case;
 use crate::draws::Draws;
-use crate::inputs::plan_text;
-use reference::plans::Plan;
+use reference::plans::{Level, Plan};
 use reference::premises::{MOST, broken_base, broken_level};
+use reference::refusals::Refusal;
 use reference::tables::{Numbers, Whole, numbers_of, table_of, whole_of, write_table};
-use std::alloc::{AllocError, Global};
+use std::alloc::AllocError;
 
-/// How many plans are drawn, of each version.
-const DRAWN_PLANS: u64 = 60;
+/// The first line of a plan that is refused.
+fn refusal(plan: &Plan) -> Option<Refusal> {
+    let part = "plan";
+    if let Some(rule) = broken_base(plan.base) {
+        return Some(Refusal {
+            part,
+            line: 2,
+            rule,
+        });
+    }
+    for (depth, level) in plan.levels.iter().enumerate() {
+        if let Some(rule) = broken_level(plan, depth, level) {
+            let line = (depth as u64).wrapping_add(3);
+            return Some(Refusal { part, line, rule });
+        }
+    }
+    None
+}
 
 impl Draws {
     /// Makes one of the numbers of a level wrong.
@@ -37,22 +53,7 @@ impl Draws {
             _ => whole.bytes = whole.bytes.wrapping_add(1),
         }
     }
-}
 
-/// The first line that is refused, and its premise.
-fn broken(plan: &Plan) -> Option<(u64, &'static str)> {
-    if let Some(premise) = broken_base(plan.base) {
-        return Some((2, premise));
-    }
-    for (depth, level) in plan.levels.iter().enumerate() {
-        if let Some(premise) = broken_level(plan, depth, level) {
-            return Some(((depth as u64).wrapping_add(3), premise));
-        }
-    }
-    None
-}
-
-impl Draws {
     /// A number beside another, or one at the limits.
     fn other_number(&mut self, number: u64) -> u64 {
         match self.below(6) {
@@ -65,145 +66,94 @@ impl Draws {
         }
     }
 
+    /// Changes a number of a level.
+    fn change_level(&mut self, level: &mut Level, number: u64) {
+        match number {
+            0 => level.blocks = self.other_number(level.blocks),
+            1 => level.faults = self.other_number(level.faults),
+            2 => level.modulus = self.other_number(level.modulus),
+            _ => level.spares = self.other_number(level.spares),
+        }
+    }
+
     /// Changes a number of a plan.
     fn change(&mut self, plan: &mut Plan) {
         let place = self.below((plan.levels.len() as u64).wrapping_add(1));
         let number = self.below(if plan.version == 2 { 4 } else { 3 });
-        match plan.levels.get(place as usize).copied() {
+        match plan.levels.get_mut(place as usize) {
+            Some(level) => self.change_level(level, number),
             None => plan.base = self.other_number(plan.base),
-            Some(mut level) => {
-                match number {
-                    0 => level.blocks = self.other_number(level.blocks),
-                    1 => level.faults = self.other_number(level.faults),
-                    2 => level.modulus = self.other_number(level.modulus),
-                    _ => level.spares = self.other_number(level.spares),
-                }
-                if let Some(old) = plan.levels.get_mut(place as usize) {
-                    *old = level;
-                }
+        }
+    }
+
+    /// A plan: its table, or its first line that is refused.
+    pub fn plan_case(&mut self, plan: &Plan) -> Result<Case, AllocError> {
+        let input = self.plan_text(plan);
+        if let Some(refusal) = refusal(plan) {
+            return Case::refused(self.alloc, "plan", input.into_bytes(), refusal);
+        }
+        let wanted = table_of(self.alloc, plan)?;
+        Ok(Case::of("plan", input, wanted))
+    }
+
+    /// A plan with a number that is changed.
+    pub fn changed_plan(&mut self, plan: &mut Plan) -> Result<Case, AllocError> {
+        self.change(plan);
+        self.plan_case(plan)
+    }
+
+    /// A plan that is to be written in version 2.
+    pub fn upgrade_case(&mut self, plan: &mut Plan) -> Case {
+        let version = plan.version;
+        let input = self.plan_text(plan);
+        plan.version = 2;
+        let wanted = self.plan_text(plan);
+        plan.version = version;
+        Case::of("upgrade", input, wanted)
+    }
+
+    /// The table of a plan.
+    pub fn table_case(&mut self, plan: &Plan) -> Result<Case, AllocError> {
+        let input = table_of(self.alloc, plan)?;
+        let mut wanted = String::new(self.alloc);
+        self.note(wanted.push_str("true\n"));
+        Ok(Case::of("table", input, wanted))
+    }
+
+    /// The table of a plan with a wrong number.
+    pub fn spoiled_table(&mut self, plan: &Plan) -> Result<Case, AllocError> {
+        let mut all = numbers_of(self.alloc, plan)?;
+        let mut whole = whole_of(plan);
+        let place = self.below((all.len() as u64).wrapping_add(1));
+        match all.get_mut(place as usize) {
+            Some(numbers) => self.spoil(numbers),
+            None => self.spoil_whole(&mut whole),
+        }
+        let mut input = String::new(self.alloc);
+        self.note(write_table(&mut input, plan, &all, whole));
+        let refusal = Refusal {
+            part: "table",
+            line: place.wrapping_add(3),
+            rule: "value",
+        };
+        Case::refused(self.alloc, "table", input.into_bytes(), refusal)
+    }
+
+    /// The table of a plan that ends too early.
+    pub fn cut_table(&mut self, plan: &Plan) -> Result<Case, AllocError> {
+        let mut input = table_of(self.alloc, plan)?.into_bytes();
+        input.truncate(self.below(input.len() as u64) as usize);
+        let mut line = 1u64;
+        for byte in &input {
+            if *byte == 10 {
+                line = line.wrapping_add(1);
             }
         }
-    }
-}
-
-/// What is written of a plan, and the exit code.
-fn wanted_of(alloc: Global, plan: &Plan) -> Result<(String, u8), AllocError> {
-    match broken(plan) {
-        Some((line, premise)) => {
-            let mut wanted = String::new(alloc);
-            writeln!(wanted, "refused plan line {line} premise {premise}")?;
-            Ok((wanted, 1))
-        }
-        None => Ok((table_of(alloc, plan)?, 0)),
-    }
-}
-
-/// Whether a plan is answered with its table, or with its first line that is refused.
-fn try_plan(rt: &HostRuntime, plan: &Plan) -> anyhow::Result<bool> {
-    let input = plan_text(rt.alloc(), plan)?;
-    let (wanted, code) = wanted_of(rt.alloc(), plan)?;
-    agrees(rt, "plan", input.as_str(), wanted.as_str(), code)
-}
-
-/// Whether the plan is answered in version 2 with its own numbers.
-fn try_upgrade(rt: &HostRuntime, plan: &mut Plan) -> anyhow::Result<bool> {
-    let input = plan_text(rt.alloc(), plan)?;
-    plan.version = 2;
-    let wanted = plan_text(rt.alloc(), plan)?;
-    agrees(rt, "upgrade", input.as_str(), wanted.as_str(), 0)
-}
-
-/// A table with a wrong number, and on which line behind that of the base.
-fn spoiled_table(draws: &mut Draws, plan: &Plan) -> Result<(String, u64), AllocError> {
-    let mut all = numbers_of(draws.alloc, plan)?;
-    let mut whole = whole_of(plan);
-    let place = draws.below((all.len() as u64).wrapping_add(1));
-    match all.get_mut(place as usize) {
-        Some(numbers) => draws.spoil(numbers),
-        None => draws.spoil_whole(&mut whole),
-    }
-    let mut table = String::new(draws.alloc);
-    write_table(&mut table, plan, &all, whole)?;
-    Ok((table, place))
-}
-
-/// What is written where a line of a table is refused by a cause.
-fn refused_table(alloc: Global, line: u64, cause: &str) -> Result<String, AllocError> {
-    let mut text = String::new(alloc);
-    writeln!(text, "refused table line {line} cause {cause}")?;
-    Ok(text)
-}
-
-/// Whether a table with a wrong number is refused.
-fn try_spoiled(rt: &HostRuntime, draws: &mut Draws, plan: &Plan) -> anyhow::Result<bool> {
-    let (table, place) = spoiled_table(draws, plan)?;
-    let wanted = refused_table(rt.alloc(), place.wrapping_add(3), "value")?;
-    agrees(rt, "table", table.as_str(), wanted.as_str(), 4)
-}
-
-/// Whether a table that ends too early is refused.
-fn try_cut(rt: &HostRuntime, draws: &mut Draws, table: &str) -> anyhow::Result<bool> {
-    let bytes = table.as_bytes();
-    let length = draws.below(bytes.len() as u64);
-    let front = bytes.get(..length as usize).unwrap_or(&[]);
-    let mut line = 1u64;
-    for byte in front {
-        if *byte == 10 {
-            line = line.wrapping_add(1);
-        }
-    }
-    let wanted = refused_table(rt.alloc(), line, "form")?;
-    is_answered(rt, "table", front, wanted.as_bytes(), 4)
-}
-
-/// Whether a table is answered as what it is, and so are spoiled ones.
-fn try_table(rt: &HostRuntime, draws: &mut Draws, plan: &Plan) -> anyhow::Result<bool> {
-    let table = table_of(rt.alloc(), plan)?;
-    let is_read = agrees(rt, "table", table.as_str(), "true\n", 0)?;
-    let is_refused = try_spoiled(rt, draws, plan)?;
-    let is_cut = try_cut(rt, draws, table.as_str())?;
-    Ok(is_read && is_refused && is_cut)
-}
-
-/// Whether a plan is answered, and its version 2, and the plan with a number that is changed.
-fn try_three(rt: &HostRuntime, draws: &mut Draws, plan: &mut Plan) -> anyhow::Result<bool> {
-    let is_numbered = try_plan(rt, plan)?;
-    let version = plan.version;
-    let is_upgraded = try_upgrade(rt, plan)?;
-    plan.version = version;
-    draws.change(plan);
-    let is_tested = try_plan(rt, plan)?;
-    Ok(is_numbered && is_upgraded && is_tested)
-}
-
-/// How many plans of a version, and how many of their tables, agree.
-fn agreeing(rt: &HostRuntime, draws: &mut Draws, version: u64) -> anyhow::Result<(u64, u64)> {
-    let mut plans = 0u64;
-    let mut tables = 0u64;
-    for _ in 0..DRAWN_PLANS {
-        let mut plan = if draws.once_in(8) {
-            draws.high_plan(version)?
-        } else {
-            draws.plan(version)?
+        let refusal = Refusal {
+            part: "table",
+            line,
+            rule: "form",
         };
-        if try_table(rt, draws, &plan)? {
-            tables = tables.wrapping_add(1);
-        }
-        if try_three(rt, draws, &mut plan)? {
-            plans = plans.wrapping_add(1);
-        }
+        Case::refused(self.alloc, "table", input, refusal)
     }
-    Ok((plans, tables))
-}
-
-/// Tries plans that are drawn.
-pub fn try_all(rt: &HostRuntime, draws: &mut Draws) -> anyhow::Result<()> {
-    for version in 1..=2 {
-        let (plans, tables) = agreeing(rt, draws, version)?;
-        println!(rt;
-            "drawn plans {version}: {plans} of {DRAWN_PLANS} plans \
-             and {tables} of {DRAWN_PLANS} tables agree"
-        )?;
-    }
-    Ok(())
 }
