@@ -4,7 +4,7 @@ use reference::refusals::Refusal;
 use std::alloc::{AllocError, Global};
 
 /// How many inputs were refused by a rule of a part.
-#[derive(Drop)]
+#[derive(Clone, Copy)]
 struct Refused {
     part: &'static str,
     rule: &'static str,
@@ -13,12 +13,24 @@ struct Refused {
 
 /// How many inputs were tried, how many of them were accepted, and on how many the answers differ;
 /// and how many were refused by each rule.
-#[derive(Drop)]
 pub struct Counts {
     tried: u64,
     accepted: u64,
     different: u64,
     refused: Vec<Refused>,
+}
+
+// Written out, so that what lets go of one calls this, and no more.
+impl Drop for Counts {
+    fn drop(self) {
+        let Counts {
+            tried: _,
+            accepted: _,
+            different: _,
+            refused,
+        } = self;
+        drop(refused);
+    }
 }
 
 impl Counts {
@@ -36,25 +48,32 @@ impl Counts {
     /// all.
     pub fn count(&mut self, is_same: bool, refusal: Option<Refusal>) -> Result<(), AllocError> {
         self.tried = self.tried.wrapping_add(1);
-        if !is_same {
-            self.different = self.different.wrapping_add(1);
+        self.different = self.different.wrapping_add(u64::from(!is_same));
+        match refusal {
+            Some(
+                Refusal {
+                    part,
+                    line: _,
+                    rule,
+                },
+            ) => self.count_refused(part, rule),
+            None => {
+                self.accepted = self.accepted.wrapping_add(1);
+                Ok(())
+            }
         }
-        let Some(refusal) = refusal else {
-            self.accepted = self.accepted.wrapping_add(1);
-            return Ok(());
-        };
+    }
+
+    /// Counts an input that is refused by a rule of a part.
+    fn count_refused(&mut self, part: &'static str, rule: &'static str) -> Result<(), AllocError> {
         for refused in self.refused.iter_mut() {
-            if refused.part == refusal.part && refused.rule == refusal.rule {
+            if refused.part == part && refused.rule == rule {
                 refused.inputs = refused.inputs.wrapping_add(1);
                 return Ok(());
             }
         }
-        self.refused.push(Refused {
-            part: refusal.part,
-            rule: refusal.rule,
-            inputs: 1,
-        })?;
-        Ok(())
+        let inputs = 1;
+        Ok(self.refused.push(Refused { part, rule, inputs })?)
     }
 
     /// Prints what was counted of a word.
@@ -70,9 +89,7 @@ impl Counts {
             println!(rt; "{different} different")?;
         }
         for refused in &self.refused {
-            let part = refused.part;
-            let rule = refused.rule;
-            let inputs = refused.inputs;
+            let Refused { part, rule, inputs } = *refused;
             println!(rt; "  {part} {rule}: {inputs}")?;
         }
         Ok(())

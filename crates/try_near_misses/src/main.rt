@@ -11,30 +11,29 @@ mod plan_inputs;
 mod script_inputs;
 mod trials;
 
-use crate::counts::Counts;
-use crate::trials::try_near;
+use crate::trials::Trials;
 use reference::nodes::put_cell;
 
 /// Tries what is near to some inputs of a word, and prints how it went.
-fn try_word(rt: &HostRuntime, word: &str, inputs: &[&str]) -> anyhow::Result<()> {
-    let mut counts = Counts::new(rt.alloc());
+fn try_word(rt: &HostRuntime, word: &'static str, inputs: &[&str]) -> anyhow::Result<()> {
+    let mut trials = Trials::new(rt, word);
     for input in inputs {
-        try_near(rt, word, input.as_bytes(), &mut counts)?;
+        trials.try_near(input.as_bytes())?;
     }
-    counts.print(rt, word)
+    trials.print()
 }
 
 /// Tries what is near to the inputs of `node`, and prints how it went.
 fn try_nodes(rt: &HostRuntime) -> anyhow::Result<()> {
-    let mut counts = Counts::new(rt.alloc());
+    let mut trials = Trials::new(rt, "node");
     for (header, cells) in node_inputs::NODES {
         let mut input = Vec::from_slice(rt.alloc(), header.as_bytes())?;
         for cell in cells {
             put_cell(&mut input, cell)?;
         }
-        try_near(rt, "node", &input, &mut counts)?;
+        trials.try_near(&input)?;
     }
-    counts.print(rt, "node")
+    trials.print()
 }
 
 fn main(rt: HostRuntime) -> anyhow::Result<()> {
