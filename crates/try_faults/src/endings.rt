@@ -1,7 +1,7 @@
 //! What the workbench does where a call of its source or its sink fails.
 
 use crate::rows::Row;
-use crate::watched::{Calls, Watched};
+use crate::watched::Watched;
 use edge_io::{MemSink, MemSource};
 use std::alloc::{AllocError, Global};
 use workbench::counterlab;
@@ -19,65 +19,78 @@ pub enum Fault {
     Full(usize),
 }
 
-impl Fault {
-    /// The reads that fail.
-    fn reads(self, alloc: Global) -> Result<Vec<u64>, AllocError> {
-        match self {
-            Fault::Read(read) => vec![in alloc; read as u64; 1],
-            _ => Ok(Vec::new(alloc)),
-        }
-    }
-
-    /// The writes that fail.
-    fn writes(self, alloc: Global) -> Result<Vec<u64>, AllocError> {
-        match self {
-            Fault::Write(write) => vec![in alloc; write as u64; 1],
-            _ => Ok(Vec::new(alloc)),
-        }
-    }
-
-    /// How many bytes there is room for.
-    fn room(self) -> usize {
-        match self {
-            Fault::Full(room) => room,
-            _ => ROOM,
-        }
-    }
-}
-
-/// What came of a row: the exit code, the bytes that were taken, and how its source and its sink
-/// were called.
-#[derive(Drop)]
+/// What came of a row: the exit code, and the source and the sink behind the last call.
 pub struct Outcome {
     pub code: u8,
-    pub taken: Vec<u8>,
-    pub reads: Calls,
-    pub writes: Calls,
+    pub source: Watched<MemSource>,
+    pub sink: Watched<MemSink>,
+}
+
+// Written out, so that what lets go of one calls this, and no more.
+impl Drop for Outcome {
+    fn drop(self) {
+        let Outcome {
+            code: _,
+            source,
+            sink,
+        } = self;
+        drop(source);
+        drop(sink);
+    }
 }
 
 impl Outcome {
+    /// The bytes that were taken.
+    pub fn taken(&self) -> &[u8] {
+        self.sink.inner.taken()
+    }
+
     /// Whether there was a call after one that failed.
     pub fn went_on(&self) -> bool {
-        self.reads.went_on || self.writes.went_on
+        self.source.calls.went_on || self.sink.calls.went_on
     }
+}
+
+/// The source of a row.
+fn source_of(
+    alloc: Global,
+    row: &Row,
+    size: usize,
+    fault: Fault,
+) -> Result<Watched<MemSource>, AllocError> {
+    let fails = match fault {
+        Fault::Read(read) => vec![in alloc; read as u64; 1]?,
+        _ => Vec::new(alloc),
+    };
+    let cuts = vec![in alloc; size.max(1); 1]?;
+    let bytes = Vec::from_slice(alloc, &row.input)?;
+    Ok(Watched::new(alloc, MemSource::new(bytes, fails, cuts)))
+}
+
+/// An empty sink.
+fn sink_of(alloc: Global, size: usize, fault: Fault) -> anyhow::Result<Watched<MemSink>> {
+    let room = match fault {
+        Fault::Full(room) => room,
+        _ => ROOM,
+    };
+    let fails = match fault {
+        Fault::Write(write) => vec![in alloc; write as u64; 1]?,
+        _ => Vec::new(alloc),
+    };
+    let cuts = vec![in alloc; size.max(1); 1]?;
+    Ok(Watched::new(alloc, MemSink::new(alloc, room, fails, cuts)?))
 }
 
 /// What comes of a row whose bytes are read and written in pieces of at most such a size.
 pub fn came_of(alloc: Global, row: &Row, size: usize, fault: Fault) -> anyhow::Result<Outcome> {
-    let input = Vec::from_slice(alloc, &row.input)?;
-    let read_cuts = vec![in alloc; size.max(1); 1]?;
-    let write_cuts = vec![in alloc; size.max(1); 1]?;
-    let from = MemSource::new(input, fault.reads(alloc)?, read_cuts);
-    let to = MemSink::new(alloc, fault.room(), fault.writes(alloc)?, write_cuts)?;
-    let mut source = Watched::new(alloc, from);
-    let mut sink = Watched::new(alloc, to);
+    let mut source = source_of(alloc, row, size, fault)?;
+    let mut sink = sink_of(alloc, size, fault)?;
     let status = counterlab(alloc, &row.words, &mut source, &mut sink);
-    source.calls.noted?;
-    sink.calls.noted?;
-    Ok(Outcome {
+    let came = Outcome {
         code: status.code(),
-        taken: Vec::from_slice(alloc, sink.inner.taken())?,
-        reads: source.calls,
-        writes: sink.calls,
-    })
+        source,
+        sink,
+    };
+    came.source.calls.noted.and(came.sink.calls.noted)?;
+    Ok(came)
 }

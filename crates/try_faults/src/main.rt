@@ -12,7 +12,7 @@ mod sweeps;
 mod watched;
 
 use crate::memory::try_words;
-use crate::rows::rows_of;
+use crate::rows::{names_of, parts_of, row_of};
 use crate::sweeps::try_row;
 use std::process::ExitCode;
 use std::{env, io};
@@ -23,7 +23,7 @@ const SIZES: [usize; 6] = [1, 2, 7, 4095, 4096, 4097];
 /// The same without the small ones, for rows with many bytes.
 const LARGE_SIZES: [usize; 3] = [4095, 4096, 4097];
 
-/// Tries the rows of a folder. Whether all went as they should.
+/// Tries the rows of a folder, in the order of their names. Whether all went as they should.
 fn try_folder(rt: &HostRuntime, folder: &str) -> anyhow::Result<bool> {
     let sizes = if folder == "long" {
         LARGE_SIZES.as_slice()
@@ -31,8 +31,11 @@ fn try_folder(rt: &HostRuntime, folder: &str) -> anyhow::Result<bool> {
         SIZES.as_slice()
     };
     let mut same = true;
-    for row in &rows_of(rt, folder)? {
-        same = try_row(rt, row, sizes)? && same;
+    for file in &names_of(rt, folder)? {
+        if let Some(parts) = parts_of(file.as_str()) {
+            let row = row_of(rt, folder, file.as_str(), parts)?;
+            same = try_row(rt, &row, sizes)? && same;
+        }
     }
     Ok(same)
 }
@@ -46,6 +49,17 @@ fn try_folders(rt: &HostRuntime, folders: &[String]) -> anyhow::Result<bool> {
     Ok(same)
 }
 
+/// Does what the arguments say. Whether all went as it should.
+fn try_all(rt: &HostRuntime, arguments: &[String]) -> anyhow::Result<bool> {
+    if let [word, count, words @ ..] = arguments {
+        if word.as_str() == "spend" {
+            try_words(rt, words, count.as_str().parse::<u64>()?)?;
+            return Ok(true);
+        }
+    }
+    try_folders(rt, arguments)
+}
+
 /// The arguments behind the program's own name.
 fn arguments(rt: &HostRuntime) -> io::Result<Vec<String>> {
     let mut arguments = Vec::new(rt.alloc());
@@ -57,13 +71,8 @@ fn arguments(rt: &HostRuntime) -> io::Result<Vec<String>> {
 
 fn main(rt: HostRuntime) -> anyhow::Result<ExitCode> {
     let arguments = arguments(&rt)?;
-    if let [word, count, words @ ..] = arguments.as_slice() {
-        if word.as_str() == "spend" {
-            try_words(&rt, words, count.as_str().parse::<u64>()?)?;
-            return Ok(ExitCode::SUCCESS);
-        }
-    }
-    Ok(if try_folders(&rt, &arguments)? {
+    let same = try_all(&rt, &arguments)?;
+    Ok(if same {
         ExitCode::SUCCESS
     } else {
         ExitCode::FAILURE

@@ -44,13 +44,15 @@ fn after_write(before: usize) -> Wanted {
 /// call that is not reached then changes nothing.
 fn wanted_of(row: &Row, plain: &Outcome, fault: Fault) -> Wanted {
     let length = row.answer.len();
+    let reads = &plain.source.calls.before;
+    let writes = &plain.sink.calls.before;
     let failed = match fault {
         Fault::Nothing => None,
-        Fault::Read(read) => match plain.reads.before.get(read.wrapping_sub(1)) {
+        Fault::Read(read) => match reads.get(read.wrapping_sub(1)) {
             Some(before) => Some(after_read(row, *before)),
             None => None,
         },
-        Fault::Write(write) => match plain.writes.before.get(write.wrapping_sub(1)) {
+        Fault::Write(write) => match writes.get(write.wrapping_sub(1)) {
             Some(before) => Some(after_write(*before)),
             None => None,
         },
@@ -63,16 +65,6 @@ fn wanted_of(row: &Row, plain: &Outcome, fault: Fault) -> Wanted {
     })
 }
 
-/// What fails, in words.
-fn name_of(alloc: Global, fault: Fault) -> Result<String, AllocError> {
-    match fault {
-        Fault::Nothing => String::from_str(alloc, "nothing fails"),
-        Fault::Read(read) => format!(in alloc; "read {read} fails"),
-        Fault::Write(write) => format!(in alloc; "write {write} fails"),
-        Fault::Full(room) => format!(in alloc; "there is room for {room} bytes"),
-    }
-}
-
 /// Bytes as hex digits, each behind a space.
 pub fn digits(alloc: Global, bytes: &[u8]) -> Result<String, AllocError> {
     let mut text = String::new(alloc);
@@ -80,6 +72,18 @@ pub fn digits(alloc: Global, bytes: &[u8]) -> Result<String, AllocError> {
         write!(text, " {byte:02x}")?;
     }
     Ok(text)
+}
+
+/// Prints in what case something else came than what should.
+fn print_case(rt: &HostRuntime, size: usize, fault: Fault) -> anyhow::Result<()> {
+    let (what, number, how) = match fault {
+        Fault::Nothing => ("of all calls", 0, "fail"),
+        Fault::Read(read) => ("read", read, "fails"),
+        Fault::Write(write) => ("write", write, "fails"),
+        Fault::Full(room) => ("there is room for", room, "bytes"),
+    };
+    println!(rt; "\nin pieces of {size}, where {what} {number} {how}:")?;
+    Ok(())
 }
 
 /// Prints what came of a case, and what should.
@@ -90,9 +94,9 @@ fn print_both(
     front: &[u8],
 ) -> anyhow::Result<()> {
     let code = came.code;
-    let taken = digits(rt.alloc(), &came.taken)?;
-    let wanted = digits(rt.alloc(), front)?;
+    let taken = digits(rt.alloc(), came.taken())?;
     println!(rt; "code {code}, taken{taken}")?;
+    let wanted = digits(rt.alloc(), front)?;
     println!(rt; "wanted {wanted_code}, taken{wanted}")?;
     if came.went_on() {
         println!(rt; "there was a call after one that failed")?;
@@ -101,7 +105,7 @@ fn print_both(
 }
 
 /// How many cases of a row were tried, and how many went otherwise than they should.
-#[derive(Drop)]
+#[derive(Clone, Copy)]
 struct Cases {
     tried: u64,
     different: u64,
@@ -121,53 +125,65 @@ impl Cases {
         let wanted = wanted_of(row, plain, fault);
         let front = row.answer.get(..wanted.front).unwrap_or_default();
         let came = came_of(rt.alloc(), row, size, fault)?;
-        if came.code == wanted.code && came.taken.as_slice() == front && !came.went_on() {
-            return Ok(());
+        if came.code != wanted.code || came.taken() != front || came.went_on() {
+            self.different = self.different.saturating_add(1);
+            print_case(rt, size, fault)?;
+            print_both(rt, &came, wanted.code, front)?;
         }
-        self.different = self.different.saturating_add(1);
-        let name = name_of(rt.alloc(), fault)?;
-        println!(rt; "\nin pieces of {size}, where {name}:")?;
-        print_both(rt, &came, wanted.code, front)
+        Ok(())
     }
 
-    /// Tries each fault of a row whose bytes are moved in pieces of such a size. The exit code
-    /// where nothing fails.
-    fn try_faults(&mut self, rt: &HostRuntime, row: &Row, size: usize) -> anyhow::Result<u8> {
-        let plain = came_of(rt.alloc(), row, size, Fault::Nothing)?;
-        self.try_case(rt, row, size, Fault::Nothing, &plain)?;
-        for read in 0..=plain.reads.before.len() {
-            self.try_case(rt, row, size, Fault::Read(read.saturating_add(1)), &plain)?;
+    /// Tries each fault of a row whose bytes are moved in pieces of such a size, by what comes of
+    /// it where nothing fails.
+    fn try_faults(
+        &mut self,
+        rt: &HostRuntime,
+        row: &Row,
+        size: usize,
+        plain: &Outcome,
+    ) -> anyhow::Result<()> {
+        self.try_case(rt, row, size, Fault::Nothing, plain)?;
+        for read in 0..=plain.source.calls.before.len() {
+            self.try_case(rt, row, size, Fault::Read(read.saturating_add(1)), plain)?;
         }
-        for write in 0..=plain.writes.before.len() {
+        for write in 0..=plain.sink.calls.before.len() {
             let fault = Fault::Write(write.saturating_add(1));
-            self.try_case(rt, row, size, fault, &plain)?;
+            self.try_case(rt, row, size, fault, plain)?;
         }
         let length = row.answer.len();
         for room in [0, 1, length / 2, length.saturating_sub(1), length] {
-            self.try_case(rt, row, size, Fault::Full(room), &plain)?;
+            self.try_case(rt, row, size, Fault::Full(room), plain)?;
         }
-        Ok(plain.code)
+        Ok(())
     }
 }
 
-/// Tries each fault of a row with pieces of each of these sizes, and prints how many cases these
-/// are. Whether all went as they should.
-pub fn try_row(rt: &HostRuntime, row: &Row, sizes: &[usize]) -> anyhow::Result<bool> {
+/// Prints the name and the words of a row.
+fn print_row(rt: &HostRuntime, row: &Row) -> anyhow::Result<()> {
     let name = row.name.as_str();
     print!(rt; "{name}")?;
     for word in &row.words {
         let word = word.as_str();
         print!(rt; " {word}")?;
     }
+    Ok(())
+}
+
+/// Tries each fault of a row with pieces of each of these sizes, and prints how many cases these
+/// are. Whether all went as they should.
+pub fn try_row(rt: &HostRuntime, row: &Row, sizes: &[usize]) -> anyhow::Result<bool> {
+    print_row(rt, row)?;
     let mut cases = Cases {
         tried: 0,
         different: 0,
     };
     let mut code = 0;
     for size in sizes {
-        code = cases.try_faults(rt, row, *size)?;
+        let plain = came_of(rt.alloc(), row, *size, Fault::Nothing)?;
+        cases.try_faults(rt, row, *size, &plain)?;
+        code = plain.code;
     }
-    let (tried, different) = (cases.tried, cases.different);
+    let Cases { tried, different } = cases;
     if different == 0 {
         println!(rt; " {code}: {tried} cases, none different")?;
     } else {

@@ -5,7 +5,6 @@ use edge_io::{Failed, Sink, Source};
 use std::alloc::{AllocError, Global};
 
 /// What was seen of the calls of a source or a sink.
-#[derive(Drop)]
 pub struct Calls {
     /// How many bytes were moved before each call.
     pub before: Vec<usize>,
@@ -15,6 +14,20 @@ pub struct Calls {
     pub went_on: bool,
     /// Whether there was memory to note them all.
     pub noted: Result<(), AllocError>,
+}
+
+// Written out, so that what lets go of one calls this, and no more.
+impl Drop for Calls {
+    fn drop(self) {
+        let Calls {
+            before,
+            moved: _,
+            failed: _,
+            went_on: _,
+            noted: _,
+        } = self;
+        drop(before);
+    }
 }
 
 impl Calls {
