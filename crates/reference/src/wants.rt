@@ -82,8 +82,8 @@ impl Tower {
         }
     }
 
-    /// By what it comes before another: the bound, the nodes, the number of levels, and their blocks
-    /// and faults.
+    /// By what it comes before another: the bound, the nodes, the number of levels, and the blocks
+    /// and faults of these.
     fn key(&self) -> [u64; 13] {
         let [a, b, c, d, e] = self.levels;
         [
