@@ -1,4 +1,3 @@
-
 use edge_io::{MemSink, MemSource};
 use std::alloc::Global;
 use std::test::Fail;
