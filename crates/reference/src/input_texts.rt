@@ -36,20 +36,6 @@ pub fn write_plan(text: &mut String, plan: &Plan) -> Result<(), AllocError> {
     out.end()
 }
 
-/// Writes numbers, each behind a space.
-pub fn write_numbers(text: &mut String, numbers: &[u64]) -> Result<(), AllocError> {
-    let mut out = Text::behind(text);
-    out.put("", numbers);
-    out.end()
-}
-
-/// Writes bytes as hex digits behind a space.
-pub fn write_bytes(text: &mut String, bytes: &[u8]) -> Result<(), AllocError> {
-    let mut out = Text::behind(text);
-    out.bytes(bytes);
-    out.end()
-}
-
 /// Writes to whom a lie is told.
 fn write_receivers(out: &mut Text, receivers: Receivers) {
     out.word(" to");

@@ -102,6 +102,8 @@ impl Part<'_> {
         let result = self.result(plan, output, node, heard);
         if remainder(output.wrapping_add(1), self.period(plan)) == 0 {
             state.kept = result.value.unwrap_or(0);
+        } else if matches!(self, Part::Firing(_)) {
+            state.kept = 0;
         }
         match self.input(plan, at, output, node, heard) {
             Some(input) => state.put(depth, loaded(input)),

@@ -48,7 +48,8 @@ fn accepted(
     Ok((text?.into_bytes(), 0))
 }
 
-/// What is answered to a word, which is one of those above, and an input of at most 2^20 bytes.
+/// What is answered to a word, which is one of those above or one that plays a script, and an
+/// input of at most 2^20 bytes.
 pub fn answered(alloc: Global, word: &str, input: &[u8]) -> Result<Answer, AllocError> {
     let mut lines = Lines::of(input);
     match accepted(alloc, word, &mut lines, input) {
