@@ -245,8 +245,11 @@ fn try_nodes(rt: &HostRuntime, draws: &mut Draws) -> anyhow::Result<()> {
     for version in 1..=2 {
         try_parts(rt, draws, Kind::Node, version, NODES, " nodes agree")?;
     }
-    let most = is_answered(rt, &draws.count_case(MOST_PACKETS, 0))?;
-    let more = is_answered(rt, &draws.count_case(MOST_PACKETS.wrapping_add(1), 8))?;
+    let most = draws.count_case(MOST_PACKETS, 0);
+    let more = draws.count_case(MOST_PACKETS.wrapping_add(1), 8);
+    draws.result()?;
+    let most = is_answered(rt, &most)?;
+    let more = is_answered(rt, &more)?;
     println!(rt; "{MOST_PACKETS} packets: {most}, and one more: {more}")?;
     Ok(())
 }
@@ -291,6 +294,7 @@ fn try_wants(rt: &HostRuntime, draws: &mut Draws) -> anyhow::Result<()> {
     let mut same = 0u64;
     for _ in 0..WANTS {
         let case = draws.find_case()?;
+        draws.result()?;
         same = same.wrapping_add(u64::from(is_answered(rt, &case)?));
     }
     report(rt, &[("", same), (" of ", WANTS)], " wants agree")
