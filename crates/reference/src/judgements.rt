@@ -7,7 +7,7 @@ use crate::runs::is_locked;
 use crate::script_texts::want_faulty;
 use crate::texts::Text;
 use reference_steps::plans::Plan;
-use reference_steps::states::{NOTHING, State, read, state_of};
+use reference_steps::states::{State, ZERO_STATE, read, state_of};
 use reference_steps::steps::{shown, stepped};
 use std::alloc::{AllocError, Global};
 use std::mem;
@@ -89,7 +89,7 @@ impl Certificate {
     fn read_config(&mut self, alloc: Global, lines: &mut Lines) {
         let mut unknown = Vec::new(alloc);
         for node in 0..self.plan.nodes() {
-            lines.put(&mut self.config, NOTHING);
+            lines.put(&mut self.config, ZERO_STATE);
             lines.put(&mut unknown, node);
         }
         self.starts(alloc, lines, &unknown);
@@ -210,7 +210,7 @@ impl Certificate {
         let mut before = 0u64;
         for node in 0..self.plan.nodes() {
             if self.is_faulty(node) {
-                lines.put(&mut config, NOTHING);
+                lines.put(&mut config, ZERO_STATE);
             } else {
                 let heard = self.heard(alloc, lines, told, before);
                 lines.put(&mut config, stepped(&self.plan, node, &heard));

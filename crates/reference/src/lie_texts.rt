@@ -20,7 +20,7 @@ fn told_of(lines: &mut Lines, names: &[&[u8]]) -> (Receivers, usize) {
     if lines.is(5, "all") {
         return (Receivers::All, 6);
     }
-    match lines.is_number(5) {
+    match lines.number_at(5) {
         Some(first) => (Receivers::Between(first, lines.number(6)), 7),
         None => (Receivers::Group(group_of(names, lines.word(5))), 6),
     }

@@ -186,7 +186,7 @@ impl<'a> Lines<'a> {
     }
 
     /// The number at a place of the line, if one stands there.
-    pub fn is_number(&self, place: usize) -> Option<u64> {
+    pub fn number_at(&self, place: usize) -> Option<u64> {
         if place < self.words {
             number_of(self.word(place))
         } else {
@@ -196,7 +196,7 @@ impl<'a> Lines<'a> {
 
     /// The number that has to stand at a place of the line.
     pub fn number(&mut self, place: usize) -> u64 {
-        let number = self.is_number(place);
+        let number = self.number_at(place);
         self.want(number.is_some(), "form");
         number.unwrap_or(0)
     }

@@ -5,7 +5,7 @@ use crate::plan_texts::read_plan;
 use crate::refusals::Stop;
 use reference_steps::bits::number;
 use reference_steps::plans::Plan;
-use reference_steps::states::{NOTHING, State, read, written};
+use reference_steps::states::{State, ZERO_STATE, read, written};
 use reference_steps::steps::stepped;
 use std::alloc::{AllocError, Global};
 
@@ -57,7 +57,7 @@ fn hear<'a>(
         } else if cell.len() as u64 == plan.bytes(sender) {
             read(plan, sender, cell)
         } else {
-            NOTHING
+            ZERO_STATE
         };
     }
     Some(left)
@@ -99,7 +99,7 @@ pub fn answer(
     node: &Node,
     bytes: &[u8],
 ) -> Result<(Vec<u8>, u8), AllocError> {
-    let mut heard = vec![in alloc; NOTHING; plan.nodes() as usize]?;
+    let mut heard = vec![in alloc; ZERO_STATE; plan.nodes() as usize]?;
     let mut cells = Vec::new(alloc);
     let code = put_cells(plan, node, bytes, &mut heard, &mut cells)?;
     Ok((cells, code))

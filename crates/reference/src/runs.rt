@@ -5,7 +5,7 @@ use crate::layers::Part;
 use crate::texts::Text;
 use reference_steps::plans::{Plan, remainder};
 use reference_steps::scripts::Script;
-use reference_steps::states::{NOTHING, State, read, state_of};
+use reference_steps::states::{State, ZERO_STATE, read, state_of};
 use reference_steps::steps::{register, shown, stepped};
 use std::alloc::{AllocError, Global};
 use std::mem;
@@ -88,9 +88,9 @@ impl<'a> Run<'a> {
             plan,
             script,
             part,
-            config: vec![in alloc; NOTHING; nodes]?,
-            next: vec![in alloc; NOTHING; nodes]?,
-            heard: vec![in alloc; NOTHING; nodes]?,
+            config: vec![in alloc; ZERO_STATE; nodes]?,
+            next: vec![in alloc; ZERO_STATE; nodes]?,
+            heard: vec![in alloc; ZERO_STATE; nodes]?,
             seen: vec![in alloc; UNSEEN; rounds]?,
             at: 0,
         };

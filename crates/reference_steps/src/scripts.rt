@@ -2,7 +2,7 @@
 
 use crate::bits::NO_BITS;
 use crate::plans::{Plan, quotient};
-use crate::states::{NOTHING, State, read, shifted, state_of};
+use crate::states::{State, ZERO_STATE, read, shifted, state_of};
 use rand_chacha::ChaCha8Rng;
 use rand_core::{Rng, SeedableRng};
 
@@ -218,7 +218,7 @@ impl Script {
         match bytes_for(&self.starts, node) {
             Some(bytes) => read(plan, node, bytes),
             None if self.noisy => self.noise(plan, node, node.wrapping_add(65536), 0),
-            None => NOTHING,
+            None => ZERO_STATE,
         }
     }
 

@@ -31,7 +31,7 @@ pub const ZERO: Register = Register {
 };
 
 /// The state of zeros.
-pub const NOTHING: State = State {
+pub const ZERO_STATE: State = State {
     x: 0,
     registers: [ZERO; ROOM],
     kept: 0,
@@ -54,7 +54,7 @@ fn value_of(number: u64, modulus: u64) -> Option<u64> {
 /// The state of a node that some bytes are read as: a number that is too large is 0, and a value
 /// that is too large is infinite.
 pub fn read(plan: &Plan, node: u64, bytes: &[u8]) -> State {
-    let mut state = NOTHING;
+    let mut state = ZERO_STATE;
     let mut at = 0u64;
     if plan.has_number(node) {
         at = width(plan.base);
@@ -95,7 +95,7 @@ pub fn written(plan: &Plan, node: u64, state: &State) -> Bits {
 /// Of a state whose number and finite values are all raised by `by`, each in its modulus, what a
 /// node has.
 pub fn shifted(plan: &Plan, node: u64, state: &State, by: u64) -> State {
-    let mut shifted = NOTHING;
+    let mut shifted = ZERO_STATE;
     if plan.has_number(node) {
         shifted.x = remainder(state.x.wrapping_add(by), plan.base);
     }
@@ -124,6 +124,6 @@ impl Register {
 pub fn state_of(config: &[State], node: u64) -> State {
     match config.get(node as usize) {
         Some(state) => *state,
-        None => NOTHING,
+        None => ZERO_STATE,
     }
 }

@@ -76,13 +76,13 @@ pub fn digits(alloc: Global, bytes: &[u8]) -> Result<String, AllocError> {
 
 /// Prints in what case something else came than what should.
 fn print_case(rt: &HostRuntime, size: usize, fault: Fault) -> anyhow::Result<()> {
-    let (what, number, how) = match fault {
-        Fault::Nothing => ("of all calls", 0, "fail"),
-        Fault::Read(read) => ("read", read, "fails"),
-        Fault::Write(write) => ("write", write, "fails"),
-        Fault::Full(room) => ("there is room for", room, "bytes"),
-    };
-    println!(rt; "\nin pieces of {size}, where {what} {number} {how}:")?;
+    print!(rt; "\nin pieces of {size}, where ")?;
+    match fault {
+        Fault::Nothing => println!(rt; "nothing fails:")?,
+        Fault::Read(read) => println!(rt; "read {read} fails:")?,
+        Fault::Write(write) => println!(rt; "write {write} fails:")?,
+        Fault::Full(room) => println!(rt; "there is room for {room} bytes:")?,
+    }
     Ok(())
 }
 

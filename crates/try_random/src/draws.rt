@@ -3,7 +3,7 @@
 use rand_chacha::ChaCha8Rng;
 use rand_core::{Rng, SeedableRng};
 use reference_steps::plans::{Plan, remainder};
-use reference_steps::states::{NOTHING, Register, State, written};
+use reference_steps::states::{Register, State, ZERO_STATE, written};
 use reference_steps::steps::register;
 use std::alloc::{AllocError, Global};
 
@@ -104,7 +104,7 @@ impl Draws {
 
     /// What states are near to.
     pub fn centre(&mut self, plan: &Plan) -> State {
-        let mut centre = NOTHING;
+        let mut centre = ZERO_STATE;
         for depth in 0..plan.registers() {
             let value = Some(self.below(plan.modulus_of(depth)));
             centre.put(depth, Register { value, mark: false });
