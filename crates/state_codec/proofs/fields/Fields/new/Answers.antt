@@ -1,5 +1,5 @@
-use Rattle.std.proofs.Common.{rules, arith, ℕ, ◌≡◌, ◌<◌, ◌≤◌, ◌∙◌, ◌+◌, ◌-◌, ◌^◌, ap, set, take, length}
-use Rattle.std.proofs.Common.{get_or, refl, List}
+use Rattle.std.proofs.Common.{rules, arith, ℕ, ◌≡◌, ◌<◌, ◌≤◌, ◌∙◌, ◌+◌, ◌-◌, ◌^◌, ap, set, take}
+use Rattle.std.proofs.Common.{length, get_or, refl, List}
 use Rattle.std.proofs.lemmas.List.{length-set, take_all}
 use Rattle.construction.specs.Widths.{width}
 use Rattle.state_codec.specs.Shapes.{register_bits, registers_bits}
@@ -54,8 +54,8 @@ loop-i-preserved c =
       room = length-set c.loop-i.offsets.items v c.loop-i.size ∙ i.room;
       rooms = length-set c.loop-i.sizes.items v own ∙ i.rooms;
       offsets = set_more (λ j. c.bit_length-front.result + registers_bits (take j ms))
-          c.loop-i.offsets.items (set c.loop-i.offsets.items v c.loop-i.size) v c.loop-i.size place i.size refl
-          i.offsets;
+          c.loop-i.offsets.items (set c.loop-i.offsets.items v c.loop-i.size) v c.loop-i.size place
+          i.size refl i.offsets;
       sizes = set_more (λ j. register_bits (get_or ms j 0)) c.loop-i.sizes.items
           (set c.loop-i.sizes.items v own) v own places bits refl i.sizes;
     }

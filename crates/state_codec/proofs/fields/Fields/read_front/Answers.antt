@@ -41,7 +41,8 @@ read-register-requires c =
     let long = ap (λ (f : Fields). length f.moduli) c.self.view_is in
     let lt : v < length fields.moduli = omega (arith, c.loop-i-test.true, long) in
     let inside : v < length c.self.inside.moduli.items = omega (arith, lt, long) in
-    let there : v < length c.self.inside.offsets.items = omega (arith, inside, c.self.invariant.room) in
+    let there : v < length c.self.inside.offsets.items =
+    omega (arith, inside, c.self.invariant.room) in
     let offset : c.index.result.now ≡ width fields.base + registers_bits (take v fields.moduli) =
     (c.index.ensures ∙ any_default c.self.inside.offsets.items v c.index.result.now 0 there)
     ∙ c.self.invariant.begins v inside
@@ -64,7 +65,8 @@ loop-i-preserved c =
     let within : v < length c.loop-i.out.registers = omega (arith, moduli) in
     let lt : v < length fields.moduli = omega (arith, c.loop-i-test.true, moduli) in
     let inside : v < length c.self.inside.moduli.items = omega (arith, lt, moduli) in
-    let there : v < length c.self.inside.offsets.items = omega (arith, inside, c.self.invariant.room) in
+    let there : v < length c.self.inside.offsets.items =
+    omega (arith, inside, c.self.invariant.room) in
     let offset : c.index.result.now ≡ width fields.base + registers_bits (take v fields.moduli) =
     (c.index.ensures ∙ any_default c.self.inside.offsets.items v c.index.result.now 0 there)
     ∙ c.self.invariant.begins v inside
