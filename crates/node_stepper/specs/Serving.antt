@@ -67,8 +67,7 @@ module _ {M : Type 0} (machine : M → Machine) where
         pub stands : StandsBehind before after (served bytes).cells
 
     -- What serving did. `TooLong` is answered at the first byte of packet 1,000,001, and a read
-    -- fault
-    -- comes only before it.
+    -- fault comes only before it.
     abbrev pub Serves : (after : Standing M) (old new : Option (List ℕ)) (s t : Told)
         → Result ℕ NodeFault → Type 0
     Serves after old new s t (Ok n) =
