@@ -16,7 +16,8 @@ use Rattle.machines.specs.Laws.{IsSound, StaysLockedFrom}
 use Rattle.node_runs.specs.NodeRuns.{IsCorrect}
 use Rattle.node_runs.specs.Losses.{HearsOthers, LossyStep, LossyRun, LossesKeepLocked}
 use Rattle.node_runs.proofs.Correct.{some_left}
-use Rattle.node_runs.proofs.LossySteps.{next, next_own, next_other, next_locked, same_shown, counted}
+use Rattle.node_runs.proofs.LossySteps.{next, next_own, next_other, next_locked, same_shown}
+use Rattle.node_runs.proofs.LossySteps.{counted}
 
 either_false : (a b : Bool) → a || b ≡ false → (a ≡ false) × (b ≡ false)
 either_false true b is = absurd cc

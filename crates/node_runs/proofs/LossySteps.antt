@@ -49,7 +49,8 @@ module _ (m : Machine) (sound : IsSound m) (old : List State) (is : IsConfigurat
   abbrev lies : List (List State)
   lies = map row (range_with_len 0 n)
 
-  told_by : (u w : ℕ) → u < n → (b : Bool) → IsState m u (cond b (state_of heard u) (state_of old u))
+  told_by : (u w : ℕ) → u < n → (b : Bool)
+      → IsState m u (cond b (state_of heard u) (state_of old u))
   told_by u w ult true = hears.states u ult
   told_by u w ult false = is.states u ult
 
