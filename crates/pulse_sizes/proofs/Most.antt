@@ -1,5 +1,6 @@
 -- No node of a tree has more bits, and one has so many.
-use Rattle.std.proofs.Common.{◌≡◌, ℕ, zero, suc, ◌+◌, ◌-◌, ◌*◌, ◌<◌, ◌≤◌, Bool, true, false, max, [], ◌∷◌, refl, ap}
+use Rattle.std.proofs.Common.{◌≡◌, ℕ, zero, suc, ◌+◌, ◌-◌, ◌*◌, ◌<◌, ◌≤◌, Bool, true, false, max}
+use Rattle.std.proofs.Common.{[], ◌∷◌, refl, ap}
 use Rattle.std.proofs.Common.{sym, ◌∙◌, subst, inl, inr, arith}
 use Rattle.std.specs.Prelude.{nat_lt, if◌then◌else◌, sum_by}
 use Rattle.std.proofs.lemmas.Bool.{cases_lt, lt-ltb, le-ltb, ltb-true, ltb-false}
@@ -137,7 +138,8 @@ nodes_by n (suc f) quorum single =
     omega (arith, nodes_of_halving (suc f) (n - (3 * suc f + 1)) (omega arith), quorum)
 
 -- the tree of a plan has all nodes
-pub nodes_of_plan : (plan : PulseNumbers) → IsAccepted plan → halving_nodes (tree_of plan) ≡ plan.nodes
+pub nodes_of_plan : (plan : PulseNumbers) → IsAccepted plan
+    → halving_nodes (tree_of plan) ≡ plan.nodes
 nodes_of_plan plan accepted = nodes_by plan.nodes plan.faults accepted.quorum accepted.single
 
 pub bits_are_most : BitsAreMost

@@ -22,7 +22,8 @@ use Rattle.pulse_texts.specs.PulsesTexts.{pulses_text, PulsesTextIsRead, PulsesT
 use Rattle.pulse_texts.proofs.Accepted.{accepted_none}
 
 -- how a part is read on
-abbrev read_on : PulsesStage → (taken number : ℕ) → List ℕ → Result (Found PulseNumbers) (At LinePremise)
+abbrev read_on : PulsesStage → (taken number : ℕ) → List ℕ
+    → Result (Found PulseNumbers) (At LinePremise)
 read_on stage taken number text =
     part_from (with_skips pulses_step Form) Form stage taken number (lines_of text)
 
@@ -100,7 +101,8 @@ module _ (plan : PulseNumbers) (small : AreSmall plan) where
   group_numbers : numbers_after (codes "group") 3 (words_of (group_line plan))
       ≡ Some (plan.nodes ∷ plan.faults ∷ plan.modulus ∷ [])
   group_numbers =
-      ap (numbers_after (codes "group") 3) (words_joined (codes "group") (after_group plan) group_plain)
+      let words = words_joined (codes "group") (after_group plan) group_plain in
+      ap (numbers_after (codes "group") 3) words
       ∙ rw (
         printed_is_read plan.nodes (omega (arith, small.nodes)),
         printed_is_read plan.faults (omega (arith, small.faults)),

@@ -2,9 +2,9 @@
 //! by line, as from a feed; and it is written.
 //!
 //! A pulses part is the line `pulses 1`, the line `group N F C` with how many nodes there are, how
-//! many may be faulty, and the modulus that they count by, and the line `end`. Empty lines and lines
-//! that begin with `#` are skipped. The first line that fails is refused, with the first premise
-//! that it fails. No memory is taken.
+//! many may be faulty, and the modulus that they count by, and the line `end`. Empty lines and
+//! lines that begin with `#` are skipped. The first line that fails is refused, with the first
+//! premise that it fails. No memory is taken.
 #![tactic(auto)]
 
 mod laws;
