@@ -1,0 +1,4 @@
+pub mod Halvings
+pub mod Registers
+pub mod Steps
+pub mod Runs
