@@ -28,7 +28,7 @@ own_begun : (plan : Plan) (id : ℕ) (state : State) → id < plan_nodes plan
 own_begun plan id state lt =
     let zeros = replicate (plan_nodes plan) (zero_state (plan_depth plan)) in
     get_or-set_same zeros id state (zero_state 0)
-        (omega (arith, lt, length-replicate (plan_nodes plan) (zero_state (plan_depth plan))))
+    (omega (arith, lt, length-replicate (plan_nodes plan) (zero_state (plan_depth plan))))
 
 begun_for : (h : Header) → h.node.id < plan_nodes h.plan
     → IsNodeOf h (begun machine_of_plan h.plan h.node.id h.node.state)
@@ -42,7 +42,7 @@ pub node_of_shape : (plan : Plan) (shape : Shape) (v : ℕ) → shape ≡ shape_
     → v < length shape.lows → v < plan_nodes plan
 node_of_shape plan shape v same lt =
     subst (λ n. v < n) (ap (λ (s : Shape). length s.lows) same
-        ∙ nodes_of_shape plan (moduli_of plan.levels)) lt
+    ∙ nodes_of_shape plan (moduli_of plan.levels)) lt
 
 -- of a header that was read
 module _ (s t : Option (List ℕ)) (x : HeaderRead Plan) (w : HeaderWhole plan_part s t x)
