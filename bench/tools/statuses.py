@@ -73,7 +73,6 @@ def counterlab_cases():
 def choose_cases():
     return [
         own_run("choose"),
-        (0, ["--version"], b"", b"choose 1\n", b""),
         told(2, [], b"", b"usage: choose "),
         told(2, ["1", "ten"], b"", b"usage: choose "),
     ]
@@ -83,7 +82,6 @@ def script_cases(name, words):
     """Those of a program that reads a plan and a script, and is given these words with it."""
     return [
         own_run(name),
-        (0, ["--version"], b"", f"{name} 1\n".encode(), b""),
         told(1, words, example("refused_plans/blocks"), b"refused plan line "),
         told(2, [], b"", f"usage: {name} ".encode()),
         told(3, words, example("refused_scripts/faulty_node"), b"refused script line "),
@@ -108,7 +106,6 @@ def sweep_cases():
 def draw_cases():
     return [
         own_run("draw"),
-        (0, ["--version"], b"", b"draw 1\n", b""),
         told(1, [], b"refused plan line 1 premise form\n", b"no run to draw: refused plan line 1"),
         told(1, [], b"", b"no run to draw: "),
     ]
@@ -118,7 +115,6 @@ def states_cases():
     plan = example("plans/one_spare")
     return [
         own_run("states"),
-        (0, ["--version"], b"", b"states 1\n", b""),
         told(1, [], example("refused_plans/blocks"), b"line "),
         told(1, [], plan + b"node 0 00\n", b"line "),
     ]

@@ -45,7 +45,7 @@ FOUR_NODES = "plan 2\nbase 576\nlevel 3 1 10 spare 1\nend\n"
 TOLD_ROUNDS = 300
 MARGIN = 100  # rounds that are watched, beyond T
 SPELL = 20  # so many rounds that count in a row are no chance
-PORT = 21000
+PORT = 10000 + os.getpid() % 80 * 256  # of node 0; two runs at a time seldom have the same
 
 
 class Skipped(Exception):
@@ -362,6 +362,8 @@ class Record:
     def longest(self, correct):
         """The first and the last tick of the longest stretch of clean rounds."""
         best, begin = (0, 0), None
+        if not all(self.rows.values()):
+            raise Skipped("there is a node that wrote nothing")
         ticks = sorted(self.rows[correct[0]])
         for k in range(ticks[0], ticks[-1] + 1):
             if not self.is_clean(tuple(correct), k):
