@@ -12,8 +12,8 @@ letter. Else they have to end with 0. Pictures and other files of the repository
 have to be what is there.
 
 Lines that prove or build by `rt`, and blocks that name what this machine lacks, are left out, and
-told: `KIT`, a program that is not built, a tool that is not there, a path of the reader's own. The
-status is 1 where a block ends or prints otherwise.
+told: a program that is not built, or a path of the reader's own. The status is 1 where a block ends
+or prints otherwise.
 """
 
 import os
@@ -28,7 +28,8 @@ TOP = pathlib.Path(__file__).resolve().parent.parent.parent
 SECONDS = 300  # for a page
 SAYS_OUTPUT = re.compile(r"((it|which|this|and) )?(prints|writes)\b")
 # what only its reader can fill in, what takes minutes, and what shows a failing machine
-NOT_RUN = ["KIT", ".ci/run", "NAME", "FOLDER", "examples/udp/", "bench/library/try.py", "hostile.py"]
+NOT_RUN = [".ci/run", "NAME", "FOLDER", "examples/udp/run.py", "bench/library/try.py", "hostile.py"]
+ARCHIVE = "crates/counterlab_c/out/libcounterlab_c.a"
 BUILDS = re.compile(r"\brt (run|lib|ci|try|check|must-fail)\b")
 BUILT = re.compile(r"\bout/(\w+)\b")
 
@@ -92,6 +93,8 @@ def why_not(commands):
     for word in NOT_RUN:
         if word in commands:
             return f"it names {word}"
+    if ARCHIVE in commands and not (TOP / ARCHIVE).is_file():
+        return "the library is not built"
     for name in BUILT.findall(commands):
         crate = TOP / "crates" / name
         if crate.is_dir() and not (crate / "out" / name).is_file():
@@ -106,11 +109,12 @@ def copy(room):
         if name and (TOP / name).is_file():
             (room / name).parent.mkdir(parents=True, exist_ok=True)
             shutil.copyfile(TOP / name, room / name)
-    for program in TOP.glob("crates/*/out/*"):
-        if program.is_file() and program.name == program.parent.parent.name:
-            to = room / program.relative_to(TOP)
+    for made in TOP.glob("crates/*/out/*"):
+        name = made.parent.parent.name
+        if made.is_file() and made.name in (name, f"lib{name}.a"):
+            to = room / made.relative_to(TOP)
             to.parent.mkdir(parents=True, exist_ok=True)
-            shutil.copy(program, to)
+            shutil.copy(made, to)
 
 
 def changed_files(room):
