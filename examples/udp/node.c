@@ -16,8 +16,9 @@
  *
  * TICKS is how many came since the line before, 1 where it missed none. NUMBER is what it shows.
  * SURE is 1 where the node knows of no disturbance within the last T rounds: only then should a
- * system act on NUMBER. HEARD is how many states it stepped from, its own among them. With -p each
- * line has its new state, too, and the bytes that came from each node, - where none did. */
+ * system act on NUMBER. HEARD is how many states it stepped from, its own among them, or -1 where
+ * memory was refused, so that it did not step, or NUMBER is not known. With -p each line has its new
+ * state, too, and the bytes that came from each node, - where none did. */
 #define _POSIX_C_SOURCE 200809L
 #include "counterlab.h"
 #include <arpa/inet.h>
@@ -176,8 +177,8 @@ static void print_bytes(const uint8_t *bytes, size_t size) {
 
 static void print_line(ssize_t ticks, bool sure, int states, bool all) {
     struct counterlab_answer a = counterlab_output(plan, plan_size, id, state, sizes[id]);
-    if (a.code == COUNTERLAB_NO_MEMORY) return;
-    if (a.code) refuse("output", a);
+    if (a.code == COUNTERLAB_NO_MEMORY) sure = false, states = -1;
+    else if (a.code) refuse("output", a);
     printf("%zd %" PRIu64 " %d %d", ticks, a.value, sure, states);
     if (all) print_bytes(state, sizes[id]);
     for (uint32_t u = 0; all && u < numbers.nodes; u++) print_bytes(heard[u].bytes, heard[u].size);

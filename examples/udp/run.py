@@ -317,7 +317,9 @@ class Record:
     def is_clean(self, correct, k):
         """Whether from tick k to the next each of these heard the true state of each other."""
         for v in correct:
-            if k not in self.rows[v] or k + 1 not in self.rows[v] or self.rows[v][k + 1].ticks != 1:
+            if k not in self.rows[v] or k + 1 not in self.rows[v]:
+                return False
+            if self.rows[v][k + 1].ticks != 1 or self.rows[v][k + 1].heard < 0:
                 return False
         states = {v: self.rows[v][k].state for v in correct}
         cells = {v: self.rows[v][k + 1].cells for v in correct}
