@@ -17,8 +17,8 @@
  * TICKS is how many came since the line before, 1 where it missed none. NUMBER is what it shows.
  * SURE is 1 where the node knows of no disturbance within the last T rounds: only then should a
  * system act on NUMBER. HEARD is how many states it stepped from, its own among them, or -1 where
- * memory was refused, so that it did not step, or NUMBER is not known. With -p each line has its new
- * state, too, and the bytes that came from each node, - where none did. */
+ * memory was refused, so that it did not step, or NUMBER is not known. With -p each line has its
+ * new state, too, and the bytes that came from each node, - where none did. */
 #define _POSIX_C_SOURCE 200809L
 #include "counterlab.h"
 #include <arpa/inet.h>
