@@ -7,7 +7,7 @@ PAGE is README.md or a page of docs/ or bench/, from the top of the repository; 
 these are all. The blocks of `sh` of a page are run one after the other by one shell, in a copy of
 the repository's files in which the built programs lie at their places (crates/NAME/out/NAME, as
 `rt ci` and `rt run` leave them). If a block without a language comes next, with nothing between or
-with some words that begin with "prints" or "writes", it is what the commands have to print, to the
+with a few lines that begin with "prints" or "writes", it is what the commands have to print, to the
 letter. Else they have to end with 0. Pictures and other files of the repository that commands write
 have to be what is there.
 
@@ -26,6 +26,7 @@ import tempfile
 
 TOP = pathlib.Path(__file__).resolve().parent.parent.parent
 SECONDS = 300  # for a page
+MOST_BETWEEN = 3  # lines that may stand between commands and what they print
 SAYS_OUTPUT = re.compile(r"((it|which|this|and) )?(prints|writes)\b")
 # what only its reader can fill in, what takes minutes, and what shows a failing machine
 NOT_RUN = [".ci/run", "NAME", "FOLDER", "examples/udp/run.py", "bench/library/try.py", "hostile.py"]
@@ -70,8 +71,9 @@ def blocks_of(page):
 
 def is_output(block, between):
     """Whether a block is what the commands before it print, by what stands between."""
-    words = " ".join(between).strip()
-    return block.language == "" and (not words or SAYS_OUTPUT.match(words.lower()) is not None)
+    words = " ".join(between).strip().lower()
+    said = not words or len(between) <= MOST_BETWEEN and SAYS_OUTPUT.match(words) is not None
+    return block.language == "" and said
 
 
 def cases_of(page):
