@@ -148,7 +148,7 @@ def run(cases, room, at):
 
 
 def look(page, room, at):
-    """Looks at a page: how many blocks were run, how many of these compared, and how many failed."""
+    """Looks at a page: how many blocks were run, how many compared, and how many failed."""
     tried, compared, failed = 0, 0, 0
     cases = []
     name = page.relative_to(TOP)
@@ -191,8 +191,8 @@ def main():
                 copy(room)
             totals = [a + b for a, b in zip(totals, look(page, room, at))]
     tried, compared, failed = totals
-    print(f"pages: {tried} blocks of commands were run, {compared} compared with what stands there, "
-          f"{failed} not as they should be")
+    print(f"pages: {tried} blocks of commands were run, {compared} compared with what stands "
+          f"there, {failed} not as they should be")
     return 1 if failed else 0
 
 
