@@ -2,26 +2,20 @@
 use Rattle.std.proofs.Common.{◌≡◌, ℕ, zero, suc, ◌+◌, ◌<◌, ◌≤◌, cond, Bool, true, false, List, []}
 use Rattle.std.proofs.Common.{◌∷◌, length, map, take, get_or, Result, Ok, Err, add-one, refl, sym}
 use Rattle.std.proofs.Common.{ap, ◌∙◌, subst, arith}
-use Rattle.std.specs.Prelude.{◌==◌, IfOk}
+use Rattle.std.specs.Prelude.{◌==◌}
 use Rattle.std.specs.List.{range_with_len}
 use Rattle.std.proofs.lemmas.Bool.{eq-eqb, lt-ltb}
 use Rattle.std.proofs.lemmas.List.{take_more}
 use Rattle.std.proofs.lemmas.List.FromFn.{length-map-range_with_len, get_or-map-range_with_len}
-use Rattle.texts.specs.Parts.{At}
-use Rattle.sync_types.specs.declared.answers.Premise.{Premise}
 use Rattle.sync_types.specs.States.{State, zero_state}
-use Rattle.construction.specs.Plans.{Plan}
-use Rattle.plan_numbers.specs.Premises.{IsAccepted}
-use Rattle.plan_reader.specs.PlanPart.{whole_plan_of}
-use Rattle.plan_reader.proofs.AcceptedPlans.{whole_plan_accepted}
 use Rattle.state_codec.specs.Shapes.{Fields, bytes_in}
 use Rattle.state_codec.specs.Reading.{read}
 use Rattle.state_codec.specs.Writing.{written}
 use Rattle.node_stepper.specs.Packets.{Ending, whole, cut, beyond, Packets}
 use Rattle.machines.specs.Machines.{Machine}
 use Rattle.machines.specs.Laws.{IsSound}
-use Rattle.plan_machine.specs.PlanMachines.{machine_of_plan}
-use Rattle.plan_machine.proofs.Sound.{accepted_are_sound}
+use Rattle.any_machine.specs.declared.any_machines.AnyMachine.{AnyMachine}
+use Rattle.any_machine.specs.Machines.{machine_of}
 use Rattle.node_stepper.specs.Nodes.{state_after, state_behind}
 use Rattle.node_stepper.proofs.CellByCell.{written_size}
 use Rattle.node_runs.specs.NodeRuns.{Nodes, IsCorrect, state_at, states_at, AreConnected}
@@ -31,23 +25,12 @@ use Rattle.node_stepper.proofs.NodeTexts.{state_push}
 use Rattle.node_runs.proofs.States.{read_is_state, reads_back, behind_is_state}
 use Rattle.node_calls.specs.declared.errors.CallError.{CallError}
 use Rattle.node_calls.specs.declared.errors.CallError.TheVariants as error
-use Rattle.node_calls.specs.Answers.{plan_or_refused, plan_answer, packets_for}
-use Rattle.node_calls.specs.Answers.{by_ending}
+use Rattle.node_calls.specs.Counters.{counter_answer}
+use Rattle.node_calls.specs.Answers.{packets_for, by_ending}
 use Rattle.node_calls.specs.Answers.{bytes_behind, steps_over, step_in, step_answer, output_answer}
 use Rattle.node_calls.specs.Counting.{InRounds, CountByBytes, NodesCount}
+use Rattle.node_calls.proofs.Counters.{sound_of}
 use Rattle.node_calls.proofs.Packets.{as_many, only_one}
-
-accepted_of : (r : Result Plan (At Premise)) (plan : Plan) → plan_or_refused r ≡ Ok plan
-    → IfOk r IsAccepted → IsAccepted plan
-accepted_of (Ok found) plan is accepted =
-    let same : found ≡ plan = cc in subst IsAccepted same accepted
-accepted_of (Err at) plan is accepted = absurd cc
-
--- the machine of the plan of a text is sound
-sound_of : (text : List ℕ) (plan : Plan) → plan_answer text ≡ Ok plan
-    → IsSound (machine_of_plan plan)
-sound_of text plan is =
-    accepted_are_sound plan (accepted_of (whole_plan_of text) plan is (whole_plan_accepted text))
 
 -- of what was answered: that the test held, and what stands behind it
 behind_test : {V : Type 0} (test : Bool) (answer : Result V CallError) (e : CallError) (v : V)
@@ -63,11 +46,11 @@ ended new bytes count (whole n) is =
 ended new bytes count (cut packet sender) is = absurd cc
 ended new bytes count beyond is = absurd cc
 
--- what calls answer of a node of an accepted plan
-module _ (text : List ℕ) (plan : Plan) (is : plan_answer text ≡ Ok plan)
-    (v : ℕ) (node : v < (machine_of_plan plan).nodes) where
+-- what calls answer of a node of a counter
+module _ (text : List ℕ) (counter : AnyMachine) (is : counter_answer text ≡ Ok counter)
+    (v : ℕ) (node : v < (machine_of counter).nodes) where
   abbrev m : Machine
-  m = machine_of_plan plan
+  m = machine_of counter
 
   abbrev fields : Fields
   fields = m.fields v
@@ -94,14 +77,14 @@ module _ (text : List ℕ) (plan : Plan) (is : plan_answer text ≡ Ok plan)
       omega (arith, as_many (m.nodes) 1000000 0 1 packets done.0) in
       done.1 ∙ ap (bytes_behind m v state) (only_one all.cells [] one)
 
-module _ (text : List ℕ) (plan : Plan) (is : plan_answer text ≡ Ok plan)
+module _ (text : List ℕ) (counter : AnyMachine) (is : counter_answer text ≡ Ok counter)
     (faulty : List ℕ) (count : ℕ) (bytes packets : ℕ → ℕ → List ℕ)
-    (rounds : InRounds text (machine_of_plan plan) faulty count bytes packets) where
+    (rounds : InRounds text (machine_of counter) faulty count bytes packets) where
   abbrev k : Machine
-  k = machine_of_plan plan
+  k = machine_of counter
 
   sound : IsSound k
-  sound = sound_of text plan is
+  sound = sound_of text counter is
 
   -- the packet of a round, the state of its bytes, and the nodes that these make
   abbrev packet : (v t : ℕ) → List (List ℕ)
@@ -126,7 +109,7 @@ module _ (text : List ℕ) (plan : Plan) (is : plan_answer text ≡ Ok plan)
     next : (t : ℕ) → t < count
         → bytes (t + 1) v ≡ written (k.fields v) (state_after k v (state t v) (packet v t))
     next t early =
-        new_bytes text plan is v correct.0 (bytes t v) (packets t v) (bytes (t + 1) v)
+        new_bytes text counter is v correct.0 (bytes t v) (packets t v) (bytes (t + 1) v)
         (rounds.steps t v early correct)
 
     next_state : (t : ℕ) → t < count → state (t + 1) v ≡ state_after k v (state t v) (packet v t)
@@ -178,7 +161,7 @@ module _ (text : List ℕ) (plan : Plan) (is : plan_answer text ≡ Ok plan)
   counted counts = record {
     output = counts.output;
     shows = λ t v late early correct.
-        output_is text plan is v correct.0 (bytes t v) (long v correct t early)
+        output_is text counter is v correct.0 (bytes t v) (long v correct t early)
         ∙ ap (λ (o : ℕ). let r : Result ℕ CallError = Ok o in r)
         (ap (k.shows v) (sym (stands v correct t early))
         ∙ ap (k.shows v)
@@ -190,8 +173,8 @@ module _ (text : List ℕ) (plan : Plan) (is : plan_answer text ≡ Ok plan)
   }
 
 pub nodes_count : NodesCount
-nodes_count text plan is faulty borne count bytes packets rounds =
-    counted text plan is faulty count bytes packets rounds
-    (nodes_settle (machine_of_plan plan) (sound_of text plan is) faulty borne
-    (nodes text plan is faulty count bytes packets rounds) 0 count
-    (connected text plan is faulty count bytes packets rounds))
+nodes_count text counter is faulty borne count bytes packets rounds =
+    counted text counter is faulty count bytes packets rounds
+    (nodes_settle (machine_of counter) (sound_of text counter is) faulty borne
+    (nodes text counter is faulty count bytes packets rounds) 0 count
+    (connected text counter is faulty count bytes packets rounds))

@@ -2,10 +2,11 @@
 use Rattle.std.specs.Prelude.{◌≡◌, ◌≢◌, ℕ, ◌+◌, ◌%◌, ◌<◌, ◌≤◌, List, [], length, slice_index_or, Ok}
 use Rattle.state_codec.specs.Shapes.{bytes_in}
 use Rattle.machines.specs.Machines.{Machine, IsBorne}
-use Rattle.construction.specs.Plans.{Plan}
-use Rattle.plan_machine.specs.PlanMachines.{machine_of_plan}
+use Rattle.any_machine.specs.declared.any_machines.AnyMachine.{AnyMachine}
+use Rattle.any_machine.specs.Machines.{machine_of}
 use Rattle.node_runs.specs.NodeRuns.{IsCorrect}
-use Rattle.node_calls.specs.Answers.{plan_answer, packets_for, output_answer, step_answer}
+use Rattle.node_calls.specs.Counters.{counter_answer}
+use Rattle.node_calls.specs.Answers.{packets_for, output_answer, step_answer}
 
 -- the cell of node u in the first packet of these bytes
 abbrev pub cell_in : Machine → (packets : List ℕ) → (u : ℕ) → List ℕ
@@ -34,9 +35,10 @@ pub record CountByBytes (text : List ℕ) (m : Machine) (faulty : List ℕ) (cou
   pub grows : (t : ℕ) → m.bound ≤ t → t < count
       → output (t + 1) ≡ (output t + 1) % m.modulus
 
--- Nodes that step so count, with each faulty set that the plan tolerates.
+-- Nodes that step so count, with each faulty set that the counter tolerates.
 abbrev pub NodesCount : Type 0
-NodesCount = (text : List ℕ) (plan : Plan) → plan_answer text ≡ Ok plan → (faulty : List ℕ)
-    → IsBorne (machine_of_plan plan) faulty → (count : ℕ) (bytes packets : ℕ → ℕ → List ℕ)
-    → InRounds text (machine_of_plan plan) faulty count bytes packets
-    → CountByBytes text (machine_of_plan plan) faulty count bytes
+NodesCount = (text : List ℕ) (counter : AnyMachine) → counter_answer text ≡ Ok counter
+    → (faulty : List ℕ) → IsBorne (machine_of counter) faulty
+    → (count : ℕ) (bytes packets : ℕ → ℕ → List ℕ)
+    → InRounds text (machine_of counter) faulty count bytes packets
+    → CountByBytes text (machine_of counter) faulty count bytes
