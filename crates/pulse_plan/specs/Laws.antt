@@ -2,7 +2,7 @@
 use Rattle.std.specs.Prelude.{◌≡◌, ℕ, ◌*◌, ◌≤◌}
 use Rattle.pulse_construction.specs.Halvings.{halving_nodes, halving_faults, halving_bound}
 use Rattle.pulse_construction.specs.Halvings.{halving_of}
-use Rattle.pulse_construction.specs.Machines.{Machine, Settles}
+use Rattle.machines.specs.Machines.{Machine, Settles}
 use Rattle.pulse_construction.specs.Runs.{machine_of}
 use Rattle.pulse_plan.specs.Plans.{PulseNumbers, tree_of, IsAccepted}
 

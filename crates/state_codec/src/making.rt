@@ -82,7 +82,7 @@ pub fn kinds(alloc: Global, plan: &Plan, moduli: &[u64]) -> Result<Vec<Fields>, 
     let mut kinds = Vec::with_capacity(alloc, lows)?;
     for low in 0..lows {
         let own = base_from(low, base);
-        let fields = Fields::new(own, moduli_from(alloc, low, moduli)?);
+        let fields = Fields::new(alloc, own, moduli_from(alloc, low, moduli)?)?;
         kinds.push(fields).map_err(|_| NoMemory)?;
     }
     Ok(kinds)

@@ -1,33 +1,53 @@
 -- Rounds and runs of any counter whose nodes have states, with faulty nodes, and that its outputs
 -- come to count.
-use Rattle.std.specs.Prelude.{◌≡◌, ℕ, ◌+◌, ◌%◌, ◌<◌, ◌≤◌, List, [], length, false, All}
-use Rattle.std.specs.Prelude.{slice_index_or}
+use Rattle.std.specs.Prelude.{◌≡◌, ⊤, ℕ, ◌+◌, ◌%◌, ◌<◌, ◌≤◌, Option, Some, None, List, [], length}
+use Rattle.std.specs.Prelude.{false, All, slice_index_or}
 use Rattle.std.specs.List.Sorted.{IsStrictlyIncreasing}
 use Rattle.sync_types.specs.States.{State}
 use Rattle.construction.specs.Steps.{state_of}
-use Rattle.construction.specs.Runs.{is_in, configuration, heard_by}
+use Rattle.construction.specs.Runs.{is_in, configuration, heard_by, AllLocked}
+use Rattle.state_codec.specs.Shapes.{Fields}
+use Rattle.state_codec.specs.Ranges.{InRange}
 
--- A counter: N nodes, of which F may be faulty, count modulo C from T on. It has states for each
--- node, what they show, and the step of a node from what it hears of all nodes.
-pub record Machine : Type 1 where
+-- A counter: N nodes, of which F may be faulty, count modulo C from T on, and a state has so many
+-- registers. Of each node: the fields that its states have, what a state shows, and the step from
+-- what it hears of all nodes. One register tells whether a configuration is locked; where there is
+-- none, each is.
+pub record Machine : Type 0 where
   pub nodes : ℕ
   pub faults : ℕ
   pub modulus : ℕ
   pub bound : ℕ
-  pub IsState : (v : ℕ) → State → Type 0
+  pub depth : ℕ
+  pub fields : (v : ℕ) → Fields
   pub shows : (v : ℕ) → State → ℕ
   pub step : (v : ℕ) → List State → State
+  pub lock : Option ℕ
+
+-- the register, where there is one, is the same, finite and marked, in all correct nodes
+abbrev pub LockedBy : (lock : Option ℕ) (nodes : ℕ) (faulty : List ℕ) (config : List State)
+    → Type 0
+LockedBy None nodes faulty config = ⊤
+LockedBy (Some register) nodes faulty config = AllLocked register nodes faulty config
 
 module _ (machine : Machine) where
+  -- a state of node v
+  abbrev pub IsState : (v : ℕ) → State → Type 0
+  IsState v state = InRange (machine.fields v) state
+
+  -- the correct nodes agree, and go on so
+  abbrev pub IsLocked : (faulty : List ℕ) (config : List State) → Type 0
+  IsLocked faulty config = LockedBy machine.lock machine.nodes faulty config
+
   -- a state for each node
   pub record IsConfiguration (config : List State) : Type 0 where
     pub size : length config ≡ machine.nodes
-    pub states : (v : ℕ) → v < machine.nodes → machine.IsState v (state_of config v)
+    pub states : (v : ℕ) → v < machine.nodes → IsState v (state_of config v)
 
   -- what node u tells each receiver: states of its own
   pub record IsTold (u : ℕ) (told : List State) : Type 0 where
     pub size : length told ≡ machine.nodes
-    pub states : All (machine.IsState u) told
+    pub states : All (IsState u) told
 
   -- for each sender, what it tells each receiver
   pub record IsTable (lies : List (List State)) : Type 0 where
@@ -73,8 +93,8 @@ module _ (machine : Machine) where
     pub ids : All (λ id. id < machine.nodes) faulty
     pub few : length faulty ≤ machine.faults
 
-  -- whatever the start and the lies, with each faulty set that it tolerates, it counts from the
-  -- bound on
+  -- Whatever the start and the lies, with each faulty set that it tolerates, it counts from the
+  -- bound on.
   abbrev pub Settles : Type 0
   Settles =
       (faulty : List ℕ) (run : List (List State)) → IsBorne faulty → Run faulty run
