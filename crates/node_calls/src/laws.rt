@@ -2,13 +2,9 @@
 
 ghost use Rattle.node_calls.specs.Counting.{NodesCount};
 
-use node_runs::laws::nodes_settle;
-
 /// Nodes that step in rounds as [`step`](crate::step) answers count: from the plan's bound on all
 /// correct ones show one number, as [`output`](crate::output) answers, which grows by one modulo C
 /// in each round; whatever bytes they begin with, and whatever the faulty ones say to whom.
 pub fn nodes_count()
     ensures { NodesCount }
-{
-    nodes_settle();
-}
+{}

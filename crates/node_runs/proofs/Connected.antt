@@ -9,12 +9,12 @@ use Rattle.std.proofs.lemmas.Bool.{cases_lt, lt-ltb, le-ltb}
 use Rattle.std.proofs.lemmas.List.{get_or_append_left, get_or_push, take-append-le, take_all}
 use Rattle.std.proofs.lemmas.List.FromFn.{length-map-range_with_len, get_or-map-range_with_len}
 use Rattle.sync_types.specs.States.{State}
-use Rattle.construction.specs.Plans.{Plan, plan_nodes}
-use Rattle.construction.specs.Runs.{is_in, IsState}
-use Rattle.plan_numbers.specs.Premises.{IsAccepted}
+use Rattle.construction.specs.Runs.{is_in}
 use Rattle.state_codec.specs.Reading.{read}
 use Rattle.state_codec.specs.Writing.{written}
-use Rattle.node_stepper.specs.Nodes.{fields_of, state_behind}
+use Rattle.machines.specs.Machines.{Machine, IsState}
+use Rattle.machines.specs.Laws.{IsSound}
+use Rattle.node_stepper.specs.Nodes.{state_behind}
 use Rattle.node_stepper.specs.Laws.{AreFull}
 use Rattle.node_runs.specs.NodeRuns.{Nodes, cell_given, IsCorrect, state_at, AreConnected}
 use Rattle.node_runs.specs.Laws.{AnyLiesConnect}
@@ -40,11 +40,11 @@ wrote_by true faulty a b late correct = cc
 wrote_by false true a b late correct = cc
 wrote_by false false a b late correct = refl
 
-module _ (plan : Plan) (faulty : List ℕ) (starts : ℕ → State) (sent : ℕ → ℕ → ℕ → List ℕ)
+module _ (m : Machine) (faulty : List ℕ) (starts : ℕ → State) (sent : ℕ → ℕ → ℕ → List ℕ)
     (first : ℕ) where
   -- what node u writes behind packets
   abbrev written_behind : (u : ℕ) → List (List (List ℕ)) → List ℕ
-  written_behind u packets = written (fields_of plan u) (state_behind plan u (starts u) packets)
+  written_behind u packets = written (m.fields u) (state_behind m u (starts u) packets)
 
   -- the cell of node u in packet t of node v, where u has these packets before
   abbrev cell_from : (t v u : ℕ) → List (List (List ℕ)) → List ℕ
@@ -56,23 +56,23 @@ module _ (plan : Plan) (faulty : List ℕ) (starts : ℕ → State) (sent : ℕ 
   packets_by zero v = []
   packets_by (suc t) v =
       packets_by t v
-      ++ map (λ u. cell_from t v u (packets_by t u)) (range_with_len 0 (plan_nodes plan)) ∷ []
+      ++ map (λ u. cell_from t v u (packets_by t u)) (range_with_len 0 m.nodes) ∷ []
 
   abbrev cell_by : (t v u : ℕ) → List ℕ
   cell_by t v u = cell_from t v u (packets_by t u)
 
   abbrev packet_by : (t v : ℕ) → List (List ℕ)
-  packet_by t v = map (cell_by t v) (range_with_len 0 (plan_nodes plan))
+  packet_by t v = map (cell_by t v) (range_with_len 0 m.nodes)
 
   long : (rounds v : ℕ) → length (packets_by rounds v) ≡ rounds
   long zero v = refl
   long (suc t) v = omega (arith, length-append (packets_by t v) (packet_by t v ∷ []), long t v)
 
-  are_full : (rounds v : ℕ) → AreFull (plan_nodes plan) (packets_by rounds v)
+  are_full : (rounds v : ℕ) → AreFull m.nodes (packets_by rounds v)
   are_full zero v = tt
   are_full (suc t) v =
-      full_push (plan_nodes plan) (packets_by t v) (packet_by t v) (are_full t v)
-      (length-map-range_with_len (cell_by t v) 0 (plan_nodes plan))
+      full_push m.nodes (packets_by t v) (packet_by t v) (are_full t v)
+      (length-map-range_with_len (cell_by t v) 0 m.nodes)
 
   front : (rounds t v : ℕ) → t ≤ rounds → take t (packets_by rounds v) ≡ packets_by t v
   front zero t v le =
@@ -104,13 +104,13 @@ module _ (plan : Plan) (faulty : List ℕ) (starts : ℕ → State) (sent : ℕ 
     abbrev nodes : Nodes
     nodes = record { starts = starts; packets = packets_by last }
 
-    given_is : (t v u : ℕ) → t < last → u < plan_nodes plan
+    given_is : (t v u : ℕ) → t < last → u < m.nodes
         → cell_given nodes t v u ≡ cell_by t v u
     given_is t v u lt ult =
         ap (λ (packet : List (List ℕ)). get_or packet u []) (packet_is last t v lt)
-        ∙ get_or-map-range_with_len (cell_by t v) 0 (plan_nodes plan) u u [] ult (omega arith)
+        ∙ get_or-map-range_with_len (cell_by t v) 0 m.nodes u u [] ult (omega arith)
 
-    given : (t v u : ℕ) → t < last → u < plan_nodes plan
+    given : (t v u : ℕ) → t < last → u < m.nodes
         → (t < first) ⊎ (is_in faulty u ≡ true) → cell_given nodes t v u ≡ sent t v u
     given t v u lt ult is =
         given_is t v u lt ult
@@ -120,8 +120,8 @@ module _ (plan : Plan) (faulty : List ℕ) (starts : ℕ → State) (sent : ℕ 
           | inr lies ↦ inr lies
         ])
 
-    wrote : (t v u : ℕ) → first ≤ t → t < last → IsCorrect plan faulty u
-        → cell_given nodes t v u ≡ written (fields_of plan u) (state_at plan nodes t u)
+    wrote : (t v u : ℕ) → first ≤ t → t < last → IsCorrect m faulty u
+        → cell_given nodes t v u ≡ written (m.fields u) (state_at m nodes t u)
     wrote t v u low lt correct =
         given_is t v u lt correct.0
         ∙ wrote_by (nat_lt t first) (is_in faulty u) (sent t v u)
@@ -129,27 +129,27 @@ module _ (plan : Plan) (faulty : List ℕ) (starts : ℕ → State) (sent : ℕ 
         ∙ ap (written_behind u) (sym (front last t u (omega arith)))
 
     -- so they hear what the correct ones wrote
-    connected : IsAccepted plan → first ≤ last
-        → ((v : ℕ) → IsCorrect plan faulty v → IsState plan v (starts v))
-        → AreConnected plan faulty nodes first last
-    connected accepted rising begun = record {
+    connected : IsSound m → first ≤ last
+        → ((v : ℕ) → IsCorrect m faulty v → IsState m v (starts v))
+        → AreConnected m faulty nodes first last
+    connected sound rising begun = record {
       rising = rising;
       starts = begun;
       enough = λ v correct. omega (arith, long last v);
       cells = λ t v u low lt v_correct u_correct other.
-          ap (read (fields_of plan u)) (wrote t v u low lt u_correct)
-          ∙ reads_back plan accepted u u_correct.0 (state_at plan nodes t u)
-          (behind_is_state plan accepted u (starts u) (take t (packets_by last u))
+          ap (read (m.fields u)) (wrote t v u low lt u_correct)
+          ∙ reads_back m sound u u_correct.0 (state_at m nodes t u)
+          (behind_is_state m sound u u_correct.0 (starts u) (take t (packets_by last u))
           (begun u u_correct));
     }
 
 pub any_lies_connect : AnyLiesConnect
-any_lies_connect plan accepted faulty starts sent first last rising begun = record {
-  nodes = nodes plan faulty starts sent first last;
+any_lies_connect m sound faulty starts sent first last rising begun = record {
+  nodes = nodes m faulty starts sent first last;
   begin = refl;
-  are = connected plan faulty starts sent first last accepted rising begun;
-  long = long plan faulty starts sent first last;
-  full = are_full plan faulty starts sent first last;
-  given = given plan faulty starts sent first last;
-  wrote = wrote plan faulty starts sent first last;
+  are = connected m faulty starts sent first last sound rising begun;
+  long = long m faulty starts sent first last;
+  full = are_full m faulty starts sent first last;
+  given = given m faulty starts sent first last;
+  wrote = wrote m faulty starts sent first last;
 }

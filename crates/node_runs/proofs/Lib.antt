@@ -4,4 +4,3 @@ pub mod Runs
 pub mod Settled
 pub mod Written
 pub mod Connected
-pub mod Worked

@@ -6,12 +6,11 @@ use Rattle.sync_types.specs.declared.answers.Part.TheVariants as part
 use Rattle.sync_types.specs.declared.status.Status.{Status}
 use Rattle.sync_types.specs.declared.status.Status.TheVariants as status
 use Rattle.construction.specs.Plans.{plan_nodes}
-use Rattle.node_header.specs.declared.headers.HeaderRefusal.{HeaderRefusal}
 use Rattle.node_header.specs.declared.headers.HeaderRefusal.TheVariants as header
-use Rattle.node_header.specs.Headers.{Header, header_in}
+use Rattle.node_header.specs.Headers.{Header, HeaderRefusal, header_in, plan_part}
 use Rattle.node_header.specs.FedHeaders.{HeaderPending}
 use Rattle.node_stepper.specs.Packets.{Ending, whole, cut, beyond, IsWithin, Packets, packets_of}
-use Rattle.node_stepper.specs.Nodes.{node_text}
+use Rattle.plan_node_runs.specs.PlanNodes.{node_text}
 use Rattle.outcomes.specs.declared.refusals.Refusal.{Refusal}
 use Rattle.outcomes.specs.declared.refusals.Refusal.TheVariants as refusal
 use Rattle.outcomes.specs.Outcomes.{Outcome, outcome_of, too_long}
@@ -54,7 +53,7 @@ node_outcome input = behind_header input (header_in (room_in (2 ^ 20) input) (li
 -- Bytes that do not show what decides an input: they do not show what decides its header; or it is
 -- whole, and none of the bytes behind it is of a packet too many.
 abbrev pub pending_behind : (seen : List ℕ) → Result Header (Option HeaderRefusal) → Type 0
-pending_behind seen (Err refused) = HeaderPending seen
+pending_behind seen (Err refused) = HeaderPending plan_part seen
 pending_behind seen (Ok h) = IsWithin (packets_for h (behind_lines h.lines seen)).ending
 
 abbrev pub IsNodePending : List ℕ → Type 0

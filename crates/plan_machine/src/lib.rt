@@ -3,3 +3,6 @@
 #![tactic(auto)]
 
 pub mod laws;
+mod plan_machines;
+
+pub use plan_machines::PlanMachine;

@@ -12,11 +12,12 @@ use Rattle.state_codec.specs.Writing.{written}
 use Rattle.node_header.specs.Headers.{Header}
 use Rattle.node_header.specs.HeaderTexts.{header_text, header_stated, HeaderTextIsRead}
 use Rattle.node_stepper.specs.Packets.{Packets, packets_of, whole as all_whole}
-use Rattle.node_stepper.specs.Nodes.{fields_of, state_behind}
 use Rattle.node_stepper.specs.Laws.{packet_text, AreFull, PacketsReadBack}
-use Rattle.node_runs.specs.NodeRuns.{cell_given, IsCorrect, state_at}
 use Rattle.node_runs.specs.Cells.{cell_number, NodeWritesStates}
-use Rattle.node_runs.specs.Laws.{Connects, AnyLiesConnect}
+use Rattle.plan_machine.specs.PlanMachines.{machine_of_plan}
+use Rattle.plan_node_runs.specs.PlanNodes.{fields_of, state_behind}
+use Rattle.plan_node_runs.specs.NodeRuns.{cell_given, IsCorrect, state_at}
+use Rattle.plan_node_runs.specs.Laws.{Connects, AnyLiesConnect}
 use Rattle.outcomes.specs.NodeAnswers.{packets_for, served_outcome, behind_header, node_outcome}
 use Rattle.promises.specs.NodeCalls.{whole, header_of, packets_behind, packets_in, cell_heard}
 use Rattle.promises.specs.NodePromises.{cell_written, CallsConnect, InputsConnect, AnyInputsConnect}
@@ -98,7 +99,7 @@ module _ (headers : HeaderTextIsRead) (writes : NodeWritesStates) (read_back : P
       ≡ Some (written (fields_of plan u) (state_at plan c.nodes t u))
   wrote t u le correct =
       ap (λ o. cell_number t o.text) (outcome u correct)
-      ∙ writes plan u (starts u) (packets u) t (omega (arith, c.long u))
+      ∙ writes (machine_of_plan plan) u (starts u) (packets u) t (omega (arith, c.long u))
       ∙ ap (λ (s : ℕ → State).
       Some (written (fields_of plan u) (state_behind plan u (s u) (take t (packets u)))))
       (sym c.begin)

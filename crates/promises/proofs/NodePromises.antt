@@ -8,19 +8,19 @@ use Rattle.sync_types.specs.States.{State, zero_state}
 use Rattle.construction.specs.Plans.{Plan, plan_nodes}
 use Rattle.construction.specs.Runs.{IsState}
 use Rattle.plan_numbers.specs.Premises.{IsAccepted}
-use Rattle.plan_laws.specs.Laws.{EveryPlanSettles, LocksAtBound, LockedRunsCount}
 use Rattle.state_codec.specs.Reading.{read}
 use Rattle.state_codec.specs.Writing.{written}
-use Rattle.node_header.specs.declared.headers.HeaderRefusal.{HeaderRefusal}
-use Rattle.node_header.specs.Headers.{Header}
+use Rattle.node_header.specs.Headers.{Header, HeaderRefusal}
 use Rattle.node_header.specs.HeaderLaws.{IsOfPlan, HeadersAreOfPlans}
-use Rattle.node_stepper.specs.Nodes.{fields_of, node_text}
-use Rattle.node_runs.specs.NodeRuns.{Nodes, cell_given, IsCorrect, SomeIsCorrect, state_at}
-use Rattle.node_runs.specs.NodeRuns.{AreConnected}
 use Rattle.node_runs.specs.Cells.{cell_number, NodeWritesStates}
-use Rattle.node_runs.specs.Laws.{RunThrough, NodesRun}
-use Rattle.node_runs.proofs.States.{reads_back, behind_is_state}
-use Rattle.node_runs.proofs.Settled.{settle_through, lock_through, stay_through}
+use Rattle.plan_machine.specs.PlanMachines.{machine_of_plan}
+use Rattle.plan_machine.proofs.PlanMachines.{are_alike}
+use Rattle.plan_node_runs.specs.PlanNodes.{fields_of, node_text}
+use Rattle.plan_node_runs.specs.NodeRuns.{Nodes, cell_given, IsCorrect, SomeIsCorrect, state_at}
+use Rattle.plan_node_runs.specs.NodeRuns.{AreConnected}
+use Rattle.plan_node_runs.specs.Laws.{RunThrough, NodesRun}
+use Rattle.plan_node_runs.proofs.Plans.{behind_reads_back, settle_through, lock_through}
+use Rattle.plan_node_runs.proofs.Plans.{stay_through}
 use Rattle.outcomes.specs.NodeAnswers.{packets_for, cells_for, cells_so_far, behind_header}
 use Rattle.promises.specs.NodeCalls.{Call, whole, failed, bytes_of, header_of, packets_behind}
 use Rattle.promises.specs.NodeCalls.{packets_in, text_of, IsOfNode}
@@ -114,20 +114,22 @@ module _ (law : HeadersAreOfPlans) (writes : NodeWritesStates) (plan : Plan) (fa
   cell_is t v le correct =
       let enough = is.enough v correct in
       ap (cell_number t) (node_text_is law plan v (calls v) (is.headers v correct))
-      ∙ writes plan v (nodes.starts v) (nodes.packets v) t (omega arith)
+      ∙ writes (machine_of_plan plan) v (nodes.starts v) (nodes.packets v) t (omega arith)
 
   -- which is read as that state
   back_is : (t v : ℕ) → IsCorrect plan faulty v
       → read (fields_of plan v) (written (fields_of plan v) (state_of_call t v)) ≡ state_of_call t v
   back_is t v correct =
-      reads_back plan accepted v correct.0 (state_of_call t v)
-      (behind_is_state plan accepted v (nodes.starts v) (take t (nodes.packets v))
-      (start_is_state law plan v (calls v) (is.headers v correct)))
+      behind_reads_back plan accepted v correct.0 (nodes.starts v)
+      (start_is_state law plan v (calls v) (is.headers v correct))
+      (take t (nodes.packets v))
 
   connected : AreConnected plan faulty nodes first last
   connected = record {
     rising = is.rising;
-    starts = λ v correct. start_is_state law plan v (calls v) (is.headers v correct);
+    starts = λ v correct.
+        ((are_alike plan accepted).states v (nodes.starts v) correct.0).0
+        (start_is_state law plan v (calls v) (is.headers v correct));
     enough = is.enough;
     cells = λ t v u low lt v_correct u_correct other.
         ap (read (fields_of plan u))
@@ -159,9 +161,8 @@ module _ (law : HeadersAreOfPlans) (writes : NodeWritesStates) (plan : Plan) (fa
             (zero_state 0) correct.0 (omega arith));
       }
 
-pub connected_count : HeadersAreOfPlans → NodeWritesStates → NodesRun → EveryPlanSettles
-    → LocksAtBound → LockedRunsCount → ConnectedCallsCount
-connected_count law writes runs settles locks stays plan faulty borne some calls first last is =
+pub connected_count : HeadersAreOfPlans → NodeWritesStates → NodesRun → ConnectedCallsCount
+connected_count law writes runs plan faulty borne some calls first last is =
     let at = states_written plan calls in
     let r = run_through law writes plan faulty some calls first last is runs in
     let sound = accepted law writes plan faulty some calls first last is in
@@ -170,7 +171,7 @@ connected_count law writes runs settles locks stays plan faulty borne some calls
           some_is (cell_written plan calls t v) _
           (cell_is law writes plan faulty some calls first last is t v le correct);
       run = r;
-      settles = settle_through plan faulty at first last r sound borne settles;
-      locks = lock_through plan faulty at first last r sound borne locks;
-      stays = stay_through plan faulty at first last r sound borne stays;
+      settles = settle_through plan sound faulty at first last r borne;
+      locks = lock_through plan sound faulty at first last r borne;
+      stays = stay_through plan sound faulty at first last r borne;
     }

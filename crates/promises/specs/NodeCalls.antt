@@ -8,8 +8,7 @@ use Rattle.texts.specs.Limits.{room_in, behind_lines}
 use Rattle.sync_types.specs.declared.status.Status.{Status}
 use Rattle.sync_types.specs.declared.status.Status.TheVariants as status
 use Rattle.construction.specs.Plans.{Plan}
-use Rattle.node_header.specs.declared.headers.HeaderRefusal.{HeaderRefusal}
-use Rattle.node_header.specs.Headers.{Header, header_in}
+use Rattle.node_header.specs.Headers.{Header, HeaderRefusal, header_in}
 use Rattle.outcomes.specs.declared.commands.Command.TheVariants as command
 use Rattle.outcomes.specs.Commands.{as_it_goes}
 use Rattle.outcomes.specs.Conduct.{Reads, Does}

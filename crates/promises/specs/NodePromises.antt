@@ -9,10 +9,11 @@ use Rattle.construction.specs.Runs.{is_in, IsState, IsBorne, IsLocked}
 use Rattle.plan_numbers.specs.Premises.{IsAccepted}
 use Rattle.state_codec.specs.Reading.{read}
 use Rattle.node_header.specs.HeaderTexts.{header_stated}
-use Rattle.node_stepper.specs.Nodes.{fields_of}
-use Rattle.node_runs.specs.NodeRuns.{IsCorrect, SomeIsCorrect}
 use Rattle.node_runs.specs.Cells.{cell_number}
-use Rattle.node_runs.specs.Laws.{BorneLeavesSome, RunThrough, CountThrough, StayLockedThrough}
+use Rattle.plan_node_runs.specs.PlanNodes.{fields_of}
+use Rattle.plan_node_runs.specs.NodeRuns.{IsCorrect, SomeIsCorrect}
+use Rattle.plan_node_runs.specs.Laws.{BorneLeavesSome, RunThrough, CountThrough}
+use Rattle.plan_node_runs.specs.Laws.{StayLockedThrough}
 use Rattle.outcomes.specs.NodeAnswers.{node_outcome}
 use Rattle.promises.specs.NodeCalls.{Call, whole, header_of, packets_in, cell_heard, text_of}
 use Rattle.promises.specs.NodeCalls.{IsOfNode, CallsWriteTexts}

@@ -4,9 +4,9 @@
 ghost use Rattle.promises.specs.NodePromises.{NodePromiseIsKept, AnyInputsConnect};
 
 use node_header::laws::{header_texts_read_back, headers_are_of_plans};
-use node_runs::laws::{any_lies_connect, borne_leaves_some, node_writes_states, nodes_run};
+use node_runs::laws::node_writes_states;
 use node_stepper::laws::packets_read_back;
-use plan_laws::laws::{every_plan_settles, locked_runs_count, locks_at_bound};
+use plan_node_runs::laws::{any_lies_connect, borne_leaves_some, nodes_run};
 
 /// N calls of `node`, one for each node of a plan, of which few are faulty. From some packet on
 /// each of the others is given, in packet t, the cells that they wrote behind t packets, and of the
@@ -21,9 +21,6 @@ pub fn node_promise_is_kept()
     node_writes_states();
     nodes_run();
     borne_leaves_some();
-    every_plan_settles();
-    locks_at_bound();
-    locked_runs_count();
 }
 
 /// There are inputs of such calls, whatever states of theirs the correct nodes begin in, and

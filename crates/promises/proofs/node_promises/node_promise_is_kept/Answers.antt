@@ -7,8 +7,7 @@ returns c = record {
   texts = calls_write;
   kept =
       connected_count c.headers_are_of_plans.ensures c.node_writes_states.ensures
-      c.nodes_run.ensures c.every_plan_settles.ensures c.locks_at_bound.ensures
-      c.locked_runs_count.ensures;
+      c.nodes_run.ensures;
   accepted = is_accepted c.headers_are_of_plans.ensures;
   some = c.borne_leaves_some.ensures;
 }

@@ -8,8 +8,9 @@ use Rattle.plan_numbers.specs.Numbers.{line}
 use Rattle.state_codec.specs.Shapes.{registers_bits, moduli_of}
 use Rattle.state_codec.specs.Reading.{read, registers_from}
 use Rattle.state_codec.specs.Writing.{bits_of_registers}
-use Rattle.node_stepper.specs.Nodes.{fields_of, node_text}
-use Rattle.node_runs.specs.NodeRuns.{Nodes, cell_given, state_at}
+use Rattle.plan_machine.specs.PlanMachines.{machine_of_plan}
+use Rattle.node_stepper.specs.Nodes.{node_text}
+use Rattle.plan_node_runs.specs.NodeRuns.{Nodes, cell_given, fields_of, state_at}
 use Rattle.node_runs.specs.Cells.{cell_number}
 
 abbrev four : Plan
@@ -39,7 +40,8 @@ unfolding moduli_of registers_bits registers_from bits number_of width
 heard_second = refl
 
 -- and that is what node 0 writes too
-wrote : cell_number 1 (node_text four 0 (zero_state 1) (nodes.packets 0))
+wrote : cell_number 1 (node_text (machine_of_plan four) 0 (zero_state 1) (nodes.packets 0))
     ≡ Some (0 ∷ 17 ∷ 0 ∷ [])
-unfolding moduli_of registers_bits bits_of_registers registers_from bits number_of bytes_of_bits width
+unfolding moduli_of registers_bits bits_of_registers registers_from bits number_of bytes_of_bits
+    width
 wrote = refl
