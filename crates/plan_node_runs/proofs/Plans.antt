@@ -1,30 +1,35 @@
 -- The laws of nodes of any machine, of those of a plan.
-use Rattle.std.proofs.Common.{◌≡◌, ℕ, ◌+◌, ◌<◌, ◌≤◌, List}
+use Rattle.std.proofs.Common.{◌≡◌, ℕ, ◌<◌, ◌≤◌, List}
 use Rattle.sync_types.specs.States.{State}
 use Rattle.construction.specs.Plans.{Plan, plan_nodes, plan_bound}
 use Rattle.construction.specs.Runs.{IsState, IsBorne, IsLocked}
 use Rattle.plan_numbers.specs.Premises.{IsAccepted}
 use Rattle.state_codec.specs.Reading.{read}
 use Rattle.state_codec.specs.Writing.{written}
+use Rattle.machines.specs.Laws.{IsSound}
+use Rattle.machines.specs.Machines.{Machine}
+use Rattle.machines.specs.Machines as machines
 use Rattle.plan_machine.specs.PlanMachines.{machine_of_plan}
 use Rattle.plan_machine.proofs.PlanMachines.{are_alike}
 use Rattle.plan_machine.proofs.Sound.{accepted_are_sound}
 use Rattle.node_runs.specs.Laws as any
 use Rattle.node_runs.proofs.Connected as connected
 use Rattle.node_runs.proofs.Correct as correct
+use Rattle.node_runs.proofs.Heard as heard
 use Rattle.node_runs.proofs.Runs as runs
 use Rattle.node_runs.proofs.Settled as settled
 use Rattle.node_runs.proofs.States as states
 use Rattle.plan_node_runs.specs.PlanNodes.{fields_of, state_behind}
+use Rattle.plan_node_runs.specs.NodeRuns.{states_in}
 use Rattle.plan_node_runs.specs.Laws.{AnyLiesConnect, BorneLeavesSome, NodesRun, NodesSettle}
-use Rattle.plan_node_runs.specs.Laws.{NodesLock, NodesStayLocked, CountThrough, RunThrough}
-use Rattle.plan_node_runs.specs.Laws.{StayLockedThrough}
+use Rattle.plan_node_runs.specs.Laws.{NodesLock, NodesStayLocked, HeardNodesStayLocked}
+use Rattle.plan_node_runs.specs.Laws.{CountThrough, RunThrough, StayLockedThrough}
 
 pub any_lies_connect : AnyLiesConnect
-any_lies_connect plan accepted faulty starts sent first last rising begun =
+any_lies_connect plan accepted faulty starts sent begins rounds begun =
     let alike = are_alike plan accepted in
     let are = connected.any_lies_connect (machine_of_plan plan) (accepted_are_sound plan accepted)
-    faulty starts sent first last rising
+    faulty starts sent begins rounds
     (λ v correct. (alike.states v (starts v) correct.0).0 (begun v correct)) in
     record {
       nodes = are.nodes;
@@ -42,9 +47,9 @@ borne_leaves_some plan accepted faulty borne =
     (((are_alike plan accepted).borne faulty).0 borne)
 
 pub nodes_run : NodesRun
-nodes_run plan accepted faulty nodes first last are =
+nodes_run plan accepted faulty nodes begins rounds are =
     let r = runs.nodes_run (machine_of_plan plan) (accepted_are_sound plan accepted) faulty nodes
-    first last are in
+    begins rounds are in
     record {
       run = r.run;
       is = ((are_alike plan accepted).runs faulty r.run).1 r.is;
@@ -52,46 +57,55 @@ nodes_run plan accepted faulty nodes first last are =
       states = r.states;
     }
 
-count : (plan : Plan) (faulty : List ℕ) (at : ℕ → List State) (first last : ℕ)
-    → any.CountThrough (machine_of_plan plan) faulty at first last
-    → CountThrough plan faulty at first last
-count plan faulty at first last c = record { output = c.output; shows = c.shows; grows = c.grows }
+-- ---- what is said of configurations, in the words of machines
 
--- what is a run comes to count
 module _ (plan : Plan) (accepted : IsAccepted plan) (faulty : List ℕ) (at : ℕ → List State)
-    (first last : ℕ) (r : RunThrough plan faulty at first last) (borne : IsBorne plan faulty) where
-  here : any.RunThrough (machine_of_plan plan) faulty at first last
-  here = record {
-    run = r.run;
-    is = ((are_alike plan accepted).runs faulty r.run).0 r.is;
-    long = r.long;
-    states = r.states;
+    (rounds : ℕ) where
+  abbrev m : Machine
+  m = machine_of_plan plan
+
+  sound : IsSound m
+  sound = accepted_are_sound plan accepted
+
+  count : (from : ℕ) → any.CountThrough m faulty at from rounds
+      → CountThrough plan faulty at from rounds
+  count from c = record { output = c.output; shows = c.shows; grows = c.grows }
+
+  stay_locked : (from : ℕ) → any.StayLockedThrough m faulty at from rounds
+      → StayLockedThrough plan faulty at from rounds
+  stay_locked from s = record {
+    locked = λ t after high. ((are_alike plan accepted).locks faulty _).1 (s.locked t after high);
+    counts = count from s.counts;
   }
 
-  pub settle_through : CountThrough plan faulty at (first + plan_bound plan) last
-  settle_through =
-      count plan faulty at (first + plan_bound plan) last
-      (settled.settle_through (machine_of_plan plan) (accepted_are_sound plan accepted) faulty at
-      first last here (((are_alike plan accepted).borne faulty).0 borne))
+  -- what is a run comes to count
+  module _ (r : RunThrough plan faulty at rounds) (borne : IsBorne plan faulty) where
+    here : any.RunThrough m faulty at rounds
+    here = record {
+      run = r.run;
+      is = ((are_alike plan accepted).runs faulty r.run).0 r.is;
+      long = r.long;
+      states = r.states;
+    }
 
-  pub lock_through : first + plan_bound plan ≤ last
-      → IsLocked plan faulty (at (first + plan_bound plan))
-  lock_through reached =
-      ((are_alike plan accepted).locks faulty _).1
-      (settled.lock_through (machine_of_plan plan) (accepted_are_sound plan accepted) faulty at
-      first last here (((are_alike plan accepted).borne faulty).0 borne) reached)
+    borne_here : machines.IsBorne m faulty
+    borne_here = ((are_alike plan accepted).borne faulty).0 borne
 
-  pub stay_through : (from : ℕ) → first ≤ from → from ≤ last → IsLocked plan faulty (at from)
-      → StayLockedThrough plan faulty at from last
-  stay_through from low le locked =
-      let alike = are_alike plan accepted in
-      let stays = settled.stay_through (machine_of_plan plan) (accepted_are_sound plan accepted)
-      faulty at first last here ((alike.borne faulty).0 borne) from low le
-      ((alike.locks faulty _).0 locked) in
-      record {
-        locked = λ t after high. (alike.locks faulty _).1 (stays.locked t after high);
-        counts = count plan faulty at from last stays.counts;
-      }
+    pub settle_through : CountThrough plan faulty at (plan_bound plan) rounds
+    settle_through =
+        count (plan_bound plan) (settled.settle_through m sound faulty at rounds here borne_here)
+
+    pub lock_through : plan_bound plan ≤ rounds → IsLocked plan faulty (at (plan_bound plan))
+    lock_through reached =
+        ((are_alike plan accepted).locks faulty _).1
+        (settled.lock_through m sound faulty at rounds here borne_here reached)
+
+    pub stay_through : (from : ℕ) → from ≤ rounds → IsLocked plan faulty (at from)
+        → StayLockedThrough plan faulty at from rounds
+    stay_through from le locked =
+        stay_locked from
+        (settled.stay_through m sound faulty at rounds here borne_here from le
+        (((are_alike plan accepted).locks faulty _).0 locked))
 
 -- the state after packets is read back
 pub behind_reads_back : (plan : Plan) → IsAccepted plan → (v : ℕ) → v < plan_nodes plan
@@ -105,25 +119,24 @@ behind_reads_back plan accepted v lt s is packets =
     (((are_alike plan accepted).states v s lt).0 is))
 
 pub nodes_settle : NodesSettle
-nodes_settle plan accepted faulty borne nodes first last are =
-    count plan faulty _ _ last
-    (settled.nodes_settle (machine_of_plan plan) (accepted_are_sound plan accepted) faulty
-    (((are_alike plan accepted).borne faulty).0 borne) nodes first last are)
+nodes_settle plan accepted faulty borne nodes begins rounds are =
+    settle_through plan accepted faulty (states_in plan nodes begins) rounds
+    (nodes_run plan accepted faulty nodes begins rounds are) borne
 
 pub nodes_lock : NodesLock
-nodes_lock plan accepted faulty borne nodes first last are reached =
-    let alike = are_alike plan accepted in
-    (alike.locks faulty _).1
-    (settled.nodes_lock (machine_of_plan plan) (accepted_are_sound plan accepted) faulty
-    ((alike.borne faulty).0 borne) nodes first last are reached)
+nodes_lock plan accepted faulty borne nodes begins rounds are =
+    lock_through plan accepted faulty (states_in plan nodes begins) rounds
+    (nodes_run plan accepted faulty nodes begins rounds are) borne
 
 pub nodes_stay_locked : NodesStayLocked
-nodes_stay_locked plan accepted faulty borne nodes first last are from low le locked =
+nodes_stay_locked plan accepted faulty borne nodes begins rounds are =
+    stay_through plan accepted faulty (states_in plan nodes begins) rounds
+    (nodes_run plan accepted faulty nodes begins rounds are) borne
+
+pub heard_nodes_stay_locked : HeardNodesStayLocked
+heard_nodes_stay_locked plan accepted faulty borne nodes begins rounds are from le locked =
     let alike = are_alike plan accepted in
-    let stays = settled.nodes_stay_locked (machine_of_plan plan) (accepted_are_sound plan accepted)
-    faulty ((alike.borne faulty).0 borne) nodes first last are from low le
-    ((alike.locks faulty _).0 locked) in
-    record {
-      locked = λ t after high. (alike.locks faulty _).1 (stays.locked t after high);
-      counts = count plan faulty _ from last stays.counts;
-    }
+    stay_locked plan accepted faulty (states_in plan nodes begins) rounds from
+    (heard.heard_nodes_stay_locked (machine_of_plan plan) (accepted_are_sound plan accepted) faulty
+    ((alike.borne faulty).0 borne) nodes begins rounds are from le
+    ((alike.locks faulty _).0 locked))
