@@ -1,5 +1,5 @@
 -- The states of a plan's nodes over packets.
-use Rattle.std.proofs.Common.{◌≡◌, ℕ, ◌<◌, List, [], ◌∷◌, get_or}
+use Rattle.std.proofs.Common.{◌≡◌, ℕ, ◌<◌, List, [], ◌∷◌}
 use Rattle.sync_types.specs.States.{State}
 use Rattle.construction.specs.Plans.{Plan, plan_nodes}
 use Rattle.construction.specs.Runs.{IsState}
@@ -19,7 +19,7 @@ use Rattle.node_stepper.specs.Nodes.{fields_of, heard_in, state_after, state_beh
 module _ (plan : Plan) (accepted : IsAccepted plan) where
   sound : (u : ℕ) → IsFields (fields_of plan u)
   sound u =
-      fields_limited (shape_of plan) (get_or (shape_of plan).lows u 0)
+      fields_limited (shape_of plan) u
       (shape_of_accepted plan accepted)
 
   -- any bytes are read as a state of the node

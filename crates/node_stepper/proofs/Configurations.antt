@@ -1,6 +1,6 @@
 -- The states that an engine keeps are a configuration.
 use Rattle.std.proofs.Common.{Bool, true, ◌≡◌, ℕ, zero, suc, ◌<◌, ◌≤◌, inl, inr, List, [], ◌∷◌}
-use Rattle.std.proofs.Common.{◌++◌, length, replicate, get_or, set, slice_index_or, All, refl, sym}
+use Rattle.std.proofs.Common.{◌++◌, length, replicate, get_or, set, All, refl, sym}
 use Rattle.std.proofs.Common.{ap, ap₂, ◌∙◌, subst, arith}
 use Rattle.std.proofs.lemmas.Bool.{cases_eq}
 use Rattle.std.proofs.lemmas.List.{append-nil, drop_all, length-set, get_or-set_same}
@@ -15,9 +15,9 @@ use Rattle.plan_numbers.specs.Premises.{IsAccepted}
 use Rattle.plan_laws.specs.PlanMeaning.{IsInRange}
 use Rattle.plan_laws.proofs.PlanCounter.{positive}
 use Rattle.plan_laws.proofs.Ranges.{range_of_state}
-use Rattle.state_codec.specs.Shapes.{Shape, shape_of, fields_at, moduli_of}
+use Rattle.state_codec.specs.Shapes.{Shape, shape_of, fields_at, moduli_of, shape_nodes}
 use Rattle.state_codec.specs.Ranges.{InRange}
-use Rattle.state_codec.proofs.Lows.{fields_limited, length-moduli_from}
+use Rattle.state_codec.proofs.Lows.{fields_limited, depth_at}
 use Rattle.state_codec.proofs.Ranged.{zero_in_range}
 use Rattle.state_codec.proofs.Plans.{shape_of_accepted, depth_of_shape, nodes_of_shape}
 use Rattle.state_codec.proofs.PlanStates.{state_of_node, in_range_of_node}
@@ -71,12 +71,11 @@ module _ (plan : Plan) (accepted : IsAccepted plan) where
   pub zero_is_state : (v : ℕ) → v < plan_nodes plan → IsState plan v (zero_state (plan_depth plan))
   zero_is_state v node =
       let shape = shape_of plan in
-      let low = slice_index_or shape.lows v 0 in
       let sound = shape_of_accepted plan accepted in
       let zero_in : InRange (fields_at shape v) (zero_state (plan_depth plan)) =
       subst (λ n. InRange (fields_at shape v) (zero_state n))
-      (length-moduli_from low shape.moduli ∙ depth_of_shape plan)
-      (zero_in_range (fields_at shape v) (fields_limited shape low sound)) in
+      (depth_at shape v ∙ depth_of_shape plan)
+      (zero_in_range (fields_at shape v) (fields_limited shape v sound)) in
       state_of_node plan accepted v node (zero_state (plan_depth plan)) zero_in
 
   pub zeros_are : IsConfiguration plan (replicate (plan_nodes plan) (zero_state (plan_depth plan)))
@@ -104,15 +103,15 @@ whole_state d s out short =
 
 module _ (plan : Plan) (shape : Shape) (id : ℕ) (states : List State) (since : List Bool)
     (next : State) (work : Work) (kept : IsKept plan shape id states since next work) where
-  pub node_of_shape : (v : ℕ) → v < plan_nodes plan → v < length shape.lows
+  pub node_of_shape : (v : ℕ) → v < plan_nodes plan → v < shape_nodes shape
   node_of_shape v lt =
       rw (kept.shaped, nodes_of_shape plan (moduli_of plan.levels)) lt
 
-  moduli_are : length shape.moduli ≡ plan_depth plan
-  moduli_are = ap (λ (s : Shape). length s.moduli) kept.shaped ∙ depth_of_shape plan
+  moduli_are : shape.depth ≡ plan_depth plan
+  moduli_are = ap (λ (s : Shape). s.depth) kept.shaped ∙ depth_of_shape plan
 
   pub depth_of : (v : ℕ) → v < plan_nodes plan → (s : State) → s ≡ state_of states v
-      → length s.registers ≡ length shape.moduli
+      → length s.registers ≡ shape.depth
   depth_of v lt s is =
       ap (λ (t : State). length t.registers) is ∙ (kept.among.states v lt).depth ∙ sym moduli_are
 
