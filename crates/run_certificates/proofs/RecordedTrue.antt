@@ -157,7 +157,7 @@ is_correct n faulty v lt free = is_in_filter (λ u. not (is_in faulty u)) (range
 module _ (plan : Plan) (s : Script) (is : IsReadFor plan s) where
   limited : (v : ℕ) → IsFields (fields_of plan v)
   limited v =
-      fields_limited (shape_of plan) (slice_index_or (shape_of plan).lows v 0) (shape_of_accepted plan is.accepted)
+      fields_limited (shape_of plan) v (shape_of_accepted plan is.accepted)
 
   -- what is written of a played state is read back
   reads_back : (t v : ℕ) → v < plan_nodes plan
