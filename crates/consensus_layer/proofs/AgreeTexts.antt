@@ -129,7 +129,8 @@ module _ (plan : Plan) (accepted : IsAccepted plan) (said : AgreeSaid) (for : Is
   valued : values_tested (Some (said.values ∷ [])) ≡ Ok (Valued said.values)
   valued = rw (le-ltb 65536 said.values for.few, le-ltb said.values 2 for.two) refl
 
-  values_step : agree_step (so_far Begun []) (values_line said) ≡ goes (so_far (Valued said.values) [])
+  values_step : agree_step (so_far Begun []) (values_line said)
+      ≡ goes (so_far (Valued said.values) [])
   values_step =
       ap (λ (ws : List (List ℕ)). goes_at (so_far Begun [])
       (values_tested (numbers_after (codes "values") 1 ws)))

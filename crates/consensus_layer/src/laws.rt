@@ -14,8 +14,8 @@ pub fn every_run_decides()
     ensures { EveryRunDecides }
 {}
 
-/// So it is where each node's input may be another one in each round: a slot's decision is the common
-/// input of the round before the slot, where there is one.
+/// So it is where each node's input may be another one in each round: a slot's decision is the
+/// common input of the round before the slot, where there is one.
 pub fn changing_inputs_decide()
     ensures { ChangingInputsDecide }
 {}

@@ -1,5 +1,6 @@
 -- The text of requests is read as these requests.
-use Rattle.std.proofs.Common.{◌≡◌, ℕ, ◌+◌, ◌%◌, ◌^◌, ◌<◌, ◌≤◌, Bool, true, List, [], ◌∷◌, ◌++◌, length}
+use Rattle.std.proofs.Common.{◌≡◌, ℕ, ◌+◌, ◌%◌, ◌^◌, ◌<◌, ◌≤◌, Bool, true, List, [], ◌∷◌, ◌++◌}
+use Rattle.std.proofs.Common.{length}
 use Rattle.std.proofs.Common.{map, get_or, All, Option, Some, Result, Ok, refl, sym, ap, subst}
 use Rattle.std.proofs.Common.{◌∙◌, append_assoc, arith}
 use Rattle.std.specs.Prelude.{codes, decimal, ◌==◌, if◌then◌else◌}
@@ -62,7 +63,8 @@ module _ (plan : Plan) (accepted : IsAccepted plan) where
     requests = requests;
   }
 
-  module _ (done more : List Request) (request : Request) (are : AreFor plan (done ++ request ∷ more))
+  module _ (done more : List Request) (request : Request)
+      (are : AreFor plan (done ++ request ∷ more))
       (rounds : All HasRounds (done ++ request ∷ more)) where
     abbrev all : List Request
     all = done ++ request ∷ more

@@ -1,6 +1,7 @@
 -- The text of a log part is read as what it says.
 use Rattle.std.proofs.Common.{◌≡◌, ℕ, suc, ◌+◌, ◌*◌, ◌%◌, ◌<◌, ◌≤◌, Bool, true, List, [], ◌∷◌, ◌++◌}
-use Rattle.std.proofs.Common.{length, map, get_or, All, Option, Some, Result, Ok, Err, refl, sym, ap}
+use Rattle.std.proofs.Common.{length, map, get_or, All, Option, Some, Result, Ok, Err, refl, sym}
+use Rattle.std.proofs.Common.{ap}
 use Rattle.std.proofs.Common.{subst, ◌∙◌, append_assoc, arith}
 use Rattle.std.specs.Prelude.{codes, decimal, nat_lt, ◌==◌, if◌then◌else◌}
 use Rattle.std.specs.List.{list_all}
@@ -85,7 +86,8 @@ module _ (plan : Plan) (accepted : IsAccepted plan) (said : LogSaid) (for : IsFo
   valued : values_tested (Some (said.values ∷ [])) ≡ Ok (Valued said.values)
   valued = rw (le-ltb 65536 said.values for.few, le-ltb said.values 2 for.two) refl
 
-  values_step : log_step (so_far Begun []) (values_line said) ≡ goes (so_far (Valued said.values) [])
+  values_step : log_step (so_far Begun []) (values_line said)
+      ≡ goes (so_far (Valued said.values) [])
   values_step =
       ap (λ (ws : List (List ℕ)). goes_at (so_far Begun [])
       (values_tested (numbers_after (codes "values") 1 ws)))
@@ -117,7 +119,8 @@ module _ (plan : Plan) (accepted : IsAccepted plan) (said : LogSaid) (for : IsFo
 
   -- ---- the commands of a node, behind those of others
 
-  module _ (done more : List (List ℕ)) (own : List ℕ) (all_are : said.commands ≡ done ++ own ∷ more) where
+  module _ (done more : List (List ℕ)) (own : List ℕ)
+      (all_are : said.commands ≡ done ++ own ∷ more) where
     abbrev v : ℕ
     v = length done
 
@@ -227,7 +230,8 @@ module _ (plan : Plan) (accepted : IsAccepted plan) (said : LogSaid) (for : IsFo
       sym (append_assoc done (own ∷ []) more) in
       let next : length done + 1 ≡ length (done ++ own ∷ []) = sym (length_push done own) in
       let count : taken + 1 + (length more + 1) ≡ taken + (length (own ∷ more) + 1) = omega arith in
-      ap (read_on (keeping done) taken number) (text_more (commands_line (length done) own) ended rest)
+      ap (read_on (keeping done) taken number)
+      (text_more (commands_line (length done) own) ended rest)
       ∙ line_read done more own all_are taken number (text_of ended ++ rest)
       ∙ ap (λ n. read_on (keeping (done ++ own ∷ [])) (taken + 1) (number + 1)
       (text_of (commands_lines n more ++ codes "end" ∷ []) ++ rest)) next

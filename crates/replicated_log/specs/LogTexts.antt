@@ -29,8 +29,8 @@ log_text said =
     text_of (codes "log 1" ∷ values_line said ∷ keep_line said
     ∷ (commands_lines 0 said.commands ++ codes "end" ∷ []))
 
--- The text of a log for an accepted plan, whose nodes have at most 16 commands each, is read as this
--- log, whatever text follows.
+-- The text of a log for an accepted plan, whose nodes have at most 16 commands each, is read as
+-- this log, whatever text follows.
 abbrev pub LogTextIsRead : Type 0
 LogTextIsRead = (plan : Plan) → IsAccepted plan → (said : LogSaid) → IsFor plan said
     → All (λ own. length own ≤ 16) said.commands → (number : ℕ) (rest : List ℕ)

@@ -1,5 +1,6 @@
 -- The text of a slot table is read as this table.
-use Rattle.std.proofs.Common.{◌≡◌, ℕ, ◌+◌, ◌^◌, ◌<◌, ◌≤◌, inl, inr, Bool, true, false, List, [], ◌∷◌}
+use Rattle.std.proofs.Common.{◌≡◌, ℕ, ◌+◌, ◌^◌, ◌<◌, ◌≤◌, inl, inr, Bool, true, false, List, []}
+use Rattle.std.proofs.Common.{◌∷◌}
 use Rattle.std.proofs.Common.{◌++◌, length, map, get_or, Option, Some, Result, Ok, refl}
 use Rattle.std.proofs.Common.{sym, ap, subst, ◌∙◌, append_assoc, arith}
 use Rattle.std.specs.Prelude.{codes, decimal, ◌&&◌, nat_le}
@@ -76,7 +77,8 @@ module _ (plan : Plan) (accepted : IsAccepted plan) where
     lines = lines;
   }
 
-  module _ (done more : List SlotLine) (line : SlotLine) (are : AreFor plan (done ++ line ∷ more)) where
+  module _ (done more : List SlotLine) (line : SlotLine)
+      (are : AreFor plan (done ++ line ∷ more)) where
     abbrev all : List SlotLine
     all = done ++ line ∷ more
 
@@ -203,8 +205,8 @@ module _ (plan : Plan) (accepted : IsAccepted plan) where
     steps : slots_step (with_lines done) (slot_text line)
         ≡ goes (with_lines (done ++ line ∷ []))
     steps =
-        ap (λ (ns : Option (List ℕ)). goes_with (with_lines done) (line_tested (with_lines done) ns))
-        numbers_are
+        ap (λ (ns : Option (List ℕ)). goes_with (with_lines done)
+        (line_tested (with_lines done) ns)) numbers_are
         ∙ ap (goes_with (with_lines done)) tested
 
     line_read : (taken number : ℕ) (rest : List ℕ)
@@ -243,8 +245,10 @@ module _ (plan : Plan) (accepted : IsAccepted plan) where
       ∙ rw none refl
   lines_read done (line ∷ more) taken number rest are =
       let ended = map slot_text more ++ codes "end" ∷ [] in
-      let same : (done ++ line ∷ []) ++ more ≡ done ++ line ∷ more = append_assoc done (line ∷ []) more in
-      let count : taken + 1 + (length more + 1) ≡ taken + (length (line ∷ more) + 1) = omega arith in
+      let same : (done ++ line ∷ []) ++ more ≡ done ++ line ∷ more =
+      append_assoc done (line ∷ []) more in
+      let count : taken + 1 + (length more + 1) ≡ taken + (length (line ∷ more) + 1) =
+      omega arith in
       ap (read_on (with_lines done) taken number) (text_more (slot_text line) ended rest)
       ∙ line_read done more line are taken number (text_of ended ++ rest)
       ∙ lines_read (done ++ line ∷ []) more (taken + 1) (number + 1) rest
@@ -255,7 +259,8 @@ pub slot_text_is_read : SlotTextIsRead
 slot_text_is_read plan accepted lines are number rest =
     let behind = map slot_text lines ++ codes "end" ∷ [] in
     let count : 0 + 1 + (length lines + 1) ≡ length lines + 2 = omega arith in
-    ap (read_on (nothing_read plan) 0 number) (text_more plan accepted (codes "slots 1") behind rest)
+    ap (read_on (nothing_read plan) 0 number)
+    (text_more plan accepted (codes "slots 1") behind rest)
     ∙ goes_behind slots_step Form (codes "slots") (codes "1" ∷ []) (text_of behind ++ rest)
     (slots_plain, (one_plain, tt)) (omega arith) refl (nothing_read plan) 0 number
     (with_lines plan accepted []) refl
