@@ -5,9 +5,9 @@ use Rattle.std.specs.Prelude.{if◌then◌else◌, ◌==◌, nat_le, nat_lt, Opt
 use Rattle.std.proofs.lemmas.Bool.{le-ltb, ne_eqb}
 use Rattle.texts.specs.Growth.{Told, Wrote, Puts}
 use Rattle.texts.proofs.Growth.{wrote_none}
-use Rattle.draw.specs.declared.charts.Chart.{Chart}
-use Rattle.draw.specs.Charts.{frame_of}
-use Rattle.draw.specs.Pictures.{bound_at, has_column, is_before}
+use Rattle.run_pictures.specs.declared.charts.Chart.{Chart}
+use Rattle.run_pictures.specs.Charts.{frame_of}
+use Rattle.run_pictures.specs.Pictures.{bound_at, has_column, is_before}
 
 -- where it does not hold, nothing is to be written
 pub wrote_unless : (holds : Bool) (text : List ℕ) (s : Told) → holds ≡ false

@@ -2,10 +2,11 @@
 use Rattle.std.specs.Prelude.{ℕ, ◌+◌, ◌*◌, ◌%◌, ◌==◌, List, [], ◌∷◌, ◌++◌, Bool, true, false}
 use Rattle.std.specs.Prelude.{Option, Some, None, if◌then◌else◌, codes, decimal}
 use Rattle.std.specs.List.{concat}
-use Rattle.draw.specs.declared.charts.Cell.{Cell}
-use Rattle.draw.specs.declared.frames.Frame.{Frame}
-use Rattle.draw.specs.declared.frames.Spot.{Spot}
-use Rattle.draw.specs.Frames.{band_top, column_middle, left, line_top, middle, spot_top, width}
+use Rattle.run_pictures.specs.declared.charts.Cell.{Cell}
+use Rattle.run_pictures.specs.declared.frames.Frame.{Frame}
+use Rattle.run_pictures.specs.declared.frames.Spot.{Spot}
+use Rattle.run_pictures.specs.Frames.{band_top, column_middle, left, line_top, middle, spot_top}
+use Rattle.run_pictures.specs.Frames.{width}
 
 -- ---- beside the cells
 

@@ -2,11 +2,11 @@
 use Rattle.std.specs.Prelude.{ℕ, ◌+◌, ◌==◌, List, [], ◌∷◌, ◌++◌, Option, Some, None, if◌then◌else◌}
 use Rattle.std.specs.Prelude.{codes, decimal}
 use Rattle.std.specs.List.{concat, flat_map}
-use Rattle.draw.specs.declared.charts.Cell.{Cell}
-use Rattle.draw.specs.declared.charts.End.{End}
-use Rattle.draw.specs.declared.charts.Chart.{Chart}
-use Rattle.draw.specs.declared.frames.Frame.{Frame}
-use Rattle.draw.specs.Frames.{band_height}
+use Rattle.run_pictures.specs.declared.charts.Cell.{Cell}
+use Rattle.run_pictures.specs.declared.charts.End.{End}
+use Rattle.run_pictures.specs.declared.charts.Chart.{Chart}
+use Rattle.run_pictures.specs.declared.frames.Frame.{Frame}
+use Rattle.run_pictures.specs.Frames.{band_height}
 
 -- ---- rows
 

@@ -1,15 +1,16 @@
 -- What drawing a text does.
 use Rattle.std.specs.Prelude.{◌≡◌, ◌⊎◌, ℕ, List, Result, Ok, Err}
 use Rattle.texts.specs.Growth.{Told, Wrote, Cut}
-use Rattle.draw.specs.declared.charts.Chart.{Chart}
-use Rattle.draw.specs.declared.traces.Trace.{Trace}
-use Rattle.draw.specs.declared.drawing.DrawError.{DrawError}
-use Rattle.draw.specs.declared.drawing.DrawError.TheVariants as error
-use Rattle.draw.specs.Charts.{chart_text}
-use Rattle.draw.specs.Laid.{IsLaid}
-use Rattle.draw.specs.Pictures.{picture_text}
-use Rattle.draw.specs.Traces.{trace_text}
-use Rattle.draw.specs.TracePictures.{trace_picture}
+use Rattle.run_pictures.specs.declared.charts.Chart.{Chart}
+use Rattle.run_pictures.specs.declared.traces.Trace.{Trace}
+use Rattle.run_pictures.specs.declared.drawing.DrawError.{DrawError}
+use Rattle.run_pictures.specs.declared.drawing.DrawError.TheVariants as error
+use Rattle.run_pictures.specs.Charts.{chart_text}
+use Rattle.run_pictures.specs.Laid.{IsLaid}
+use Rattle.run_pictures.specs.Pictures.{picture_text}
+use Rattle.run_pictures.specs.Traces.{trace_text}
+use Rattle.run_pictures.specs.TraceLaid.{IsTraceLaid}
+use Rattle.run_pictures.specs.TracePictures.{trace_picture}
 
 -- the text is that of a chart, and the picture of that chart has this
 pub record DrawsRows (text : List ℕ) (holds : List ℕ → Type 0) : Type 0 where
@@ -22,6 +23,7 @@ pub record DrawsRows (text : List ℕ) (holds : List ℕ → Type 0) : Type 0 wh
 pub record DrawsTrace (text : List ℕ) (holds : List ℕ → Type 0) : Type 0 where
   pub trace : Trace
   pub is : trace_text trace.frame.first trace.notes.items ≡ text
+  pub laid : IsTraceLaid trace
   pub drawn : holds (trace_picture trace)
 
 -- a text is drawn as one of the two

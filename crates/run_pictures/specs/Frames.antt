@@ -1,8 +1,8 @@
 -- Where things stand in a picture. Lengths are in units of the picture, at a font of 11: a letter
 -- is at most 7 wide. Columns stand side by side in bands of 120, one band below the other.
 use Rattle.std.specs.Prelude.{ℕ, ◌+◌, ◌*◌, ◌%◌, ◌/◌, min}
-use Rattle.draw.specs.declared.frames.Frame.{Frame}
-use Rattle.draw.specs.declared.frames.Spot.{Spot}
+use Rattle.run_pictures.specs.declared.frames.Frame.{Frame}
+use Rattle.run_pictures.specs.declared.frames.Spot.{Spot}
 
 -- how wide a column is
 abbrev pub column_width : (digits : ℕ) → ℕ

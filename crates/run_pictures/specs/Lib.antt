@@ -7,5 +7,5 @@ pub mod Hits
 pub mod Traces
 pub mod Strips
 pub mod TracePictures
+pub mod TraceLaid
 pub mod Drawn
-pub mod Asked

@@ -2,12 +2,12 @@
 use Rattle.std.specs.Prelude.{ℕ, ◌+◌, ◌-◌, ◌*◌, ◌&&◌, nat_le, nat_lt, max, length, List, [], ◌∷◌}
 use Rattle.std.specs.Prelude.{◌++◌, Bool, true, Option, Some, None, if◌then◌else◌, codes, decimal}
 use Rattle.std.specs.List.{concat, flat_map}
-use Rattle.draw.specs.declared.charts.End.{End}
-use Rattle.draw.specs.declared.charts.Chart.{Chart}
-use Rattle.draw.specs.declared.frames.Frame.{Frame}
-use Rattle.draw.specs.Frames.{band_top, bottom, column_left, line_top, right}
-use Rattle.draw.specs.Charts.{end_words, frame_of}
-use Rattle.draw.specs.Cells.{cell_picture}
+use Rattle.run_pictures.specs.declared.charts.End.{End}
+use Rattle.run_pictures.specs.declared.charts.Chart.{Chart}
+use Rattle.run_pictures.specs.declared.frames.Frame.{Frame}
+use Rattle.run_pictures.specs.Frames.{band_top, bottom, column_left, line_top, right}
+use Rattle.run_pictures.specs.Charts.{end_words, frame_of}
+use Rattle.run_pictures.specs.Cells.{cell_picture}
 
 -- ---- marks
 

@@ -2,20 +2,21 @@
 use Rattle.std.specs.Prelude.{ℕ, ◌+◌, ◌-◌, ◌*◌, ◌/◌, List, [], ◌∷◌, ◌++◌, Bool, true, false, Option}
 use Rattle.std.specs.Prelude.{Some, None, if◌then◌else◌, codes, decimal}
 use Rattle.std.specs.List.{concat}
-use Rattle.draw.specs.declared.frames.Frame.{Frame}
-use Rattle.draw.specs.declared.traces.Held.{Held}
-use Rattle.draw.specs.declared.traces.Held.TheVariants.{Unmarked, Marked, Locked}
-use Rattle.draw.specs.declared.traces.Turn.{Turn}
-use Rattle.draw.specs.declared.traces.Turn.TheVariants.{Keep, Mark, King}
-use Rattle.draw.specs.declared.traces.Register.{Register}
-use Rattle.draw.specs.declared.traces.Seen.{Seen}
-use Rattle.draw.specs.declared.traces.Seen.TheVariants.{Shows, Holds}
-use Rattle.draw.specs.declared.traces.Note.{Note}
-use Rattle.draw.specs.declared.traces.Reign.{Reign}
-use Rattle.draw.specs.declared.traces.Title.{Title}
-use Rattle.draw.specs.declared.frames.Spot.{Spot}
-use Rattle.draw.specs.Frames.{band_top, left, middle, spot_top, width}
-use Rattle.draw.specs.Cells.{column_head, node_label, number_text, rectangle_front, shown_at}
+use Rattle.run_pictures.specs.declared.frames.Frame.{Frame}
+use Rattle.run_pictures.specs.declared.traces.Held.{Held}
+use Rattle.run_pictures.specs.declared.traces.Held.TheVariants.{Unmarked, Marked, Locked}
+use Rattle.run_pictures.specs.declared.traces.Turn.{Turn}
+use Rattle.run_pictures.specs.declared.traces.Turn.TheVariants.{Keep, Mark, King}
+use Rattle.run_pictures.specs.declared.traces.Register.{Register}
+use Rattle.run_pictures.specs.declared.traces.Seen.{Seen}
+use Rattle.run_pictures.specs.declared.traces.Seen.TheVariants.{Shows, Holds}
+use Rattle.run_pictures.specs.declared.traces.Note.{Note}
+use Rattle.run_pictures.specs.declared.traces.Reign.{Reign}
+use Rattle.run_pictures.specs.declared.traces.Title.{Title}
+use Rattle.run_pictures.specs.declared.frames.Spot.{Spot}
+use Rattle.run_pictures.specs.Frames.{band_top, left, middle, spot_top, width}
+use Rattle.run_pictures.specs.Cells.{column_head, node_label, number_text, rectangle_front}
+use Rattle.run_pictures.specs.Cells.{shown_at}
 
 -- ---- registers
 

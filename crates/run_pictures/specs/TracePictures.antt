@@ -2,13 +2,13 @@
 use Rattle.std.specs.Prelude.{ℕ, ◌+◌, ◌*◌, max, length, List, [], ◌∷◌, ◌++◌, Option, Some, None}
 use Rattle.std.specs.Prelude.{codes, decimal}
 use Rattle.std.specs.List.{concat, flat_map}
-use Rattle.draw.specs.declared.frames.Frame.{Frame}
-use Rattle.draw.specs.declared.traces.Level.{Level}
-use Rattle.draw.specs.declared.traces.Trace.{Trace}
-use Rattle.draw.specs.Frames.{bottom}
-use Rattle.draw.specs.Pictures.{mark_at, number_caption, picture_front, picture_ground}
-use Rattle.draw.specs.Pictures.{picture_width, span_caption}
-use Rattle.draw.specs.Strips.{note_picture, reign_picture, title_picture}
+use Rattle.run_pictures.specs.declared.frames.Frame.{Frame}
+use Rattle.run_pictures.specs.declared.traces.Level.{Level}
+use Rattle.run_pictures.specs.declared.traces.Trace.{Trace}
+use Rattle.run_pictures.specs.Frames.{bottom}
+use Rattle.run_pictures.specs.Pictures.{mark_at, number_caption, picture_front, picture_ground}
+use Rattle.run_pictures.specs.Pictures.{picture_width, span_caption}
+use Rattle.run_pictures.specs.Strips.{note_picture, reign_picture, title_picture}
 
 -- the dots on what is marked
 abbrev pub dots : List ℕ

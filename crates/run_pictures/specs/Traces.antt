@@ -2,16 +2,16 @@
 use Rattle.std.specs.Prelude.{ℕ, ◌+◌, List, [], ◌∷◌, ◌++◌, Bool, true, false, Option, Some, None}
 use Rattle.std.specs.Prelude.{codes, decimal}
 use Rattle.std.specs.List.{concat, flat_map}
-use Rattle.draw.specs.declared.traces.Held.{Held}
-use Rattle.draw.specs.declared.traces.Held.TheVariants.{Unmarked, Marked, Locked}
-use Rattle.draw.specs.declared.traces.Turn.{Turn}
-use Rattle.draw.specs.declared.traces.Turn.TheVariants.{Keep, Mark, King}
-use Rattle.draw.specs.declared.traces.Heard.{Heard}
-use Rattle.draw.specs.declared.traces.Output.{Output}
-use Rattle.draw.specs.declared.traces.Register.{Register}
-use Rattle.draw.specs.declared.traces.Seen.{Seen}
-use Rattle.draw.specs.declared.traces.Seen.TheVariants.{Shows, Holds}
-use Rattle.draw.specs.declared.traces.Note.{Note}
+use Rattle.run_pictures.specs.declared.traces.Held.{Held}
+use Rattle.run_pictures.specs.declared.traces.Held.TheVariants.{Unmarked, Marked, Locked}
+use Rattle.run_pictures.specs.declared.traces.Turn.{Turn}
+use Rattle.run_pictures.specs.declared.traces.Turn.TheVariants.{Keep, Mark, King}
+use Rattle.run_pictures.specs.declared.traces.Heard.{Heard}
+use Rattle.run_pictures.specs.declared.traces.Output.{Output}
+use Rattle.run_pictures.specs.declared.traces.Register.{Register}
+use Rattle.run_pictures.specs.declared.traces.Seen.{Seen}
+use Rattle.run_pictures.specs.declared.traces.Seen.TheVariants.{Shows, Holds}
+use Rattle.run_pictures.specs.declared.traces.Note.{Note}
 
 -- ---- words
 

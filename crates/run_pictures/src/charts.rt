@@ -1,7 +1,7 @@
 //! What `run` writes.
 
 ghost use Rattle.std.specs.Prelude.{◌≡◌};
-ghost use Rattle.draw.specs.Charts.{frame_of};
+ghost use Rattle.run_pictures.specs.Charts.{frame_of};
 
 use crate::frames::{Frame, band_height};
 

@@ -1,9 +1,9 @@
 //! Draws what `run` or `trace` writes.
 
 ghost use Rattle.std.specs.Prelude.{◌≡◌, true, IfOk};
-ghost use Rattle.draw.specs.Charts.{chart_text};
-ghost use Rattle.draw.specs.Traces.{trace_text};
-ghost use Rattle.draw.specs.Drawn.{Does, Draws, DrawsRows, DrawsTrace};
+ghost use Rattle.run_pictures.specs.Charts.{chart_text};
+ghost use Rattle.run_pictures.specs.Traces.{trace_text};
+ghost use Rattle.run_pictures.specs.Drawn.{Does, Draws, DrawsRows, DrawsTrace};
 
 use crate::charts::Chart;
 use crate::hits::mark_trace;
@@ -12,6 +12,7 @@ use crate::layouts::lay_out;
 use crate::pictures::put_picture;
 use crate::printing::put_chart;
 use crate::reading::{ChartError, read_chart};
+use crate::trace_laid::is_trace_laid;
 use crate::trace_pictures::put_trace_picture;
 use crate::trace_printing::put_trace;
 use crate::trace_reading::{is_trace, read_trace};
@@ -37,7 +38,7 @@ pub enum DrawError {
 }
 
 impl From<ChartError> for DrawError {
-    ghost use Rattle.draw.specs.declared.drawing.DrawError.TheVariants as error;
+    ghost use Rattle.run_pictures.specs.declared.drawing.DrawError.TheVariants as error;
 
     ghost from_gives = { λ chart e. e ≡ error.Chart chart };
 
@@ -47,7 +48,7 @@ impl From<ChartError> for DrawError {
 }
 
 impl From<NoMemory> for DrawError {
-    ghost use Rattle.draw.specs.declared.drawing.DrawError.TheVariants as error;
+    ghost use Rattle.run_pictures.specs.declared.drawing.DrawError.TheVariants as error;
 
     ghost from_gives = { λ _ e. e ≡ error.NoMemory };
 
@@ -122,7 +123,7 @@ fn draw_lines<K: Sink>(
 ) -> Result<(), DrawError>
     ensures { Does result (DrawsTrace text.now) (K.told sink.old) (K.told sink.new) }
 {
-    if !is_text_of_trace(alloc, trace, text)? {
+    if !is_text_of_trace(alloc, trace, text)? || !is_trace_laid(trace) {
         return Err(DrawError::Open);
     }
     match put_trace_picture(sink, trace) {

@@ -1,8 +1,10 @@
 //! Where things stand in a picture.
 
 ghost use Rattle.std.specs.Prelude.{◌≡◌, ◌≤◌, ◌<◌, ◌^◌};
-ghost use Rattle.draw.specs.Frames.{band_height, band_top, bottom, column_left, column_middle};
-ghost use Rattle.draw.specs.Frames.{column_width, left, line_top, middle, right, spot_top, width};
+ghost use Rattle.run_pictures.specs.Frames.{band_height, band_top, bottom, column_left};
+ghost use Rattle.run_pictures.specs.Frames.{column_middle};
+ghost use Rattle.run_pictures.specs.Frames.{column_width, left, line_top, middle, right, spot_top};
+ghost use Rattle.run_pictures.specs.Frames.{width};
 
 /// How many columns stand side by side at most.
 pub const MOST_COLUMNS: u32 = 120;

@@ -1,7 +1,7 @@
 //! Finds the nodes that the start of an era put into another state, as far as counts show it.
 
 ghost use Rattle.std.specs.Prelude.{◌≡◌};
-ghost use Rattle.draw.specs.Hits.{may_follow};
+ghost use Rattle.run_pictures.specs.Hits.{may_follow};
 
 use crate::charts::{Cell, Chart, End};
 use crate::reading::ChartError;

@@ -2,7 +2,7 @@
 
 ghost use Rattle.std.specs.Prelude.{◌≡◌, ◌+◌, ◌*◌, ◌<◌, length, map, All, true};
 ghost use Rattle.std.specs.List.{range_with_len};
-ghost use Rattle.draw.specs.Laid.{AreNext, IsLaid};
+ghost use Rattle.run_pictures.specs.Laid.{AreNext, IsLaid};
 
 use crate::charts::{Cell, Chart, End};
 

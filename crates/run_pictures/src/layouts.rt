@@ -167,6 +167,8 @@ fn add_words(trace: &mut Trace, level: u64, strip: Strip) -> Result<(), ChartErr
         place,
         level,
         blocks: strip.blocks,
+        top: strip.top,
+        cells: strip.cells,
     })?;
     Ok(())
 }

@@ -3,9 +3,11 @@
 ghost use Rattle.std.specs.Prelude.{◌≡◌, ◌<◌, ◌^◌};
 ghost use Rattle.std.specs.List.{flat_map};
 ghost use Rattle.texts.specs.Growth.{Puts};
-ghost use Rattle.draw.specs.Pictures.{bound_at, bound_mark, caption, caption_at, caption_front};
-ghost use Rattle.draw.specs.Pictures.{end_picture, era_begin, era_mark, has_column, is_before};
-ghost use Rattle.draw.specs.Pictures.{locked_mark, mark, mark_at, mark_row};
+ghost use Rattle.run_pictures.specs.Pictures.{bound_at, bound_mark, caption, caption_at};
+ghost use Rattle.run_pictures.specs.Pictures.{caption_front};
+ghost use Rattle.run_pictures.specs.Pictures.{end_picture, era_begin, era_mark, has_column};
+ghost use Rattle.run_pictures.specs.Pictures.{is_before};
+ghost use Rattle.run_pictures.specs.Pictures.{locked_mark, mark, mark_at, mark_row};
 
 use crate::charts::{Chart, End};
 use crate::frames::{Frame, band_top, bottom, column_left, line_top};

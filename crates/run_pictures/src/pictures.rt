@@ -2,9 +2,10 @@
 
 ghost use Rattle.std.specs.Prelude.{◌≡◌};
 ghost use Rattle.texts.specs.Growth.{Puts};
-ghost use Rattle.draw.specs.Pictures.{facts, facts_in, last_of, number_caption};
-ghost use Rattle.draw.specs.Pictures.{picture_front, picture_ground, picture_text, picture_width};
-ghost use Rattle.draw.specs.Pictures.{sized_front, span_at, span_caption};
+ghost use Rattle.run_pictures.specs.Pictures.{facts, facts_in, last_of, number_caption};
+ghost use Rattle.run_pictures.specs.Pictures.{picture_front, picture_ground, picture_text};
+ghost use Rattle.run_pictures.specs.Pictures.{picture_width};
+ghost use Rattle.run_pictures.specs.Pictures.{sized_front, span_at, span_caption};
 
 use crate::charts::Chart;
 use crate::frames::{Frame, bottom, right};

@@ -2,8 +2,10 @@
 
 ghost use Rattle.std.specs.List.{flat_map};
 ghost use Rattle.texts.specs.Growth.{Puts};
-ghost use Rattle.draw.specs.Charts.{bound_line, cell_end, cell_front, cell_words, chart_text};
-ghost use Rattle.draw.specs.Charts.{end_line, end_words, era_words, locked_words, word_text};
+ghost use Rattle.run_pictures.specs.Charts.{bound_line, cell_end, cell_front, cell_words};
+ghost use Rattle.run_pictures.specs.Charts.{chart_text};
+ghost use Rattle.run_pictures.specs.Charts.{end_line, end_words, era_words, locked_words};
+ghost use Rattle.run_pictures.specs.Charts.{word_text};
 
 use crate::charts::{Cell, Chart, End};
 use edge_io::{Piece, Sink, WriteFault, put_all, put_pieces};

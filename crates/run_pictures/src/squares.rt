@@ -3,11 +3,14 @@
 ghost use Rattle.std.specs.Prelude.{◌≡◌, ◌<◌};
 ghost use Rattle.std.specs.List.{flat_map};
 ghost use Rattle.texts.specs.Growth.{Puts};
-ghost use Rattle.draw.specs.Cells.{axes, axes_at, cell_at, cell_head, cell_picture, cell_spot};
-ghost use Rattle.draw.specs.Cells.{column_head, column_number, filling, hit_mark, inscription};
-ghost use Rattle.draw.specs.Cells.{node_label, number_text, rectangle_front, shade, shown_at};
-ghost use Rattle.draw.specs.Cells.{square};
-ghost use Rattle.draw.specs.Frames.{band_top};
+ghost use Rattle.run_pictures.specs.Cells.{axes, axes_at, cell_at, cell_head, cell_picture};
+ghost use Rattle.run_pictures.specs.Cells.{cell_spot};
+ghost use Rattle.run_pictures.specs.Cells.{column_head, column_number, filling, hit_mark};
+ghost use Rattle.run_pictures.specs.Cells.{inscription};
+ghost use Rattle.run_pictures.specs.Cells.{node_label, number_text, rectangle_front, shade};
+ghost use Rattle.run_pictures.specs.Cells.{shown_at};
+ghost use Rattle.run_pictures.specs.Cells.{square};
+ghost use Rattle.run_pictures.specs.Frames.{band_top};
 
 use crate::charts::Cell;
 use crate::frames::{

@@ -3,9 +3,10 @@
 ghost use Rattle.std.specs.Prelude.{◌≡◌};
 ghost use Rattle.std.specs.List.{flat_map};
 ghost use Rattle.texts.specs.Growth.{Puts};
-ghost use Rattle.draw.specs.Strips.{cover, ground, held_cell, note_at, note_head, note_picture};
-ghost use Rattle.draw.specs.Strips.{note_spot, output_of, register_at, seen_cell, title_at};
-ghost use Rattle.draw.specs.Strips.{title_picture, value_text};
+ghost use Rattle.run_pictures.specs.Strips.{cover, ground, held_cell, note_at, note_head};
+ghost use Rattle.run_pictures.specs.Strips.{note_picture};
+ghost use Rattle.run_pictures.specs.Strips.{note_spot, output_of, register_at, seen_cell, title_at};
+ghost use Rattle.run_pictures.specs.Strips.{title_picture, value_text};
 
 use crate::frames::{Frame, Spot, band_top, left, middle, spot_top, width};
 use crate::squares::{put_column_head, put_node_label, put_number_at, put_rectangle, put_shown};

@@ -3,9 +3,11 @@
 ghost use Rattle.std.specs.Prelude.{length};
 ghost use Rattle.std.specs.List.{flat_map};
 ghost use Rattle.texts.specs.Growth.{Puts};
-ghost use Rattle.draw.specs.TracePictures.{bands, blocks_words, dots, legend, legend_below};
-ghost use Rattle.draw.specs.TracePictures.{level_at, level_caption, level_front, start_mark};
-ghost use Rattle.draw.specs.TracePictures.{trace_captions, trace_facts, trace_front, trace_picture};
+ghost use Rattle.run_pictures.specs.TracePictures.{bands, blocks_words, dots, legend, legend_below};
+ghost use Rattle.run_pictures.specs.TracePictures.{level_at, level_caption, level_front};
+ghost use Rattle.run_pictures.specs.TracePictures.{start_mark};
+ghost use Rattle.run_pictures.specs.TracePictures.{trace_captions, trace_facts, trace_front};
+ghost use Rattle.run_pictures.specs.TracePictures.{trace_picture};
 
 use crate::frames::{Frame, bottom};
 use crate::marks::put_mark_at;

@@ -3,10 +3,12 @@
 ghost use Rattle.std.specs.Prelude.{◌≡◌};
 ghost use Rattle.std.specs.List.{flat_map};
 ghost use Rattle.texts.specs.Growth.{Puts};
-ghost use Rattle.draw.specs.Traces.{count_words, faulty_word, heard_or_nothing, heard_words};
-ghost use Rattle.draw.specs.Traces.{held_word, level_words, note_front, note_line, number_or_none};
-ghost use Rattle.draw.specs.Traces.{output_word, output_words, register_words, seen_words};
-ghost use Rattle.draw.specs.Traces.{trace_text, turn_word, vote_word};
+ghost use Rattle.run_pictures.specs.Traces.{count_words, faulty_word, heard_or_nothing};
+ghost use Rattle.run_pictures.specs.Traces.{heard_words};
+ghost use Rattle.run_pictures.specs.Traces.{held_word, level_words, note_front, note_line};
+ghost use Rattle.run_pictures.specs.Traces.{number_or_none};
+ghost use Rattle.run_pictures.specs.Traces.{output_word, output_words, register_words, seen_words};
+ghost use Rattle.run_pictures.specs.Traces.{trace_text, turn_word, vote_word};
 
 use crate::traces::{Heard, Held, Note, Output, Register, Seen, Turn};
 use edge_io::{Piece, Sink, WriteFault, put_all, put_number, put_pieces};

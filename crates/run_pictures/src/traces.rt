@@ -137,7 +137,7 @@ pub struct Title {
     pub level: u64,
 }
 
-/// A level, in the caption.
+/// A level, in the caption, and its strip.
 #[derive(Clone, Copy)]
 pub struct Level {
     /// How many stand before it.
@@ -145,6 +145,10 @@ pub struct Level {
     pub level: u64,
     /// How many blocks vote at it, if a line says it.
     pub blocks: Option<u64>,
+    /// The top of its kings' turns, in each band.
+    pub top: u32,
+    /// The top of its cells, in each band.
+    pub cells: u32,
 }
 
 /// What `trace` wrote, and what is drawn of it.

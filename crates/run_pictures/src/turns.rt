@@ -3,9 +3,9 @@
 ghost use Rattle.std.specs.Prelude.{◌≡◌};
 ghost use Rattle.std.specs.List.{flat_map};
 ghost use Rattle.texts.specs.Growth.{Puts};
-ghost use Rattle.draw.specs.Frames.{width};
-ghost use Rattle.draw.specs.Strips.{edge, gold_part, reign_at, reign_box, reign_picture};
-ghost use Rattle.draw.specs.Strips.{reign_spot, share};
+ghost use Rattle.run_pictures.specs.Frames.{width};
+ghost use Rattle.run_pictures.specs.Strips.{edge, gold_part, reign_at, reign_box, reign_picture};
+ghost use Rattle.run_pictures.specs.Strips.{reign_spot, share};
 
 use crate::frames::{Frame, Spot, left, middle, spot_top, width};
 use crate::squares::put_number_at;

@@ -1,4 +1,4 @@
-use Rattle.draw.proofs.drawing.draw_chart.Goals as goal
+use Rattle.run_pictures.proofs.drawing.draw_chart.Goals as goal
 
 pub returns-in-Ok : goal.returns-in-Ok
 returns-in-Ok g c = record {

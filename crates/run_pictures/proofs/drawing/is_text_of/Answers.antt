@@ -1,7 +1,7 @@
 use Rattle.std.proofs.Common.{◌≡◌, sym, ◌∙◌}
 use Rattle.std.proofs.lemmas.Slice.Eq.{bytes_eq-Decides}
-use Rattle.draw.specs.Charts.{chart_text}
-use Rattle.draw.proofs.drawing.is_text_of.Goals as goal
+use Rattle.run_pictures.specs.Charts.{chart_text}
+use Rattle.run_pictures.proofs.drawing.is_text_of.Goals as goal
 
 pub returns-in-Ok : goal.returns-in-Ok
 returns-in-Ok g c =

@@ -1,5 +1,5 @@
-use Rattle.draw.proofs.Laying.{one_more}
-use Rattle.draw.proofs.laid.are_lines_laid.Goals as goal
+use Rattle.run_pictures.proofs.Laying.{one_more}
+use Rattle.run_pictures.proofs.laid.are_lines_laid.Goals as goal
 
 pub loop-k-preserved : goal.loop-k-preserved
 loop-k-preserved c =

@@ -1,7 +1,7 @@
 use Rattle.std.proofs.Common.{sym, ◌∙◌}
-use Rattle.draw.specs.Pictures.{is_before}
-use Rattle.draw.proofs.Parts.{wrote_unless, puts_if}
-use Rattle.draw.proofs.marks.put_bound_at.Goals as goal
+use Rattle.run_pictures.specs.Pictures.{is_before}
+use Rattle.run_pictures.proofs.Parts.{wrote_unless, puts_if}
+use Rattle.run_pictures.proofs.marks.put_bound_at.Goals as goal
 
 pub returns-then-is_before : goal.returns-then-is_before
 returns-then-is_before g c =

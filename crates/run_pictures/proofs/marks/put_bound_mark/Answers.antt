@@ -1,8 +1,8 @@
 use Rattle.std.proofs.Common.{ℕ, ◌+◌, ◌≤◌, arith}
 use Rattle.texts.proofs.Growth.{wrote_none}
-use Rattle.draw.specs.Pictures.{era_begin}
-use Rattle.draw.proofs.Parts.{bound_behind}
-use Rattle.draw.proofs.marks.put_bound_mark.Goals as goal
+use Rattle.run_pictures.specs.Pictures.{era_begin}
+use Rattle.run_pictures.proofs.Parts.{bound_behind}
+use Rattle.run_pictures.proofs.marks.put_bound_mark.Goals as goal
 
 pub returns-else-chart-behind : goal.returns-else-chart-behind
 returns-else-chart-behind g c =

@@ -1,7 +1,7 @@
 use Rattle.texts.proofs.Growth.{cut_more, cut_then, puts_then}
-use Rattle.draw.specs.Charts.{end_words}
-use Rattle.draw.specs.Pictures.{caption_front}
-use Rattle.draw.proofs.marks.put_caption_at.Goals as goal
+use Rattle.run_pictures.specs.Charts.{end_words}
+use Rattle.run_pictures.specs.Pictures.{caption_front}
+use Rattle.run_pictures.proofs.marks.put_caption_at.Goals as goal
 
 pub returns-in-Err : goal.returns-in-Err
 returns-in-Err g c =

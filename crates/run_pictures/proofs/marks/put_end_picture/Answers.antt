@@ -1,6 +1,6 @@
 use Rattle.texts.proofs.Growth.{cut_more, cut_then, puts_then}
-use Rattle.draw.specs.Pictures.{bound_mark, era_mark, locked_mark}
-use Rattle.draw.proofs.marks.put_end_picture.Goals as goal
+use Rattle.run_pictures.specs.Pictures.{bound_mark, era_mark, locked_mark}
+use Rattle.run_pictures.proofs.marks.put_end_picture.Goals as goal
 
 pub returns-in-Err : goal.returns-in-Err
 returns-in-Err g c =

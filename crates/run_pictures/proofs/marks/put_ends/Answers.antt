@@ -1,6 +1,6 @@
 use Rattle.texts.proofs.Growth.{wrote_none, wrote_at, cut_at}
-use Rattle.draw.specs.Pictures.{end_picture}
-use Rattle.draw.proofs.marks.put_ends.Goals as goal
+use Rattle.run_pictures.specs.Pictures.{end_picture}
+use Rattle.run_pictures.proofs.marks.put_ends.Goals as goal
 
 pub loop-i-init : goal.loop-i-init
 loop-i-init g c = wrote_none _

@@ -1,8 +1,8 @@
 use Rattle.std.proofs.Common.{take}
 use Rattle.std.specs.List.{flat_map}
 use Rattle.texts.specs.Growth.{Wrote}
-use Rattle.draw.specs.Pictures.{end_picture}
-use Rattle.draw.proofs.marks.put_ends.Given as goal
+use Rattle.run_pictures.specs.Pictures.{end_picture}
+use Rattle.run_pictures.proofs.marks.put_ends.Given as goal
 
 abbrev pub invariant-loop-i : goal.invariant-loop-i
 invariant-loop-i g l =

@@ -1,5 +1,5 @@
 use Rattle.texts.proofs.Growth.{wrote_none}
-use Rattle.draw.proofs.marks.put_era_mark.Goals as goal
+use Rattle.run_pictures.proofs.marks.put_era_mark.Goals as goal
 
 pub returns-in-Some : goal.returns-in-Some
 returns-in-Some g c = rw c.in-Some.is (rw c.from.ensures at c.put_mark_row.ensures)

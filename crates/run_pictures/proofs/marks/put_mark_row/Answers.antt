@@ -1,9 +1,9 @@
 use Rattle.std.proofs.Common.{sym, ap, ◌∙◌}
-use Rattle.draw.specs.declared.frames.Frame.{Frame}
-use Rattle.draw.specs.Charts.{frame_of}
-use Rattle.draw.specs.Pictures.{has_column}
-use Rattle.draw.proofs.Parts.{wrote_unless}
-use Rattle.draw.proofs.marks.put_mark_row.Goals as goal
+use Rattle.run_pictures.specs.declared.frames.Frame.{Frame}
+use Rattle.run_pictures.specs.Charts.{frame_of}
+use Rattle.run_pictures.specs.Pictures.{has_column}
+use Rattle.run_pictures.proofs.Parts.{wrote_unless}
+use Rattle.run_pictures.proofs.marks.put_mark_row.Goals as goal
 
 pub returns-else-has_column : goal.returns-else-has_column
 returns-else-has_column g c =

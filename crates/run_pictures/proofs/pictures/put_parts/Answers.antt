@@ -1,9 +1,9 @@
 use Rattle.texts.proofs.Growth.{cut_more, cut_then, puts_then}
 use Rattle.std.specs.List.{flat_map}
-use Rattle.draw.specs.Charts.{frame_of}
-use Rattle.draw.specs.Cells.{cell_picture}
-use Rattle.draw.specs.Pictures.{end_picture, facts, picture_ground, sized_front}
-use Rattle.draw.proofs.pictures.put_parts.Goals as goal
+use Rattle.run_pictures.specs.Charts.{frame_of}
+use Rattle.run_pictures.specs.Cells.{cell_picture}
+use Rattle.run_pictures.specs.Pictures.{end_picture, facts, picture_ground, sized_front}
+use Rattle.run_pictures.proofs.pictures.put_parts.Goals as goal
 
 pub returns-in-Err : goal.returns-in-Err
 returns-in-Err g c =

@@ -1,4 +1,4 @@
-use Rattle.draw.proofs.pictures.put_span.Goals as goal
+use Rattle.run_pictures.proofs.pictures.put_span.Goals as goal
 
 pub returns : goal.returns
 returns g c =

@@ -1,6 +1,6 @@
 use Rattle.texts.proofs.Growth.{cut_more, cut_then, puts_then}
-use Rattle.draw.specs.Charts.{cell_front, word_text}
-use Rattle.draw.proofs.printing.put_cell.Goals as goal
+use Rattle.run_pictures.specs.Charts.{cell_front, word_text}
+use Rattle.run_pictures.proofs.printing.put_cell.Goals as goal
 
 pub returns-in-Err : goal.returns-in-Err
 returns-in-Err g c =

@@ -1,6 +1,6 @@
 use Rattle.texts.proofs.Growth.{cut_more, puts_then}
-use Rattle.draw.specs.Charts.{era_words}
-use Rattle.draw.proofs.printing.put_end.Goals as goal
+use Rattle.run_pictures.specs.Charts.{era_words}
+use Rattle.run_pictures.proofs.printing.put_end.Goals as goal
 
 pub returns-in-Err : goal.returns-in-Err
 returns-in-Err g c =

@@ -1,6 +1,6 @@
 use Rattle.texts.proofs.Growth.{cut_more, puts_then}
-use Rattle.draw.specs.Charts.{end_words}
-use Rattle.draw.proofs.printing.put_end_line.Goals as goal
+use Rattle.run_pictures.specs.Charts.{end_words}
+use Rattle.run_pictures.proofs.printing.put_end_line.Goals as goal
 
 pub returns-in-Err : goal.returns-in-Err
 returns-in-Err g c =

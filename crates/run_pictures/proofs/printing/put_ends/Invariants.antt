@@ -1,8 +1,8 @@
 use Rattle.std.proofs.Common.{take}
 use Rattle.std.specs.List.{flat_map}
 use Rattle.texts.specs.Growth.{Wrote}
-use Rattle.draw.specs.Charts.{end_line}
-use Rattle.draw.proofs.printing.put_ends.Given as goal
+use Rattle.run_pictures.specs.Charts.{end_line}
+use Rattle.run_pictures.proofs.printing.put_ends.Given as goal
 
 abbrev pub invariant-loop-i : goal.invariant-loop-i
 invariant-loop-i g l =

@@ -1,6 +1,6 @@
 use Rattle.std.proofs.Common.{◌+◌}
-use Rattle.draw.proofs.Parts.{wrote_unless_is}
-use Rattle.draw.proofs.printing.put_row_end.Goals as goal
+use Rattle.run_pictures.proofs.Parts.{wrote_unless_is}
+use Rattle.run_pictures.proofs.printing.put_row_end.Goals as goal
 
 pub returns-else-from : goal.returns-else-from
 returns-else-from g c =

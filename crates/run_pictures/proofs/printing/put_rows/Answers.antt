@@ -1,6 +1,6 @@
 use Rattle.texts.proofs.Growth.{wrote_none, wrote_at, cut_at}
-use Rattle.draw.specs.Charts.{cell_words}
-use Rattle.draw.proofs.printing.put_rows.Goals as goal
+use Rattle.run_pictures.specs.Charts.{cell_words}
+use Rattle.run_pictures.proofs.printing.put_rows.Goals as goal
 
 pub loop-i-init : goal.loop-i-init
 loop-i-init g c = wrote_none _

@@ -1,6 +1,6 @@
 use Rattle.texts.proofs.Growth.{cut_more, puts_then}
-use Rattle.draw.specs.Cells.{axes_at}
-use Rattle.draw.proofs.squares.put_column_head.Goals as goal
+use Rattle.run_pictures.specs.Cells.{axes_at}
+use Rattle.run_pictures.proofs.squares.put_column_head.Goals as goal
 
 pub returns-in-Err : goal.returns-in-Err
 returns-in-Err g c =

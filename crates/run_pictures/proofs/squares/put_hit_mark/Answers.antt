@@ -1,5 +1,5 @@
 use Rattle.texts.proofs.Growth.{wrote_none}
-use Rattle.draw.proofs.squares.put_hit_mark.Goals as goal
+use Rattle.run_pictures.proofs.squares.put_hit_mark.Goals as goal
 
 pub returns-in-true : goal.returns-in-true
 returns-in-true g c =

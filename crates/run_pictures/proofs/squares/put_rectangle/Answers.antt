@@ -1,4 +1,4 @@
-use Rattle.draw.proofs.squares.put_rectangle.Goals as goal
+use Rattle.run_pictures.proofs.squares.put_rectangle.Goals as goal
 
 pub returns : goal.returns
 returns g c =

@@ -1,6 +1,6 @@
 use Rattle.texts.proofs.Growth.{cut_more, puts_then}
-use Rattle.draw.specs.Cells.{square}
-use Rattle.draw.proofs.squares.put_shown.Goals as goal
+use Rattle.run_pictures.specs.Cells.{square}
+use Rattle.run_pictures.proofs.squares.put_shown.Goals as goal
 
 pub returns-in-Err : goal.returns-in-Err
 returns-in-Err g c =

@@ -1,6 +1,6 @@
 use Rattle.texts.proofs.Growth.{cut_more, cut_then, puts_then}
-use Rattle.draw.specs.Cells.{filling, rectangle_front}
-use Rattle.draw.proofs.squares.put_square.Goals as goal
+use Rattle.run_pictures.specs.Cells.{filling, rectangle_front}
+use Rattle.run_pictures.proofs.squares.put_square.Goals as goal
 
 pub returns-in-Err : goal.returns-in-Err
 returns-in-Err g c =

@@ -1,7 +1,7 @@
 use Rattle.texts.proofs.Growth.{cut_more, cut_then, puts_then}
-use Rattle.draw.specs.Cells.{node_label}
-use Rattle.draw.specs.Strips.{note_head}
-use Rattle.draw.proofs.strips.put_note_at.Goals as goal
+use Rattle.run_pictures.specs.Cells.{node_label}
+use Rattle.run_pictures.specs.Strips.{note_head}
+use Rattle.run_pictures.proofs.strips.put_note_at.Goals as goal
 
 pub returns-in-Err : goal.returns-in-Err
 returns-in-Err g c =

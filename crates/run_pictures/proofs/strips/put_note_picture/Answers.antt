@@ -1,8 +1,8 @@
 use Rattle.std.proofs.Common.{subst}
 use Rattle.texts.specs.Growth.{Puts}
-use Rattle.draw.specs.declared.frames.Spot.{Spot}
-use Rattle.draw.specs.Strips.{note_at}
-use Rattle.draw.proofs.strips.put_note_picture.Goals as goal
+use Rattle.run_pictures.specs.declared.frames.Spot.{Spot}
+use Rattle.run_pictures.specs.Strips.{note_at}
+use Rattle.run_pictures.proofs.strips.put_note_picture.Goals as goal
 
 pub returns : goal.returns
 returns g c =

@@ -1,7 +1,7 @@
 use Rattle.texts.proofs.Growth.{cut_more, cut_then, puts_then}
-use Rattle.draw.specs.Cells.{rectangle_front}
-use Rattle.draw.specs.Strips.{cover, ground}
-use Rattle.draw.proofs.strips.put_register_at.Goals as goal
+use Rattle.run_pictures.specs.Cells.{rectangle_front}
+use Rattle.run_pictures.specs.Strips.{cover, ground}
+use Rattle.run_pictures.proofs.strips.put_register_at.Goals as goal
 
 pub returns-in-Err : goal.returns-in-Err
 returns-in-Err g c =

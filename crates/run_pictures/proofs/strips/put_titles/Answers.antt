@@ -1,6 +1,6 @@
 use Rattle.texts.proofs.Growth.{wrote_none, wrote_at, cut_at}
-use Rattle.draw.specs.Strips.{title_picture}
-use Rattle.draw.proofs.strips.put_titles.Goals as goal
+use Rattle.run_pictures.specs.Strips.{title_picture}
+use Rattle.run_pictures.proofs.strips.put_titles.Goals as goal
 
 pub loop-i-init : goal.loop-i-init
 loop-i-init g c = wrote_none _

@@ -1,8 +1,8 @@
 use Rattle.std.proofs.Common.{take}
 use Rattle.std.specs.List.{flat_map}
 use Rattle.texts.specs.Growth.{Wrote}
-use Rattle.draw.specs.Strips.{title_picture}
-use Rattle.draw.proofs.strips.put_titles.Given as goal
+use Rattle.run_pictures.specs.Strips.{title_picture}
+use Rattle.run_pictures.proofs.strips.put_titles.Given as goal
 
 abbrev pub invariant-loop-i : goal.invariant-loop-i
 invariant-loop-i g l =

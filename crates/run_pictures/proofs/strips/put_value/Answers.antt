@@ -1,4 +1,4 @@
-use Rattle.draw.proofs.strips.put_value.Goals as goal
+use Rattle.run_pictures.proofs.strips.put_value.Goals as goal
 
 pub returns-in-Some : goal.returns-in-Some
 returns-in-Some g c =

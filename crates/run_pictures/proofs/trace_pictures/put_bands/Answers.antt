@@ -1,7 +1,7 @@
 use Rattle.texts.proofs.Growth.{cut_more, cut_then, puts_then}
 use Rattle.std.specs.List.{flat_map}
-use Rattle.draw.specs.Strips.{note_picture, reign_picture, title_picture}
-use Rattle.draw.proofs.trace_pictures.put_bands.Goals as goal
+use Rattle.run_pictures.specs.Strips.{note_picture, reign_picture, title_picture}
+use Rattle.run_pictures.proofs.trace_pictures.put_bands.Goals as goal
 
 pub returns-in-Err : goal.returns-in-Err
 returns-in-Err g c =

@@ -1,7 +1,7 @@
 use Rattle.std.specs.List.{flat_map}
 use Rattle.texts.proofs.Growth.{cut_more, puts_then}
-use Rattle.draw.specs.TracePictures.{level_caption}
-use Rattle.draw.proofs.trace_pictures.put_captions.Goals as goal
+use Rattle.run_pictures.specs.TracePictures.{level_caption}
+use Rattle.run_pictures.proofs.trace_pictures.put_captions.Goals as goal
 
 pub returns-in-Err : goal.returns-in-Err
 returns-in-Err g c =

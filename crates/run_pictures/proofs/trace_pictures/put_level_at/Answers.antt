@@ -1,6 +1,6 @@
 use Rattle.texts.proofs.Growth.{cut_more, puts_then}
-use Rattle.draw.specs.TracePictures.{level_front}
-use Rattle.draw.proofs.trace_pictures.put_level_at.Goals as goal
+use Rattle.run_pictures.specs.TracePictures.{level_front}
+use Rattle.run_pictures.proofs.trace_pictures.put_level_at.Goals as goal
 
 pub returns-in-Err : goal.returns-in-Err
 returns-in-Err g c =

@@ -1,7 +1,7 @@
 use Rattle.texts.proofs.Growth.{cut_more, cut_then, puts_then}
-use Rattle.draw.specs.Pictures.{picture_ground}
-use Rattle.draw.specs.TracePictures.{bands, dots, trace_captions, trace_facts, trace_front}
-use Rattle.draw.proofs.trace_pictures.put_parts.Goals as goal
+use Rattle.run_pictures.specs.Pictures.{picture_ground}
+use Rattle.run_pictures.specs.TracePictures.{bands, dots, trace_captions, trace_facts, trace_front}
+use Rattle.run_pictures.proofs.trace_pictures.put_parts.Goals as goal
 
 pub returns-in-Err : goal.returns-in-Err
 returns-in-Err g c =

@@ -1,6 +1,6 @@
 use Rattle.texts.proofs.Growth.{wrote_none, wrote_at, cut_at}
-use Rattle.draw.specs.TracePictures.{start_mark}
-use Rattle.draw.proofs.trace_pictures.put_starts.Goals as goal
+use Rattle.run_pictures.specs.TracePictures.{start_mark}
+use Rattle.run_pictures.proofs.trace_pictures.put_starts.Goals as goal
 
 pub loop-i-init : goal.loop-i-init
 loop-i-init g c = wrote_none _

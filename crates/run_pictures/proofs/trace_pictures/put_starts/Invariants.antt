@@ -1,8 +1,8 @@
 use Rattle.std.proofs.Common.{take}
 use Rattle.std.specs.List.{flat_map}
 use Rattle.texts.specs.Growth.{Wrote}
-use Rattle.draw.specs.TracePictures.{start_mark}
-use Rattle.draw.proofs.trace_pictures.put_starts.Given as goal
+use Rattle.run_pictures.specs.TracePictures.{start_mark}
+use Rattle.run_pictures.proofs.trace_pictures.put_starts.Given as goal
 
 abbrev pub invariant-loop-i : goal.invariant-loop-i
 invariant-loop-i g l =

@@ -1,6 +1,6 @@
 use Rattle.std.proofs.Common.{rules}
 use Rattle.texts.proofs.Growth.{puts_lent}
-use Rattle.draw.proofs.trace_pictures.put_trace_picture.Goals as goal
+use Rattle.run_pictures.proofs.trace_pictures.put_trace_picture.Goals as goal
 
 pub returns : goal.returns
 returns g c =

@@ -1,8 +1,8 @@
 use Rattle.texts.proofs.Growth.{cut_more, cut_then, puts_then}
 use Rattle.std.specs.Prelude.{codes}
 use Rattle.std.specs.List.{flat_map}
-use Rattle.draw.specs.Traces.{count_words, vote_word}
-use Rattle.draw.proofs.trace_printing.put_heard.Goals as goal
+use Rattle.run_pictures.specs.Traces.{count_words, vote_word}
+use Rattle.run_pictures.proofs.trace_printing.put_heard.Goals as goal
 
 pub returns-in-Err : goal.returns-in-Err
 returns-in-Err g c =

@@ -1,7 +1,7 @@
 use Rattle.texts.proofs.Growth.{cut_more, cut_then, puts_then}
 use Rattle.std.specs.Prelude.{codes}
-use Rattle.draw.specs.Traces.{number_or_none}
-use Rattle.draw.proofs.trace_printing.put_output.Goals as goal
+use Rattle.run_pictures.specs.Traces.{number_or_none}
+use Rattle.run_pictures.proofs.trace_printing.put_output.Goals as goal
 
 pub returns-in-Err : goal.returns-in-Err
 returns-in-Err g c =

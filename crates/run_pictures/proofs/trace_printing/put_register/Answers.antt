@@ -1,6 +1,6 @@
 use Rattle.texts.proofs.Growth.{cut_more, cut_then, puts_then}
-use Rattle.draw.specs.Traces.{held_word, level_words, number_or_none}
-use Rattle.draw.proofs.trace_printing.put_register.Goals as goal
+use Rattle.run_pictures.specs.Traces.{held_word, level_words, number_or_none}
+use Rattle.run_pictures.proofs.trace_printing.put_register.Goals as goal
 
 pub returns-in-Err : goal.returns-in-Err
 returns-in-Err g c =

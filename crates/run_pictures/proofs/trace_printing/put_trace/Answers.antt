@@ -1,9 +1,9 @@
 use Rattle.std.proofs.Common.{subst}
 use Rattle.texts.specs.Growth.{Cut, Wrote}
 use Rattle.texts.proofs.Growth.{wrote_none, wrote_at, cut_at}
-use Rattle.draw.specs.declared.traces.Note.{Note}
-use Rattle.draw.specs.Traces.{note_line}
-use Rattle.draw.proofs.trace_printing.put_trace.Goals as goal
+use Rattle.run_pictures.specs.declared.traces.Note.{Note}
+use Rattle.run_pictures.specs.Traces.{note_line}
+use Rattle.run_pictures.proofs.trace_printing.put_trace.Goals as goal
 
 pub loop-note-init : goal.loop-note-init
 loop-note-init g c = wrote_none _

@@ -1,8 +1,8 @@
 use Rattle.std.proofs.Common.{take}
 use Rattle.std.specs.List.{flat_map}
 use Rattle.texts.specs.Growth.{Wrote}
-use Rattle.draw.specs.Traces.{note_line}
-use Rattle.draw.proofs.trace_printing.put_trace.Given as goal
+use Rattle.run_pictures.specs.Traces.{note_line}
+use Rattle.run_pictures.proofs.trace_printing.put_trace.Given as goal
 
 abbrev pub invariant-loop-note : goal.invariant-loop-note
 invariant-loop-note g l =

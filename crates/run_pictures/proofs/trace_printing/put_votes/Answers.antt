@@ -1,6 +1,6 @@
 use Rattle.texts.proofs.Growth.{wrote_none, wrote_at, cut_at}
-use Rattle.draw.specs.Traces.{vote_word}
-use Rattle.draw.proofs.trace_printing.put_votes.Goals as goal
+use Rattle.run_pictures.specs.Traces.{vote_word}
+use Rattle.run_pictures.proofs.trace_printing.put_votes.Goals as goal
 
 pub loop-i-init : goal.loop-i-init
 loop-i-init g c = wrote_none _

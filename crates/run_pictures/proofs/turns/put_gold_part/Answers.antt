@@ -1,4 +1,4 @@
-use Rattle.draw.proofs.turns.put_gold_part.Goals as goal
+use Rattle.run_pictures.proofs.turns.put_gold_part.Goals as goal
 
 pub returns : goal.returns
 returns g c =

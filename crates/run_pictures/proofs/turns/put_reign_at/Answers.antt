@@ -1,6 +1,6 @@
 use Rattle.texts.proofs.Growth.{cut_more, puts_then}
-use Rattle.draw.specs.Strips.{reign_box}
-use Rattle.draw.proofs.turns.put_reign_at.Goals as goal
+use Rattle.run_pictures.specs.Strips.{reign_box}
+use Rattle.run_pictures.proofs.turns.put_reign_at.Goals as goal
 
 pub returns-in-Err : goal.returns-in-Err
 returns-in-Err g c =
