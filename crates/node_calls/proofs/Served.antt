@@ -1,7 +1,7 @@
 -- What a node that was made for a call answers.
 use Rattle.std.proofs.Common.{◌≡◌, ℕ, ◌<◌, ◌-◌, refl, List, length, Result, Ok, Err, sym, ap, ◌∙◌}
 use Rattle.std.proofs.Common.{subst, arith}
-use Rattle.std.specs.Prelude.{replicate, slice_index_or}
+use Rattle.std.specs.Prelude.{replicate}
 use Rattle.std.proofs.lemmas.Bool.{eq-eqb}
 use Rattle.std.proofs.lemmas.List.{get_or-set_same, length-replicate}
 use Rattle.sync_types.specs.States.{State, zero_state}
@@ -12,7 +12,7 @@ use Rattle.state_codec.specs.Shapes.{Shape, shape_of, fields_at, bytes_in}
 use Rattle.state_codec.specs.Ranges.{InRange}
 use Rattle.state_codec.specs.Reading.{read}
 use Rattle.state_codec.specs.Writing.{written}
-use Rattle.state_codec.proofs.Lows.{length-moduli_from}
+use Rattle.state_codec.proofs.Lows.{depth_at}
 use Rattle.state_codec.proofs.PlanStates.{in_range_of_node}
 use Rattle.node_stepper.specs.Nodes.{Standing, own, begun, fields_of, state_behind}
 use Rattle.node_calls.specs.declared.errors.CallError.{CallError}
@@ -23,10 +23,9 @@ use Rattle.node_calls.specs.Hearing.{Hears}
 
 -- the last register of a state with the fields of a node
 pub last_register : (shape : Shape) (v n : ℕ) → n ≡ length (fields_at shape v).moduli
-    → (length shape.moduli ≡ 0 → ⊥) → length shape.moduli - 1 < n
+    → (shape.depth ≡ 0 → ⊥) → shape.depth - 1 < n
 last_register shape v n deep some =
-    let low : ℕ = slice_index_or shape.lows v 0 in
-    omega (arith, deep, length-moduli_from low shape.moduli, some)
+    omega (arith, deep, depth_at shape v, some)
 
 module _ (plan : Plan) (id : ℕ) (node : id < plan_nodes plan) where
   own_begun : (s : State) → own (begun plan id s) ≡ s

@@ -1,7 +1,7 @@
 ghost use Rattle.std.specs.Prelude.{◌≡◌, ◌<◌, IfOk, length};
 ghost use Rattle.construction.specs.Plans.{plan_nodes};
 ghost use Rattle.construction.specs.Shown.{shown};
-ghost use Rattle.state_codec.specs.Shapes.{fields_at};
+ghost use Rattle.state_codec.specs.Shapes.{fields_at, shape_nodes};
 ghost use Rattle.state_codec.specs.Reading.{read};
 ghost use Rattle.node_calls.specs.Errors.{Answers};
 ghost use Rattle.node_calls.specs.Answers.{plan_answer, node_answer, bytes_answer, output_answer};
@@ -47,9 +47,9 @@ pub fn state_bytes(alloc: Global, text: &[u8], id: u32) -> Result<usize, CallErr
 
 /// What the state shows that bytes stand for, as one of node `id`.
 fn shown_by(alloc: Global, shape: &StateShape, id: u32, state: &[u8]) -> Result<u64, NoMemory>
-    requires { id < length shape.now.lows }
+    requires { id < shape_nodes shape.now }
     ensures { IfOk result (λ output. output
-        ≡ shown (length shape.now.moduli) (read (fields_at shape.now id) state.now)) }
+        ≡ shown shape.now.depth (read (fields_at shape.now id) state.now)) }
 {
     let depth = shape.depth();
     let mut own = NodeState::zero(alloc, depth)?;
