@@ -28,7 +28,7 @@ own_begun : (plan : Plan) (id : ℕ) (state : State) → id < plan_nodes plan
 own_begun plan id state lt =
     let zeros = replicate (plan_nodes plan) (zero_state (plan_depth plan)) in
     get_or-set_same zeros id state (zero_state 0)
-        (omega (arith, lt, length-replicate (plan_nodes plan) (zero_state (plan_depth plan))))
+    (omega (arith, lt, length-replicate (plan_nodes plan) (zero_state (plan_depth plan))))
 
 begun_for : (h : Header) → h.node.id < plan_nodes h.plan
     → IsNodeOf h (begun machine_of_plan h.plan h.node.id h.node.state)

@@ -33,7 +33,7 @@ use Rattle.workbench.proofs.NodeEngines.{IsNodeOf}
 
 module _ (s f m l : Option (List ℕ)) (held : List ℕ) (before now : ℕ) (keeps : Keeps s f)
     (t u : Told) (x : HeaderRead Plan) (w : HeaderWhole plan_part f m x) (e after : Standing Plan)
-        (node : IsNodeOf w.header e) (goes_on : x.ended ≡ false) where
+    (node : IsNodeOf w.header e) (goes_on : x.ended ≡ false) where
   open_end : w.decided.ended ≡ false
   open_end = w.ends ∙ goes_on
 
@@ -95,7 +95,7 @@ module _ (s f m l : Option (List ℕ)) (held : List ℕ) (before now : ℕ) (kee
       → ReadsFront s l (w.decided.bytes ++ (bytes ++ more))
   front_of bytes read = subst (ReadsFront s l) (append_assoc w.decided.bytes bytes more)
       (reads_front s f l held (w.decided.bytes ++ bytes) keeps
-          (Consumes-trans f m (prepend_known held l) w.decided.bytes bytes w.decided.read read))
+      (Consumes-trans f m (prepend_known held l) w.decided.bytes bytes w.decided.read read))
 
   pub serves : (r : Result ℕ NodeFault)
       → Serves machine_of_plan e after m (prepend_known held l) t u r
@@ -123,14 +123,14 @@ module _ (s f m l : Option (List ℕ)) (held : List ℕ) (before now : ℕ) (kee
         ∙ sym (status_is (d.bytes ++ more));
     wrote = subst (λ (text : List ℕ). Wrote text t u)
         (sym (text_is (d.bytes ++ more)
-            ∙ ap (λ (p : Packets). answer machine_of_plan e p.cells) (past more))) d.wrote;
+        ∙ ap (λ (p : Packets). answer machine_of_plan e p.cells) (past more))) d.wrote;
   }
   serves (Err fault.ReadFault) (d, pending) (cause, dry) = record {
     seen = w.decided.bytes ++ d.bytes;
     pending = pending_is d.bytes pending;
     read = read_dry s f l held (w.decided.bytes ++ d.bytes) keeps
         (Consumes-trans f m (prepend_known held l) w.decided.bytes d.bytes w.decided.read d.read)
-            dry;
+        dry;
     cause = cause;
     wrote = subst (λ (text : List ℕ). Wrote text t u) (sym (so_far_is d.bytes)) d.wrote;
   }
@@ -162,14 +162,17 @@ no_bytes (Some ys) (Some zs) bytes keeps read = (nothing_left bytes zs (sym read
 
 module _ (s f l : Option (List ℕ)) (held : List ℕ) (before now : ℕ) (keeps : Keeps s f) (t u : Told)
     (x : HeaderRead Plan) (w : HeaderWhole plan_part f (prepend_known held l) x) (e after : Standing Plan)
-        (node : IsNodeOf w.header e) (over : x.ended ≡ true) (still : now ≡ before) where
+    (node : IsNodeOf w.header e) (over : x.ended ≡ true) (still : now ≡ before) where
   ended_is : w.decided.ended ≡ true
   ended_is = w.ends ∙ over
 
   last_follows : MayFollow w.decided.ended (ltb (2 ^ 20) (length (w.decided.bytes ++ []))) []
   last_follows = subst (λ (b : Bool). MayFollow b (ltb (2 ^ 20) (length (w.decided.bytes ++ [])))
-      []) (sym ended_is) (refl, le-ltb (2 ^ 20) (length (w.decided.bytes ++ []))
-          (omega (arith, length-append w.decided.bytes [], w.decided.within)))
+      []) (sym ended_is) (
+        refl,
+        le-ltb (2 ^ 20) (length (w.decided.bytes ++ []))
+            (omega (arith, length-append w.decided.bytes [], w.decided.within)),
+      )
 
   node_end : node_outcome (w.decided.bytes ++ [])
       ≡ served_outcome w.header (packets_for w.header [])
@@ -177,8 +180,8 @@ module _ (s f l : Option (List ℕ)) (held : List ℕ) (before now : ℕ) (keeps
       let input = w.decided.bytes ++ [] in
       let above = ltb (2 ^ 20) (length input) in
       ap (behind_header input) (w.decided.decides above [] last_follows)
-          ∙ ap (λ (b : List ℕ). served_outcome w.header (packets_for w.header b))
-          (w.behind above [] last_follows)
+      ∙ ap (λ (b : List ℕ). served_outcome w.header (packets_for w.header b))
+      (w.behind above [] last_follows)
 
   text_end : (node_outcome (w.decided.bytes ++ [])).text
       ≡ answer machine_of_plan e (served machine_of_plan e []).cells
@@ -200,15 +203,15 @@ module _ (s f l : Option (List ℕ)) (held : List ℕ) (before now : ℕ) (keeps
     status = ap (λ (o : Outcome). o.status) (sym node_end);
     wrote = subst (λ (text : List ℕ). Wrote text t u) (sym text_end)
         (subst (λ (b : List ℕ). Wrote (answer machine_of_plan e (served machine_of_plan e b).cells)
-            t u) (no_bytes n m d.bytes none d.read) d.wrote);
+        t u) (no_bytes n m d.bytes none d.read) d.wrote);
   }
   serves_last n m Dry (Err (fault.Cut p v)) none (d, ending, end) cause =
       let h : whole 0 ≡ cut p v = subst
-          (λ (b : List ℕ). (served machine_of_plan e b).ending ≡ cut p v)
-              (no_bytes n m d.bytes none d.read) ending in absurd cc
+      (λ (b : List ℕ). (served machine_of_plan e b).ending ≡ cut p v)
+      (no_bytes n m d.bytes none d.read) ending in absurd cc
   serves_last n m Dry (Err fault.TooLong) none (d, past, at_once) cause = let h : whole 0 ≡ beyond =
       subst (λ (b : List ℕ). (served machine_of_plan e (b ++ [])).ending ≡ beyond)
-          (no_bytes n m d.bytes none d.read) (ap (λ (p : Packets). p.ending) (past [])) in absurd cc
+      (no_bytes n m d.bytes none d.read) (ap (λ (p : Packets). p.ending) (past [])) in absurd cc
   serves_last n m Dry (Err fault.ReadFault) none d cause = absurd (never_counted (cause.0))
   serves_last n m Dry (Err fault.WriteFault) none d cause = record {
     input = w.decided.bytes ++ [];
@@ -216,8 +219,8 @@ module _ (s f l : Option (List ℕ)) (held : List ℕ) (before now : ℕ) (keeps
     still = still;
     cut = subst (λ (text : List ℕ). Cut text t u) (sym text_end)
         (subst (λ (b : List ℕ). Cut (answer machine_of_plan e
-            (served machine_of_plan e (b ++ [])).cells) t u) (no_bytes n m d.bytes none d.read)
-                (d.cut []));
+        (served machine_of_plan e (b ++ [])).cells) t u) (no_bytes n m d.bytes none d.read)
+        (d.cut []));
   }
 
 -- a service writes at its start, whatever becomes of it

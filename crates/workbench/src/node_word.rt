@@ -26,8 +26,14 @@ fn engine_of(alloc: Global, read: HeaderRead<Plan>) -> Result<NodeEngine<PlanMac
     ensures { IfOk result (λ e. e
         ≡ begun machine_of_plan read.plan read.header.id read.header.state) }
 {
-    let machine = PlanMachine::with_shape(alloc, &read.plan, read.shape)?;
-    NodeEngine::new(alloc, machine, read.header.id, read.header.state)
+    let HeaderRead {
+        plan,
+        shape,
+        header,
+        ended: _,
+    } = read;
+    let machine = PlanMachine::with_shape(alloc, &plan, shape)?;
+    NodeEngine::new(alloc, machine, header.id, header.state)
 }
 
 /// The refusal of a line of a header.
