@@ -60,3 +60,29 @@ module _ (m : Machine) (faulty : List ℕ) (at : ℕ → List State) (rounds : �
         locked = λ i after high. locked_out i high (is.locked i after (omega (arith, long)));
         counts = count from is.counts;
       }
+
+-- what holds of configurations holds of others with the same states of the correct nodes
+module _ (m : Machine) (faulty : List ℕ) (at other : ℕ → List State) (rounds : ℕ)
+    (same : (i v : ℕ) → i ≤ rounds → IsCorrect m faulty v
+    → state_of (at i) v ≡ state_of (other i) v) where
+  pub locked_elsewhere : (i : ℕ) → i ≤ rounds → IsLocked m faulty (at i)
+      → IsLocked m faulty (other i)
+  locked_elsewhere i le =
+      locked_same m.lock m.nodes faulty (at i) (other i)
+      (λ v lt is. sym (same i v le (lt, is)))
+
+  count_elsewhere : (from : ℕ) → CountThrough m faulty at from rounds
+      → CountThrough m faulty other from rounds
+  count_elsewhere from c = record {
+    output = c.output;
+    shows = λ i low high v lt is.
+        ap (m.shows v) (sym (same i v high (lt, is))) ∙ c.shows i low high v lt is;
+    grows = c.grows;
+  }
+
+  pub stay_elsewhere : (from : ℕ) → StayLockedThrough m faulty at from rounds
+      → StayLockedThrough m faulty other from rounds
+  stay_elsewhere from s = record {
+    locked = λ i low high. locked_elsewhere i high (s.locked i low high);
+    counts = count_elsewhere from s.counts;
+  }

@@ -2,6 +2,7 @@
 use Rattle.std.proofs.Common.{◌≡◌, ℕ, ◌<◌, ◌≤◌, List}
 use Rattle.sync_types.specs.States.{State}
 use Rattle.construction.specs.Plans.{Plan, plan_nodes, plan_bound}
+use Rattle.construction.specs.Steps.{state_of}
 use Rattle.construction.specs.Runs.{IsState, IsBorne, IsLocked}
 use Rattle.plan_numbers.specs.Premises.{IsAccepted}
 use Rattle.state_codec.specs.Reading.{read}
@@ -15,12 +16,13 @@ use Rattle.plan_machine.proofs.Sound.{accepted_are_sound}
 use Rattle.node_runs.specs.Laws as any
 use Rattle.node_runs.proofs.Connected as connected
 use Rattle.node_runs.proofs.Correct as correct
+use Rattle.node_runs.proofs.Follows as follows
 use Rattle.node_runs.proofs.Heard as heard
 use Rattle.node_runs.proofs.Runs as runs
 use Rattle.node_runs.proofs.Settled as settled
 use Rattle.node_runs.proofs.States as states
 use Rattle.plan_node_runs.specs.PlanNodes.{fields_of, state_behind}
-use Rattle.plan_node_runs.specs.NodeRuns.{states_in}
+use Rattle.plan_node_runs.specs.NodeRuns.{IsCorrect, states_in}
 use Rattle.plan_node_runs.specs.Laws.{AnyLiesConnect, BorneLeavesSome, NodesRun, NodesSettle}
 use Rattle.plan_node_runs.specs.Laws.{NodesLock, NodesStayLocked, HeardNodesStayLocked}
 use Rattle.plan_node_runs.specs.Laws.{CountThrough, RunThrough, StayLockedThrough}
@@ -106,6 +108,34 @@ module _ (plan : Plan) (accepted : IsAccepted plan) (faulty : List ℕ) (at : �
         stay_locked from
         (settled.stay_through m sound faulty at rounds here borne_here from le
         (((are_alike plan accepted).locks faulty _).0 locked))
+
+-- what holds of configurations holds of others with the same states of the correct nodes
+module _ (plan : Plan) (accepted : IsAccepted plan) (faulty : List ℕ) (at other : ℕ → List State)
+    (rounds : ℕ)
+    (same : (i v : ℕ) → i ≤ rounds → IsCorrect plan faulty v
+    → state_of (at i) v ≡ state_of (other i) v) where
+  pub locked_elsewhere : (i : ℕ) → i ≤ rounds → IsLocked plan faulty (at i)
+      → IsLocked plan faulty (other i)
+  locked_elsewhere i le locked =
+      let alike = are_alike plan accepted in
+      (alike.locks faulty (other i)).1
+      (follows.locked_elsewhere (machine_of_plan plan) faulty at other rounds same i le
+      ((alike.locks faulty (at i)).0 locked))
+
+  pub stay_elsewhere : (from : ℕ) → StayLockedThrough plan faulty at from rounds
+      → StayLockedThrough plan faulty other from rounds
+  stay_elsewhere from s =
+      stay_locked plan accepted faulty other rounds from
+      (follows.stay_elsewhere (machine_of_plan plan) faulty at other rounds same from
+      (record {
+        locked = λ i low high.
+            ((are_alike plan accepted).locks faulty (at i)).0 (s.locked i low high);
+        counts = record {
+          output = s.counts.output;
+          shows = s.counts.shows;
+          grows = s.counts.grows;
+        };
+      }))
 
 -- the state after packets is read back
 pub behind_reads_back : (plan : Plan) → IsAccepted plan → (v : ℕ) → v < plan_nodes plan

@@ -166,8 +166,10 @@ pub fn counterlab<S: Source, K: Sink>(
     // bound how soon any plan settles.
     ensures found { LeastIsFound }
 
-    // N calls of `node`: from where each is given the cells that the correct ones write, and any
-    // bytes as those of few faulty ones, what they write is a run of the plan, and counts.
+    // N calls of `node`, over a window of rounds that begins in each at a packet of its own: where
+    // each is given the cells that the correct ones write, and any bytes as those of few faulty
+    // ones, what they write is a run of the plan, and counts. Once they are locked they stay so
+    // where cells are lost too. A call that takes the place of another comes to count with them.
     ensures nodes { NodePromiseIsKept }
 {
     promises_are_printed();
