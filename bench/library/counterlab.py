@@ -56,6 +56,13 @@ def _value(answer):
     return answer.value
 
 
+def _id(node):
+    """A node's id as a call takes it: ctypes alone would cut it to 32 bits, to the id of another."""
+    if not 0 <= node < 2**32:
+        raise ValueError(f"{node} is no id: ids are 0 to 2^32 - 1")
+    return node
+
+
 def plan(text):
     """The numbers of a plan."""
     numbers = PlanNumbers()
@@ -65,20 +72,20 @@ def plan(text):
 
 def state_bytes(text, node):
     """How many bytes a state of the node has."""
-    return _value(_library.counterlab_state_bytes(text, len(text), node))
+    return _value(_library.counterlab_state_bytes(text, len(text), _id(node)))
 
 
 def output(text, node, state):
     """What the node shows in a state."""
-    return _value(_library.counterlab_output(text, len(text), node, state, len(state)))
+    return _value(_library.counterlab_output(text, len(text), _id(node), state, len(state)))
 
 
 def step(text, node, state, packets):
-    """The node's state behind the packets, and how many these were."""
+    """The node's state after the packets, and how many these were."""
     # A copy, which the call may write; never the bytes of `state`, which Python shares.
     room = ctypes.create_string_buffer(state, max(1, len(state)))
     given = room, len(state), packets, len(packets)
-    answer = _library.counterlab_step(text, len(text), node, *given)
+    answer = _library.counterlab_step(text, len(text), _id(node), *given)
     return room.raw[: len(state)], _value(answer)
 
 

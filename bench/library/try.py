@@ -1,13 +1,13 @@
 #!/usr/bin/env python3
-"""Builds the static library, links it, and tries it from C, Python and Rust.
+"""Builds the static library, links it, and tries it from C, C++, Python and Rust.
 
     python3 bench/library/try.py              build the archive by `rt lib`
     python3 bench/library/try.py --after-ci   build it over the libraries that `rt ci` has left
     python3 bench/library/try.py ARCHIVE      take this archive
 
 Random steps of six plans, and calls that are refused, have to give what the plain step of calls.py
-gives, and what the program's word `node` writes where the program is built; each allocation is
-refused in turn. A line says what was not tried, and why. The status is 1 where an answer is not
+gives, and what the program's word `node` writes where the program is built; the numbers of the
+example plans have to be those of their stored tables; each allocation is refused in turn. A line says what was not tried, and why. The status is 1 where an answer is not
 what it has to be, or what was proved is not compiled or linked. A tool that is missing or does not
 work is no failure, nor is a machine that has too little memory, or takes more than ten minutes.
 """
@@ -29,6 +29,7 @@ TOP = HERE.parent.parent
 CRATES = TOP / "crates"
 ARCHIVE = CRATES / "counterlab_c" / "out" / "libcounterlab_c.a"
 PROGRAM = CRATES / "counterlab" / "out" / "counterlab"
+PLAN_EXAMPLES = CRATES / "try_examples" / "data" / "plans"
 REFUSED = CRATES / "try_examples" / "data" / "refused_plans"
 PREMISES = ["form", "limit", "blocks", "modulus", "quorum", "share", "multiple"]
 STEPS = 1000
@@ -265,9 +266,22 @@ def refused_plans():
         yield text, int(words[3]), 1 + PREMISES.index(words[5])
 
 
+def plan_numbers():
+    """Lines as plans.c reads them: each example plan, with the numbers of its stored table."""
+    for file in sorted(PLAN_EXAMPLES.glob("*.plan.out")):
+        words = file.read_text().splitlines()[-2].split()
+        numbers = dict(zip(words[1::2], words[2::2]))
+        text = file.with_name(file.name[: -len(".plan.out")] + ".txt").read_bytes()
+        names = ["nodes", "faults", "modulus", "bound", "bytes"]
+        yield " ".join([hexed(text), *(numbers[name] for name in names)]) + "\n"
+
+
+def hexed(data):
+    return data.hex() or "-"
+
+
 def written(text, node, state, packets, answer):
     """A case as steps.c reads it."""
-    hexed = lambda data: data.hex() or "-"
     code, detail, value, new = answer
     given = f"{hexed(text)} {node} {hexed(state)} {hexed(packets)}"
     return f"{given} {code} {detail} {value} {hexed(new)}"
@@ -293,6 +307,8 @@ class Tried:
             self.cases.append((text, 0, b"\0", b"", (1, premise, line, b"\0")))
         self.count = len(self.cases)
         self.text = "".join(written(*case) + "\n" for case in self.cases).encode()
+        self.plan_count = sum(1 for _ in plan_numbers())
+        self.plan_text = "".join(plan_numbers()).encode()
 
     def link(self, compiler, name, *more, heap=None, flags=()):
         """Compiles and links a program of this folder with the archive."""
@@ -308,16 +324,25 @@ class Tried:
             raise Failed(f"{said} cases are the same")
         return said
 
+    def plans_by(self, program):
+        said = run([program], input=self.plan_text).decode().strip()
+        if said != f"{self.plan_count} of {self.plan_count}":
+            raise Failed(f"the numbers of {said} plans are the same")
+        return f"the numbers of {self.plan_count} plans are the same"
+
     def c(self, compiler):
         self.cases_by(self.link(compiler, "steps"))
-        return f"{self.count} calls are the same"
+        numbers = self.plans_by(self.link(compiler, "plans"))
+        return f"{self.count} calls are the same; {numbers}"
 
-    def header(self):
-        needs_compiler("g++", "cc")
-        file = self.room / "header.cc"
-        file.write_text('#include "counterlab.h"\n')
-        run(["g++", "-std=c++11", "-pedantic-errors", "-fsyntax-only", "-I", HERE, file])
-        return "the header is C++ too"
+    def c_plus_plus(self, compiler):
+        """plans.c as C++, whose header names the same functions and lays its structs out the same."""
+        needs_compiler(compiler, "cc")
+        source, to = self.room / "plans.cc", self.room / f"plans.{compiler}"
+        source.write_bytes((HERE / "plans.c").read_bytes())
+        strict = ["-std=c++11", "-pedantic-errors", "-Wall", "-Wextra", "-Werror"]
+        run([compiler, *strict, "-I", HERE, "-o", to, source, self.made, self.heap])
+        return self.plans_by(to)
 
     def first(self):
         """four_nodes.c against the same rounds by the plain step."""
@@ -371,7 +396,7 @@ class Tried:
         run(["gcc", "-shared", "-o", shared, "-Wl,--whole-archive", self.made,
              "-Wl,--no-whole-archive", self.heap, "-Wl,-z,defs"])
         cases = self.room / "cases.txt"
-        cases.write_bytes(self.text)
+        cases.write_bytes(self.text + self.plan_text)
         how = {"env": {**os.environ, "COUNTERLAB_SO": str(shared)}}
         said = run([sys.executable, HERE / "four_nodes.py"], **how).decode().splitlines()
         if said[-1:] != ["4 0112 0112 0112 48"]:
@@ -380,7 +405,10 @@ class Tried:
 
     def rust(self):
         needs("cargo")
-        folders = {"COUNTERLAB_ARCHIVE": self.made.parent, "KIT_ARCHIVE": self.heap.parent}
+        archive = self.room / "archive" / "libcounterlab_c.a"
+        archive.parent.mkdir()
+        shutil.copyfile(self.made, archive)
+        folders = {"COUNTERLAB_ARCHIVE": archive.parent, "KIT_ARCHIVE": self.heap.parent}
         target = {"CARGO_TARGET_DIR": str(self.room / "cargo")}
         env = {**os.environ, **{name: str(it) for name, it in folders.items()}, **target}
         build = ["cargo", "build", "--offline", "--quiet", "--release"]
@@ -393,8 +421,13 @@ class Tried:
             raise Skipped("cargo builds no program here")
         shutil.copytree(HERE / "rust", crate)
         run(build, cwd=crate, env=env)
-        self.cases_by(self.room / "cargo" / "release" / "steps")
-        return f"{self.count} calls are the same"
+        program = self.room / "cargo" / "release" / "steps"
+        self.cases_by(program)
+        numbers = self.plans_by(program)
+        archive.write_bytes(b"no archive")
+        if status_of(build, cwd=crate, env=env)[0] == 0:
+            raise Failed("an archive that has changed is not linked anew")
+        return f"{self.count} calls are the same; {numbers}; a changed archive is linked anew"
 
     def program(self):
         """The word `node` of the program, run once for each step."""
@@ -439,7 +472,8 @@ def main():
         tried = Tried(pathlib.Path(name), made, heap)
         report("gcc", tried.c, "gcc")
         report("clang", tried.c, "clang")
-        report("g++", tried.header)
+        report("g++", tried.c_plus_plus, "g++")
+        report("clang++", tried.c_plus_plus, "clang++")
         report("a first program", tried.first)
         report("an arena", tried.arena)
         report("memory", tried.memory)

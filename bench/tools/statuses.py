@@ -1,14 +1,16 @@
 #!/usr/bin/env python3
-"""Runs the built program on one example of each exit code.
+"""Runs the built programs on one example of each exit code.
 
-    python3 bench/tools/statuses.py [PROGRAM]
+    python3 bench/tools/statuses.py [PROGRAM ..]
 
-PROGRAM is crates/counterlab/out/counterlab, as `rt ci` and `rt run` leave it; where it is not
-there, one line says so and nothing is tried. It is what the contract of `counterlab` leaves to
-`main`: that all arguments are the words, that standard input and output are the source and the
-sink, and that the status is the exit code. A case is an exit code, words, an input and the bytes
-that must come out. The status is 1 where a case ends otherwise. A case that this machine cannot
-make is told in a line, and is no failure, nor is a machine that takes more than a minute.
+PROGRAM is the path of a built `counterlab`, `choose`, `draw`, `states`, `sweep` or `trace`; where
+none is named these are crates/NAME/out/NAME, as `rt ci` and `rt run` leave them. One that is not
+there is told in a line, and not tried. It is what the contracts of these programs leave to `main`:
+that all arguments are the words, that standard input, output and error are the source and the
+sinks, and that the status is the exit code. A case is an exit code, words, an input, the bytes that
+must come out, and of the programs beside `counterlab` how the line on standard error must begin.
+The status is 1 where a case ends otherwise. A case that this machine cannot make is told in a line,
+and is no failure, nor is a machine that takes more than a minute.
 """
 
 import os
@@ -18,43 +20,121 @@ import subprocess
 import sys
 
 TOP = pathlib.Path(__file__).resolve().parent.parent.parent
-EXAMPLES = TOP / "crates" / "try_examples" / "data"
-FAULTS = TOP / "crates" / "try_faults" / "data"
+CRATES = TOP / "crates"
+EXAMPLES = CRATES / "try_examples" / "data"
+FAULTS = CRATES / "try_faults" / "data"
+NAMES = ["counterlab", "choose", "draw", "states", "sweep", "trace"]
 # How many bytes an input of `run` may have.
 LIMIT = 2**20
+TOO_LONG = b"#\n" * (LIMIT // 2) + b"#"
 # Less room than this is not asked for, and the steps in which it grows.
 STEP = 2**16
+
+
+def example(name):
+    return (EXAMPLES / f"{name}.txt").read_bytes()
 
 
 def stored(code, data, name, *words):
     """A case whose input and answer are stored."""
     text = (data / f"{name}.txt").read_bytes()
     answer = (data / f"{name}.{'_'.join(words)}.out").read_bytes()
-    return code, words, text, answer
+    return code, words, text, answer, b""
 
 
-def cases():
-    """Each case that needs no special file: code, words, input, output."""
-    liar = (EXAMPLES / "runs" / "two_faced_liar.txt").read_bytes()
+def own_run(name):
+    """The case that lies beside a program's sources."""
+    crate = CRATES / name
+    words = (crate / "args").read_text().split() if (crate / "args").exists() else []
+    return 0, words, (crate / "stdin").read_bytes(), (crate / "stdout").read_bytes(), b""
+
+
+def told(code, words, text, begin):
+    """A case that writes nothing but a line on standard error, which begins so."""
+    return code, words, text, b"", begin
+
+
+def counterlab_cases():
+    liar, usage = example("runs/two_faced_liar"), b"usage: counterlab COMMAND\n"
     return [
         stored(0, EXAMPLES, "runs/two_faced_liar", "run"),
         stored(1, EXAMPLES, "refused_plans/blocks", "plan"),
-        (2, (), liar, b"usage: counterlab COMMAND\n"),
-        (2, ("run", "run"), liar, b"usage: counterlab COMMAND\n"),
-        (2, ("demo", "seven"), b"", b"usage: counterlab COMMAND\n"),
+        (2, (), liar, usage, b""),
+        (2, ("run", "run"), liar, usage, b""),
+        (2, ("demo", "seven"), b"", usage, b""),
         stored(3, EXAMPLES, "refused_scripts/faulty_node", "run"),
         stored(4, EXAMPLES, "certificates/no_end", "check"),
         stored(5, EXAMPLES, "certificates/row_differs", "check"),
-        (8, ("run",), b"#\n" * (LIMIT // 2) + b"#", b""),
+        (8, ("run",), TOO_LONG, b"", b""),
         stored(9, FAULTS, "short/cut_packet", "node"),
     ]
 
 
+def choose_cases():
+    return [
+        own_run("choose"),
+        told(2, [], b"", b"usage: choose "),
+        told(2, ["1", "ten"], b"", b"usage: choose "),
+    ]
+
+
+def script_cases(name, words):
+    """Those of a program that reads a plan and a script, and is given these words with it."""
+    return [
+        own_run(name),
+        told(1, words, example("refused_plans/blocks"), b"refused plan line "),
+        told(2, [], b"", f"usage: {name} ".encode()),
+        told(3, words, example("refused_scripts/faulty_node"), b"refused script line "),
+        told(8, words, TOO_LONG, b"the input has more than "),
+    ]
+
+
+def trace_cases():
+    liar = example("runs/two_faced_liar")
+    return [
+        *script_cases("trace", ["0", "1"]),
+        told(2, ["0", "5"], liar, b"refused words: TO "),
+        told(2, ["0", "1", "4"], liar, b"refused words: the plan has no such node"),
+    ]
+
+
+def sweep_cases():
+    quiet = example("runs/two_faced_liar")
+    return [*script_cases("sweep", ["0", "3"]), told(3, ["0", "3"], quiet, b"refused script: ")]
+
+
+def draw_cases():
+    return [
+        own_run("draw"),
+        told(1, [], b"refused plan line 1 premise form\n", b"no run to draw: refused plan line 1"),
+        told(1, [], b"", b"no run to draw: "),
+    ]
+
+
+def states_cases():
+    plan = example("plans/one_spare")
+    return [
+        own_run("states"),
+        told(1, [], example("refused_plans/blocks"), b"line "),
+        told(1, [], plan + b"node 0 00\n", b"line "),
+    ]
+
+
+CASES = {
+    "counterlab": counterlab_cases,
+    "choose": choose_cases,
+    "draw": draw_cases,
+    "states": states_cases,
+    "sweep": sweep_cases,
+    "trace": trace_cases,
+}
+
+
 def ended(program, words, **how):
-    """The exit code and the output of a call."""
-    how = {"stdout": subprocess.PIPE, "stderr": subprocess.DEVNULL, "timeout": 60, **how}
+    """The exit code, the output and the line on standard error of a call."""
+    how = {"stdout": subprocess.PIPE, "stderr": subprocess.PIPE, "timeout": 60, **how}
     done = subprocess.run([program, *words], **how)
-    return done.returncode, done.stdout
+    return done.returncode, done.stdout, done.stderr
 
 
 def within(room):
@@ -73,57 +153,82 @@ def least_room(program):
     raise OSError("no bound of memory was found in which it just runs")
 
 
-def folder_read(program):
+def folder_read(program, words):
     folder = os.open("/", os.O_RDONLY)
     try:
-        return ended(program, ["run"], stdin=folder)[0]
+        return ended(program, words, stdin=folder)[0]
     finally:
         os.close(folder)
 
 
-def full_written(program):
-    liar = (EXAMPLES / "runs" / "two_faced_liar.txt").read_bytes()
+def full_written(program, words, text):
     full = os.open("/dev/full", os.O_WRONLY)
     try:
-        return ended(program, ["run"], input=liar, stdout=full)[0]
+        return ended(program, words, input=text, stdout=full)[0]
     finally:
         os.close(full)
 
 
-def memory_refused(program):
+def memory_refused(program, words):
     """An input as long as it may be, and no room for it."""
-    text = b"#\n" * (LIMIT // 2)
-    return ended(program, ["run"], input=text, preexec_fn=within(least_room(program)))[0]
+    text = TOO_LONG[:LIMIT]
+    return ended(program, words, input=text, preexec_fn=within(least_room(program)))[0]
 
 
-def main():
-    built = TOP / "crates" / "counterlab" / "out" / "counterlab"
-    program = pathlib.Path(sys.argv[1] if len(sys.argv) > 1 else built).resolve()
-    if not program.is_file():
-        print(f"statuses: not tried, since {program} is not there")
-        return 0
-    wrong, tried = [], 0
+class Looks:
+    """What was tried, and what was wrong."""
 
-    def look(name, wanted, call, *given, **how):
-        nonlocal tried
+    def __init__(self):
+        self.tried, self.wrong = 0, []
+
+    def look(self, name, wanted, call, *given, **how):
         try:
             found = call(*given, **how)
         except (OSError, subprocess.SubprocessError) as why:
             print(f"statuses: {name}: not tried: {why}")
             return
-        tried += 1
-        if found != wanted:
-            wrong.append(f"{name}: {found} in place of {wanted}")
+        self.tried += 1
+        if not self.fits(found, wanted):
+            self.wrong.append(f"{name}: {found} in place of {wanted}")
 
-    for code, words, text, answer in cases():
-        look(" ".join(words) or "no word", (code, answer), ended, program, words, input=text)
-    look("a folder as input", 6, folder_read, program)
-    look("output that is full", 7, full_written, program)
-    look("no memory", 10, memory_refused, program)
-    for it in wrong:
+    @staticmethod
+    def fits(found, wanted):
+        if isinstance(wanted, int):
+            return found == wanted
+        begins = found[2].startswith(wanted[2]) and bool(found[2]) == bool(wanted[2])
+        return found[:2] == wanted[:2] and begins
+
+
+def look_at(name, program, looks):
+    for code, words, text, answer, begin in CASES[name]():
+        what = " ".join([name, *words])
+        looks.look(what, (code, answer, begin), ended, program, words, input=text)
+    _, words, text, _, _ = CASES[name]()[0]
+    if name == "draw" or name == "states":  # all that goes wrong is 1
+        looks.look(f"{name}, a folder as input", 1, folder_read, program, words)
+        looks.look(f"{name}, output that is full", 1, full_written, program, words, text)
+        return
+    looks.look(f"{name}, output that is full", 7, full_written, program, words, text)
+    if name == "choose":  # it reads nothing, and takes little memory
+        return
+    looks.look(f"{name}, a folder as input", 6, folder_read, program, words)
+    looks.look(f"{name}, no memory", 10, memory_refused, program, words)
+
+
+def main():
+    given = [pathlib.Path(word).resolve() for word in sys.argv[1:]]
+    looks = Looks()
+    for program in given or [CRATES / name / "out" / name for name in NAMES]:
+        if program.name not in CASES:
+            sys.exit(__doc__)
+        if not program.is_file():
+            print(f"statuses: {program.name}: not tried, since {program} is not there")
+            continue
+        look_at(program.name, program, looks)
+    for it in looks.wrong:
         print(f"statuses: {it}")
-    print(f"statuses: {tried - len(wrong)} of {tried} calls end as they must")
-    return 1 if wrong else 0
+    print(f"statuses: {looks.tried - len(looks.wrong)} of {looks.tried} calls end as they must")
+    return 1 if looks.wrong else 0
 
 
 if __name__ == "__main__":

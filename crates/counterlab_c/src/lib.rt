@@ -6,7 +6,7 @@
 #![tactic(auto)]
 
 ghost use Rattle.node_calls.specs.Answers.{plan_answer, bytes_answer, output_answer, step_answer};
-ghost use Rattle.node_calls.specs.Counting.{NodesCount};
+ghost use Rattle.node_calls.specs.Counting.{NodesCount, LossyNodesCount};
 ghost use Rattle.counterlab_c.specs.Codes.{numbers_of};
 ghost use Rattle.counterlab_c.specs.Exports.{Gives, GivesNumber};
 
@@ -14,7 +14,7 @@ mod answers;
 
 use answers::{answer_of, numbers_of};
 pub use answers::{Answer, PlanNumbers};
-use node_calls::laws::nodes_count;
+use node_calls::laws::{lossy_nodes_count, nodes_count};
 use node_calls::{output, plan_in, state_bytes, step};
 use std::alloc::Global;
 
@@ -66,9 +66,15 @@ pub extern "C" fn counterlab_step(
         (step_answer plan.now id state.old packets.now) state.old state.new result }
 
     // Nodes that step in rounds as this call answers count from the plan's bound on, whatever bytes
-    // they begin with, and whatever the faulty ones say.
+    // they begin with, and whatever the faulty ones say. There they are locked, and from any locked
+    // round on they stay so and count.
     ensures count { NodesCount }
+
+    // From there on they do so where states are lost too, as long as each is told in each round
+    // those of N - F nodes, its own among them.
+    ensures losses { LossyNodesCount }
 {
     nodes_count();
+    lossy_nodes_count();
     answer_of(step(alloc, plan, id, state, packets))
 }

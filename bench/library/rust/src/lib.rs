@@ -22,6 +22,20 @@ pub struct PlanNumbers {
     pub bound: u64,
 }
 
+/// The layout that the archive has.
+const _: () = {
+    use std::mem::{offset_of, size_of};
+    assert!(size_of::<Answer>() == 16);
+    assert!(offset_of!(Answer, code) == 0);
+    assert!(offset_of!(Answer, detail) == 4);
+    assert!(offset_of!(Answer, value) == 8);
+    assert!(size_of::<PlanNumbers>() == 24);
+    assert!(offset_of!(PlanNumbers, nodes) == 0);
+    assert!(offset_of!(PlanNumbers, faults) == 4);
+    assert!(offset_of!(PlanNumbers, modulus) == 8);
+    assert!(offset_of!(PlanNumbers, bound) == 16);
+};
+
 mod archive {
     use super::{Answer, PlanNumbers};
 
@@ -75,8 +89,8 @@ pub fn output(text: &[u8], id: u32, state: &[u8]) -> Result<u64, Answer> {
     unsafe { archive::counterlab_output(text.as_ptr(), text.len(), id, at, size) }.ok()
 }
 
-/// Steps node `id` behind each packet, and says how many these were; after an error the state is as
-/// it was.
+/// Steps node `id` once for each packet, and says how many these were; after an error the state is
+/// as it was.
 pub fn step(text: &[u8], id: u32, state: &mut [u8], packets: &[u8]) -> Result<u64, Answer> {
     let (at, size) = (state.as_mut_ptr(), state.len());
     let (first, rest) = (packets.as_ptr(), packets.len());

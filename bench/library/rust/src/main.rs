@@ -1,4 +1,6 @@
-//! Steps each case of standard input, as bench/library/steps.c does.
+//! Reads lines of standard input as bench/library/steps.c and plans.c do, and prints how many of
+//! them say what the library answers: steps of nodes, which have eight words, and numbers of plans,
+//! which have six.
 
 use std::io::BufRead;
 
@@ -9,18 +11,39 @@ fn bytes(hex: &str) -> Vec<u8> {
         .collect()
 }
 
-fn is_same(case: &str) -> bool {
-    let words: Vec<&str> = case.split(' ').collect();
-    let [plan, id, state, packets, code, detail, value, new] = words[..] else {
-        return false;
-    };
+fn step(plan: &str, id: &str, state: &str, packets: &str) -> String {
     let mut state = bytes(state);
-    let answer = counterlab::step(&bytes(plan), id.parse().unwrap(), &mut state, &bytes(packets));
+    let answer = counterlab::step(
+        &bytes(plan),
+        id.parse().unwrap(),
+        &mut state,
+        &bytes(packets),
+    );
     let numbers = match answer {
         Ok(count) => format!("0 0 {count}"),
         Err(a) => format!("{} {} {}", a.code, a.detail, a.value),
     };
-    numbers == format!("{code} {detail} {value}") && state == bytes(new)
+    let digits: String = state.iter().map(|it| format!("{it:02x}")).collect();
+    format!("{numbers} {}", if state.is_empty() { "-" } else { &digits })
+}
+
+fn numbers(plan: &str) -> String {
+    let plan = bytes(plan);
+    match (counterlab::plan(&plan), counterlab::state_bytes(&plan, 0)) {
+        (Ok(n), Ok(bytes)) => format!("{} {} {} {} {bytes}", n.nodes, n.faults, n.modulus, n.bound),
+        (numbers, bytes) => format!("{numbers:?} {bytes:?}"),
+    }
+}
+
+fn is_same(line: &str) -> bool {
+    let words: Vec<&str> = line.split(' ').collect();
+    match words[..] {
+        [plan, id, state, packets, ..] if words.len() == 8 => {
+            step(plan, id, state, packets) == words[4..].join(" ")
+        }
+        [plan, ..] if words.len() == 6 => numbers(plan) == words[1..].join(" "),
+        _ => false,
+    }
 }
 
 fn main() {
