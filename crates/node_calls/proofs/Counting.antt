@@ -2,28 +2,22 @@
 use Rattle.std.proofs.Common.{◌≡◌, ℕ, zero, suc, ◌+◌, ◌<◌, ◌≤◌, cond, Bool, true, false, List, []}
 use Rattle.std.proofs.Common.{◌∷◌, length, map, take, get_or, Result, Ok, Err, add-one, refl, sym}
 use Rattle.std.proofs.Common.{ap, ◌∙◌, subst, arith}
-use Rattle.std.specs.Prelude.{◌==◌, IfOk}
+use Rattle.std.specs.Prelude.{◌==◌}
 use Rattle.std.specs.List.{range_with_len}
 use Rattle.std.proofs.lemmas.Bool.{eq-eqb, lt-ltb}
 use Rattle.std.proofs.lemmas.List.{take_more}
 use Rattle.std.proofs.lemmas.List.FromFn.{length-map-range_with_len, get_or-map-range_with_len}
-use Rattle.texts.specs.Parts.{At}
-use Rattle.sync_types.specs.declared.answers.Premise.{Premise}
 use Rattle.sync_types.specs.States.{State, zero_state}
-use Rattle.construction.specs.Plans.{Plan}
 use Rattle.construction.specs.Steps.{state_of}
 use Rattle.construction.specs.Runs.{is_in}
-use Rattle.plan_numbers.specs.Premises.{IsAccepted}
-use Rattle.plan_reader.specs.PlanPart.{whole_plan_of}
-use Rattle.plan_reader.proofs.AcceptedPlans.{whole_plan_accepted}
 use Rattle.state_codec.specs.Shapes.{Fields, bytes_in}
 use Rattle.state_codec.specs.Reading.{read}
 use Rattle.state_codec.specs.Writing.{written}
 use Rattle.node_stepper.specs.Packets.{Ending, whole, cut, beyond, Packets}
 use Rattle.machines.specs.Machines.{Machine, IsBorne, IsLocked}
 use Rattle.machines.specs.Laws.{IsSound}
-use Rattle.plan_machine.specs.PlanMachines.{machine_of_plan}
-use Rattle.plan_machine.proofs.Sound.{accepted_are_sound}
+use Rattle.any_machine.specs.declared.any_machines.AnyMachine.{AnyMachine}
+use Rattle.any_machine.specs.Machines.{machine_of}
 use Rattle.node_stepper.specs.Nodes.{state_after, state_behind}
 use Rattle.node_stepper.proofs.CellByCell.{written_size}
 use Rattle.node_runs.specs.NodeRuns.{Nodes, cell_given, IsCorrect, state_at, state_in, states_in}
@@ -38,24 +32,13 @@ use Rattle.node_stepper.proofs.NodeTexts.{state_push}
 use Rattle.node_runs.proofs.States.{read_is_state, reads_back, behind_is_state}
 use Rattle.node_calls.specs.declared.errors.CallError.{CallError}
 use Rattle.node_calls.specs.declared.errors.CallError.TheVariants as error
-use Rattle.node_calls.specs.Answers.{plan_or_refused, plan_answer, packets_for}
-use Rattle.node_calls.specs.Answers.{by_ending}
+use Rattle.node_calls.specs.Counters.{counter_answer}
+use Rattle.node_calls.specs.Answers.{packets_for, by_ending}
 use Rattle.node_calls.specs.Answers.{bytes_behind, steps_over, step_in, step_answer, output_answer}
 use Rattle.node_calls.specs.Counting.{cell_in, InRounds, InLossyRounds, states_of, CountFrom}
 use Rattle.node_calls.specs.Counting.{StayLockedFrom, CountByBytes, NodesCount, LossyNodesCount}
+use Rattle.node_calls.proofs.Counters.{sound_of}
 use Rattle.node_calls.proofs.Packets.{as_many, only_one}
-
-accepted_of : (r : Result Plan (At Premise)) (plan : Plan) → plan_or_refused r ≡ Ok plan
-    → IfOk r IsAccepted → IsAccepted plan
-accepted_of (Ok found) plan is accepted =
-    let same : found ≡ plan = cc in subst IsAccepted same accepted
-accepted_of (Err at) plan is accepted = absurd cc
-
--- the machine of the plan of a text is sound
-sound_of : (text : List ℕ) (plan : Plan) → plan_answer text ≡ Ok plan
-    → IsSound (machine_of_plan plan)
-sound_of text plan is =
-    accepted_are_sound plan (accepted_of (whole_plan_of text) plan is (whole_plan_accepted text))
 
 -- of what was answered: that the test held, and what stands behind it
 behind_test : {V : Type 0} (test : Bool) (answer : Result V CallError) (e : CallError) (v : V)
@@ -71,11 +54,11 @@ ended new bytes count (whole n) is =
 ended new bytes count (cut packet sender) is = absurd cc
 ended new bytes count beyond is = absurd cc
 
--- what calls answer of a node of an accepted plan
-module _ (text : List ℕ) (plan : Plan) (is : plan_answer text ≡ Ok plan)
-    (v : ℕ) (node : v < (machine_of_plan plan).nodes) where
+-- what calls answer of a node of a counter
+module _ (text : List ℕ) (counter : AnyMachine) (is : counter_answer text ≡ Ok counter)
+    (v : ℕ) (node : v < (machine_of counter).nodes) where
   abbrev m : Machine
-  m = machine_of_plan plan
+  m = machine_of counter
 
   abbrev fields : Fields
   fields = m.fields v
@@ -109,14 +92,14 @@ pub record Stepping (text : List ℕ) (m : Machine) (faulty : List ℕ) (count :
   pub steps : (t v : ℕ) → t < count → IsCorrect m faulty v
       → step_answer text v (bytes t v) (packets t v) ≡ Ok (1, bytes (t + 1) v)
 
-module _ (text : List ℕ) (plan : Plan) (is : plan_answer text ≡ Ok plan)
+module _ (text : List ℕ) (counter : AnyMachine) (is : counter_answer text ≡ Ok counter)
     (faulty : List ℕ) (count : ℕ) (bytes packets : ℕ → ℕ → List ℕ)
-    (rounds : Stepping text (machine_of_plan plan) faulty count bytes packets) where
+    (rounds : Stepping text (machine_of counter) faulty count bytes packets) where
   abbrev k : Machine
-  k = machine_of_plan plan
+  k = machine_of counter
 
   sound : IsSound k
-  sound = sound_of text plan is
+  sound = sound_of text counter is
 
   -- the packet of a round, the state of its bytes, and the nodes that these make
   abbrev packet : (v t : ℕ) → List (List ℕ)
@@ -141,7 +124,7 @@ module _ (text : List ℕ) (plan : Plan) (is : plan_answer text ≡ Ok plan)
     next : (t : ℕ) → t < count
         → bytes (t + 1) v ≡ written (k.fields v) (state_after k v (state t v) (packet v t))
     next t early =
-        new_bytes text plan is v correct.0 (bytes t v) (packets t v) (bytes (t + 1) v)
+        new_bytes text counter is v correct.0 (bytes t v) (packets t v) (bytes (t + 1) v)
         (rounds.steps t v early correct)
 
     next_state : (t : ℕ) → t < count → state (t + 1) v ≡ state_after k v (state t v) (packet v t)
@@ -217,7 +200,7 @@ module _ (text : List ℕ) (plan : Plan) (is : plan_answer text ≡ Ok plan)
   counted from counts = record {
     output = counts.output;
     shows = λ t v late early correct.
-        output_is text plan is v correct.0 (bytes t v) (long v correct t early)
+        output_is text counter is v correct.0 (bytes t v) (long v correct t early)
         ∙ ap (λ (o : ℕ). let r : Result ℕ CallError = Ok o in r)
         (ap (k.shows v) (shown_state t v early correct)
         ∙ counts.shows t late early v correct.0 correct.1);
@@ -246,68 +229,68 @@ module _ (text : List ℕ) (plan : Plan) (is : plan_answer text ≡ Ok plan)
 
 -- ---- the laws
 
-module _ (text : List ℕ) (plan : Plan) (is : plan_answer text ≡ Ok plan) (faulty : List ℕ)
-    (borne : IsBorne (machine_of_plan plan) faulty) (count : ℕ) (bytes packets : ℕ → ℕ → List ℕ)
-    (rounds : InRounds text (machine_of_plan plan) faulty count bytes packets) where
-  stepping : Stepping text (machine_of_plan plan) faulty count bytes packets
+module _ (text : List ℕ) (counter : AnyMachine) (is : counter_answer text ≡ Ok counter) (faulty : List ℕ)
+    (borne : IsBorne (machine_of counter) faulty) (count : ℕ) (bytes packets : ℕ → ℕ → List ℕ)
+    (rounds : InRounds text (machine_of counter) faulty count bytes packets) where
+  stepping : Stepping text (machine_of counter) faulty count bytes packets
   stepping = record { long = rounds.long; steps = rounds.steps }
 
   abbrev own : Nodes
-  own = nodes text plan is faulty count bytes packets stepping
+  own = nodes text counter is faulty count bytes packets stepping
 
-  abbrev own_sound : IsSound (machine_of_plan plan)
-  own_sound = sound_of text plan is
+  abbrev own_sound : IsSound (machine_of counter)
+  own_sound = sound_of text counter is
 
-  connected : AreConnected (machine_of_plan plan) faulty own (λ v. 0) count
+  connected : AreConnected (machine_of counter) faulty own (λ v. 0) count
   connected = record {
     starts = λ v correct.
-        read_is_state (machine_of_plan plan) own_sound v correct.0 (bytes 0 v);
-    enough = λ v correct. omega (arith, many text plan is faulty count bytes packets stepping v);
+        read_is_state (machine_of counter) own_sound v correct.0 (bytes 0 v);
+    enough = λ v correct. omega (arith, many text counter is faulty count bytes packets stepping v);
     cells = λ t v u early correct other apart.
-        told_is text plan is faulty count bytes packets stepping t v u early other
+        told_is text counter is faulty count bytes packets stepping t v u early other
         (rounds.told t v u early correct other apart);
   }
 
-  count_by_bytes : CountByBytes text (machine_of_plan plan) faulty count bytes
+  count_by_bytes : CountByBytes text (machine_of counter) faulty count bytes
   count_by_bytes = record {
     settles =
-        counted text plan is faulty count bytes packets stepping (machine_of_plan plan).bound
-        (nodes_settle (machine_of_plan plan) own_sound faulty borne own (λ v. 0) count connected);
+        counted text counter is faulty count bytes packets stepping (machine_of counter).bound
+        (nodes_settle (machine_of counter) own_sound faulty borne own (λ v. 0) count connected);
     locks = λ reached.
-        locked_there text plan is faulty count bytes packets stepping (machine_of_plan plan).bound
+        locked_there text counter is faulty count bytes packets stepping (machine_of counter).bound
         reached
-        (nodes_lock (machine_of_plan plan) own_sound faulty borne own (λ v. 0) count connected
+        (nodes_lock (machine_of counter) own_sound faulty borne own (λ v. 0) count connected
         reached);
     stays = λ from le locked.
-        stay_locked text plan is faulty count bytes packets stepping from
-        (nodes_stay_locked (machine_of_plan plan) own_sound faulty borne own (λ v. 0) count
+        stay_locked text counter is faulty count bytes packets stepping from
+        (nodes_stay_locked (machine_of counter) own_sound faulty borne own (λ v. 0) count
         connected from le
-        (locked_here text plan is faulty count bytes packets stepping from le locked));
+        (locked_here text counter is faulty count bytes packets stepping from le locked));
   }
 
 pub nodes_count : NodesCount
-nodes_count text plan is faulty borne count bytes packets rounds =
-    count_by_bytes text plan is faulty borne count bytes packets rounds
+nodes_count text counter is faulty borne count bytes packets rounds =
+    count_by_bytes text counter is faulty borne count bytes packets rounds
 
-module _ (text : List ℕ) (plan : Plan) (is : plan_answer text ≡ Ok plan) (faulty : List ℕ)
-    (borne : IsBorne (machine_of_plan plan) faulty) (count : ℕ) (bytes packets : ℕ → ℕ → List ℕ)
-    (rounds : InLossyRounds text (machine_of_plan plan) faulty count bytes packets) where
-  lossy_stepping : Stepping text (machine_of_plan plan) faulty count bytes packets
+module _ (text : List ℕ) (counter : AnyMachine) (is : counter_answer text ≡ Ok counter) (faulty : List ℕ)
+    (borne : IsBorne (machine_of counter) faulty) (count : ℕ) (bytes packets : ℕ → ℕ → List ℕ)
+    (rounds : InLossyRounds text (machine_of counter) faulty count bytes packets) where
+  lossy_stepping : Stepping text (machine_of counter) faulty count bytes packets
   lossy_stepping = record { long = rounds.long; steps = rounds.steps }
 
   abbrev lossy_nodes : Nodes
-  lossy_nodes = nodes text plan is faulty count bytes packets lossy_stepping
+  lossy_nodes = nodes text counter is faulty count bytes packets lossy_stepping
 
-  heard : AreHeard (machine_of_plan plan) faulty lossy_nodes (λ v. 0) count
+  heard : AreHeard (machine_of counter) faulty lossy_nodes (λ v. 0) count
   heard = record {
     starts = λ v correct.
-        read_is_state (machine_of_plan plan) (sound_of text plan is) v correct.0 (bytes 0 v);
+        read_is_state (machine_of counter) (sound_of text counter is) v correct.0 (bytes 0 v);
     enough = λ v correct.
-        omega (arith, many text plan is faulty count bytes packets lossy_stepping v);
+        omega (arith, many text counter is faulty count bytes packets lossy_stepping v);
     missed = rounds.missed;
     are = rounds.are;
     cells = λ t v u early correct ult not_missed apart.
-        told_is text plan is faulty count bytes packets lossy_stepping t v u early (
+        told_is text counter is faulty count bytes packets lossy_stepping t v u early (
           ult,
           not_so (is_in faulty u) (is_in (rounds.missed t v) u)
               ((rounds.are t v early correct).faulty_too u) not_missed,
@@ -316,11 +299,11 @@ module _ (text : List ℕ) (plan : Plan) (is : plan_answer text ≡ Ok plan) (fa
   }
 
 pub lossy_nodes_count : LossyNodesCount
-lossy_nodes_count text plan is faulty borne count bytes packets rounds from le locked =
-    let k = machine_of_plan plan in
-    let stepping = lossy_stepping text plan is faulty borne count bytes packets rounds in
-    stay_locked text plan is faulty count bytes packets stepping from
-    (heard_nodes_stay_locked k (sound_of text plan is) faulty borne
-    (lossy_nodes text plan is faulty borne count bytes packets rounds) (λ v. 0) count
-    (heard text plan is faulty borne count bytes packets rounds) from le
-    (locked_here text plan is faulty count bytes packets stepping from le locked))
+lossy_nodes_count text counter is faulty borne count bytes packets rounds from le locked =
+    let k = machine_of counter in
+    let stepping = lossy_stepping text counter is faulty borne count bytes packets rounds in
+    stay_locked text counter is faulty count bytes packets stepping from
+    (heard_nodes_stay_locked k (sound_of text counter is) faulty borne
+    (lossy_nodes text counter is faulty borne count bytes packets rounds) (λ v. 0) count
+    (heard text counter is faulty borne count bytes packets rounds) from le
+    (locked_here text counter is faulty count bytes packets stepping from le locked))

@@ -1,3 +1,4 @@
 pub mod Served
 pub mod Packets
 pub mod Counting
+pub mod Counters

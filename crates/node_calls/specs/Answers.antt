@@ -1,43 +1,26 @@
 -- What calls of a node answer. Each test comes behind those before it.
 use Rattle.std.specs.Prelude.{ℕ, ◌==◌, nat_lt, if◌then◌else◌, List, length, Result, Ok, Err}
-use Rattle.texts.specs.Parts.{At}
-use Rattle.sync_types.specs.declared.answers.Premise.{Premise}
-use Rattle.construction.specs.Plans.{Plan, plan_nodes}
-use Rattle.plan_reader.specs.PlanPart.{whole_plan_of}
 use Rattle.state_codec.specs.Shapes.{bytes_in}
 use Rattle.state_codec.specs.Reading.{read}
 use Rattle.state_codec.specs.Writing.{written}
 use Rattle.node_stepper.specs.Packets.{Packets, Ending, whole, cut, beyond, packets_of}
 use Rattle.machines.specs.Machines.{Machine}
-use Rattle.plan_machine.specs.PlanMachines.{machine_of_plan}
+use Rattle.any_machine.specs.declared.any_machines.AnyMachine.{AnyMachine}
+use Rattle.any_machine.specs.Machines.{machine_of}
 use Rattle.node_stepper.specs.Nodes.{state_behind}
 use Rattle.node_calls.specs.declared.errors.CallError.{CallError}
 use Rattle.node_calls.specs.declared.errors.CallError.TheVariants as error
-use Rattle.node_calls.specs.Errors.{refused_at}
+use Rattle.node_calls.specs.Counters.{and_then, counter_answer}
 
--- what follows an answer, where it is no error
-abbrev pub and_then : {A B : Type 0} → Result A CallError → (A → Result B CallError)
-    → Result B CallError
-and_then (Ok value) next = next value
-and_then (Err e) next = Err e
-
--- the plan of a text, or its first line that fails
-abbrev pub plan_or_refused : Result Plan (At Premise) → Result Plan CallError
-plan_or_refused (Ok plan) = Ok plan
-plan_or_refused (Err at) = Err (refused_at at)
-
-abbrev pub plan_answer : (text : List ℕ) → Result Plan CallError
-plan_answer text = plan_or_refused (whole_plan_of text)
-
--- the plan, which has that node
-abbrev pub node_answer : (text : List ℕ) → (id : ℕ) → Result Plan CallError
-node_answer text id = and_then (plan_answer text)
-    (λ plan. if nat_lt id (plan_nodes plan) then Ok plan else Err error.Node)
+-- the counter, which has that node
+abbrev pub node_answer : (text : List ℕ) → (id : ℕ) → Result AnyMachine CallError
+node_answer text id = and_then (counter_answer text)
+    (λ counter. if nat_lt id (machine_of counter).nodes then Ok counter else Err error.Node)
 
 -- how many bytes a state of the node has
 abbrev pub bytes_answer : (text : List ℕ) → (id : ℕ) → Result ℕ CallError
 bytes_answer text id =
-    and_then (node_answer text id) (λ plan. Ok (bytes_in ((machine_of_plan plan).fields id)))
+    and_then (node_answer text id) (λ counter. Ok (bytes_in ((machine_of counter).fields id)))
 
 -- what follows of bytes that are as many as a state of the node has
 abbrev pub over_state : {V : Type 0} → (id : ℕ) → (state : List ℕ)
@@ -51,7 +34,7 @@ output_in id state = over_state id state (λ m. Ok (m.shows id (read (m.fields i
 
 abbrev pub output_answer : (text : List ℕ) → (id : ℕ) → (state : List ℕ) → Result ℕ CallError
 output_answer text id state =
-    and_then (node_answer text id) (λ plan. output_in id state (machine_of_plan plan))
+    and_then (node_answer text id) (λ counter. output_in id state (machine_of counter))
 
 -- the packets of these bytes, at most 1,000,000
 abbrev pub packets_for : Machine → List ℕ → Packets
@@ -81,4 +64,4 @@ step_in id state packets =
 abbrev pub step_answer : (text : List ℕ) → (id : ℕ) → (state packets : List ℕ)
     → Result (ℕ × List ℕ) CallError
 step_answer text id state packets =
-    and_then (node_answer text id) (λ plan. step_in id state packets (machine_of_plan plan))
+    and_then (node_answer text id) (λ counter. step_in id state packets (machine_of counter))

@@ -7,11 +7,12 @@ use Rattle.construction.specs.Runs.{is_in}
 use Rattle.state_codec.specs.Reading.{read}
 use Rattle.state_codec.specs.Shapes.{bytes_in}
 use Rattle.machines.specs.Machines.{Machine, IsBorne, IsLocked}
-use Rattle.construction.specs.Plans.{Plan}
-use Rattle.plan_machine.specs.PlanMachines.{machine_of_plan}
+use Rattle.any_machine.specs.declared.any_machines.AnyMachine.{AnyMachine}
+use Rattle.any_machine.specs.Machines.{machine_of}
 use Rattle.node_runs.specs.NodeRuns.{IsCorrect}
 use Rattle.node_runs.specs.Losses.{AreMissed}
-use Rattle.node_calls.specs.Answers.{plan_answer, packets_for, output_answer, step_answer}
+use Rattle.node_calls.specs.Counters.{counter_answer}
+use Rattle.node_calls.specs.Answers.{packets_for, output_answer, step_answer}
 
 -- the cell of node u in the first packet of these bytes
 abbrev pub cell_in : Machine → (packets : List ℕ) → (u : ℕ) → List ℕ
@@ -55,13 +56,13 @@ module _ (text : List ℕ) (m : Machine) (faulty : List ℕ) (count : ℕ) (byte
     pub stays : (from : ℕ) → from ≤ count → IsLocked m faulty (states_of m bytes from)
         → StayLockedFrom from
 
--- Nodes that step so count, with each faulty set that the plan tolerates. A round is a call in each
--- of them, however many calls each has made before: so it is too where some were started anew.
+-- Nodes that step so count, with each faulty set that the counter tolerates. A round is a call in
+-- each of them, however many calls each has made before: so it is too where some were started anew.
 abbrev pub NodesCount : Type 0
-NodesCount = (text : List ℕ) (plan : Plan) → plan_answer text ≡ Ok plan → (faulty : List ℕ)
-    → IsBorne (machine_of_plan plan) faulty → (count : ℕ) (bytes packets : ℕ → ℕ → List ℕ)
-    → InRounds text (machine_of_plan plan) faulty count bytes packets
-    → CountByBytes text (machine_of_plan plan) faulty count bytes
+NodesCount = (text : List ℕ) (counter : AnyMachine) → counter_answer text ≡ Ok counter
+    → (faulty : List ℕ) → IsBorne (machine_of counter) faulty → (count : ℕ) (bytes packets : ℕ → ℕ → List ℕ)
+    → InRounds text (machine_of counter) faulty count bytes packets
+    → CountByBytes text (machine_of counter) faulty count bytes
 
 -- ---- losses
 
@@ -80,9 +81,9 @@ pub record InLossyRounds (text : List ℕ) (m : Machine) (faulty : List ℕ) (co
 -- From any locked round on they stay locked and count, as long as each correct node is told in each
 -- round the states of N - F nodes, its own among them, whichever these are.
 abbrev pub LossyNodesCount : Type 0
-LossyNodesCount = (text : List ℕ) (plan : Plan) → plan_answer text ≡ Ok plan → (faulty : List ℕ)
-    → IsBorne (machine_of_plan plan) faulty → (count : ℕ) (bytes packets : ℕ → ℕ → List ℕ)
-    → InLossyRounds text (machine_of_plan plan) faulty count bytes packets
-    → (from : ℕ) → from ≤ count → IsLocked (machine_of_plan plan) faulty
-    (states_of (machine_of_plan plan) bytes from)
-    → StayLockedFrom text (machine_of_plan plan) faulty count bytes from
+LossyNodesCount = (text : List ℕ) (counter : AnyMachine) → counter_answer text ≡ Ok counter
+    → (faulty : List ℕ) → IsBorne (machine_of counter) faulty → (count : ℕ) (bytes packets : ℕ → ℕ → List ℕ)
+    → InLossyRounds text (machine_of counter) faulty count bytes packets
+    → (from : ℕ) → from ≤ count → IsLocked (machine_of counter) faulty
+    (states_of (machine_of counter) bytes from)
+    → StayLockedFrom text (machine_of counter) faulty count bytes from

@@ -2,3 +2,4 @@ pub mod Errors
 pub mod Answers
 pub mod Hearing
 pub mod Counting
+pub mod Counters

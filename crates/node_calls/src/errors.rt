@@ -1,8 +1,9 @@
 ghost use Rattle.std.specs.Prelude.{◌≡◌};
 ghost use Rattle.node_calls.specs.declared.errors.CallError.TheVariants.{NoMemory};
-ghost use Rattle.node_calls.specs.Errors.{error_of};
+ghost use Rattle.node_calls.specs.Errors.{error_of, pulses_error_of};
 
 use plan_reader::{PlanError, PlanRefusal};
+use pulse_texts::{PulsesError, PulsesRefusal};
 use sync_types::NoMemory;
 use thiserror::Error;
 
@@ -12,6 +13,9 @@ pub enum CallError {
     /// The text is no accepted plan: its first line that fails.
     #[error("line {} of the plan fails the premise {:?}", .0.line, .0.premise)]
     Refused(PlanRefusal),
+    /// The text begins as a pulse plan, and is no accepted one: its first line that fails.
+    #[error("line {} of the pulses fails the premise {}", .0.line, .0.premise.word())]
+    PulsesRefused(PulsesRefusal),
     /// The plan has no node of that id.
     #[error("no such node")]
     Node,
@@ -41,6 +45,17 @@ impl From<PlanError> for CallError {
         match error {
             PlanError::Refused(refusal) => CallError::Refused(refusal),
             PlanError::NoMemory => CallError::NoMemory,
+        }
+    }
+}
+
+impl From<PulsesError> for CallError {
+    ghost from_gives = { λ error e. e ≡ pulses_error_of error };
+
+    fn from(error: PulsesError) -> Self {
+        match error {
+            PulsesError::Refused(refusal) => CallError::PulsesRefused(refusal),
+            PulsesError::NoMemory => CallError::NoMemory,
         }
     }
 }

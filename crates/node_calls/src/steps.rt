@@ -3,7 +3,7 @@ ghost use Rattle.node_calls.specs.Errors.{FailsAs};
 ghost use Rattle.node_calls.specs.Answers.{step_in, step_answer};
 
 use crate::CallError;
-use crate::calls::machine_with_node;
+use crate::calls::counter_with_node;
 use crate::hearing::{hear, node_of};
 use machines::Machine;
 use std::alloc::Global;
@@ -35,12 +35,12 @@ fn step_in<M: Machine>(
     }
 }
 
-/// Steps node `id` of a plan behind each of the packets, from the state whose bytes are given, and
+/// Steps node `id` of a plan after each of the packets, from the state whose bytes are given, and
 /// puts the bytes of its new state in their place; answers how many packets these were. A state may
 /// have any contents; with no packet it is brought into range.
 ///
-/// `Refused` comes as in [`plan_in`], then `Node`, then `Length`, then `Cut` or `TooLong`. After an
-/// error the state is as it was.
+/// `PulsesRefused` and `Refused` come as in [`counter_in`](crate::counter_in), then `Node`, then
+/// `Length`, then `Cut` or `TooLong`. After an error the state is as it was.
 pub fn step(
     alloc: Global,
     text: &[u8],
@@ -53,6 +53,6 @@ pub fn step(
         (λ error. FailsAs error (step_answer text.now id state.old packets.now)) }
     ensures unchanged { OnErr result (state.new ≡ state.old) }
 {
-    let machine = machine_with_node(alloc, text, id)?;
+    let machine = counter_with_node(alloc, text, id)?;
     step_in(alloc, machine, id, state, packets)
 }

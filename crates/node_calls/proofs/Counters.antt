@@ -1,0 +1,104 @@
+-- The counter of a text is sound.
+use Rattle.std.proofs.Common.{◌≡◌, ℕ, Bool, true, false, cond, List, Option, Some, None, Result, Ok}
+use Rattle.std.proofs.Common.{Err, refl, sym, ap, subst}
+use Rattle.std.specs.Prelude.{IfOk}
+use Rattle.texts.specs.Lines.{lines_of}
+use Rattle.texts.specs.Parts.{At, Found}
+use Rattle.sync_types.specs.declared.answers.Premise.{Premise}
+use Rattle.construction.specs.Plans.{Plan}
+use Rattle.plan_numbers.specs.Premises.{IsAccepted}
+use Rattle.plan_reader.specs.PlanPart.{whole_plan_of}
+use Rattle.plan_reader.specs.Skipped.{first_unskipped}
+use Rattle.plan_reader.proofs.AcceptedPlans.{whole_plan_accepted}
+use Rattle.plan_machine.proofs.Sound.{accepted_are_sound}
+use Rattle.machines.specs.Laws.{IsSound}
+use Rattle.pulse_machine.proofs.Kept.{sound as pulses_sound}
+use Rattle.pulse_plan.specs.Plans.{PulseNumbers, IsAccepted as IsAcceptedPulses}
+use Rattle.pulse_texts.specs.declared.premises.LinePremise.{LinePremise}
+use Rattle.pulse_texts.proofs.Rewritten.{texts_are_rewritten}
+use Rattle.pulse_texts.specs.PulsesPart.{pulses_of, whole_pulses_of, alone, unless_followed}
+use Rattle.any_machine.specs.declared.any_machines.AnyMachine.{AnyMachine}
+use Rattle.any_machine.specs.declared.any_machines.AnyMachine.TheVariants.{Boosting, Pulses}
+use Rattle.any_machine.specs.Machines.{machine_of}
+use Rattle.node_calls.specs.declared.errors.CallError.{CallError}
+use Rattle.node_calls.specs.Errors.{pulses_refused_at}
+use Rattle.node_calls.specs.Counters.{and_then, plan_or_refused, plan_answer, plan_counter}
+use Rattle.node_calls.specs.Counters.{is_first, counter_by, counter_answer}
+
+accepted_of : (r : Result Plan (At Premise)) (plan : Plan) → plan_or_refused r ≡ Ok plan
+    → IfOk r IsAccepted → IsAccepted plan
+accepted_of (Ok found) plan is accepted =
+    let same : found ≡ plan = cc in subst IsAccepted same accepted
+accepted_of (Err at) plan is accepted = absurd cc
+
+-- the counter of a plan is that of a plan
+counter_of : (r : Result Plan CallError) (counter : AnyMachine)
+    → and_then r (λ plan. let a : Result AnyMachine CallError = Ok (Boosting plan) in a)
+    ≡ Ok counter
+    → (plan : Plan) × (r ≡ Ok plan) × (counter ≡ Boosting plan)
+counter_of (Ok plan) counter is = (plan, refl, cc)
+counter_of (Err e) counter is = absurd cc
+
+plan_sound : (text : List ℕ) (counter : AnyMachine) → plan_counter text ≡ Ok counter
+    → IsSound (machine_of counter)
+plan_sound text counter is =
+    let found = counter_of (plan_answer text) counter is in
+    subst (λ (c : AnyMachine). IsSound (machine_of c)) (sym found.2)
+    (accepted_are_sound found.0
+    (accepted_of (whole_plan_of text) found.0 found.1 (whole_plan_accepted text)))
+
+-- numbers that are read are accepted
+whole_is : (first : Option ℕ) (read plan : PulseNumbers) → unless_followed first read ≡ Ok plan
+    → plan ≡ read
+whole_is None read plan is = cc
+whole_is (Some number) read plan is = absurd cc
+
+accepted_by : (r : Result (Found PulseNumbers) (At LinePremise)) (plan : PulseNumbers)
+    → alone r ≡ Ok plan
+    → ((found : Found PulseNumbers) → r ≡ Ok found → IsAcceptedPulses found.value)
+    → IsAcceptedPulses plan
+accepted_by (Ok found) plan is accepted =
+    subst IsAcceptedPulses (sym (whole_is _ found.value plan is)) (accepted found refl)
+accepted_by (Err at) plan is accepted = absurd cc
+
+pulses_accepted : (text : List ℕ) (plan : PulseNumbers) → whole_pulses_of text ≡ Ok plan
+    → IsAcceptedPulses plan
+pulses_accepted text plan is =
+    accepted_by (pulses_of text) plan is (λ found read. (texts_are_rewritten text found read).0)
+
+-- the counter of a text that is no pulse plan is that of a plan
+test_is : (test : Bool) (answer : Result AnyMachine CallError) (e : CallError)
+    (counter : AnyMachine) → cond test answer (Err e) ≡ Ok counter → answer ≡ Ok counter
+test_is true answer e counter is = is
+test_is false answer e counter is = absurd cc
+
+sound_by : (text : List ℕ) (r : Result PulseNumbers (At LinePremise)) (counter : AnyMachine)
+    → counter_by (first_unskipped 1 (lines_of text)) text r ≡ Ok counter
+    → ((plan : PulseNumbers) → r ≡ Ok plan → IsAcceptedPulses plan)
+    → IsSound (machine_of counter)
+sound_by text (Ok plan) counter is accepted =
+    let same : counter ≡ Pulses plan = cc in
+    subst (λ (c : AnyMachine). IsSound (machine_of c)) (sym same)
+    (pulses_sound plan (accepted plan refl))
+sound_by text (Err at) counter is accepted =
+    plan_sound text counter
+    (test_is (is_first (first_unskipped 1 (lines_of text)) at.line) (plan_counter text) _ counter
+    is)
+
+-- the machine of the counter of a text is sound
+pub sound_of : (text : List ℕ) (counter : AnyMachine) → counter_answer text ≡ Ok counter
+    → IsSound (machine_of counter)
+sound_of text counter is =
+    sound_by text (whole_pulses_of text) counter is (pulses_accepted text)
+
+-- ---- what is answered by how the text is read
+
+pub of_pulses : (text : List ℕ) (plan : PulseNumbers) → whole_pulses_of text ≡ Ok plan
+    → counter_answer text ≡ Ok (Pulses plan)
+of_pulses text plan is = ap (counter_by (first_unskipped 1 (lines_of text)) text) is
+
+pub of_refused : (text : List ℕ) (at : At LinePremise) → whole_pulses_of text ≡ Err at
+    → counter_answer text
+    ≡ cond (is_first (first_unskipped 1 (lines_of text)) at.line) (plan_counter text)
+    (Err (pulses_refused_at at))
+of_refused text at is = ap (counter_by (first_unskipped 1 (lines_of text)) text) is

@@ -1,0 +1,50 @@
+-- The counter of a text: that of a pulse plan, or that of a plan of levels over blocks.
+use Rattle.std.specs.Prelude.{ℕ, ◌==◌, if◌then◌else◌, Bool, true, List, Option, Some, None}
+use Rattle.std.specs.Prelude.{Result, Ok, Err}
+use Rattle.texts.specs.Lines.{lines_of}
+use Rattle.texts.specs.Parts.{At}
+use Rattle.sync_types.specs.declared.answers.Premise.{Premise}
+use Rattle.construction.specs.Plans.{Plan}
+use Rattle.plan_reader.specs.PlanPart.{whole_plan_of}
+use Rattle.plan_reader.specs.Skipped.{first_unskipped}
+use Rattle.pulse_plan.specs.Plans.{PulseNumbers}
+use Rattle.pulse_texts.specs.declared.premises.LinePremise.{LinePremise}
+use Rattle.pulse_texts.specs.PulsesPart.{whole_pulses_of}
+use Rattle.any_machine.specs.declared.any_machines.AnyMachine.{AnyMachine}
+use Rattle.any_machine.specs.declared.any_machines.AnyMachine.TheVariants.{Boosting, Pulses}
+use Rattle.node_calls.specs.declared.errors.CallError.{CallError}
+use Rattle.node_calls.specs.Errors.{refused_at, pulses_refused_at}
+
+-- what follows an answer, where it is no error
+abbrev pub and_then : {A B : Type 0} → Result A CallError → (A → Result B CallError)
+    → Result B CallError
+and_then (Ok value) next = next value
+and_then (Err e) next = Err e
+
+-- the plan of a text, or its first line that fails
+abbrev pub plan_or_refused : Result Plan (At Premise) → Result Plan CallError
+plan_or_refused (Ok plan) = Ok plan
+plan_or_refused (Err at) = Err (refused_at at)
+
+abbrev pub plan_answer : (text : List ℕ) → Result Plan CallError
+plan_answer text = plan_or_refused (whole_plan_of text)
+
+-- its counter
+abbrev pub plan_counter : (text : List ℕ) → Result AnyMachine CallError
+plan_counter text = and_then (plan_answer text) (λ plan. Ok (Boosting plan))
+
+-- the line is the first one that counts, or no line does
+abbrev pub is_first : Option ℕ → (line : ℕ) → Bool
+is_first None line = true
+is_first (Some first) line = first == line
+
+-- the counter of a text by what it is as a pulse plan: where its first line that counts is not that
+-- of a pulse plan, the text is read as a plan
+abbrev pub counter_by : (first : Option ℕ) → (text : List ℕ)
+    → Result PulseNumbers (At LinePremise) → Result AnyMachine CallError
+counter_by first text (Ok plan) = Ok (Pulses plan)
+counter_by first text (Err at) =
+    if is_first first at.line then plan_counter text else Err (pulses_refused_at at)
+
+abbrev pub counter_answer : (text : List ℕ) → Result AnyMachine CallError
+counter_answer text = counter_by (first_unskipped 1 (lines_of text)) text (whole_pulses_of text)
