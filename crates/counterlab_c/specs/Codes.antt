@@ -2,7 +2,11 @@
 use Rattle.std.specs.Prelude.{ℕ, Result, Ok, Err}
 use Rattle.sync_types.specs.declared.answers.Premise.{Premise}
 use Rattle.sync_types.specs.declared.answers.Premise.TheVariants as premise
-use Rattle.construction.specs.Plans.{Plan, plan_nodes, plan_faults, plan_modulus, plan_bound}
+use Rattle.pulse_plan.specs.declared.premises.PulsePremise.TheVariants as pulse
+use Rattle.pulse_texts.specs.declared.premises.LinePremise.{LinePremise}
+use Rattle.pulse_texts.specs.declared.premises.LinePremise.TheVariants as line
+use Rattle.any_machine.specs.declared.any_machines.AnyMachine.{AnyMachine}
+use Rattle.any_machine.specs.Machines.{machine_of}
 use Rattle.node_calls.specs.declared.errors.CallError.{CallError}
 use Rattle.node_calls.specs.declared.errors.CallError.TheVariants as error
 use Rattle.counterlab_c.specs.declared.answers.Answer.{Answer}
@@ -18,6 +22,14 @@ premise_number premise.Quorum = 5
 premise_number premise.Share = 6
 premise_number premise.Multiple = 7
 
+-- that of a premise of a pulse plan: the same for the same name
+abbrev pub pulses_premise_number : LinePremise → ℕ
+pulses_premise_number line.Form = 1
+pulses_premise_number (line.Plan pulse.Limit) = 2
+pulses_premise_number (line.Plan pulse.Modulus) = 4
+pulses_premise_number (line.Plan pulse.Quorum) = 5
+pulses_premise_number (line.Plan pulse.Single) = 8
+
 abbrev pub in_numbers : (code detail value : ℕ) → Answer
 in_numbers code detail value = record { code = code; detail = detail; value = value }
 
@@ -26,17 +38,16 @@ abbrev pub answer_of : Result ℕ CallError → Answer
 answer_of (Ok number) = in_numbers 0 0 number
 answer_of (Err (error.Refused refusal)) =
     in_numbers 1 (premise_number refusal.premise) refusal.line
+answer_of (Err (error.PulsesRefused refusal)) =
+    in_numbers 1 (pulses_premise_number refusal.premise) refusal.line
 answer_of (Err error.Node) = in_numbers 3 1 0
 answer_of (Err error.Length) = in_numbers 3 2 0
 answer_of (Err (error.Cut packet sender)) = in_numbers 9 sender packet
 answer_of (Err error.TooLong) = in_numbers 8 0 0
 answer_of (Err error.NoMemory) = in_numbers 10 0 0
 
--- the numbers of a plan
-abbrev pub numbers_of : Plan → PlanNumbers
-numbers_of plan = record {
-  nodes = plan_nodes plan;
-  faults = plan_faults plan;
-  modulus = plan_modulus plan;
-  bound = plan_bound plan;
-}
+-- the numbers of a counter
+abbrev pub numbers_of : AnyMachine → PlanNumbers
+numbers_of counter =
+    let m = machine_of counter in
+    record { nodes = m.nodes; faults = m.faults; modulus = m.modulus; bound = m.bound }

@@ -1,8 +1,12 @@
 ghost use Rattle.std.specs.Prelude.{◌≡◌};
-ghost use Rattle.counterlab_c.specs.Codes.{premise_number, answer_of, numbers_of};
+ghost use Rattle.counterlab_c.specs.Codes.{premise_number, pulses_premise_number, answer_of};
+ghost use Rattle.counterlab_c.specs.Codes.{numbers_of};
 
+use any_machine::AnyMachine;
+use machines::Machine;
 use node_calls::CallError;
-use plan_numbers::Plan;
+use pulse_plan::PulsePremise;
+use pulse_texts::LinePremise;
 use sync_types::Premise;
 
 /// What a call answers. The codes are those by which the program `counterlab` ends for the like.
@@ -10,7 +14,7 @@ use sync_types::Premise;
 /// | code | when | detail | value |
 /// |---|---|---|---|
 /// | 0 | it was answered | 0 | the answer |
-/// | 1 | the plan is refused | the premise, 1 to 7 in the order of their tests | its line, from 1 |
+/// | 1 | the plan is refused | the premise, 1 to 8 | its line, from 1 |
 /// | 3 | there is no such node | 1 | 0 |
 /// | 3 | the state has another length | 2 | 0 |
 /// | 8 | there are more than 1,000,000 packets | 0 | 0 |
@@ -38,15 +42,15 @@ pub struct PlanNumbers {
     pub bound: u64,
 }
 
-/// The numbers of a plan.
-pub(crate) fn numbers_of(plan: &Plan) -> PlanNumbers
-    ensures { result ≡ numbers_of plan.now }
+/// The numbers of a counter.
+pub(crate) fn numbers_of(counter: &AnyMachine) -> PlanNumbers
+    ensures { result ≡ numbers_of counter.now }
 {
     PlanNumbers {
-        nodes: plan.nodes(),
-        faults: plan.faults(),
-        modulus: plan.modulus(),
-        bound: plan.bound(),
+        nodes: counter.nodes(),
+        faults: counter.faults(),
+        modulus: counter.modulus(),
+        bound: counter.bound(),
     }
 }
 
@@ -65,6 +69,19 @@ fn premise_number(premise: Premise) -> u32
     }
 }
 
+/// The number of a premise of a pulse plan: the same for the same name.
+fn pulses_premise_number(premise: LinePremise) -> u32
+    ensures { result ≡ pulses_premise_number premise }
+{
+    match premise {
+        LinePremise::Form => 1,
+        LinePremise::Plan(PulsePremise::Limit) => 2,
+        LinePremise::Plan(PulsePremise::Modulus) => 4,
+        LinePremise::Plan(PulsePremise::Quorum) => 5,
+        LinePremise::Plan(PulsePremise::Single) => 8,
+    }
+}
+
 /// A number that is answered, or an error.
 pub(crate) fn answer_of(outcome: Result<u64, CallError>) -> Answer
     ensures { result ≡ answer_of outcome }
@@ -72,6 +89,9 @@ pub(crate) fn answer_of(outcome: Result<u64, CallError>) -> Answer
     let (code, detail, value) = match outcome {
         Ok(number) => (0, 0, number),
         Err(CallError::Refused(refusal)) => (1, premise_number(refusal.premise), refusal.line),
+        Err(CallError::PulsesRefused(refusal)) => {
+            (1, pulses_premise_number(refusal.premise), refusal.line)
+        }
         Err(CallError::Node) => (3, 1, 0),
         Err(CallError::Length) => (3, 2, 0),
         Err(CallError::Cut { packet, sender }) => (9, sender, packet),

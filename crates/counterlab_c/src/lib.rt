@@ -1,11 +1,12 @@
 //! The calls of a node for programs that are not written in Rattle.
 //!
-//! Each function is told a plan's text, keeps nothing between calls, and gives an [`Answer`]. Any
-//! bytes and numbers may be given. docs/LIBRARY.md has the codes, how to link, and what a caller
-//! owes.
+//! Each function is told the text of a plan of either construction, keeps nothing between calls,
+//! and gives an [`Answer`]. Any bytes and numbers may be given. docs/LIBRARY.md has the codes, how
+//! to link, and what a caller owes.
 #![tactic(auto)]
 
-ghost use Rattle.node_calls.specs.Answers.{plan_answer, bytes_answer, output_answer, step_answer};
+ghost use Rattle.node_calls.specs.Answers.{bytes_answer, output_answer, step_answer};
+ghost use Rattle.node_calls.specs.Counters.{counter_answer};
 ghost use Rattle.node_calls.specs.Counting.{NodesCount, LossyNodesCount};
 ghost use Rattle.counterlab_c.specs.Codes.{numbers_of};
 ghost use Rattle.counterlab_c.specs.Exports.{Gives, GivesNumber};
@@ -15,16 +16,16 @@ mod answers;
 use answers::{answer_of, numbers_of};
 pub use answers::{Answer, PlanNumbers};
 use node_calls::laws::{lossy_nodes_count, nodes_count};
-use node_calls::{output, plan_in, state_bytes, step};
+use node_calls::{counter_in, output, state_bytes, step};
 use std::alloc::Global;
 
 /// Reads a plan, and puts its numbers into `numbers`; the value is 0. An error leaves `numbers` as
 /// it was.
 #[unsafe(no_mangle)]
 pub extern "C" fn counterlab_plan(alloc: Global, plan: &[u8], numbers: &mut PlanNumbers) -> Answer
-    ensures { Gives (λ _. 0) numbers_of (plan_answer plan.now) numbers.old numbers.new result }
+    ensures { Gives (λ _. 0) numbers_of (counter_answer plan.now) numbers.old numbers.new result }
 {
-    match plan_in(alloc, plan) {
+    match counter_in(alloc, plan) {
         Ok(read) => {
             *numbers = numbers_of(&read);
             answer_of(Ok(0))

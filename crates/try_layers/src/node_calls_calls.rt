@@ -1,5 +1,9 @@
-use node_calls::{CallError, output, plan_in, state_bytes, step};
+use any_machine::AnyMachine;
+use machines::Machine;
+use node_calls::{CallError, counter_in, output, state_bytes, step};
 use plan_reader::PlanRefusal;
+use pulse_plan::PulsePremise;
+use pulse_texts::{LinePremise, PulsesRefusal};
 use std::alloc::Global;
 use std::test::Fail;
 use sync_types::Premise;
@@ -7,19 +11,24 @@ use sync_types::Premise;
 /// Three nodes and a spare one, one of which may be faulty, that count by ten.
 const FOUR: &[u8] = b"plan 2\nbase 576\nlevel 3 1 10 spare 1\nend\n";
 
-/// Whether that plan is read, and has so many nodes and this bound.
-fn is_four(alloc: Global) -> bool {
-    match plan_in(alloc, FOUR) {
-        Ok(plan) => plan.nodes() == 4 && plan.bound() == 576,
+/// Four nodes of a pulse plan, one of which may be faulty, that count by ten.
+const PULSES: &[u8] = b"# four\npulses 1\ngroup 4 1 10\nend\n";
+
+/// Whether the counter of a text has four nodes and this bound.
+fn is_four(counter: Result<AnyMachine, CallError>, bound: u64) -> bool {
+    match counter {
+        Ok(counter) => counter.nodes() == 4 && counter.faults() == 1 && counter.bound() == bound,
         Err(_) => false,
     }
 }
 
 #[test]
 fn a_plan_is_read(rt: HostRuntime) {
-    assert!(rt; is_four(rt.alloc()));
+    assert!(rt; is_four(counter_in(rt.alloc(), FOUR), 576));
     assert!(rt; state_bytes(rt.alloc(), FOUR, 2) == Ok(2));
     assert!(rt; state_bytes(rt.alloc(), FOUR, 3) == Ok(1));
+    assert!(rt; is_four(counter_in(rt.alloc(), PULSES), 41));
+    assert!(rt; state_bytes(rt.alloc(), PULSES, 0) == Ok(4));
 }
 
 #[test]
@@ -34,7 +43,7 @@ fn a_node_steps(rt: HostRuntime) {
 /// A plan, a node, packets, and why the call is refused.
 type Refused = (&'static [u8], u32, &'static [u8], CallError);
 
-const REFUSED: [Refused; 4] = [
+const REFUSED: [Refused; 6] = [
     (
         b"plan 1\nbase 1\n",
         0,
@@ -44,7 +53,17 @@ const REFUSED: [Refused; 4] = [
             premise: Premise::Modulus,
         }),
     ),
+    (
+        b"pulses 1\ngroup 3 1 10\nend\n",
+        0,
+        b"",
+        CallError::PulsesRefused(PulsesRefusal {
+            line: 2,
+            premise: LinePremise::Plan(PulsePremise::Quorum),
+        }),
+    ),
     (FOUR, 4, b"", CallError::Node),
+    (PULSES, 4, b"", CallError::Node),
     (FOUR, 3, b"", CallError::Length),
     (
         FOUR,
@@ -70,13 +89,20 @@ fn a_call_is_refused(rt: HostRuntime) {
     }
 }
 
-const TEXTS: [(CallError, &str); 6] = [
+const TEXTS: [(CallError, &str); 7] = [
     (
         CallError::Refused(PlanRefusal {
             line: 3,
             premise: Premise::Multiple,
         }),
         "line 3 of the plan fails the premise Multiple",
+    ),
+    (
+        CallError::PulsesRefused(PulsesRefusal {
+            line: 2,
+            premise: LinePremise::Plan(PulsePremise::Single),
+        }),
+        "line 2 of the pulses fails the premise single",
     ),
     (CallError::Node, "no such node"),
     (CallError::Length, "the state has another length"),
