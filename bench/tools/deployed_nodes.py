@@ -1,11 +1,11 @@
-"""Deploys `node`: correct nodes and liars, each a process of its own, and a hub whose links fail.
+"""Deploys nodes: correct ones and liars, each a process of its own, and a hub whose links fail.
 
-    python3 deployed_nodes.py COUNTERLAB PLAN SEED LIAR..
+    python3 deployed_nodes.py PROGRAM PLAN SEED LIAR..
 
-Each node of the plan at the front of the file PLAN, one without spares, is a process: COUNTERLAB
-with the word `node`, or of an id LIAR a process that sends random bytes of random lengths, other
-ones to each receiver in each round. The correct nodes begin in states of random bytes. The hub gives each node a packet of the
-cells that were sent to it. In some rounds each link between two correct nodes fails with an even
+PLAN is a file that begins with a plan. Each of its nodes is a process: PROGRAM with the word `node`,
+or of an id LIAR a process that sends random bytes of random lengths, other ones to each receiver in
+each round. The correct nodes begin in states of random bytes. The hub gives each node a packet of
+the cells that were sent to it. In some rounds each link between two correct nodes fails with an even
 chance, and carries random bytes or none. Says since when the correct nodes count, and ends with 1
 where that is not as promised. It is no part of the proved program.
 """
@@ -14,44 +14,35 @@ import random
 import subprocess
 import sys
 
+import counter
+import pulse_counter
+
 LONGEST = 600  # bytes of a cell that is made up
-MARGIN = 100  # packets behind a bound
+MARGIN = 100  # packets after a bound
 FAILING = 300  # packets while links fail
 
 
-def width(numbers):
-    """How many bits hold so many numbers."""
-    return (numbers - 1).bit_length()
+class Deployed:
+    """The plan at the beginning of a file, of either construction, and what its nodes show."""
 
-
-class Plan:
-    """A plan without spares, and what its nodes show."""
-
-    def __init__(self, counterlab, path):
+    def __init__(self, path):
         with open(path) as file:
             text = file.read()
         self.text = text[: text.index("end\n") + 4]
-        text = self.text.encode()
-        table = subprocess.run([counterlab, "plan"], input=text, stdout=subprocess.PIPE)
-        last = table.stdout.decode().splitlines()[-2].split()
-        self.bound = int(last[last.index("bound") + 1])
-        self.size = int(last[last.index("bytes") + 1])
-        lines = [line.split() for line in self.text.splitlines()]
-        self.base = int(next(line[1] for line in lines if line[0] == "base"))
-        levels = [line for line in lines if line[0] == "level"]
-        self.nodes, self.moduli = 1, []
-        for level in levels:
-            self.nodes *= int(level[1])
-            self.moduli.append(int(level[3]))
+        lines = self.text.splitlines()
+        is_pulses = lines[0].startswith("pulses")
+        self.plan = pulse_counter.Plan(lines) if is_pulses else counter.Plan(lines)
+        self.nodes, self.bound, self.modulus = self.plan.nodes, self.plan.bound, self.plan.modulus
 
-    def shown(self, cell):
-        """What a node shows in the state of a cell that it wrote, 0 for an infinite value."""
-        bits = "".join(f"{byte:08b}" for byte in cell)
-        at = width(self.base)
-        for modulus in self.moduli[:-1]:
-            at += width(modulus + 1) + 1
-        value = int(bits[at : at + width(self.moduli[-1] + 1)], 2)
-        return value if value < self.moduli[-1] else 0
+    def bytes(self, v):
+        return self.plan.bytes(v)
+
+    def shown(self, v, cell):
+        """What node v shows in the state of a cell that it wrote, 0 for an infinite value."""
+        state = self.plan.read(v, cell)
+        if isinstance(self.plan, pulse_counter.Plan):
+            return self.plan.shown(state)
+        return counter.shown(self.plan.depth, state)
 
 
 def cell_of(data):
@@ -81,16 +72,16 @@ def start(words, text):
     return node
 
 
-def start_nodes(counterlab, plan, liars, seed, draw):
+def start_nodes(program, plan, liars, seed, draw):
     nodes = []
     for v in range(plan.nodes):
         if v in liars:
             words = [sys.executable, __file__, "lie", str(plan.nodes), f"{seed}{v}"]
             nodes.append(start(words, b""))
         else:
-            state = draw.randbytes(plan.size).hex()
+            state = draw.randbytes(plan.bytes(v)).hex()
             header = f"{plan.text}node 1\nid {v}\nstate {state}\nend\n"
-            nodes.append(start([counterlab, "node"], header.encode()))
+            nodes.append(start([program, "node"], header.encode()))
     return nodes
 
 
@@ -121,7 +112,7 @@ def deliver(nodes, liars, sent, failing, draw):
 
 
 def is_counted(old, new, modulus):
-    """Whether all nodes show one number, and behind it that number plus one."""
+    """Whether all nodes show one number, and then that number plus one."""
     return len(set(old)) == 1 and set(new) == {(old[0] + 1) % modulus}
 
 
@@ -133,16 +124,16 @@ def counts_since(rows, modulus):
     return since
 
 
-def play(counterlab, plan, liars, seed):
+def play(program, plan, liars, seed):
     draw = random.Random(seed)
-    nodes = start_nodes(counterlab, plan, liars, seed, draw)
+    nodes = start_nodes(program, plan, liars, seed, draw)
     cut = plan.bound + MARGIN
     good = cut + FAILING
     last = good + plan.bound + MARGIN
     rows = []
     for t in range(last + 1):
         sent = sent_in_round(nodes, liars)
-        rows.append([plan.shown(sent[v][v]) for v in range(plan.nodes) if v not in liars])
+        rows.append([plan.shown(v, sent[v][v]) for v in range(plan.nodes) if v not in liars])
         if t < last:
             deliver(nodes, liars, sent, cut <= t < good, draw)
     for node in nodes:
@@ -156,10 +147,10 @@ def main():
     if sys.argv[1] == "lie":
         lie(int(sys.argv[2]), sys.argv[3])
         return
-    counterlab, seed, liars = sys.argv[1], sys.argv[3], [int(v) for v in sys.argv[4:]]
-    plan = Plan(counterlab, sys.argv[2])
-    rows, ended = play(counterlab, plan, liars, seed)
-    modulus, cut = plan.moduli[-1], plan.bound + MARGIN
+    program, seed, liars = sys.argv[1], sys.argv[3], [int(v) for v in sys.argv[4:]]
+    plan = Deployed(sys.argv[2])
+    rows, ended = play(program, plan, liars, seed)
+    modulus, cut = plan.modulus, plan.bound + MARGIN
     good = cut + FAILING
     first, second = counts_since(rows[: cut + 1], modulus), counts_since(rows, modulus)
     broken = sum(not is_counted(rows[t], rows[t + 1], modulus) for t in range(cut, good))

@@ -4,7 +4,9 @@
     python3 vectors.py packets V [FROM] < CERTIFICATE      what `counterlab node` is to read
     python3 vectors.py cells V [FROM] < CERTIFICATE        and what it is to write
     python3 vectors.py draw                                the vectors of crates/try_examples/data/
-    python3 vectors.py check < VECTORS                     whether each step is that of counter.py
+    python3 vectors.py draw pulses                         and those of pulse plans
+    python3 vectors.py check < VECTORS                     whether each step is that of counter.py,
+                                                           or of pulse_counter.py
     python3 vectors.py cases FOLDER < VECTORS              of each vector such an input and answer
 
 CERTIFICATE is what `counterlab record` writes. The states behind its starts are counted here, by
@@ -17,6 +19,8 @@ import os
 import random
 import sys
 
+import pulse_counter
+import pulse_vectors
 from counter import Plan, nodes_of, shown, step
 from scripts import lines_of
 
@@ -38,6 +42,8 @@ class Vector:
     def stepped(self):
         heard = [self.plan.read(u, cell) for u, cell in enumerate(self.cells)]
         heard[self.v] = self.plan.read(self.v, self.own)
+        if isinstance(self.plan, pulse_counter.Plan):
+            return self.plan.write(self.v, self.plan.step(self.v, heard))
         return self.plan.write(self.v, step(self.plan, self.v, heard))
 
     def lines(self):
@@ -148,9 +154,11 @@ def read_vectors(lines):
     front, vectors = [], []
     for line in lines[1:]:
         key, *words = line.split()
-        if key in ("plan", "base", "level", "end"):
-            front = [line] if key == "plan" else front + [line]
-            plan = Plan(front)
+        if key in ("plan", "base", "level", "pulses", "group", "end"):
+            front = [line] if key in ("plan", "pulses") else front + [line]
+            if key == "end":
+                is_pulses = front[0].startswith("pulses")
+                plan = pulse_counter.Plan(front) if is_pulses else Plan(front)
         elif key == "node":
             vectors.append(Vector(plan, int(words[0]), data_of(words[2]), []))
         elif key == "cells":
@@ -262,9 +270,7 @@ def drawn_cell(draws, size, data):
     return data
 
 
-def drawn_vector(draws, plan):
-    v = draws.below(plan.nodes)
-    states = drawn_states(draws, plan)
+def drawn_vector(draws, plan, v, states):
     own = draws.data(len(states[v])) if draws.below(16) == 0 else states[v]
     cells = [drawn_cell(draws, plan.bytes(u), states[u]) for u in range(plan.nodes)]
     cells[v] = draws.one_of([own, b"", draws.data(len(own))])
@@ -278,7 +284,17 @@ def drawn_vectors():
     for count, text in PLANS:
         plan = Plan(text.split(";"))
         for _ in range(count):
-            yield drawn_vector(draws, plan)
+            v = draws.below(plan.nodes)
+            yield drawn_vector(draws, plan, v, drawn_states(draws, plan))
+
+
+def drawn_pulse_vectors():
+    draws = Draws(2)
+    for count, text in pulse_vectors.PLANS:
+        plan = pulse_counter.Plan(text.split(";"))
+        for _ in range(count):
+            v = draws.below(plan.nodes)
+            yield drawn_vector(draws, plan, v, pulse_vectors.drawn_states(draws, plan))
 
 
 def check(vectors):
@@ -317,7 +333,7 @@ def of_certificate(word, words):
 def main():
     word, *words = sys.argv[1:]
     if word == "draw":
-        write_vectors(drawn_vectors())
+        write_vectors(drawn_pulse_vectors() if words == ["pulses"] else drawn_vectors())
     elif word == "check":
         sys.exit(check(read_vectors(lines_of(sys.stdin.read()))))
     elif word == "cases":

@@ -31,7 +31,7 @@ digits_stay (b ∷ ds) all =
     let parts = and_parts (is_ascii_digit b) (list_all is_ascii_digit ds) all in
     rw (digit_stays b parts.0, digits_stay ds parts.1) refl
 
-number_stays : (n : ℕ) (rest : List ℕ) → n < 2 ^ 64 → in_lines (decimal n ++ rest)
+pub number_stays : (n : ℕ) (rest : List ℕ) → n < 2 ^ 64 → in_lines (decimal n ++ rest)
     ≡ decimal n ++ in_lines rest
 number_stays n rest fits =
     map-append (λ byte. if byte == 59 then 10 else byte) (decimal n) rest

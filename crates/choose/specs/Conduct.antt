@@ -8,30 +8,45 @@ use Rattle.sync_types.specs.declared.status.Status.TheVariants as status
 use Rattle.plan_finder.specs.declared.wants.Want.{Want}
 use Rattle.choose.specs.declared.choosing.ChooseError.{ChooseError}
 use Rattle.choose.specs.declared.choosing.ChooseError.TheVariants as error
+use Rattle.choose.specs.declared.any_plans.AnyPlan.{AnyPlan}
+use Rattle.choose.specs.declared.requests.Scope.TheVariants as scope
 use Rattle.choose.specs.declared.requests.Request.{Request}
 use Rattle.choose.specs.declared.requests.Request.TheVariants as request
 use Rattle.choose.specs.Fronts.{IsFront}
+use Rattle.choose.specs.FrontsOfBoth.{IsFrontOfBoth}
 use Rattle.choose.specs.FrontText.{front_text, last_plan_text}
+use Rattle.choose.specs.FrontsOfBothText.{both_front_text, both_plan_text}
 use Rattle.choose.specs.HelpText.{help_text, version_text}
 
--- a front for the wants has this
+-- a front of the boosting construction for the wants has this
 abbrev pub OfFront : (List Plan → Type 0) → Want → Type 0
 OfFront holds want =
     (plans : List Plan) × IsFront want.faults want.modulus want.most plans × holds plans
+
+-- a front of both constructions has this
+abbrev pub OfFrontOfBoth : (Option AnyPlan → Type 0) → Want → Type 0
+OfFrontOfBoth holds want =
+    (plan : Option AnyPlan) × IsFrontOfBoth want.faults want.modulus want.most plan × holds plan
 
 -- a text that answers the request has this
 abbrev pub OfAnswer : (List ℕ → Type 0) → Request → Type 0
 OfAnswer holds request.Help = holds help_text
 OfAnswer holds request.Version = holds version_text
-OfAnswer holds (request.Front want) = OfFront (λ plans. holds (front_text plans)) want
-OfAnswer holds (request.LastPlan want) = OfFront (λ plans. holds (last_plan_text plans)) want
+OfAnswer holds (request.Front scope.Both want) =
+    OfFrontOfBoth (λ plan. holds (both_front_text plan)) want
+OfAnswer holds (request.LastPlan scope.Both want) =
+    OfFrontOfBoth (λ plan. holds (both_plan_text plan)) want
+OfAnswer holds (request.Front scope.Boosting want) =
+    OfFront (λ plans. holds (front_text plans)) want
+OfAnswer holds (request.LastPlan scope.Boosting want) =
+    OfFront (λ plans. holds (last_plan_text plans)) want
 
 -- a front is to be searched
 abbrev pub IsSearch : Request → Type 0
 IsSearch request.Help = ⊥
 IsSearch request.Version = ⊥
-IsSearch (request.Front want) = Unit {0}
-IsSearch (request.LastPlan want) = Unit {0}
+IsSearch (request.Front scope want) = Unit {0}
+IsSearch (request.LastPlan scope want) = Unit {0}
 
 -- the answer was written, all of it
 abbrev pub Answers : Option Request → (old new : Told) → Type 0

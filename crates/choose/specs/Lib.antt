@@ -1,6 +1,8 @@
 pub mod Fronts
+pub mod FrontsOfBoth
 pub mod Least
 pub mod FrontText
+pub mod FrontsOfBothText
 pub mod HelpText
 pub mod Requests
 pub mod Conduct

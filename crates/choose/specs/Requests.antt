@@ -1,4 +1,4 @@
--- What the words ask for: `FAULTS MODULUS [MOST_NODES] [plan]`, `--help` or `--version`.
+-- What the words ask for: `[boosting] FAULTS MODULUS [MOST_NODES] [plan]`, `--help` or `--version`.
 use Rattle.std.specs.Prelude.{ℕ, ◌^◌, List, [], ◌∷◌, ◌||◌, nat_lt, Option, Some, None, codes}
 use Rattle.std.specs.Prelude.{if◌then◌else◌}
 use Rattle.std.specs.Option.{option_map}
@@ -6,6 +6,8 @@ use Rattle.std.specs.Str.{bytes_eq}
 use Rattle.texts.specs.Numbers.{number_of}
 use Rattle.plan_finder.specs.declared.wants.Want.{Want}
 use Rattle.plan_finder.specs.FindPart.{IsFit}
+use Rattle.choose.specs.declared.requests.Scope.{Scope}
+use Rattle.choose.specs.declared.requests.Scope.TheVariants as scope
 use Rattle.choose.specs.declared.requests.Request.{Request}
 use Rattle.choose.specs.declared.requests.Request.TheVariants as request
 
@@ -27,25 +29,34 @@ asked_alone word =
     else if bytes_eq word (codes "--version") then Some request.Version
     else None
 
--- The most nodes are 256 where they are left out.
+-- The wants of `FAULTS MODULUS [MOST_NODES] [plan]`, in these constructions. The most nodes are 256
+-- where they are left out.
+abbrev pub search_of : Scope → List (List ℕ) → Option Request
+search_of scope [] = None
+search_of scope (word ∷ []) = None
+search_of scope (f ∷ c ∷ []) =
+    option_map (request.Front scope) (want_by (number_of f) (number_of c) (Some 256))
+search_of scope (f ∷ c ∷ last ∷ []) =
+    if bytes_eq last (codes "plan") then
+    option_map (request.LastPlan scope) (want_by (number_of f) (number_of c) (Some 256))
+    else option_map (request.Front scope) (want_by (number_of f) (number_of c) (number_of last))
+search_of scope (f ∷ c ∷ most ∷ last ∷ []) =
+    if bytes_eq last (codes "plan") then
+    option_map (request.LastPlan scope) (want_by (number_of f) (number_of c) (number_of most))
+    else None
+search_of scope (f ∷ c ∷ most ∷ last ∷ more ∷ words) = None
+
+-- With `boosting` before them it is the plans of that construction alone.
 abbrev pub request_of : List (List ℕ) → Option Request
 request_of [] = None
 request_of (word ∷ []) = asked_alone word
-request_of (f ∷ c ∷ []) =
-    option_map request.Front (want_by (number_of f) (number_of c) (Some 256))
-request_of (f ∷ c ∷ last ∷ []) =
-    if bytes_eq last (codes "plan") then
-    option_map request.LastPlan (want_by (number_of f) (number_of c) (Some 256))
-    else option_map request.Front (want_by (number_of f) (number_of c) (number_of last))
-request_of (f ∷ c ∷ most ∷ last ∷ []) =
-    if bytes_eq last (codes "plan") then
-    option_map request.LastPlan (want_by (number_of f) (number_of c) (number_of most))
-    else None
-request_of (f ∷ c ∷ most ∷ last ∷ more ∷ words) = None
+request_of (first ∷ second ∷ words) =
+    if bytes_eq first (codes "boosting") then search_of scope.Boosting (second ∷ words)
+    else search_of scope.Both (first ∷ second ∷ words)
 
 -- the wants of a request keep the limits
 abbrev pub HasFitWant : Request → Type 0
 HasFitWant request.Help = Unit {0}
 HasFitWant request.Version = Unit {0}
-HasFitWant (request.Front want) = IsFit want
-HasFitWant (request.LastPlan want) = IsFit want
+HasFitWant (request.Front scope want) = IsFit want
+HasFitWant (request.LastPlan scope want) = IsFit want

@@ -1,15 +1,21 @@
 //! Does what the words ask for.
 
-ghost use Rattle.std.specs.Prelude.{◌≡◌, map, string_bytes, MatchResult};
+ghost use Rattle.std.specs.Prelude.{◌≡◌, map, string_bytes, Some, MatchResult};
 ghost use Rattle.choose.specs.Requests.{request_of};
 ghost use Rattle.choose.specs.Conduct.{Answers, Fails, status_of};
 ghost use Rattle.choose.specs.FrontText.{TextsArePlans};
+ghost use Rattle.choose.specs.FrontsOfBothText.{PulseTextsArePlans};
+ghost use Rattle.choose.specs.declared.requests.Request.TheVariants as request;
+ghost use Rattle.plan_finder.specs.FindPart.{IsFit};
 
 use crate::fronts::front;
-use crate::laws::texts_are_plans;
-use crate::requests::{Request, request_of};
+use crate::fronts_of_both::front_of_both;
+use crate::laws::{pulse_texts_are_plans, texts_are_plans};
+use crate::requests::{Request, Scope, request_of};
 use crate::writing::{write_front, write_help, write_last_plan, write_version};
+use crate::writing_both::{write_both_front, write_both_plan};
 use edge_io::{Sink, WriteFault};
+use plan_finder::Want;
 use std::alloc::{AllocError, Global};
 use sync_types::{NoMemory, Status};
 use thiserror::Error;
@@ -18,7 +24,7 @@ use thiserror::Error;
 #[derive(Clone, Copy, Debug, PartialEq, Eq, Error)]
 pub enum ChooseError {
     /// The words ask for nothing.
-    #[error("usage: choose FAULTS MODULUS [MOST_NODES] [plan], or choose --help")]
+    #[error("usage: choose [boosting] FAULTS MODULUS [MOST_NODES] [plan], or choose --help")]
     Usage,
     /// Memory was refused.
     #[error("out of memory")]
@@ -67,9 +73,59 @@ impl From<WriteFault> for ChooseError {
     }
 }
 
-/// Writes what the words ask for. `FAULTS MODULUS [MOST_NODES]` asks for a front of nodes and
-/// bound: a line for each of its plans, or `none`. With `plan` behind these words it is the text of
-/// the last of its plans, or `none`. `--help` and `--version`, alone, ask for what they say.
+/// Writes the lines of a front for these wants, or `none`.
+fn write_lines<K: Sink>(
+    alloc: Global,
+    scope: Scope,
+    want: &Want,
+    sink: &mut K,
+) -> Result<(), ChooseError>
+    requires { IsFit want.now }
+    ensures { MatchResult result
+        (λ _. Answers (Some (request.Front scope want.now)) (K.told sink.old) (K.told sink.new))
+        (Fails (Some (request.Front scope want.now)) (K.told sink.old) (K.told sink.new)) }
+{
+    match scope {
+        Scope::Both => {
+            let plan = front_of_both(alloc, want.faults, want.modulus, want.most)?;
+            Ok(write_both_front(&plan, sink)?)
+        }
+        Scope::Boosting => {
+            let plans = front(alloc, want.faults, want.modulus, want.most)?;
+            Ok(write_front(&plans, sink)?)
+        }
+    }
+}
+
+/// Writes the text of the last plan of a front for these wants, or `none`.
+fn write_plan_alone<K: Sink>(
+    alloc: Global,
+    scope: Scope,
+    want: &Want,
+    sink: &mut K,
+) -> Result<(), ChooseError>
+    requires { IsFit want.now }
+    ensures { MatchResult result
+        (λ _. Answers (Some (request.LastPlan scope want.now)) (K.told sink.old) (K.told sink.new))
+        (Fails (Some (request.LastPlan scope want.now)) (K.told sink.old) (K.told sink.new)) }
+{
+    match scope {
+        Scope::Both => {
+            let plan = front_of_both(alloc, want.faults, want.modulus, want.most)?;
+            Ok(write_both_plan(&plan, sink)?)
+        }
+        Scope::Boosting => {
+            let plans = front(alloc, want.faults, want.modulus, want.most)?;
+            Ok(write_last_plan(&plans, sink)?)
+        }
+    }
+}
+
+/// Writes what the words ask for. `FAULTS MODULUS [MOST_NODES]` asks for a front of nodes and bound
+/// of the plans of both constructions: a line for each of its plans, or `none`. With `plan` after
+/// these words it is the text of the last of its plans, or `none`. With `boosting` before them it
+/// is a front of the plans of the boosting construction alone. `--help` and `--version`, alone, ask
+/// for what they say.
 ///
 /// FAULTS is at most 85, MODULUS from 2 to 2^40, MOST_NODES from 1 to 256, and 256 where it is left
 /// out. `Usage` comes exactly where the words ask for nothing; nothing was written then. `NoMemory`
@@ -84,21 +140,17 @@ pub fn choose<K: Sink>(alloc: Global, words: &[String], sink: &mut K) -> Result<
 
     // And what is written of a plan is read as that plan.
     ensures read { TextsArePlans }
+    ensures pulses_read { PulseTextsArePlans }
 {
     texts_are_plans();
+    pulse_texts_are_plans();
     let Some(request) = request_of(words) else {
         return Err(ChooseError::Usage);
     };
     match request {
         Request::Help => Ok(write_help(sink)?),
         Request::Version => Ok(write_version(sink)?),
-        Request::Front(want) => {
-            let plans = front(alloc, want.faults, want.modulus, want.most)?;
-            Ok(write_front(&plans, sink)?)
-        }
-        Request::LastPlan(want) => {
-            let plans = front(alloc, want.faults, want.modulus, want.most)?;
-            Ok(write_last_plan(&plans, sink)?)
-        }
+        Request::Front(scope, want) => write_lines(alloc, scope, &want, sink),
+        Request::LastPlan(scope, want) => write_plan_alone(alloc, scope, &want, sink),
     }
 }

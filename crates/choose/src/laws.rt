@@ -1,9 +1,16 @@
-//! The law of what is written. The function is empty: its clause is the law.
+//! The laws of what is written. The functions are empty: their clauses are the laws.
 
 ghost use Rattle.choose.specs.FrontText.{TextsArePlans};
+ghost use Rattle.choose.specs.FrontsOfBothText.{PulseTextsArePlans};
 
 /// The text of an accepted plan of version 2 is read as that plan, and is what a line says of the
 /// plan, with a newline in place of each semicolon.
 pub fn texts_are_plans()
     ensures { TextsArePlans }
+{}
+
+/// The text of an accepted pulse plan is read as that plan, and is what a line says of the plan,
+/// with a newline in place of each semicolon.
+pub fn pulse_texts_are_plans()
+    ensures { PulseTextsArePlans }
 {}

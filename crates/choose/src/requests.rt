@@ -3,10 +3,20 @@
 ghost use Rattle.std.specs.Prelude.{◌≡◌, map, string_bytes, IfSome};
 ghost use Rattle.texts.specs.Numbers.{number_of};
 ghost use Rattle.plan_finder.specs.FindPart.{IsFit};
-ghost use Rattle.choose.specs.Requests.{want_with, want_by, asked_alone, request_of, HasFitWant};
+ghost use Rattle.choose.specs.Requests.{want_with, want_by, asked_alone, search_of, request_of};
+ghost use Rattle.choose.specs.Requests.{HasFitWant};
 
 use edge_io::number;
 use plan_finder::Want;
+
+/// Which plans are looked at.
+#[derive(Clone, Copy, Debug, PartialEq, Eq)]
+pub enum Scope {
+    /// Those of both constructions.
+    Both,
+    /// Those of the boosting construction alone.
+    Boosting,
+}
 
 /// What is asked for.
 #[derive(Clone, Copy, Debug, PartialEq, Eq)]
@@ -16,9 +26,9 @@ pub enum Request {
     /// Its name and version.
     Version,
     /// The lines of a front for these wants.
-    Front(Want),
+    Front(Scope, Want),
     /// The text of the last plan of a front for these wants.
-    LastPlan(Want),
+    LastPlan(Scope, Want),
 }
 
 /// The most nodes, where they are left out.
@@ -72,25 +82,24 @@ fn asked_alone(word: &str) -> Option<Request>
     }
 }
 
-/// What these words ask for: None exactly where they ask for nothing.
-pub fn request_of(words: &[String]) -> Option<Request>
-    ensures value { result ≡ request_of (map string_bytes words.now) }
+/// What words without a construction before them search.
+fn search_of(scope: Scope, words: &[String]) -> Option<Request>
+    ensures value { result ≡ search_of scope (map string_bytes words.now) }
     ensures fits { IfSome result HasFitWant }
 {
     match words {
-        [word] => asked_alone(word.as_str()),
         [faults, modulus] => {
             let want = wanted(faults.as_str(), modulus.as_str(), MOST_NODES)?;
-            Some(Request::Front(want))
+            Some(Request::Front(scope, want))
         }
         [faults, modulus, last] => {
             if last.as_str() == "plan" {
                 let want = wanted(faults.as_str(), modulus.as_str(), MOST_NODES)?;
-                return Some(Request::LastPlan(want));
+                return Some(Request::LastPlan(scope, want));
             }
             let most = number(last.as_bytes());
             let want = wanted(faults.as_str(), modulus.as_str(), most)?;
-            Some(Request::Front(want))
+            Some(Request::Front(scope, want))
         }
         [faults, modulus, most, last] => {
             if last.as_str() != "plan" {
@@ -98,8 +107,26 @@ pub fn request_of(words: &[String]) -> Option<Request>
             }
             let most = number(most.as_bytes());
             let want = wanted(faults.as_str(), modulus.as_str(), most)?;
-            Some(Request::LastPlan(want))
+            Some(Request::LastPlan(scope, want))
         }
         _ => None,
+    }
+}
+
+/// What these words ask for: None exactly where they ask for nothing.
+pub fn request_of(words: &[String]) -> Option<Request>
+    ensures value { result ≡ request_of (map string_bytes words.now) }
+    ensures fits { IfSome result HasFitWant }
+{
+    match words {
+        [] => None,
+        [word] => asked_alone(word.as_str()),
+        [first, ..] => {
+            if first.as_str() == "boosting" {
+                search_of(Scope::Boosting, &words[1..])
+            } else {
+                search_of(Scope::Both, words)
+            }
+        }
     }
 }

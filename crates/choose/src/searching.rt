@@ -14,7 +14,7 @@ use std::alloc::Global;
 use sync_types::NoMemory;
 
 /// The plan of one node that counts by `c`.
-fn one_node(alloc: Global, c: u64) -> Result<Plan, NoMemory>
+pub fn one_node(alloc: Global, c: u64) -> Result<Plan, NoMemory>
     requires { (2 ≤ c) × (c ≤ 2 ^ 40) }
     ensures { IfOk result (λ plan. plan ≡ record { version = 2; base = c; levels = [] }) }
 {

@@ -85,7 +85,7 @@ fn put_plan<K: Sink>(sink: &mut K, plan: &Plan) -> Result<(), WriteFault>
     put_all(sink, b"end\n")
 }
 
-fn put_line<K: Sink>(sink: &mut K, plan: &Plan) -> Result<(), WriteFault>
+pub fn put_line<K: Sink>(sink: &mut K, plan: &Plan) -> Result<(), WriteFault>
     ensures { Puts result (front_line plan.now) (K.told sink.old) (K.told sink.new) }
 {
     put_numbers(sink, plan)?;
@@ -144,11 +144,12 @@ pub fn write_help<K: Sink>(sink: &mut K) -> Result<(), WriteFault>
     put_pieces(
         sink,
         &[
-            Piece::Text(b"usage: choose FAULTS MODULUS [MOST_NODES] [plan]\n"),
-            Piece::Text(b"Writes the front of nodes and bound of the plans that bear FAULTS\n"),
+            Piece::Text(b"usage: choose [boosting] FAULTS MODULUS [MOST_NODES] [plan]\n"),
+            Piece::Text(b"Writes the front of nodes and bound of the plans that tolerate FAULTS\n"),
             Piece::Text(b"faults or more (0 to 85), count by MODULUS (2 to 2^40) and have at\n"),
             Piece::Text(b"most MOST_NODES nodes (1 to 256; left out 256): a line for each plan,\n"),
             Piece::Text(b"with more nodes and a lesser bound than the one before, or none.\n"),
+            Piece::Text(b"boosting: of the plans of counterlab alone, not of pulselab.\n"),
             Piece::Text(b"plan: the plan of the last line alone, in lines.\n"),
         ],
     )

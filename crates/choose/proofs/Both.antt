@@ -1,0 +1,145 @@
+-- No plan is better than the pulse plan of fewest nodes, where a fault is to be tolerated.
+use Rattle.std.proofs.Common.{◌≡◌, ℕ, zero, suc, ◌+◌, ◌-◌, ◌*◌, ◌<◌, ◌≤◌, ◌^◌, List, [], ◌∷◌, refl}
+use Rattle.std.proofs.Common.{sym, ap, ◌∙◌, subst, arith}
+use Rattle.std.specs.Prelude.{Option, Some, None}
+use Rattle.std.specs.List.{All, Any, AllPairs}
+use Rattle.std.specs.Int.{div_ceil}
+use Rattle.std.proofs.lemmas.List.Elements.{All-nil, All-cons}
+use Rattle.std.proofs.Math.Nat.{pow-le-pow_left, pow-le-pow_right, mul-le-mul}
+use Rattle.construction.specs.Plans.{Level, Plan, plan_nodes, plan_bound, bound_of}
+use Rattle.plan_numbers.specs.Numbers.{below_of}
+use Rattle.plan_numbers.proofs.Accepted.{meets, accepted_sized}
+use Rattle.plan_finder.specs.Steps.{cost_of}
+use Rattle.pulse_construction.specs.Halvings.{halving_of, halving_bound}
+use Rattle.pulse_construction.proofs.Numbers.{bound_of_halving}
+use Rattle.pulse_plan.specs.Plans.{PulseNumbers, tree_of}
+use Rattle.pulse_plan.specs.Plans as pulses
+use Rattle.pulse_plan.proofs.Trees.{bounds_rise}
+use Rattle.choose.specs.declared.any_plans.AnyPlan.{AnyPlan}
+use Rattle.choose.specs.declared.any_plans.AnyPlan.TheVariants.{Boosting, Pulses}
+use Rattle.choose.specs.Fronts.{Bears}
+use Rattle.choose.specs.FrontsOfBoth as both
+use Rattle.choose.specs.FrontsOfBoth.{Tolerates, Suits, IsTraded, IsNoWorse, IsFrontOfBoth}
+use Rattle.choose.proofs.Lower.{plan_of, bound_top}
+use Rattle.choose.proofs.Least.{lone_least}
+
+-- ---- plans of the boosting construction
+
+-- the least span of a level that tolerates f faults is more than 42 rounds for each
+power_some : (b k : ℕ) → 4 ≤ b → 2 ≤ k → 16 ≤ b ^ k
+power_some b k large some =
+    let more : 4 ^ 2 ≤ 4 ^ k = pow-le-pow_right (omega arith) some in
+    let all : 4 ^ k ≤ b ^ k = pow-le-pow_left large k in
+    omega (arith, more, all)
+
+cost_some : (k f : ℕ) → 3 ≤ k → 42 * f ≤ cost_of k f
+cost_some k f some =
+    let power : 16 ≤ (2 * div_ceil k 2) ^ k =
+    power_some (2 * div_ceil k 2) k (omega (arith, some)) (omega (arith, some)) in
+    let all : 3 * (f + 2) * 16 ≤ 3 * (f + 2) * (2 * div_ceil k 2) ^ k =
+    mul-le-mul (omega arith) power in
+    omega (arith, all)
+
+slow_by : (n f : ℕ) → 1 ≤ f → (version base : ℕ) (levels : List Level)
+    → Bears n f (plan_of version base levels) → 42 * f ≤ bound_of levels
+slow_by n f some version base [] bears = absurd (omega (arith, some, bears.faults))
+slow_by n f some version base (level ∷ below) bears =
+    let met = meets (below_of base below) level (bears.accepted.levels.1) in
+    let blocks = met.blocks in
+    let top = bound_top n f level.blocks version base level below blocks bears refl in
+    omega (arith, top, cost_some level.blocks f blocks)
+
+boosting_bears : (n f : ℕ) (plan : Plan) → Tolerates n f (Boosting plan) → Bears n f plan
+boosting_bears n f plan tolerates = record {
+  accepted = tolerates.accepted;
+  nodes = tolerates.nodes;
+  faults = tolerates.faults;
+}
+
+-- ---- plans of either
+
+-- a plan has more than three nodes for each fault
+quorum_of : (plan : AnyPlan) → both.IsAccepted plan → 3 * both.faults_of plan < both.nodes_of plan
+quorum_of (Boosting plan) accepted = (accepted_sized plan.base plan.levels accepted.levels).quorum
+quorum_of (Pulses plan) accepted = accepted.quorum
+
+more_nodes : (n f : ℕ) (plan : AnyPlan) → Tolerates n f plan → 3 * f < both.nodes_of plan
+more_nodes n f plan tolerates =
+    let quorum = quorum_of plan tolerates.accepted in
+    let faults = tolerates.faults in
+    omega (arith, quorum, faults)
+
+-- too few nodes tolerate no faults
+pub none_suits : (f c most : ℕ) → most ≤ 3 * f → IsFrontOfBoth f c most None
+none_suits f c most few = record {
+  suit = All-nil (Suits f c most);
+  traded = λ i j d lt within. absurd (omega (arith, within));
+  best = λ other tolerates.
+      absurd (omega (arith, few, more_nodes most f other tolerates, tolerates.nodes));
+}
+
+-- one plan is a front, where none is better
+one_front : (f c most : ℕ) (plan : AnyPlan) → Suits f c most plan
+    → ((other : AnyPlan) → Tolerates most f other → IsNoWorse other plan)
+    → IsFrontOfBoth f c most (Some plan)
+one_front f c most plan suits best = record {
+  suit = All-cons (Suits f c most) plan [] suits (All-nil (Suits f c most));
+  traded = λ i j d lt within. absurd (omega (arith, lt, within));
+  best = λ other tolerates. (0, plan, omega arith, refl, best other tolerates);
+}
+
+-- ---- no fault
+
+pub lone_front : (c most : ℕ) → 0 < most → 2 ≤ c → c ≤ 2 ^ 40
+    → IsFrontOfBoth 0 c most (Some (Boosting (plan_of 2 c [])))
+lone_front c most some least_c most_c =
+    let plan : AnyPlan = Boosting (plan_of 2 c []) in
+    let least = lone_least most c some least_c most_c in
+    one_front 0 c most plan (record {
+      tolerates = record {
+        accepted = least.member.accepted;
+        nodes = least.member.nodes;
+        faults = least.member.faults;
+      };
+      modulus = refl;
+    }) (λ other tolerates. (omega (arith, more_nodes most 0 other tolerates), omega arith))
+
+-- ---- some faults
+
+abbrev pub fewest : (f c : ℕ) → PulseNumbers
+fewest f c = record { nodes = 3 * f + 1; faults = f; modulus = c }
+
+fewest_accepted : (f c : ℕ) → 1 ≤ f → f ≤ 85 → 2 ≤ c → c ≤ 2 ^ 40 → pulses.IsAccepted (fewest f c)
+fewest_accepted f c some few least_c most_c = record {
+  most_nodes = omega (arith, few);
+  least_modulus = least_c;
+  most_modulus = most_c;
+  quorum = omega arith;
+  single = λ none. absurd (omega (arith, some, none));
+}
+
+module _ (f c most : ℕ) (some : 1 ≤ f) (few : f ≤ 85) (least_c : 2 ≤ c) (most_c : c ≤ 2 ^ 40)
+    (room : 3 * f < most) where
+  no_slower : (other : AnyPlan) → Tolerates most f other
+      → halving_bound (tree_of (fewest f c)) ≤ both.bound_of other
+  no_slower (Boosting plan) tolerates =
+      let fast = bound_of_halving f (3 * f + 1 - (3 * f + 1)) in
+      let slow = slow_by most f some plan.version plan.base plan.levels
+      (boosting_bears most f plan tolerates) in
+      omega (arith, fast, slow)
+  no_slower (Pulses plan) tolerates =
+      bounds_rise f plan.faults (3 * f + 1 - (3 * f + 1)) (plan.nodes - (3 * plan.faults + 1))
+      tolerates.faults
+
+  pub fewest_front : IsFrontOfBoth f c most (Some (Pulses (fewest f c)))
+  fewest_front = one_front f c most (Pulses (fewest f c)) (record {
+    tolerates = record {
+      accepted = fewest_accepted f c some few least_c most_c;
+      nodes = omega (arith, room);
+      faults = omega arith;
+    };
+    modulus = refl;
+  }) (λ other tolerates. (
+    omega (arith, more_nodes most f other tolerates),
+    no_slower other tolerates,
+  ))

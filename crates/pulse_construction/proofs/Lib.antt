@@ -1,0 +1,4 @@
+pub mod Numbers
+pub mod LevelStates
+pub mod Ranges
+pub mod Examples

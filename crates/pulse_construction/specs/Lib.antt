@@ -1,0 +1,5 @@
+pub mod Halvings
+pub mod Registers
+pub mod Steps
+pub mod Machines
+pub mod Runs

@@ -1,0 +1,5 @@
+pub mod Lists
+pub mod Stretches
+pub mod Written
+pub mod Depths
+pub mod Heard

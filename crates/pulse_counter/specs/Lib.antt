@@ -1,0 +1,3 @@
+pub mod Groups
+pub mod LevelStates
+pub mod Hearing

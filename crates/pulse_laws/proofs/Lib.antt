@@ -1,0 +1,11 @@
+pub mod Heard
+pub mod Locked
+pub mod Apart
+pub mod Pulses
+pub mod Windows
+pub mod Kings
+pub mod Rounds
+pub mod Origins
+pub mod Harms
+pub mod Settles
+pub mod Examples

@@ -1,0 +1,4 @@
+pub mod Halves
+pub mod LevelStates
+pub mod Hearing
+pub mod Level

@@ -1,0 +1,12 @@
+//! The laws of one level over two halves that count: why its registers come to count too, in a time
+//! that is linear in the faults, and why they go on once they do.
+//!
+//! Each half shows a pulse where its output is 0. The nodes of the group grade the pulses of both
+//! halves, and at a pulse the phase king begins anew, with its first instruction: at one of the
+//! left half where it comes a period after the one before, and at one of the right half where the
+//! phases that the left half began are over. One half is sound; what the other one shows may be
+//! anything, and one of the first pulses of the sound half is followed by all phases, one of each
+//! king.
+#![tactic(auto)]
+
+pub mod laws;

@@ -1,0 +1,4 @@
+pub mod Trees
+pub mod Halves
+pub mod Fitting
+pub mod GroupFields

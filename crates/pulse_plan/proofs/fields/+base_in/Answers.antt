@@ -1,0 +1,24 @@
+use Rattle.std.proofs.Common.{◌<◌, Option, ap, sym, ◌∙◌, arith}
+use Rattle.pulse_construction.specs.Runs.{Fields}
+use Rattle.pulse_plan.specs.Groups.{PulseGroup}
+use Rattle.pulse_plan.proofs.GroupFields.{fields_by_level, fields_in_half}
+use Rattle.pulse_plan.proofs.fields.+base_in.Goals as goal
+
+pub returns-in-Some : goal.returns-in-Some
+returns-in-Some t c =
+    let g = c.args.group.now in
+    let v = c.args.node in
+    let some : 0 < g.faults = omega arith in
+    c.base_in.ensures
+    ∙ (ap (λ (o : Option PulseGroup). (fields_in_half o v).base) c.in-Some.ensures.value
+    ∙ sym (ap (λ (f : Fields). f.base)
+    (fields_by_level g v c.tell.ensures some c.requires)))
+
+pub returns-in-None : goal.returns-in-None
+returns-in-None t c =
+    let g = c.args.group.now in
+    let v = c.args.node in
+    let some : 0 < g.faults = omega arith in
+    ap (λ (o : Option PulseGroup). (fields_in_half o v).base) c.in-None.ensures.value
+    ∙ sym (ap (λ (f : Fields). f.base)
+    (fields_by_level g v c.tell.ensures some c.requires))

@@ -1,0 +1,24 @@
+use Rattle.std.proofs.Common.{◌≡◌, ℕ, zero, suc, ◌+◌, ◌-◌, ◌*◌, ◌<◌, refl, arith}
+use Rattle.pulse_construction.specs.Halvings.{halving_nodes, halving_of}
+use Rattle.pulse_construction.proofs.Numbers.{faults_of_halving, nodes_of_halving, bound_of_halving}
+use Rattle.pulse_laws.proofs.Settles.{one_half_is_sound, pulses_settle}
+use Rattle.pulse_plan_laws.proofs.RunLaws.{every_halving_settles}
+use Rattle.pulse_plan.specs.Plans.{tree_of}
+use Rattle.pulse_plan.proofs.laws.every_plan_settles.Goals as goal
+
+-- the tree has all nodes
+nodes_of_tree : (n f : ℕ) → 3 * f < n → (f ≡ 0 → n ≡ 1)
+    → halving_nodes (halving_of f (n - (3 * f + 1))) ≡ n
+nodes_of_tree n zero quorum single = omega (arith, single refl)
+nodes_of_tree n (suc f) quorum single =
+    omega (arith, nodes_of_halving (suc f) (n - (3 * suc f + 1)) (omega arith), quorum)
+
+pub returns : goal.returns
+returns c = λ plan is. record {
+  nodes = nodes_of_tree plan.nodes plan.faults is.quorum is.single;
+  faults = faults_of_halving plan.faults (plan.nodes - (3 * plan.faults + 1));
+  bound = bound_of_halving plan.faults (plan.nodes - (3 * plan.faults + 1));
+  settles =
+      every_halving_settles one_half_is_sound pulses_settle (tree_of plan) plan.modulus
+      is.least_modulus;
+}

@@ -1,0 +1,91 @@
+-- A group of nodes that is a tree or a half in one, wherever it begins: its numbers, and its
+-- halves.
+use Rattle.std.specs.Prelude.{◌≡◌, ℕ, ◌+◌, ◌-◌, ◌*◌, ◌/◌, ◌^◌, ◌<◌, ◌≤◌, nat_lt, if◌then◌else◌}
+use Rattle.std.specs.Prelude.{Option, Some, None}
+use Rattle.pulse_laws.specs.Halves.{Halves, left_period, right_period}
+use Rattle.pulse_construction.specs.Halvings.{Halving, halving_of}
+use Rattle.pulse_construction.specs.Steps.{halving_depth}
+use Rattle.pulse_plan.specs.Plans.{PulseNumbers}
+
+-- its first node, how many nodes there are and how many of them may be faulty, the modulus that
+-- they count by, and the index of the group's first register in a state
+pub record PulseGroup : Type 0 where
+  pub first : ℕ
+  pub nodes : ℕ
+  pub faults : ℕ
+  pub modulus : ℕ
+  pub register : ℕ
+
+-- the tree that a group is
+abbrev pub tree_in : PulseGroup → Halving
+tree_in group = halving_of group.faults (group.nodes - (3 * group.faults + 1))
+
+-- what is true of each group of a plan: it is a node alone, or tolerates its faults
+pub record IsGroup (group : PulseGroup) : Type 0 where
+  pub last : group.first + group.nodes ≤ 256
+  pub quorum : 3 * group.faults < group.nodes
+  pub single : group.faults ≡ 0 → group.nodes ≡ 1
+  pub least_modulus : 2 ≤ group.modulus
+  pub most_modulus : group.modulus ≤ 2 ^ 40
+  pub register : group.register + 4 * group.faults ≤ 340
+
+-- the halves: the first nodes of the group, and those after them
+abbrev pub left_of : PulseGroup → PulseGroup
+left_of group = record {
+  first = group.first;
+  nodes = 3 * (group.faults / 3) + 1;
+  faults = group.faults / 3;
+  modulus = left_period group.faults;
+  register = group.register + 4;
+}
+
+abbrev pub right_of : PulseGroup → PulseGroup
+right_of group = record {
+  first = group.first + (3 * (group.faults / 3) + 1);
+  nodes = 3 * (group.faults - 1 - group.faults / 3) + 1;
+  faults = group.faults - 1 - group.faults / 3;
+  modulus = right_period group.faults;
+  register = group.register + 4;
+}
+
+-- the half in which a node of the group is; a spare is in none
+abbrev pub half_in : PulseGroup → (v : ℕ) → Option PulseGroup
+half_in group v =
+    if nat_lt v (right_of group).first then Some (left_of group)
+    else if nat_lt v ((right_of group).first + (right_of group).nodes) then Some (right_of group)
+    else None
+
+-- the sizes of the level over the halves
+abbrev pub sizes_of : PulseGroup → Halves
+sizes_of group = record {
+  left_nodes = (left_of group).nodes;
+  left_faults = (left_of group).faults;
+  right_nodes = (right_of group).nodes;
+  right_faults = (right_of group).faults;
+  nodes = group.nodes;
+}
+
+-- where the registers of the group's lowest halves end
+abbrev pub registers_end : PulseGroup → ℕ
+registers_end group = group.register + halving_depth (tree_in group)
+
+-- all nodes of a plan
+abbrev pub whole_of : PulseNumbers → PulseGroup
+whole_of plan = record {
+  first = 0;
+  nodes = plan.nodes;
+  faults = plan.faults;
+  modulus = plan.modulus;
+  register = 0;
+}
+
+-- a half of a group, in which a node is
+pub record IsHalf (group : PulseGroup) (v : ℕ) (half : PulseGroup) : Type 0 where
+  pub is_group : IsGroup half
+  pub first : half.first ≤ v
+  pub last : v < half.first + half.nodes
+  pub within : half.first + half.nodes ≤ group.first + group.nodes
+  pub smaller : half.nodes ≤ group.nodes
+  pub fewer : half.faults < group.faults
+  pub register : half.register ≡ group.register + 4
+  pub registers : registers_end half ≤ registers_end group

@@ -1,0 +1,4 @@
+pub mod Plans
+pub mod Groups
+pub mod Fields
+pub mod Laws

@@ -1,0 +1,40 @@
+-- A plan of the pulse construction: three numbers, and the tree that they stand for.
+use Rattle.std.specs.Prelude.{◌≡◌, ℕ, ◌+◌, ◌-◌, ◌*◌, ◌^◌, ◌<◌, ◌≤◌, ◌||◌, ◌&&◌, nat_lt, nat_le}
+use Rattle.std.specs.Prelude.{nat_eq}
+use Rattle.std.specs.Prelude.{if◌then◌else◌, Option, Some, None, Result, Ok, Err}
+use Rattle.pulse_construction.specs.Halvings.{Halving, halving_of}
+use Rattle.pulse_plan.specs.declared.premises.PulsePremise.{PulsePremise}
+use Rattle.pulse_plan.specs.declared.premises.PulsePremise.TheVariants.{Limit, Modulus, Quorum}
+use Rattle.pulse_plan.specs.declared.premises.PulsePremise.TheVariants.{Single}
+
+-- N, F and C
+pub record PulseNumbers : Type 0 where
+  pub nodes : ℕ
+  pub faults : ℕ
+  pub modulus : ℕ
+
+-- the tree of F faults with all nodes
+abbrev pub tree_of : PulseNumbers → Halving
+tree_of plan = halving_of plan.faults (plan.nodes - (3 * plan.faults + 1))
+
+-- the first premise that the numbers fail
+abbrev pub first_premise : PulseNumbers → Option PulsePremise
+first_premise plan =
+    if nat_lt 256 plan.nodes || nat_lt (2 ^ 40) plan.modulus then Some Limit
+    else if nat_lt plan.modulus 2 then Some Modulus
+    else if nat_le plan.nodes (3 * plan.faults) then Some Quorum
+    else if nat_eq plan.faults 0 && nat_lt 1 plan.nodes then Some Single
+    else None
+
+-- what numbers that fail no premise meet
+pub record IsAccepted (plan : PulseNumbers) : Type 0 where
+  pub most_nodes : plan.nodes ≤ 256
+  pub least_modulus : 2 ≤ plan.modulus
+  pub most_modulus : plan.modulus ≤ 2 ^ 40
+  pub quorum : 3 * plan.faults < plan.nodes
+  pub single : plan.faults ≡ 0 → plan.nodes ≡ 1
+
+-- the value, unless a premise fails
+abbrev pub unless : {X : Type 0} → Option PulsePremise → X → Result X PulsePremise
+unless None x = Ok x
+unless (Some premise) x = Err premise

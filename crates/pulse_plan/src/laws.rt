@@ -1,0 +1,15 @@
+//! The laws of plans. Each function does nothing: its clause is the law.
+
+ghost use Rattle.pulse_plan.specs.Laws.{EveryPlanSettles, BoundsRise};
+
+/// Each accepted plan's machine has the plan's nodes and faults, and counts from its bound on,
+/// which is at most 42 for each fault: whatever the start and the lies, with each faulty set that
+/// it tolerates.
+pub fn every_plan_settles()
+    ensures { EveryPlanSettles }
+{}
+
+/// The bound depends on the faults alone, and does not fall where they grow.
+pub fn bounds_rise()
+    ensures { BoundsRise }
+{}

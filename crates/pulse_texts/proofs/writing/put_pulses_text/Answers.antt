@@ -1,0 +1,11 @@
+use Rattle.pulse_texts.proofs.writing.put_pulses_text.Goals as goal
+
+pub returns : goal.returns
+returns g c =
+    rw (
+      c.from.ensures,
+      c.from-2.ensures,
+      c.nodes.ensures,
+      c.faults.ensures,
+      c.modulus.ensures,
+    ) at c.put_pieces.ensures

@@ -1,0 +1,3 @@
+pub mod PulsesPart
+pub mod PulsesRefusals
+pub mod PulsesTexts

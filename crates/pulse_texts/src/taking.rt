@@ -1,0 +1,22 @@
+ghost use Rattle.texts.specs.Parts.{with_skips};
+ghost use Rattle.pulse_texts.specs.declared.premises.LinePremise.TheVariants.{Form};
+ghost use Rattle.pulse_texts.specs.PulsesPart.{pulses_step};
+ghost use Rattle.edge_io.specs.Taking.{Takes};
+
+use crate::premises::LinePremise;
+use crate::stages::PulsesLines;
+use edge_io::{TakeError, take_unless_skipped};
+use pulse_plan::PulsePlan;
+
+impl PulsesLines {
+    /// Takes the next line of the part, without its newline: Some plan exactly at its `end` line,
+    /// after which a further part may be read. A skipped line changes nothing.
+    ///
+    /// `Refused` is the first premise that the line fails: `Form` where it is longer than 4096
+    /// bytes, has an empty word or holds a carriage return.
+    pub fn take(&mut self, line: &[u8]) -> Result<Option<PulsePlan>, TakeError<LinePremise>>
+        ensures { Takes (with_skips pulses_step Form self.old line.now) self.new result }
+    {
+        take_unless_skipped(self, LinePremise::Form, line)
+    }
+}

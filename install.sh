@@ -1,0 +1,51 @@
+#!/bin/sh
+# Installs counterlab and the programs beside it, their manual pages, and the library of a node.
+#
+#     ./install.sh PREFIX        as in: ./install.sh ~/.local
+#
+# What is not built yet is proved and built first, which takes the kit (`rt version`) and, from
+# nothing, an hour of one processor. The programs beside counterlab are installed as
+# counterlab-NAME, since other packages have programs of those names too.
+set -eu
+[ $# -eq 1 ] || { echo "usage: ./install.sh PREFIX" >&2; exit 2; }
+prefix=$1
+cd "$(dirname "$0")"
+
+build() { # a program, by its crate
+    [ -x "crates/$1/out/$1" ] && return
+    echo "building $1: it is proved first" >&2
+    (cd "crates/$1" && rt run -- --version > /dev/null) || [ -x "crates/$1/out/$1" ]
+}
+
+for program in counterlab pulselab choose draw states sweep trace; do
+    [ -d "crates/$program" ] || continue
+    build "$program"
+    case $program in
+    counterlab | pulselab) name=$program ;;
+    *) name=counterlab-$program ;;
+    esac
+    install -D -m 755 "crates/$program/out/$program" "$prefix/bin/$name"
+    install -D -m 644 "man/$name.1" "$prefix/share/man/man1/$name.1"
+done
+
+archive=crates/counterlab_c/out/libcounterlab_c.a
+if [ ! -f "$archive" ]; then
+    echo "building the library: it is proved first" >&2
+    (cd crates/counterlab_c && rt lib > /dev/null)
+fi
+install -D -m 644 "$archive" "$prefix/lib/libcounterlab_c.a"
+install -D -m 644 bindings/counterlab.h "$prefix/include/counterlab.h"
+version=$(crates/choose/out/choose --version | cut -d ' ' -f 2)
+mkdir -p "$prefix/lib/pkgconfig"
+cat > "$prefix/lib/pkgconfig/counterlab.pc" <<PC
+prefix=$prefix
+libdir=\${prefix}/lib
+includedir=\${prefix}/include
+
+Name: counterlab
+Description: the step of a node of a self-stabilising Byzantine synchronous counter
+Version: $version
+Libs: -L\${libdir} -lcounterlab_c
+Cflags: -I\${includedir}
+PC
+echo "installed in $prefix"
