@@ -5,18 +5,22 @@ It goes forward over exact pairs of nodes and faults. From each pair that some l
 rising order of nodes, it tries every level that may stand on it: every number of blocks, of faults
 and of spare nodes. Least bounds over "at most so many nodes" and "at least so many faults" are
 taken only at the end. `choose` goes the other way: it never looks at exact pairs, and at no spare
-nodes but the fewest.
+nodes but the fewest. Of the front of both constructions it compares all those pairs and every pulse
+plan of F faults or more.
 
   fronts.py rows [MOST]       a line `F N T` for each line of the front of each F from 0 to 40
   fronts.py check MOST < LIST
-                              LIST has lines `F C FILE`: tests that FILE is what `choose F C MOST`
-                              writes, line by line, and that each plan in it is accepted and has
-                              the numbers of its line
+                              LIST has lines `F C FILE`: tests that FILE is what
+                              `choose boosting F C MOST` writes, line by line, and that each plan in
+                              it is accepted and has the numbers of its line
+  fronts.py both MOST < LIST  the same of what `choose F C MOST` writes
   fronts.py numbers < PLAN    the table that `plan` answers to a plan text of version 2
-  fronts.py table BINARY [F]  the table of docs/CHOOSE.md for 1 to F faults (7), from what the built
-                              `choose` writes at modulus 10
-  fronts.py times BINARY      how long the built `choose` takes, for the five slowest F from 0 to
-                              85: the least of nine runs each
+  fronts.py table BINARY [F]  the table of boosting plans of docs/CHOOSE.md for 1 to F faults (7),
+                              from what the built `choose boosting` writes at modulus 10
+  fronts.py pulses BINARY     the table of both constructions there, from what the built `choose`
+                              writes at modulus 10
+  fronts.py times BINARY      how long the built `choose boosting` takes, for the five slowest F from
+                              0 to 85: the least of nine runs each
 
 It takes a few seconds and no package. `fronts.sh` runs it against the built program.
 """
@@ -24,6 +28,8 @@ It takes a few seconds and no package. `fronts.sh` runs it against the built pro
 import subprocess
 import sys
 import time
+
+import pulse_numbers
 
 LARGEST = 1 << 40
 
@@ -70,7 +76,7 @@ def least_bounds(most):
 def front(rows, faults):
     """The pairs of nodes and bound that no other pair is at most in both."""
     found = []
-    for n, row in enumerate(rows):
+    for n, row in rows.items() if isinstance(rows, dict) else enumerate(rows):
         bounds = [bound for f, bound in row.items() if f >= faults]
         if bounds and (not found or min(bounds) < found[-1][1]):
             found.append((n, min(bounds)))
@@ -124,6 +130,43 @@ def check(rows, faults, modulus, text):
     return len(want)
 
 
+def front_of_both(rows, faults, most):
+    """The pairs of nodes and bound of both constructions that no other pair is at most in both, each
+    with whether a pulse plan alone has it."""
+    pairs = {(n, bound): False for n, row in enumerate(rows)
+             for f, bound in row.items() if f >= faults}
+    for f in range(faults, 86):
+        for n in range(3 * f + 1, most + 1) if f else [1]:
+            pairs.setdefault((n, pulse_numbers.BOUNDS[f]), True)
+    found = []
+    for (n, bound), pulses in sorted(pairs.items()):
+        if n <= most and (not found or bound < found[-1][1]):
+            found.append((n, bound, pulses))
+    return found
+
+
+def check_both(rows, faults, modulus, most, text):
+    """Fails where the text is not the front of both constructions, in plans that have its numbers."""
+    want = front_of_both(rows, faults, most)
+    lines = text.splitlines(keepends=True)
+    if not want:
+        assert lines == ['none\n'], lines
+    else:
+        assert len(lines) == len(want), (faults, modulus, lines, want)
+        for line, (nodes, bound, pulses) in zip(lines, want):
+            if pulses:
+                words = line.split(' pulses ')[1].split(';')[1].split(' ')
+                n, f, c = map(int, words[1:])
+                assert (n, c) == (nodes, modulus) and f >= faults, (faults, modulus, line)
+                assert pulse_numbers.BOUNDS[f] == bound and 3 * f < n <= most, (faults, line)
+                size, levels = pulse_numbers.bytes_of(n, f, c), pulse_numbers.HEIGHTS[f]
+                assert line == (f'nodes {n} bound {bound} bytes {size} levels {levels} '
+                                f'pulses 1;group {n} {f} {c};end\n'), line
+            else:
+                check({nodes: rows[nodes]}, faults, modulus, line)
+    return len(want)
+
+
 def time_of(rounds):
     """How long rounds of one millisecond take."""
     seconds = rounds / 1000
@@ -139,7 +182,8 @@ def print_table(binary, most_faults):
     print('| F | plan | nodes N | bound T | bytes | T at 1 ms | a run comes to T |')
     print('|---|---|---|---|---|---|---|')
     for faults in range(1, most_faults + 1):
-        said = subprocess.run([binary, str(faults), '10'], stdout=subprocess.PIPE, check=True)
+        said = subprocess.run([binary, 'boosting', str(faults), '10'], stdout=subprocess.PIPE,
+                              check=True)
         for line in said.stdout.decode().splitlines():
             words = line.split(' ', 8)
             nodes, bound, size, plan = int(words[1]), int(words[3]), int(words[5]), words[8]
@@ -148,13 +192,32 @@ def print_table(binary, most_faults):
             print(f'| {faults} | `{plan}` | {nodes} | {bound:,} | {size} | {took} | {run} |')
 
 
+def print_pulses(binary):
+    print('| F | plan | nodes N | bound T | bytes | T at 1 ms | boosting, as few nodes | least T |')
+    print('|---|---|---|---|---|---|---|---|')
+    for faults in (1, 2, 3, 4, 5, 6, 7, 10, 20, 39, 85):
+        said = subprocess.run([binary, str(faults), '10'], stdout=subprocess.PIPE, check=True)
+        words = said.stdout.decode().rstrip('\n').split(' ', 8)
+        nodes, bound, size, plan = int(words[1]), int(words[3]), int(words[5]), words[8]
+        others = subprocess.run([binary, 'boosting', str(faults), '10'], stdout=subprocess.PIPE,
+                                check=True).stdout.decode().splitlines()
+        few = least = 'none'
+        if others != ['none']:
+            rows = [[int(word) for word in line.split(' ')[1:4:2]] for line in others]
+            few = f'{rows[0][1]:,}' if rows[0][0] == nodes else 'none'
+            least = f'{rows[-1][1]:,} (N {rows[-1][0]})'
+        print(f'| {faults} | `{plan}` | {nodes} | {bound:,} | {size} | {time_of(bound)} '
+              f'| {few} | {least} |')
+
+
 def print_times(binary):
     times = []
     for faults in range(86):
         runs = []
         for _ in range(9):
             begin = time.perf_counter()
-            subprocess.run([binary, str(faults), '10'], stdout=subprocess.DEVNULL, check=True)
+            subprocess.run([binary, 'boosting', str(faults), '10'], stdout=subprocess.DEVNULL,
+                           check=True)
             runs.append(time.perf_counter() - begin)
         times.append((min(runs), faults))
     for seconds, faults in sorted(times, reverse=True)[:5]:
@@ -176,10 +239,22 @@ def main(words):
                 lines += check(rows, int(faults), int(modulus), said.read())
             fronts += 1
         print(f'{fronts} fronts with at most {words[1]} nodes are as searched, {lines} lines')
+    elif words[:1] == ['both'] and len(words) == 2:
+        most = int(words[1])
+        rows = least_bounds(most)
+        fronts = lines = 0
+        for entry in sys.stdin.read().splitlines():
+            faults, modulus, file = entry.split(' ', 2)
+            with open(file) as said:
+                lines += check_both(rows, int(faults), int(modulus), most, said.read())
+            fronts += 1
+        print(f'{fronts} fronts of both with at most {most} nodes are as searched, {lines} lines')
     elif words == ['numbers']:
         print('\n'.join(table_of(sys.stdin.read().rstrip('\n').split('\n'))))
     elif words[:1] == ['table'] and 2 <= len(words) <= 3:
         print_table(words[1], int(words[2]) if len(words) > 2 else 7)
+    elif words[:1] == ['pulses'] and len(words) == 2:
+        print_pulses(words[1])
     elif words[:1] == ['times'] and len(words) == 2:
         print_times(words[1])
     else:

@@ -5,8 +5,9 @@
 #   sh bench/tools/fronts.sh [BINARY]          BINARY: crates/choose/out/choose where it is left out
 #
 # For each F from 0 to 85, five moduli, and 256 nodes at most; and for eight F, three moduli and ten
-# numbers of nodes at most. It stops at the first front that differs, and then ends with a status
-# that is not 0. It takes about ten seconds.
+# numbers of nodes at most: of the plans of `counterlab` alone, and of both constructions. It stops at
+# the first front that differs, and then ends with a status that is not 0. It takes about half a
+# minute.
 set -e
 binary=${1:-crates/choose/out/choose}
 here=$(dirname "$0")
@@ -16,13 +17,17 @@ trap 'rm -rf "$room"' EXIT
 # compare MOST "FAULTS .." "MODULI .."
 compare() {
   : > "$room/list"
+  : > "$room/both"
   for faults in $2; do
     for modulus in $3; do
-      "$binary" "$faults" "$modulus" "$1" > "$room/$faults.$modulus"
+      "$binary" boosting "$faults" "$modulus" "$1" > "$room/$faults.$modulus"
       echo "$faults $modulus $room/$faults.$modulus" >> "$room/list"
+      "$binary" "$faults" "$modulus" "$1" > "$room/$faults.$modulus.both"
+      echo "$faults $modulus $room/$faults.$modulus.both" >> "$room/both"
     done
   done
   python3 "$here/fronts.py" check "$1" < "$room/list"
+  python3 "$here/fronts.py" both "$1" < "$room/both"
 }
 
 compare 256 "$(seq -s ' ' 0 85)" "2 10 1000 1048576 1099511627776"

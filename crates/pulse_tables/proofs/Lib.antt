@@ -1,0 +1,4 @@
+pub mod GroupLines
+pub mod FirstDifference
+pub mod ReadTables
+pub mod Compared

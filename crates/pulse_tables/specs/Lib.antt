@@ -1,0 +1,4 @@
+pub mod Tables
+pub mod Buffers
+pub mod Reading
+pub mod TableLaws

@@ -1,0 +1,13 @@
+-- What is written for `--help` and `--version`.
+use Rattle.std.specs.Prelude.{ℕ, List, [], ◌∷◌, codes}
+use Rattle.std.specs.List.{concat}
+
+abbrev pub help_text : List ℕ
+help_text = concat (
+    codes "usage: pulselab plan < PLAN\n"
+    ∷ codes "plan: reads a pulse plan, the lines `pulses 1`, `group N F C` and\n"
+    ∷ codes "`end`, and writes its table: its numbers and bound, what a state\n"
+    ∷ codes "takes, and a line for each group, from all nodes down to single ones.\n" ∷ [])
+
+abbrev pub version_text : List ℕ
+version_text = codes "pulselab 1.0\n"

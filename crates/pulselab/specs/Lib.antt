@@ -1,0 +1,5 @@
+pub mod HelpText
+pub mod Requests
+pub mod Faults
+pub mod PlanWord
+pub mod Conduct

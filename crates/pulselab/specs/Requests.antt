@@ -1,0 +1,17 @@
+-- What the words ask for: `plan`, `--help` or `--version`.
+use Rattle.std.specs.Prelude.{ℕ, List, [], ◌∷◌, Option, Some, None, codes, if◌then◌else◌}
+use Rattle.std.specs.Str.{bytes_eq}
+use Rattle.pulselab.specs.declared.requests.Request.{Request}
+use Rattle.pulselab.specs.declared.requests.Request.TheVariants as request
+
+-- what a single word asks for
+abbrev pub asked_alone : List ℕ → Option Request
+asked_alone word =
+    if bytes_eq word (codes "--help") then Some request.Help
+    else if bytes_eq word (codes "--version") then Some request.Version
+    else if bytes_eq word (codes "plan") then Some request.Plan
+    else None
+
+abbrev pub request_of : List (List ℕ) → Option Request
+request_of (word ∷ []) = asked_alone word
+request_of words = None

@@ -1,0 +1,28 @@
+//! Tells how the program is used, and its version.
+
+ghost use Rattle.texts.specs.Growth.{Puts};
+ghost use Rattle.pulselab.specs.HelpText.{help_text, version_text};
+
+use edge_io::{Piece, Sink, WriteFault, put_all, put_pieces};
+
+/// Writes how the program is used.
+pub fn write_help<K: Sink>(sink: &mut K) -> Result<(), WriteFault>
+    ensures { Puts result help_text (K.told sink.old) (K.told sink.new) }
+{
+    put_pieces(
+        sink,
+        &[
+            Piece::Text(b"usage: pulselab plan < PLAN\n"),
+            Piece::Text(b"plan: reads a pulse plan, the lines `pulses 1`, `group N F C` and\n"),
+            Piece::Text(b"`end`, and writes its table: its numbers and bound, what a state\n"),
+            Piece::Text(b"takes, and a line for each group, from all nodes down to single ones.\n"),
+        ],
+    )
+}
+
+/// Writes the program's name and version.
+pub fn write_version<K: Sink>(sink: &mut K) -> Result<(), WriteFault>
+    ensures { Puts result version_text (K.told sink.old) (K.told sink.new) }
+{
+    put_all(sink, b"pulselab 1.0\n")
+}

@@ -1,0 +1,43 @@
+//! The program of pulse plans. `pulselab plan` reads a pulse plan from standard input and writes
+//! its table: its numbers, from which round on its nodes count, what their states take, and a line
+//! for each group of the tree of halves. `--help` and `--version` write what they say.
+//!
+//! A plan that is refused is answered by one line, `refused pulses line L premise P`. What else
+//! fails is said in one line on standard error. The exit codes are those of `counterlab`.
+//!
+//! All that is proved, of [`calling::pulselab`]; the line on standard error is not.
+#![tactic(auto)]
+
+mod asking;
+mod calling;
+mod faults;
+mod plan_word;
+mod requests;
+
+use crate::calling::pulselab;
+use crate::faults::LabError;
+use edge_io::{StdSink, StdSource};
+use program_words::{arguments, words};
+use std::io;
+use std::process::ExitCode;
+
+/// Does what the words ask for.
+fn run(rt: &HostRuntime) -> Result<(), LabError> {
+    let arguments = arguments(rt)?;
+    let mut source = StdSource::new(rt.stdin());
+    let mut sink = StdSink::new(io::writer(rt));
+    pulselab(rt.alloc(), words(&arguments), &mut source, &mut sink)
+}
+
+fn main(rt: HostRuntime) -> ExitCode {
+    match run(&rt) {
+        Ok(()) => ExitCode::SUCCESS,
+        Err(error) => {
+            if !error.is_answered() {
+                // Where standard error is closed, the code alone says it.
+                let _ = eprintln!(rt; "{error}");
+            }
+            ExitCode::from(error.code())
+        }
+    }
+}

@@ -1,0 +1,67 @@
+//! The table of the plan that is read.
+
+ghost use Rattle.std.specs.Prelude.{◌≡◌, MatchResult};
+ghost use Rattle.texts.specs.Growth.{Puts};
+ghost use Rattle.pulselab.specs.PlanWord.{refusal_line, IsTabled, FailsOn, PlanDone, PlanFails};
+
+use crate::faults::LabError;
+use edge_io::{InputFault, Piece, Sink, Source, WriteFault, put_pieces, read_all};
+use pulse_tables::write_table;
+use pulse_texts::{PulsesError, PulsesRefusal, read_whole_pulses};
+use std::alloc::Global;
+
+/// How many bytes an input may have.
+const LONGEST_INPUT: usize = 1 << 20;
+
+/// Writes the line of a refusal.
+fn put_refusal<K: Sink>(sink: &mut K, refusal: PulsesRefusal) -> Result<(), WriteFault>
+    ensures { Puts result (refusal_line refusal.line refusal.premise) (K.told sink.old)
+        (K.told sink.new) }
+{
+    put_pieces(
+        sink,
+        &[
+            Piece::Text(b"refused pulses line "),
+            Piece::Number(refusal.line),
+            Piece::Text(b" premise "),
+            Piece::Text(refusal.premise.word().as_bytes()),
+            Piece::Text(b"\n"),
+        ],
+    )
+}
+
+/// Writes the table of the plan that an input is, or the line of its refusal.
+fn answer<K: Sink>(input: &[u8], sink: &mut K) -> Result<(), LabError>
+    ensures { MatchResult result
+        (λ _. IsTabled input.now (K.told sink.old) (K.told sink.new))
+        (FailsOn input.now (K.told sink.old) (K.told sink.new)) }
+{
+    match read_whole_pulses(input) {
+        Ok(plan) => Ok(write_table(&plan, sink)?),
+        Err(PulsesError::Refused(refusal)) => match put_refusal(sink, refusal) {
+            Ok(()) => Err(LabError::Refused(refusal)),
+            Err(WriteFault) => Err(LabError::WriteFault),
+        },
+        Err(PulsesError::NoMemory) => Err(LabError::NoMemory),
+    }
+}
+
+/// Reads all of the input, and answers it.
+pub fn table_plan<S: Source, K: Sink>(
+    alloc: Global,
+    source: &mut S,
+    sink: &mut K,
+) -> Result<(), LabError>
+    ensures { MatchResult result
+        (λ _. PlanDone (S.left source.old) (S.left source.new) (S.faults source.old)
+        (S.faults source.new) (K.told sink.old) (K.told sink.new))
+        (PlanFails (S.left source.old) (S.left source.new) (S.faults source.old)
+        (S.faults source.new) (K.told sink.old) (K.told sink.new)) }
+{
+    match read_all(alloc, source, LONGEST_INPUT) {
+        Ok(input) => answer(&input, sink),
+        Err(InputFault::ReadFault) => Err(LabError::ReadFault),
+        Err(InputFault::TooLong) => Err(LabError::TooLong),
+        Err(InputFault::NoMemory) => Err(LabError::NoMemory),
+    }
+}
