@@ -10,8 +10,9 @@ use Rattle.std.proofs.lemmas.List.FromFn.{length-map-range_with_len, get_or-map-
 use Rattle.texts.specs.Parts.{At}
 use Rattle.sync_types.specs.declared.answers.Premise.{Premise}
 use Rattle.sync_types.specs.States.{State, zero_state}
-use Rattle.construction.specs.Plans.{Plan, plan_nodes, plan_depth, plan_bound}
-use Rattle.construction.specs.Shown.{shown}
+use Rattle.construction.specs.Plans.{Plan}
+use Rattle.construction.specs.Steps.{state_of}
+use Rattle.construction.specs.Runs.{is_in}
 use Rattle.plan_numbers.specs.Premises.{IsAccepted}
 use Rattle.plan_reader.specs.PlanPart.{whole_plan_of}
 use Rattle.plan_reader.proofs.AcceptedPlans.{whole_plan_accepted}
@@ -19,17 +20,29 @@ use Rattle.state_codec.specs.Shapes.{Fields, bytes_in}
 use Rattle.state_codec.specs.Reading.{read}
 use Rattle.state_codec.specs.Writing.{written}
 use Rattle.node_stepper.specs.Packets.{Ending, whole, cut, beyond, Packets}
-use Rattle.node_stepper.specs.Nodes.{fields_of, state_after, state_behind}
+use Rattle.machines.specs.Machines.{Machine, IsBorne, IsLocked}
+use Rattle.machines.specs.Laws.{IsSound}
+use Rattle.plan_machine.specs.PlanMachines.{machine_of_plan}
+use Rattle.plan_machine.proofs.Sound.{accepted_are_sound}
+use Rattle.node_stepper.specs.Nodes.{state_after, state_behind}
 use Rattle.node_stepper.proofs.CellByCell.{written_size}
-use Rattle.node_runs.specs.NodeRuns.{Nodes, IsCorrect, state_at, states_at, AreConnected}
-use Rattle.node_runs.specs.Laws.{CountThrough, NodesSettle}
-use Rattle.node_stepper.proofs.Answering.{state_push}
+use Rattle.node_runs.specs.NodeRuns.{Nodes, cell_given, IsCorrect, state_at, state_in, states_in}
+use Rattle.node_runs.specs.NodeRuns.{AreConnected}
+use Rattle.node_runs.specs.Losses.{AreHeard}
+use Rattle.node_runs.specs.Laws.{CountThrough, StayLockedThrough}
+use Rattle.node_runs.proofs.Follows.{locked_same}
+use Rattle.node_runs.proofs.Heard.{heard_nodes_stay_locked}
+use Rattle.node_runs.proofs.Losses.{not_so}
+use Rattle.node_runs.proofs.Settled.{nodes_settle, nodes_lock, nodes_stay_locked}
+use Rattle.node_stepper.proofs.NodeTexts.{state_push}
 use Rattle.node_runs.proofs.States.{read_is_state, reads_back, behind_is_state}
 use Rattle.node_calls.specs.declared.errors.CallError.{CallError}
 use Rattle.node_calls.specs.declared.errors.CallError.TheVariants as error
-use Rattle.node_calls.specs.Answers.{plan_or_refused, plan_answer, packets_for, by_ending}
+use Rattle.node_calls.specs.Answers.{plan_or_refused, plan_answer, packets_for}
+use Rattle.node_calls.specs.Answers.{by_ending}
 use Rattle.node_calls.specs.Answers.{bytes_behind, steps_over, step_in, step_answer, output_answer}
-use Rattle.node_calls.specs.Counting.{InRounds, CountByBytes, NodesCount}
+use Rattle.node_calls.specs.Counting.{cell_in, InRounds, InLossyRounds, states_of, CountFrom}
+use Rattle.node_calls.specs.Counting.{StayLockedFrom, CountByBytes, NodesCount, LossyNodesCount}
 use Rattle.node_calls.proofs.Packets.{as_many, only_one}
 
 accepted_of : (r : Result Plan (At Premise)) (plan : Plan) → plan_or_refused r ≡ Ok plan
@@ -37,6 +50,12 @@ accepted_of : (r : Result Plan (At Premise)) (plan : Plan) → plan_or_refused r
 accepted_of (Ok found) plan is accepted =
     let same : found ≡ plan = cc in subst IsAccepted same accepted
 accepted_of (Err at) plan is accepted = absurd cc
+
+-- the machine of the plan of a text is sound
+sound_of : (text : List ℕ) (plan : Plan) → plan_answer text ≡ Ok plan
+    → IsSound (machine_of_plan plan)
+sound_of text plan is =
+    accepted_are_sound plan (accepted_of (whole_plan_of text) plan is (whole_plan_accepted text))
 
 -- of what was answered: that the test held, and what stands behind it
 behind_test : {V : Type 0} (test : Bool) (answer : Result V CallError) (e : CallError) (v : V)
@@ -53,45 +72,58 @@ ended new bytes count (cut packet sender) is = absurd cc
 ended new bytes count beyond is = absurd cc
 
 -- what calls answer of a node of an accepted plan
-module _ (text : List ℕ) (plan : Plan) (is : plan_answer text ≡ Ok plan) (v : ℕ)
-    (node : v < plan_nodes plan) where
+module _ (text : List ℕ) (plan : Plan) (is : plan_answer text ≡ Ok plan)
+    (v : ℕ) (node : v < (machine_of_plan plan).nodes) where
+  abbrev m : Machine
+  m = machine_of_plan plan
+
   abbrev fields : Fields
-  fields = fields_of plan v
+  fields = m.fields v
 
   step_in_plan : (state packets : List ℕ)
-      → step_answer text v state packets ≡ step_in v state packets plan
-  step_in_plan state packets = rw (is, lt-ltb v (plan_nodes plan) node) refl
+      → step_answer text v state packets ≡ step_in v state packets m
+  step_in_plan state packets = rw (is, lt-ltb v (m.nodes) node) refl
 
   output_is : (state : List ℕ) → length state ≡ bytes_in fields
-      → output_answer text v state ≡ Ok (shown (plan_depth plan) (read fields state))
+      → output_answer text v state ≡ Ok (m.shows v (read fields state))
   output_is state long =
-      rw (is, lt-ltb v (plan_nodes plan) node, eq-eqb (length state) (bytes_in fields) long) refl
+      rw (is, lt-ltb v (m.nodes) node, eq-eqb (length state) (bytes_in fields) long) refl
 
   -- the new bytes, behind one packet
   new_bytes : (state packets new : List ℕ) → step_answer text v state packets ≡ Ok (1, new)
       → new ≡ written fields
-      (state_after plan v (read fields state) (get_or (packets_for plan packets).cells 0 []))
+      (state_after m v (read fields state) (get_or (packets_for m packets).cells 0 []))
   new_bytes state packets new answers =
-      let all : Packets = packets_for plan packets in
-      let held = behind_test (length state == bytes_in fields) (steps_over v state plan all)
+      let all : Packets = packets_for m packets in
+      let held = behind_test (length state == bytes_in fields) (steps_over v state m all)
       error.Length (1, new) (sym (step_in_plan state packets) ∙ answers) in
-      let done = ended (bytes_behind plan v state all.cells) new 1 all.ending held.1 in
+      let done = ended (bytes_behind m v state all.cells) new 1 all.ending held.1 in
       let one : length all.cells ≡ 1 =
-      omega (arith, as_many (plan_nodes plan) 1000000 0 1 packets done.0) in
-      done.1 ∙ ap (bytes_behind plan v state) (only_one all.cells [] one)
+      omega (arith, as_many (m.nodes) 1000000 0 1 packets done.0) in
+      done.1 ∙ ap (bytes_behind m v state) (only_one all.cells [] one)
 
-module _ (text : List ℕ) (plan : Plan) (is : plan_answer text ≡ Ok plan) (faulty : List ℕ)
-    (count : ℕ) (bytes packets : ℕ → ℕ → List ℕ)
-    (rounds : InRounds text plan faulty count bytes packets) where
-  accepted : IsAccepted plan
-  accepted = accepted_of (whole_plan_of text) plan is (whole_plan_accepted text)
+-- rounds in which the correct nodes step, whatever they are told
+pub record Stepping (text : List ℕ) (m : Machine) (faulty : List ℕ) (count : ℕ)
+    (bytes packets : ℕ → ℕ → List ℕ) : Type 0 where
+  pub long : (v : ℕ) → IsCorrect m faulty v → length (bytes 0 v) ≡ bytes_in (m.fields v)
+  pub steps : (t v : ℕ) → t < count → IsCorrect m faulty v
+      → step_answer text v (bytes t v) (packets t v) ≡ Ok (1, bytes (t + 1) v)
+
+module _ (text : List ℕ) (plan : Plan) (is : plan_answer text ≡ Ok plan)
+    (faulty : List ℕ) (count : ℕ) (bytes packets : ℕ → ℕ → List ℕ)
+    (rounds : Stepping text (machine_of_plan plan) faulty count bytes packets) where
+  abbrev k : Machine
+  k = machine_of_plan plan
+
+  sound : IsSound k
+  sound = sound_of text plan is
 
   -- the packet of a round, the state of its bytes, and the nodes that these make
   abbrev packet : (v t : ℕ) → List (List ℕ)
-  packet v t = get_or (packets_for plan (packets t v)).cells 0 []
+  packet v t = get_or (packets_for k (packets t v)).cells 0 []
 
   abbrev state : (t v : ℕ) → State
-  state t v = read (fields_of plan v) (bytes t v)
+  state t v = read (k.fields v) (bytes t v)
 
   abbrev nodes : Nodes
   nodes = record {
@@ -105,76 +137,190 @@ module _ (text : List ℕ) (plan : Plan) (is : plan_answer text ≡ Ok plan) (fa
   packet_is : (t v : ℕ) → t < count → get_or (nodes.packets v) t [] ≡ packet v t
   packet_is t v early = get_or-map-range_with_len (packet v) 0 count t t [] early (omega arith)
 
-  module _ (v : ℕ) (correct : IsCorrect plan faulty v) where
+  module _ (v : ℕ) (correct : IsCorrect k faulty v) where
     next : (t : ℕ) → t < count
-        → bytes (t + 1) v ≡ written (fields_of plan v) (state_after plan v (state t v) (packet v t))
+        → bytes (t + 1) v ≡ written (k.fields v) (state_after k v (state t v) (packet v t))
     next t early =
         new_bytes text plan is v correct.0 (bytes t v) (packets t v) (bytes (t + 1) v)
         (rounds.steps t v early correct)
 
-    next_state : (t : ℕ) → t < count → state (t + 1) v ≡ state_after plan v (state t v) (packet v t)
+    next_state : (t : ℕ) → t < count → state (t + 1) v ≡ state_after k v (state t v) (packet v t)
     next_state t early =
-        ap (read (fields_of plan v)) (next t early)
-        ∙ reads_back plan accepted v correct.0 (state_after plan v (state t v) (packet v t))
-        (behind_is_state plan accepted v (state t v) (packet v t ∷ [])
-        (read_is_state plan accepted v correct.0 (bytes t v)))
+        ap (read (k.fields v)) (next t early)
+        ∙ reads_back k sound v correct.0 (state_after k v (state t v) (packet v t))
+        (behind_is_state k sound v correct.0 (state t v) (packet v t ∷ [])
+        (read_is_state k sound v correct.0 (bytes t v)))
 
-    long : (t : ℕ) → t ≤ count → length (bytes t v) ≡ bytes_in (fields_of plan v)
+    long : (t : ℕ) → t ≤ count → length (bytes t v) ≡ bytes_in (k.fields v)
     long zero early = rounds.long v correct
     long (suc t) early =
-        subst (λ i. length (bytes i v) ≡ bytes_in (fields_of plan v)) (add-one t)
+        subst (λ i. length (bytes i v) ≡ bytes_in (k.fields v)) (add-one t)
         (ap length (next t (omega (arith, early)))
-        ∙ written_size (fields_of plan v) (state_after plan v (state t v) (packet v t)))
+        ∙ written_size (k.fields v) (state_after k v (state t v) (packet v t)))
 
     -- its bytes stand for the node's state behind as many packets
-    stands_next : (t : ℕ) → t < count → state_at plan nodes t v ≡ state t v
-        → state_at plan nodes (t + 1) v ≡ state (t + 1) v
+    stands_next : (t : ℕ) → t < count → state_at k nodes t v ≡ state t v
+        → state_at k nodes (t + 1) v ≡ state (t + 1) v
     stands_next t early is =
-        ap (state_behind plan v (state 0 v))
+        ap (state_behind k v (state 0 v))
         (take_more (nodes.packets v) t [] (omega (arith, early, many v)))
-        ∙ state_push plan v (state 0 v) (take t (nodes.packets v)) (get_or (nodes.packets v) t [])
-        ∙ ap (state_after plan v (state_at plan nodes t v)) (packet_is t v early)
-        ∙ ap (λ (s : State). state_after plan v s (packet v t)) is
+        ∙ state_push k v (state 0 v) (take t (nodes.packets v)) (get_or (nodes.packets v) t [])
+        ∙ ap (state_after k v (state_at k nodes t v)) (packet_is t v early)
+        ∙ ap (λ (s : State). state_after k v s (packet v t)) is
         ∙ sym (next_state t early)
 
-    stands : (t : ℕ) → t ≤ count → state_at plan nodes t v ≡ state t v
+    stands : (t : ℕ) → t ≤ count → state_at k nodes t v ≡ state t v
     stands zero early = refl
     stands (suc t) early =
         let lt : t < count = omega (arith, early) in
-        subst (λ i. state_at plan nodes i v ≡ state i v) (add-one t)
+        subst (λ i. state_at k nodes i v ≡ state i v) (add-one t)
         (stands_next t lt (stands t (omega (arith, early))))
 
-  connected : AreConnected plan faulty nodes 0 count
-  connected = record {
-    rising = omega arith;
-    starts = λ v correct. read_is_state plan accepted v correct.0 (bytes 0 v);
-    enough = λ v correct. omega (arith, many v);
-    cells = λ t v u low early correct other apart.
-        ap (read (fields_of plan u))
-        (ap (λ (p : List (List ℕ)). get_or p u []) (packet_is t v early)
-        ∙ rounds.told t v u early correct other apart)
-        ∙ sym (stands u other t (omega (arith, early)));
-  }
+  abbrev from_start : ℕ → ℕ
+  from_start v = 0
 
-  counted : CountThrough plan faulty (states_at plan nodes) (0 + plan_bound plan) count
-      → CountByBytes text plan faulty count bytes
-  counted counts = record {
+  cell_is : (t v u : ℕ) → t < count → cell_given nodes (0 + t) v u ≡ cell_in k (packets t v) u
+  cell_is t v u early =
+      let e : 0 + t ≡ t = omega arith in
+      ap (λ i. cell_given nodes i v u) e
+      ∙ ap (λ (p : List (List ℕ)). get_or p u []) (packet_is t v early)
+
+  -- a cell that is told is read as the state of its sender
+  told_is : (t v u : ℕ) → t < count → IsCorrect k faulty u → cell_in k (packets t v) u ≡ bytes t u
+      → read (k.fields u) (cell_given nodes (0 + t) v u) ≡ state_in k nodes from_start t u
+  told_is t v u early correct told =
+      let e : t ≡ 0 + t = omega arith in
+      ap (read (k.fields u)) (cell_is t v u early ∙ told)
+      ∙ sym (stands u correct t (omega (arith, early)))
+      ∙ ap (λ i. state_at k nodes i u) e
+
+  -- a correct node's bytes stand for its state, as one of all
+  pub same_state : (t v : ℕ) → t ≤ count → IsCorrect k faulty v
+      → state_of (states_in k nodes from_start t) v ≡ state_of (states_of k bytes t) v
+  same_state t v early correct =
+      let e : 0 + t ≡ t = omega arith in
+      get_or-map-range_with_len (state_in k nodes from_start t) 0 k.nodes v v (zero_state 0)
+      correct.0 (omega arith)
+      ∙ ap (λ i. state_at k nodes i v) e
+      ∙ stands v correct t early
+      ∙ sym (get_or-map-range_with_len (state t) 0 k.nodes v v (zero_state 0) correct.0
+      (omega arith))
+
+  shown_state : (t v : ℕ) → t ≤ count → IsCorrect k faulty v
+      → state t v ≡ state_of (states_in k nodes from_start t) v
+  shown_state t v early correct =
+      sym (same_state t v early correct
+      ∙ get_or-map-range_with_len (state t) 0 k.nodes v v (zero_state 0) correct.0 (omega arith))
+
+  pub counted : (from : ℕ) → CountThrough k faulty (states_in k nodes from_start) from count
+      → CountFrom text k faulty count bytes from
+  counted from counts = record {
     output = counts.output;
     shows = λ t v late early correct.
         output_is text plan is v correct.0 (bytes t v) (long v correct t early)
         ∙ ap (λ (o : ℕ). let r : Result ℕ CallError = Ok o in r)
-        (ap (shown (plan_depth plan)) (sym (stands v correct t early))
-        ∙ ap (shown (plan_depth plan))
-        (sym (get_or-map-range_with_len (state_at plan nodes t) 0 (plan_nodes plan) v v
-        (zero_state 0)
-        correct.0 (omega arith)))
-        ∙ counts.shows t (omega (arith, late)) early v correct.0 correct.1);
-    grows = λ t late early. counts.grows t (omega (arith, late)) early;
+        (ap (k.shows v) (shown_state t v early correct)
+        ∙ counts.shows t late early v correct.0 correct.1);
+    grows = counts.grows;
   }
 
-pub nodes_count : NodesSettle → NodesCount
-nodes_count settle text plan is faulty borne count bytes packets rounds =
-    counted text plan is faulty count bytes packets rounds
-    (settle plan (accepted text plan is faulty count bytes packets rounds) faulty borne
-    (nodes text plan is faulty count bytes packets rounds) 0 count
-    (connected text plan is faulty count bytes packets rounds))
+  pub locked_there : (t : ℕ) → t ≤ count
+      → IsLocked k faulty (states_in k nodes from_start t) → IsLocked k faulty (states_of k bytes t)
+  locked_there t early =
+      locked_same k.lock k.nodes faulty (states_in k nodes from_start t) (states_of k bytes t)
+      (λ v lt correct. sym (same_state t v early (lt, correct)))
+
+  pub locked_here : (t : ℕ) → t ≤ count
+      → IsLocked k faulty (states_of k bytes t) → IsLocked k faulty (states_in k nodes from_start t)
+  locked_here t early =
+      locked_same k.lock k.nodes faulty (states_of k bytes t) (states_in k nodes from_start t)
+      (λ v lt correct. same_state t v early (lt, correct))
+
+  pub stay_locked : (from : ℕ)
+      → StayLockedThrough k faulty (states_in k nodes from_start) from count
+      → StayLockedFrom text k faulty count bytes from
+  stay_locked from stays = record {
+    locked = λ t late early. locked_there t early (stays.locked t late early);
+    counts = counted from stays.counts;
+  }
+
+-- ---- the laws
+
+module _ (text : List ℕ) (plan : Plan) (is : plan_answer text ≡ Ok plan) (faulty : List ℕ)
+    (borne : IsBorne (machine_of_plan plan) faulty) (count : ℕ) (bytes packets : ℕ → ℕ → List ℕ)
+    (rounds : InRounds text (machine_of_plan plan) faulty count bytes packets) where
+  stepping : Stepping text (machine_of_plan plan) faulty count bytes packets
+  stepping = record { long = rounds.long; steps = rounds.steps }
+
+  abbrev own : Nodes
+  own = nodes text plan is faulty count bytes packets stepping
+
+  abbrev own_sound : IsSound (machine_of_plan plan)
+  own_sound = sound_of text plan is
+
+  connected : AreConnected (machine_of_plan plan) faulty own (λ v. 0) count
+  connected = record {
+    starts = λ v correct.
+        read_is_state (machine_of_plan plan) own_sound v correct.0 (bytes 0 v);
+    enough = λ v correct. omega (arith, many text plan is faulty count bytes packets stepping v);
+    cells = λ t v u early correct other apart.
+        told_is text plan is faulty count bytes packets stepping t v u early other
+        (rounds.told t v u early correct other apart);
+  }
+
+  count_by_bytes : CountByBytes text (machine_of_plan plan) faulty count bytes
+  count_by_bytes = record {
+    settles =
+        counted text plan is faulty count bytes packets stepping (machine_of_plan plan).bound
+        (nodes_settle (machine_of_plan plan) own_sound faulty borne own (λ v. 0) count connected);
+    locks = λ reached.
+        locked_there text plan is faulty count bytes packets stepping (machine_of_plan plan).bound
+        reached
+        (nodes_lock (machine_of_plan plan) own_sound faulty borne own (λ v. 0) count connected
+        reached);
+    stays = λ from le locked.
+        stay_locked text plan is faulty count bytes packets stepping from
+        (nodes_stay_locked (machine_of_plan plan) own_sound faulty borne own (λ v. 0) count
+        connected from le
+        (locked_here text plan is faulty count bytes packets stepping from le locked));
+  }
+
+pub nodes_count : NodesCount
+nodes_count text plan is faulty borne count bytes packets rounds =
+    count_by_bytes text plan is faulty borne count bytes packets rounds
+
+module _ (text : List ℕ) (plan : Plan) (is : plan_answer text ≡ Ok plan) (faulty : List ℕ)
+    (borne : IsBorne (machine_of_plan plan) faulty) (count : ℕ) (bytes packets : ℕ → ℕ → List ℕ)
+    (rounds : InLossyRounds text (machine_of_plan plan) faulty count bytes packets) where
+  lossy_stepping : Stepping text (machine_of_plan plan) faulty count bytes packets
+  lossy_stepping = record { long = rounds.long; steps = rounds.steps }
+
+  abbrev lossy_nodes : Nodes
+  lossy_nodes = nodes text plan is faulty count bytes packets lossy_stepping
+
+  heard : AreHeard (machine_of_plan plan) faulty lossy_nodes (λ v. 0) count
+  heard = record {
+    starts = λ v correct.
+        read_is_state (machine_of_plan plan) (sound_of text plan is) v correct.0 (bytes 0 v);
+    enough = λ v correct.
+        omega (arith, many text plan is faulty count bytes packets lossy_stepping v);
+    missed = rounds.missed;
+    are = rounds.are;
+    cells = λ t v u early correct ult not_missed apart.
+        told_is text plan is faulty count bytes packets lossy_stepping t v u early (
+          ult,
+          not_so (is_in faulty u) (is_in (rounds.missed t v) u)
+              ((rounds.are t v early correct).faulty_too u) not_missed,
+        )
+        (rounds.told t v u early correct ult not_missed apart);
+  }
+
+pub lossy_nodes_count : LossyNodesCount
+lossy_nodes_count text plan is faulty borne count bytes packets rounds from le locked =
+    let k = machine_of_plan plan in
+    let stepping = lossy_stepping text plan is faulty borne count bytes packets rounds in
+    stay_locked text plan is faulty count bytes packets stepping from
+    (heard_nodes_stay_locked k (sound_of text plan is) faulty borne
+    (lossy_nodes text plan is faulty borne count bytes packets rounds) (λ v. 0) count
+    (heard text plan is faulty borne count bytes packets rounds) from le
+    (locked_here text plan is faulty count bytes packets stepping from le locked))

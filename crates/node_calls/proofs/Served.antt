@@ -1,65 +1,57 @@
 -- What a node that was made for a call answers.
-use Rattle.std.proofs.Common.{◌≡◌, ℕ, ◌<◌, ◌-◌, refl, List, length, Result, Ok, Err, sym, ap, ◌∙◌}
-use Rattle.std.proofs.Common.{subst, arith}
-use Rattle.std.specs.Prelude.{replicate, slice_index_or}
+use Rattle.std.proofs.Common.{◌≡◌, ℕ, ◌<◌, List, length, Result, Ok, Err, refl, sym, ap, ◌∙◌, subst}
+use Rattle.std.proofs.Common.{arith}
+use Rattle.std.specs.Prelude.{replicate}
 use Rattle.std.proofs.lemmas.Bool.{eq-eqb}
 use Rattle.std.proofs.lemmas.List.{get_or-set_same, length-replicate}
 use Rattle.sync_types.specs.States.{State, zero_state}
-use Rattle.construction.specs.Plans.{Plan, plan_nodes, plan_depth}
-use Rattle.construction.specs.Runs.{IsState}
-use Rattle.plan_numbers.specs.Premises.{IsAccepted}
-use Rattle.state_codec.specs.Shapes.{Shape, shape_of, fields_at, bytes_in}
-use Rattle.state_codec.specs.Ranges.{InRange}
+use Rattle.state_codec.specs.Shapes.{bytes_in}
 use Rattle.state_codec.specs.Reading.{read}
 use Rattle.state_codec.specs.Writing.{written}
-use Rattle.state_codec.proofs.Lows.{length-moduli_from}
-use Rattle.state_codec.proofs.PlanStates.{in_range_of_node}
-use Rattle.node_stepper.specs.Nodes.{Standing, own, begun, fields_of, state_behind}
+use Rattle.machines.specs.Machines.{Machine}
+use Rattle.node_stepper.specs.Nodes.{Standing, own, begun, state_behind}
 use Rattle.node_calls.specs.declared.errors.CallError.{CallError}
 use Rattle.node_calls.specs.declared.errors.CallError.TheVariants as error
 use Rattle.node_calls.specs.Errors.{FailsAs}
 use Rattle.node_calls.specs.Answers.{by_ending, bytes_behind, steps_over, packets_for, step_in}
 use Rattle.node_calls.specs.Hearing.{Hears}
 
--- the last register of a state with the fields of a node
-pub last_register : (shape : Shape) (v n : ℕ) → n ≡ length (fields_at shape v).moduli
-    → (length shape.moduli ≡ 0 → ⊥) → length shape.moduli - 1 < n
-last_register shape v n deep some =
-    let low : ℕ = slice_index_or shape.lows v 0 in
-    omega (arith, deep, length-moduli_from low shape.moduli, some)
+module _ {M : Type 0} (machine : M → Machine) (counter : M) (id : ℕ)
+    (node : id < (machine counter).nodes) where
+  abbrev m : Machine
+  m = machine counter
 
-module _ (plan : Plan) (id : ℕ) (node : id < plan_nodes plan) where
-  own_begun : (s : State) → own (begun plan id s) ≡ s
+  own_begun : (s : State) → own (begun machine counter id s) ≡ s
   own_begun s =
-      let zero : State = zero_state (plan_depth plan) in
-      get_or-set_same (replicate (plan_nodes plan) zero) id s (zero_state 0)
-      (omega (arith, node, length-replicate (plan_nodes plan) zero))
+      let zero : State = zero_state m.depth in
+      get_or-set_same (replicate (m.nodes) zero) id s (zero_state 0)
+      (omega (arith, node, length-replicate (m.nodes) zero))
 
-  module _ (state packets : List ℕ) (long : length state ≡ bytes_in (fields_of plan id)) where
-    step_is : step_in id state packets plan ≡ steps_over id state plan (packets_for plan packets)
-    step_is = rw (eq-eqb (length state) (bytes_in (fields_of plan id)) long) refl
+  module _ (state packets : List ℕ) (long : length state ≡ bytes_in (m.fields id)) where
+    step_is : step_in id state packets m ≡ steps_over id state m (packets_for m packets)
+    step_is = rw (eq-eqb (length state) (bytes_in (m.fields id)) long) refl
 
-    abbrev start : Standing
-    start = begun plan id (read (fields_of plan id) state)
+    abbrev start : Standing M
+    start = begun machine counter id (read (m.fields id) state)
 
     abbrev new_bytes : List ℕ
-    new_bytes = bytes_behind plan id state (packets_for plan packets).cells
+    new_bytes = bytes_behind m id state (packets_for m packets).cells
 
-    hears_whole : (after : Standing) (count : ℕ) (new : List ℕ)
-        → Hears start after packets (Ok count)
-        → new ≡ written (fields_of plan id) (own after)
-        → step_in id state packets plan ≡ Ok (count, new)
+    hears_whole : (after : Standing M) (count : ℕ) (new : List ℕ)
+        → Hears machine start after packets (Ok count)
+        → new ≡ written (m.fields id) (own after)
+        → step_in id state packets m ≡ Ok (count, new)
     hears_whole after count new (ending, stands) is =
-        let s : State = read (fields_of plan id) state in
-        let cells : List (List (List ℕ)) = (packets_for plan packets).cells in
-        let same : own after ≡ state_behind plan id s cells =
-        stands.state ∙ ap (λ (t : State). state_behind plan id t cells) (own_begun s) in
+        let s : State = read (m.fields id) state in
+        let cells : List (List (List ℕ)) = (packets_for m packets).cells in
+        let same : own after ≡ state_behind m id s cells =
+        stands.state ∙ ap (λ (t : State). state_behind m id t cells) (own_begun s) in
         step_is ∙ ap (by_ending new_bytes) ending
         ∙ ap (λ (bytes : List ℕ). let r : Result (ℕ × List ℕ) CallError = Ok (count, bytes) in r)
-        (sym (is ∙ ap (written (fields_of plan id)) same))
+        (sym (is ∙ ap (written (m.fields id)) same))
 
-    hears_none : (after : Standing) (e : CallError) → Hears start after packets (Err e)
-        → FailsAs e (step_in id state packets plan)
+    hears_none : (after : Standing M) (e : CallError) → Hears machine start after packets (Err e)
+        → FailsAs e (step_in id state packets m)
     hears_none after (error.Cut packet sender) ending = step_is ∙ ap (by_ending new_bytes) ending
     hears_none after error.TooLong ending = step_is ∙ ap (by_ending new_bytes) ending
     hears_none after (error.Refused refusal) ending = absurd ending
@@ -67,36 +59,39 @@ module _ (plan : Plan) (id : ℕ) (node : id < plan_nodes plan) where
     hears_none after error.Length ending = absurd ending
     hears_none after error.NoMemory ending = absurd ending
 
--- what was heard of a node over the shape of its plan
-module _ (plan : Plan) (shape : Shape) (id : ℕ) (node : id < plan_nodes plan)
-    (shaped : shape ≡ shape_of plan) (state packets : List ℕ)
-    (long : length state ≡ bytes_in (fields_at shape id)) (before after : Standing)
-    (is : before ≡ begun plan id (read (fields_of plan id) state)) where
-  long_of : length state ≡ bytes_in (fields_of plan id)
-  long_of = long ∙ ap (λ (s : Shape). bytes_in (fields_at s id)) shaped
+-- what was heard of a node
+module _ {M : Type 0} (machine : M → Machine) (counter : M) (id : ℕ)
+    (node : id < (machine counter).nodes) (state packets : List ℕ)
+    (long : length state ≡ bytes_in ((machine counter).fields id)) (before after : Standing M)
+    (is : before ≡ begun machine counter id (read ((machine counter).fields id) state)) where
+  at_node : (count : ℕ) → Hears machine before after packets (Ok count)
+      → (after.counter ≡ counter) × (after.id ≡ id)
+  at_node count heard =
+      let stands = heard.1 in (
+        stands.counter ∙ ap (λ (b : Standing M). b.counter) is,
+        stands.id ∙ ap (λ (b : Standing M). b.id) is,
+      )
 
-  pub step_whole : (count : ℕ) (new : List ℕ) → Hears before after packets (Ok count)
-      → new ≡ written (fields_at shape id) (own after)
-      → step_in id state packets plan ≡ Ok (count, new)
+  -- its state has as many bytes as that before
+  pub room_is : (count : ℕ) → Hears machine before after packets (Ok count)
+      → length state ≡ bytes_in ((machine after.counter).fields after.id)
+  room_is count heard =
+      let at = at_node count heard in
+      long ∙ sym (ap (λ (c : M). bytes_in ((machine c).fields after.id)) at.0
+      ∙ ap (λ v. bytes_in ((machine counter).fields v)) at.1)
+
+  pub step_whole : (count : ℕ) (new : List ℕ) → Hears machine before after packets (Ok count)
+      → new ≡ written ((machine after.counter).fields after.id) (own after)
+      → step_in id state packets (machine counter) ≡ Ok (count, new)
   step_whole count new heard wrote =
-      hears_whole plan id node state packets long_of after count new
-      (subst (λ (b : Standing). Hears b after packets (Ok count)) is heard)
-      (wrote ∙ ap (λ (s : Shape). written (fields_at s id) (own after)) shaped)
+      let at = at_node count heard in
+      hears_whole machine counter id node state packets long after count new
+      (subst (λ (b : Standing M). Hears machine b after packets (Ok count)) is heard)
+      (wrote ∙ ap (λ (c : M). written ((machine c).fields after.id) (own after)) at.0
+      ∙ ap (λ v. written ((machine counter).fields v) (own after)) at.1)
 
-  pub step_none : (e : CallError) → Hears before after packets (Err e)
-      → FailsAs e (step_in id state packets plan)
+  pub step_none : (e : CallError) → Hears machine before after packets (Err e)
+      → FailsAs e (step_in id state packets (machine counter))
   step_none e heard =
-      hears_none plan id node state packets long_of after e
-      (subst (λ (b : Standing). Hears b after packets (Err e)) is heard)
-
-  pub step_range : (count : ℕ) (s : State) → IsAccepted plan
-      → Hears before after packets (Ok count) → IsState after.plan after.id s
-      → InRange (fields_at shape id) s
-  step_range count s accepted heard fits =
-      let stands = heard.1 in
-      let at_plan = subst (λ (p : Plan). IsState p after.id s)
-      (stands.plan ∙ ap (λ (b : Standing). b.plan) is) fits in
-      let at_id = subst (λ (v : ℕ). IsState plan v s)
-      (stands.id ∙ ap (λ (b : Standing). b.id) is) at_plan in
-      subst (λ (h : Shape). InRange (fields_at h id) s) (sym shaped)
-      (in_range_of_node plan accepted id node s at_id)
+      hears_none machine counter id node state packets long after e
+      (subst (λ (b : Standing M). Hears machine b after packets (Err e)) is heard)

@@ -2,14 +2,15 @@
 use Rattle.std.specs.Prelude.{ℕ, ◌==◌, nat_lt, if◌then◌else◌, List, length, Result, Ok, Err}
 use Rattle.texts.specs.Parts.{At}
 use Rattle.sync_types.specs.declared.answers.Premise.{Premise}
-use Rattle.construction.specs.Plans.{Plan, plan_nodes, plan_depth}
-use Rattle.construction.specs.Shown.{shown}
+use Rattle.construction.specs.Plans.{Plan, plan_nodes}
 use Rattle.plan_reader.specs.PlanPart.{whole_plan_of}
 use Rattle.state_codec.specs.Shapes.{bytes_in}
 use Rattle.state_codec.specs.Reading.{read}
 use Rattle.state_codec.specs.Writing.{written}
 use Rattle.node_stepper.specs.Packets.{Packets, Ending, whole, cut, beyond, packets_of}
-use Rattle.node_stepper.specs.Nodes.{fields_of, state_behind}
+use Rattle.machines.specs.Machines.{Machine}
+use Rattle.plan_machine.specs.PlanMachines.{machine_of_plan}
+use Rattle.node_stepper.specs.Nodes.{state_behind}
 use Rattle.node_calls.specs.declared.errors.CallError.{CallError}
 use Rattle.node_calls.specs.declared.errors.CallError.TheVariants as error
 use Rattle.node_calls.specs.Errors.{refused_at}
@@ -35,22 +36,26 @@ node_answer text id = and_then (plan_answer text)
 
 -- how many bytes a state of the node has
 abbrev pub bytes_answer : (text : List ℕ) → (id : ℕ) → Result ℕ CallError
-bytes_answer text id = and_then (node_answer text id) (λ plan. Ok (bytes_in (fields_of plan id)))
+bytes_answer text id =
+    and_then (node_answer text id) (λ plan. Ok (bytes_in ((machine_of_plan plan).fields id)))
 
 -- what follows of bytes that are as many as a state of the node has
-abbrev pub over_state : {V : Type 0} → (id : ℕ) → (state : List ℕ) → (Plan → Result V CallError)
-    → Plan → Result V CallError
-over_state id state next plan =
-    if length state == bytes_in (fields_of plan id) then next plan else Err error.Length
+abbrev pub over_state : {V : Type 0} → (id : ℕ) → (state : List ℕ)
+    → (Machine → Result V CallError) → Machine → Result V CallError
+over_state id state next m =
+    if length state == bytes_in (m.fields id) then next m else Err error.Length
 
 -- what the node shows in a state
+abbrev pub output_in : (id : ℕ) → (state : List ℕ) → Machine → Result ℕ CallError
+output_in id state = over_state id state (λ m. Ok (m.shows id (read (m.fields id) state)))
+
 abbrev pub output_answer : (text : List ℕ) → (id : ℕ) → (state : List ℕ) → Result ℕ CallError
-output_answer text id state = and_then (node_answer text id)
-    (over_state id state (λ plan. Ok (shown (plan_depth plan) (read (fields_of plan id) state))))
+output_answer text id state =
+    and_then (node_answer text id) (λ plan. output_in id state (machine_of_plan plan))
 
 -- the packets of these bytes, at most 1,000,000
-abbrev pub packets_for : Plan → List ℕ → Packets
-packets_for plan bytes = packets_of (plan_nodes plan) 1000000 0 bytes
+abbrev pub packets_for : Machine → List ℕ → Packets
+packets_for m bytes = packets_of m.nodes 1000000 0 bytes
 
 -- how many packets there were, and the new bytes; or why there are none
 abbrev pub by_ending : (new : List ℕ) → Ending → Result (ℕ × List ℕ) CallError
@@ -59,19 +64,21 @@ by_ending new (cut packet sender) = Err (error.Cut packet sender)
 by_ending new beyond = Err error.TooLong
 
 -- the bytes of the node's state behind packets
-abbrev pub bytes_behind : Plan → (id : ℕ) → (state : List ℕ) → List (List (List ℕ)) → List ℕ
-bytes_behind plan id state packets =
-    written (fields_of plan id) (state_behind plan id (read (fields_of plan id) state) packets)
+abbrev pub bytes_behind : Machine → (id : ℕ) → (state : List ℕ) → List (List (List ℕ)) → List ℕ
+bytes_behind m id state packets =
+    written (m.fields id) (state_behind m id (read (m.fields id) state) packets)
 
 -- the node behind each of its packets
-abbrev pub steps_over : (id : ℕ) → (state : List ℕ) → Plan → Packets → Result (ℕ × List ℕ) CallError
-steps_over id state plan packets =
-    by_ending (bytes_behind plan id state packets.cells) packets.ending
+abbrev pub steps_over : (id : ℕ) → (state : List ℕ) → Machine → Packets
+    → Result (ℕ × List ℕ) CallError
+steps_over id state m packets =
+    by_ending (bytes_behind m id state packets.cells) packets.ending
 
-abbrev pub step_in : (id : ℕ) → (state packets : List ℕ) → Plan → Result (ℕ × List ℕ) CallError
+abbrev pub step_in : (id : ℕ) → (state packets : List ℕ) → Machine → Result (ℕ × List ℕ) CallError
 step_in id state packets =
-    over_state id state (λ plan. steps_over id state plan (packets_for plan packets))
+    over_state id state (λ m. steps_over id state m (packets_for m packets))
 
 abbrev pub step_answer : (text : List ℕ) → (id : ℕ) → (state packets : List ℕ)
     → Result (ℕ × List ℕ) CallError
-step_answer text id state packets = and_then (node_answer text id) (step_in id state packets)
+step_answer text id state packets =
+    and_then (node_answer text id) (λ plan. step_in id state packets (machine_of_plan plan))

@@ -1,15 +1,14 @@
-ghost use Rattle.std.specs.Prelude.{◌≡◌, ◌<◌, IfOk, length};
+ghost use Rattle.std.specs.Prelude.{◌≡◌, ◌<◌, IfOk};
 ghost use Rattle.construction.specs.Plans.{plan_nodes};
-ghost use Rattle.construction.specs.Shown.{shown};
-ghost use Rattle.state_codec.specs.Shapes.{fields_at};
 ghost use Rattle.state_codec.specs.Reading.{read};
 ghost use Rattle.node_calls.specs.Errors.{Answers};
 ghost use Rattle.node_calls.specs.Answers.{plan_answer, node_answer, bytes_answer, output_answer};
 
 use crate::CallError;
+use machines::Machine;
+use plan_machine::PlanMachine;
 use plan_numbers::Plan;
 use plan_reader::read_whole_plan;
-use state_codec::StateShape;
 use std::alloc::Global;
 use sync_types::{NoMemory, NodeState};
 
@@ -22,8 +21,12 @@ pub fn plan_in(alloc: Global, text: &[u8]) -> Result<Plan, CallError>
     Ok(read_whole_plan(alloc, text)?)
 }
 
-/// The plan of a text, which has a node `id`.
-pub(crate) fn plan_with_node(alloc: Global, text: &[u8], id: u32) -> Result<Plan, CallError>
+/// The machine of the plan of a text, which has a node `id`.
+pub(crate) fn machine_with_node(
+    alloc: Global,
+    text: &[u8],
+    id: u32,
+) -> Result<PlanMachine, CallError>
     ensures exact { Answers result (node_answer text.now id) }
     ensures node { IfOk result (λ plan. id < plan_nodes plan) }
 {
@@ -31,7 +34,7 @@ pub(crate) fn plan_with_node(alloc: Global, text: &[u8], id: u32) -> Result<Plan
     if id >= plan.nodes() {
         return Err(CallError::Node);
     }
-    Ok(plan)
+    Ok(PlanMachine::new(alloc, &plan)?)
 }
 
 /// How many bytes a state of node `id` has, at most 128.
@@ -40,24 +43,20 @@ pub(crate) fn plan_with_node(alloc: Global, text: &[u8], id: u32) -> Result<Plan
 pub fn state_bytes(alloc: Global, text: &[u8], id: u32) -> Result<usize, CallError>
     ensures { Answers result (bytes_answer text.now id) }
 {
-    let plan = plan_with_node(alloc, text, id)?;
-    let shape = StateShape::of(alloc, &plan)?;
-    Ok(shape.bytes_of(id))
+    let machine = machine_with_node(alloc, text, id)?;
+    Ok(machine.bytes_of(id))
 }
 
 /// What the state shows that bytes stand for, as one of node `id`.
-fn shown_by(alloc: Global, shape: &StateShape, id: u32, state: &[u8]) -> Result<u64, NoMemory>
-    requires { id < length shape.now.lows }
+fn shown_by<M: Machine>(alloc: Global, machine: &M, id: u32, state: &[u8]) -> Result<u64, NoMemory>
+    requires { id < (M.machine machine.now).nodes }
     ensures { IfOk result (λ output. output
-        ≡ shown (length shape.now.moduli) (read (fields_at shape.now id) state.now)) }
+        ≡ (M.machine machine.now).shows id (read ((M.machine machine.now).fields id) state.now)) }
 {
-    let depth = shape.depth();
-    let mut own = NodeState::zero(alloc, depth)?;
-    shape.read_state(id, state, &mut own);
-    if depth == 0 {
-        return Ok(own.x());
-    }
-    Ok(own.reg(depth - 1).a.unwrap_or(0))
+    machine.tell();
+    let mut own = NodeState::zero(alloc, machine.depth())?;
+    machine.read_state(id, state, &mut own);
+    Ok(machine.output(id, &own))
 }
 
 /// What node `id` shows in a state, which has just so many bytes as its states have.
@@ -66,10 +65,9 @@ fn shown_by(alloc: Global, shape: &StateShape, id: u32, state: &[u8]) -> Result<
 pub fn output(alloc: Global, text: &[u8], id: u32, state: &[u8]) -> Result<u64, CallError>
     ensures { Answers result (output_answer text.now id state.now) }
 {
-    let plan = plan_with_node(alloc, text, id)?;
-    let shape = StateShape::of(alloc, &plan)?;
-    if state.len() != shape.bytes_of(id) {
+    let machine = machine_with_node(alloc, text, id)?;
+    if state.len() != machine.bytes_of(id) {
         return Err(CallError::Length);
     }
-    Ok(shown_by(alloc, &shape, id, state)?)
+    Ok(shown_by(alloc, &machine, id, state)?)
 }

@@ -1,38 +1,35 @@
 ghost use Rattle.std.specs.Prelude.{◌≡◌, ◌<◌, IfOk};
-ghost use Rattle.construction.specs.Plans.{plan_nodes};
 ghost use Rattle.state_codec.specs.Reading.{read};
-ghost use Rattle.node_stepper.specs.Nodes.{begun, fields_of};
+ghost use Rattle.node_stepper.specs.Nodes.{begun};
 ghost use Rattle.node_calls.specs.Hearing.{Hears};
 
 use crate::CallError;
 use edge_io::{Feed, NullSink, PlainSource};
+use machines::Machine;
 use node_stepper::{NodeEngine, NodeFault};
-use plan_numbers::Plan;
-use state_codec::StateShape;
 use std::alloc::Global;
 use sync_types::{NoMemory, NodeState};
-use tower::build;
 
-/// Node `id` of a plan in the state that bytes stand for, which has heard nobody.
-pub(crate) fn node_of(
+/// Node `id` of a machine in the state that bytes stand for, which has heard nobody.
+pub(crate) fn node_of<M: Machine>(
     alloc: Global,
-    plan: &Plan,
+    machine: M,
     id: u32,
     state: &[u8],
-) -> Result<NodeEngine, NoMemory>
-    requires { id < plan_nodes plan.now }
-    ensures { IfOk result (λ e. e ≡ begun plan.now id (read (fields_of plan.now id) state.now)) }
+) -> Result<NodeEngine<M>, NoMemory>
+    requires { id < (M.machine machine).nodes }
+    ensures { IfOk result (λ e. e
+        ≡ begun M.machine machine id (read ((M.machine machine).fields id) state.now)) }
 {
-    let shape = StateShape::of(alloc, plan)?;
-    let mut own = NodeState::zero(alloc, shape.depth())?;
-    shape.read_state(id, state, &mut own);
-    let tower = build(alloc, plan)?;
-    NodeEngine::new(alloc, tower, shape, id, own)
+    machine.tell();
+    let mut own = NodeState::zero(alloc, machine.depth())?;
+    machine.read_state(id, state, &mut own);
+    NodeEngine::new(alloc, machine, id, own)
 }
 
 /// Hears packets and steps behind each: the answer is how many these were.
-pub(crate) fn hear(engine: &mut NodeEngine, packets: &[u8]) -> Result<u64, CallError>
-    ensures { Hears engine.old engine.new packets.now result }
+pub(crate) fn hear<M: Machine>(engine: &mut NodeEngine<M>, packets: &[u8]) -> Result<u64, CallError>
+    ensures { Hears M.machine engine.old engine.new packets.now result }
 {
     let mut source = PlainSource::new(packets);
     let mut feed = Feed::new(&mut source);

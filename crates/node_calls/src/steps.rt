@@ -1,38 +1,34 @@
 ghost use Rattle.std.specs.Prelude.{◌≡◌, ◌<◌, MatchResult, Ok, OnErr};
-ghost use Rattle.construction.specs.Plans.{plan_nodes};
 ghost use Rattle.node_calls.specs.Errors.{FailsAs};
 ghost use Rattle.node_calls.specs.Answers.{step_in, step_answer};
 
 use crate::CallError;
-use crate::calls::plan_with_node;
+use crate::calls::machine_with_node;
 use crate::hearing::{hear, node_of};
-use plan_numbers::Plan;
-use state_codec::StateShape;
+use machines::Machine;
 use std::alloc::Global;
 
-/// Steps node `id` of a plan behind each packet.
-fn step_in(
+/// Steps node `id` of a machine behind each packet.
+fn step_in<M: Machine>(
     alloc: Global,
-    plan: &Plan,
+    machine: M,
     id: u32,
     state: &mut [u8],
     packets: &[u8],
 ) -> Result<u64, CallError>
-    requires { id < plan_nodes plan.now }
+    requires { id < (M.machine machine).nodes }
     ensures exact { MatchResult result
-        (λ count. step_in id state.old packets.now plan.now ≡ Ok (count, state.new))
-        (λ error. FailsAs error (step_in id state.old packets.now plan.now)) }
+        (λ count. step_in id state.old packets.now (M.machine machine) ≡ Ok (count, state.new))
+        (λ error. FailsAs error (step_in id state.old packets.now (M.machine machine))) }
     ensures unchanged { OnErr result (state.new ≡ state.old) }
 {
-    plan.tell();
-    let shape = StateShape::of(alloc, plan)?;
-    if state.len() != shape.bytes_of(id) {
+    if state.len() != machine.bytes_of(id) {
         return Err(CallError::Length);
     }
-    let mut engine = node_of(alloc, plan, id, state)?;
+    let mut engine = node_of(alloc, machine, id, state)?;
     match hear(&mut engine, packets) {
         Ok(count) => {
-            shape.write_state(id, engine.state(), state);
+            engine.write_state(state);
             Ok(count)
         }
         Err(error) => Err(error),
@@ -57,6 +53,6 @@ pub fn step(
         (λ error. FailsAs error (step_answer text.now id state.old packets.now)) }
     ensures unchanged { OnErr result (state.new ≡ state.old) }
 {
-    let plan = plan_with_node(alloc, text, id)?;
-    step_in(alloc, &plan, id, state, packets)
+    let machine = machine_with_node(alloc, text, id)?;
+    step_in(alloc, machine, id, state, packets)
 }

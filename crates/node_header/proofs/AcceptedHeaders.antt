@@ -20,7 +20,8 @@ use Rattle.state_codec.proofs.PlanStates.{state_of_node}
 use Rattle.node_header.specs.declared.header_lines.NodeHeader.{NodeHeader}
 use Rattle.node_header.specs.NodePart.{header_step, nothing_read}
 use Rattle.node_header.specs.Fits.{IsFit}
-use Rattle.node_header.specs.Headers.{behind_node, behind_plan, header_in}
+use Rattle.node_header.specs.HeaderParts.{behind_node, behind_plan}
+use Rattle.node_header.specs.Headers.{header_in, plan_part}
 use Rattle.node_header.specs.HeaderLaws.{IsOfPlan, HeadersAreOfPlans}
 use Rattle.node_header.proofs.HeaderFits.{part_fits}
 use Rattle.node_header.proofs.Unlimited.{without_room, is_found, whole_text}
@@ -55,13 +56,13 @@ of_plan plan node lines accepted fit =
 by_node : (plan : Plan) (lines : ℕ) → IsAccepted plan
     → (found : Result (Found (Option ℕ × NodeHeader)) (At (Limited Rule)))
     → IfOk found (λ f. IsFit (shape_of plan) (f.value.1))
-    → IfOk (behind_node plan lines found) IsOfPlan
+    → IfOk (behind_node {Premise = Premise} plan lines found) IsOfPlan
 by_node plan lines accepted (Err at) fits = tt
 by_node plan lines accepted (Ok found) fits =
     of_plan plan (found.value.1) (lines + found.taken) accepted fits
 
 by_plan : (found : Result (Found (Option ℕ × Plan)) (At (Limited Premise)))
-    → IfOk found (λ f. IsAccepted (f.value.1)) → IfOk (behind_plan found) IsOfPlan
+    → IfOk found (λ f. IsAccepted (f.value.1)) → IfOk (behind_plan plan_part found) IsOfPlan
 by_plan (Err at) accepted = tt
 by_plan (Ok found) accepted =
     let plan = found.value.1 in

@@ -22,9 +22,9 @@ use Rattle.plan_certificate.specs.PlanTexts.{level_texts, plan_text}
 use Rattle.plan_certificate.proofs.ReadBack.{text_is_read}
 use Rattle.state_codec.specs.Shapes.{shape_of}
 use Rattle.node_header.specs.declared.header_lines.NodeHeader.{NodeHeader}
-use Rattle.node_header.specs.declared.headers.HeaderRefusal.{HeaderRefusal}
 use Rattle.node_header.specs.NodePart.{header_step, nothing_read}
-use Rattle.node_header.specs.Headers.{Header, behind_node, behind_plan, header_in}
+use Rattle.node_header.specs.HeaderParts.{behind_node, behind_plan}
+use Rattle.node_header.specs.Headers.{Header, HeaderRefusal, header_in, plan_part}
 use Rattle.node_header.specs.HeaderTexts.{node_part, header_text, header_stated, HeaderTextIsRead}
 use Rattle.node_header.proofs.BehindLines.{behind_all}
 use Rattle.node_header.proofs.HeaderTexts.{line_1, line_2, line_3, line_4, part_text, part_is_read}
@@ -131,7 +131,7 @@ module _ (plan : Plan) (accepted : IsAccepted plan) where
         (record { value = node; taken = 4; behind = lines_of rest })
         (part_is_read plan accepted v lt s is number rest) 4 0 a.left refl (roomy a.left a.has) in
         ap (λ text. header_in (room_of longer (2 ^ 20)) (lines_of text)) (text_parts rest)
-        ∙ ap behind_plan a.is ∙ ap (behind_node plan (plan_depth plan + 3)) b.is
+        ∙ ap (behind_plan plan_part) a.is ∙ ap (behind_node plan (plan_depth plan + 3)) b.is
         ∙ ap (λ n. let h : Header = record { plan = plan; node = node; lines = n } in
         let r : Result Header (Option HeaderRefusal) = Ok h in r) lines_are
 

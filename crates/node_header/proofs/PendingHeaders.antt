@@ -8,24 +8,18 @@ use Rattle.texts.specs.Words.{open_rest}
 use Rattle.edge_io.specs.declared.fed_parts.FedPart.{FedPart}
 use Rattle.edge_io.specs.FedParts.{PartPending, WholePart}
 use Rattle.edge_io.proofs.Chains.{counts_behind, goes_on_behind}
-use Rattle.sync_types.specs.declared.answers.Premise.{Premise}
-use Rattle.sync_types.specs.declared.answers.Premise.TheVariants as premise
 use Rattle.sync_types.specs.declared.answers.Rule.{Rule}
 use Rattle.sync_types.specs.declared.answers.Rule.TheVariants as rule
-use Rattle.construction.specs.Plans.{Plan}
-use Rattle.plan_reader.specs.PlanPart.{plan_step}
-use Rattle.plan_reader.specs.declared.stages.PlanStage.{PlanStage}
-use Rattle.plan_reader.specs.declared.stages.PlanStage.TheVariants.{Unread}
-use Rattle.state_codec.specs.Shapes.{shape_of}
 use Rattle.node_header.specs.declared.header_lines.NodeHeader.{NodeHeader}
 use Rattle.node_header.specs.declared.headers.HeaderRefusal.TheVariants as refusal
 use Rattle.node_header.specs.NodePart.{HeaderSoFar, header_step, nothing_read}
-use Rattle.node_header.specs.Headers.{behind_plan, behind_node}
+use Rattle.node_header.specs.HeaderParts.{PlanPart, behind_plan, behind_node}
 use Rattle.node_header.specs.FedHeaders.{HeaderPending}
 
 -- the steps of the parts over all lines
-abbrev pub plan_line : PlanStage → List ℕ → Next PlanStage Plan Premise
-plan_line = with_skips plan_step premise.Form
+abbrev pub plan_line : {Reader Plan Premise : Type 0} → PlanPart Reader Plan Premise
+    → Reader → List ℕ → Next Reader Plan Premise
+plan_line plans = with_skips plans.step plans.form
 
 abbrev pub node_line : HeaderSoFar → List ℕ → Next HeaderSoFar NodeHeader Rule
 node_line = with_skips header_step rule.Form
@@ -51,36 +45,41 @@ module _ (P Q : List ℕ → Type 0) (front : List ℕ)
     subst (λ (l : List ℕ). (l ≡ []) ⊎ (length l ≡ 4097)) (sym (opens bytes)) shown,
   )
 
--- in the plan
-abbrev pub PlanPending : List ℕ → Type 0
-PlanPending bytes = PartPending plan_line premise.Form Unread 1 (2 ^ 20) 0 bytes
+module _ {Reader Plan Premise : Type 0} (plans : PlanPart Reader Plan Premise) where
+  -- in the plan
+  abbrev pub PlanPending : List ℕ → Type 0
+  PlanPending bytes = PartPending (plan_line plans) plans.form plans.unread 1 (2 ^ 20) 0 bytes
 
-pub pending_first : (bytes : List ℕ) → PlanPending bytes → HeaderPending bytes
-pending_first bytes p = record {
-  refusal = refusal.Plan (1 + length (whole_lines bytes)) premise.Form;
-  lines = ap behind_plan p.lines;
-  behind = refl;
-  room = p.room;
-}
+  pub pending_first : (bytes : List ℕ) → PlanPending bytes → HeaderPending plans bytes
+  pending_first bytes p = record {
+    refusal = refusal.Plan (1 + length (whole_lines bytes)) plans.form;
+    lines = ap (behind_plan plans) p.lines;
+    behind = refl;
+    room = p.room;
+  }
 
--- in the node part
-module _ (s t : Option (List ℕ)) (after : ℕ) (x : FedPart Plan)
-    (w : WholePart plan_line premise.Form Unread 1 (2 ^ 20) 0 after s t x)
-    (goes_on : w.decided.ended ≡ false) where
-  abbrev pub NodePending : List ℕ → Type 0
-  NodePending bytes =
-      PartPending node_line rule.Form (nothing_read (shape_of x.value)) (1 + x.lines) (2 ^ 20) after
-      bytes
+  -- in the node part
+  module _ (s t : Option (List ℕ)) (after : ℕ) (x : FedPart Plan)
+      (w : WholePart (plan_line plans) plans.form plans.unread 1 (2 ^ 20) 0 after s t x)
+      (goes_on : w.decided.ended ≡ false) where
+    abbrev pub NodePending : List ℕ → Type 0
+    NodePending bytes =
+        PartPending node_line rule.Form (nothing_read (plans.shape x.value)) (1 + x.lines) (2 ^ 20)
+        after
+        bytes
 
-  pub pending_second : (bytes : List ℕ) → NodePending bytes
-      → HeaderPending (w.decided.bytes ++ bytes)
-  pending_second bytes p =
-      let lines = counts_behind plan_line premise.Form Unread 1 (2 ^ 20) 0 after s t x w goes_on
-      bytes in
-      record {
-        refusal = refusal.Node (1 + x.lines + length (whole_lines bytes)) rule.Form;
-        lines = ap behind_plan (w.whole goes_on bytes) ∙ ap (behind_node x.value x.lines) p.lines;
-        behind = omega (arith, lines);
-        room = goes_on_behind plan_line premise.Form Unread 1 (2 ^ 20) 0 after s t x w goes_on bytes
-            p.room;
-      }
+    pub pending_second : (bytes : List ℕ) → NodePending bytes
+        → HeaderPending plans (w.decided.bytes ++ bytes)
+    pending_second bytes p =
+        let lines = counts_behind (plan_line plans) plans.form plans.unread 1 (2 ^ 20) 0 after s t x
+        w goes_on
+        bytes in
+        record {
+          refusal = refusal.Node (1 + x.lines + length (whole_lines bytes)) rule.Form;
+          lines = ap (behind_plan plans) (w.whole goes_on bytes)
+              ∙ ap (behind_node x.value x.lines) p.lines;
+          behind = omega (arith, lines);
+          room = goes_on_behind (plan_line plans) plans.form plans.unread 1 (2 ^ 20) 0 after s t x w
+              goes_on bytes
+              p.room;
+        }

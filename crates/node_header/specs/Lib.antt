@@ -4,3 +4,4 @@ pub mod HeaderLaws
 pub mod HeaderTexts
 pub mod Headers
 pub mod NodePart
+pub mod HeaderParts

@@ -8,6 +8,8 @@
 mod header_lines;
 mod headers;
 pub mod laws;
+mod plan_lines;
 
 pub use header_lines::NodeHeader;
-pub use headers::{HeaderError, HeaderRead, HeaderRefusal, read_header};
+pub use headers::{HeaderError, HeaderRead, HeaderRefusal, read_header, read_header_by};
+pub use plan_lines::PlanReader;

@@ -1,22 +1,22 @@
--- Nodes that are connected, whatever is sent: round by round each packet gets what the correct
--- nodes write behind the packets so far.
-use Rattle.std.proofs.Common.{◌≡◌, ℕ, zero, suc, ◌<◌, ◌≤◌, Bool, true, false, cond, ◌||◌, ◌⊎◌, inl}
-use Rattle.std.proofs.Common.{inr, List, [], ◌∷◌, ◌++◌, length, map, take, get_or, refl, sym, ap}
-use Rattle.std.proofs.Common.{◌∙◌, arith, length-append}
-use Rattle.std.specs.Prelude.{nat_lt, if◌then◌else◌}
+-- Nodes that are connected, whatever is sent: packets before the window hold what is sent, and
+-- round by round each packet gets what the correct nodes write after the packets so far.
+use Rattle.std.proofs.Common.{◌≡◌, ℕ, zero, suc, ◌+◌, ◌-◌, ◌<◌, ◌≤◌, true, cond, ◌⊎◌}
+use Rattle.std.proofs.Common.{inl, inr, List, [], ◌∷◌, ◌++◌, length, map, take, get_or, refl, sym}
+use Rattle.std.proofs.Common.{ap, subst, ◌∙◌, arith, length-append}
+use Rattle.std.specs.Prelude.{if◌then◌else◌}
 use Rattle.std.specs.List.{range_with_len}
-use Rattle.std.proofs.lemmas.Bool.{cases_lt, lt-ltb, le-ltb}
+use Rattle.std.proofs.lemmas.Bool.{cases_lt}
 use Rattle.std.proofs.lemmas.List.{get_or_append_left, get_or_push, take-append-le, take_all}
 use Rattle.std.proofs.lemmas.List.FromFn.{length-map-range_with_len, get_or-map-range_with_len}
 use Rattle.sync_types.specs.States.{State}
-use Rattle.construction.specs.Plans.{Plan, plan_nodes}
-use Rattle.construction.specs.Runs.{is_in, IsState}
-use Rattle.plan_numbers.specs.Premises.{IsAccepted}
+use Rattle.construction.specs.Runs.{is_in}
 use Rattle.state_codec.specs.Reading.{read}
 use Rattle.state_codec.specs.Writing.{written}
-use Rattle.node_stepper.specs.Nodes.{fields_of, state_behind}
+use Rattle.machines.specs.Machines.{Machine, IsState}
+use Rattle.machines.specs.Laws.{IsSound}
+use Rattle.node_stepper.specs.Nodes.{state_behind}
 use Rattle.node_stepper.specs.Laws.{AreFull}
-use Rattle.node_runs.specs.NodeRuns.{Nodes, cell_given, IsCorrect, state_at, AreConnected}
+use Rattle.node_runs.specs.NodeRuns.{Nodes, cell_given, IsCorrect, state_in, AreConnected}
 use Rattle.node_runs.specs.Laws.{AnyLiesConnect}
 use Rattle.node_runs.proofs.States.{reads_back, behind_is_state}
 
@@ -26,130 +26,171 @@ full_push nodes [] packet full size = (size, tt)
 full_push nodes (p ∷ packets) packet (this, full) size =
     (this, full_push nodes packets packet full size)
 
--- where it is sent, and where it is what the node wrote
-sent_by : (early faulty : Bool) (a b : List ℕ) → (early ≡ true) ⊎ (faulty ≡ true)
-    → cond (early || faulty) a b ≡ a
-sent_by true faulty a b is = refl
-sent_by false true a b is = refl
-sent_by false false a b (inl is) = cc
-sent_by false false a b (inr is) = cc
+module _ (m : Machine) (faulty : List ℕ) (starts : ℕ → State) (sent : ℕ → ℕ → ℕ → List ℕ)
+    (begins : ℕ → ℕ) where
+  -- a packet of node v that holds what is sent, and so many of them
+  abbrev sent_packet : (t v : ℕ) → List (List ℕ)
+  sent_packet t v = map (sent t v) (range_with_len 0 m.nodes)
 
-wrote_by : (early faulty : Bool) (a b : List ℕ) → early ≡ false → faulty ≡ false
-    → cond (early || faulty) a b ≡ b
-wrote_by true faulty a b late correct = cc
-wrote_by false true a b late correct = cc
-wrote_by false false a b late correct = refl
+  abbrev sent_packets : (count v : ℕ) → List (List (List ℕ))
+  sent_packets zero v = []
+  sent_packets (suc t) v = sent_packets t v ++ sent_packet t v ∷ []
 
-module _ (plan : Plan) (faulty : List ℕ) (starts : ℕ → State) (sent : ℕ → ℕ → ℕ → List ℕ)
-    (first : ℕ) where
-  -- what node u writes behind packets
-  abbrev written_behind : (u : ℕ) → List (List (List ℕ)) → List ℕ
-  written_behind u packets = written (fields_of plan u) (state_behind plan u (starts u) packets)
+  sent_long : (count v : ℕ) → length (sent_packets count v) ≡ count
+  sent_long zero v = refl
+  sent_long (suc t) v =
+      omega (arith, length-append (sent_packets t v) (sent_packet t v ∷ []), sent_long t v)
 
-  -- the cell of node u in packet t of node v, where u has these packets before
-  abbrev cell_from : (t v u : ℕ) → List (List (List ℕ)) → List ℕ
-  cell_from t v u packets =
-      if nat_lt t first || is_in faulty u then sent t v u else written_behind u packets
+  sent_full : (count v : ℕ) → AreFull m.nodes (sent_packets count v)
+  sent_full zero v = tt
+  sent_full (suc t) v =
+      full_push m.nodes (sent_packets t v) (sent_packet t v) (sent_full t v)
+      (length-map-range_with_len (sent t v) 0 m.nodes)
 
-  -- the first packets, so many, of node v
-  abbrev packets_by : (rounds v : ℕ) → List (List (List ℕ))
-  packets_by zero v = []
-  packets_by (suc t) v =
-      packets_by t v
-      ++ map (λ u. cell_from t v u (packets_by t u)) (range_with_len 0 (plan_nodes plan)) ∷ []
-
-  abbrev cell_by : (t v u : ℕ) → List ℕ
-  cell_by t v u = cell_from t v u (packets_by t u)
-
-  abbrev packet_by : (t v : ℕ) → List (List ℕ)
-  packet_by t v = map (cell_by t v) (range_with_len 0 (plan_nodes plan))
-
-  long : (rounds v : ℕ) → length (packets_by rounds v) ≡ rounds
-  long zero v = refl
-  long (suc t) v = omega (arith, length-append (packets_by t v) (packet_by t v ∷ []), long t v)
-
-  are_full : (rounds v : ℕ) → AreFull (plan_nodes plan) (packets_by rounds v)
-  are_full zero v = tt
-  are_full (suc t) v =
-      full_push (plan_nodes plan) (packets_by t v) (packet_by t v) (are_full t v)
-      (length-map-range_with_len (cell_by t v) 0 (plan_nodes plan))
-
-  front : (rounds t v : ℕ) → t ≤ rounds → take t (packets_by rounds v) ≡ packets_by t v
-  front zero t v le =
-      let none : t ≡ zero = omega arith in
-      ap (λ k. take k (packets_by zero v)) none ∙ ap (λ k. packets_by k v) (sym none)
-  front (suc r) t v le = elim (cases_lt r t) [
-    | inl above ↦
-        let all : t ≡ suc r = omega arith in
-        take_all t (packets_by (suc r) v) (omega (arith, long (suc r) v))
-        ∙ ap (λ k. packets_by k v) (sym all)
-    | inr within ↦
-        take-append-le t (packets_by r v) (packet_by r v ∷ []) (omega (arith, long r v))
-        ∙ front r t v within
+  sent_is : (count t v : ℕ) → t < count → get_or (sent_packets count v) t [] ≡ sent_packet t v
+  sent_is zero t v lt = absurd (omega arith)
+  sent_is (suc c) t v lt = elim (cases_lt t c) [
+    | inl within ↦
+        get_or_append_left (sent_packets c v) (sent_packet c v ∷ []) [] t
+        (omega (arith, sent_long c v))
+        ∙ sent_is c t v within
+    | inr over ↦
+        let last : t ≡ c = omega arith in
+        get_or_push (sent_packets c v) (sent_packet c v) [] t (omega (arith, sent_long c v))
+        ∙ ap (λ k. sent_packet k v) (sym last)
   ]
 
-  packet_is : (rounds t v : ℕ) → t < rounds → get_or (packets_by rounds v) t [] ≡ packet_by t v
-  packet_is zero t v lt = absurd (omega arith)
-  packet_is (suc r) t v lt = elim (cases_lt t r) [
+  -- what node u writes after packets
+  abbrev written_behind : (u : ℕ) → List (List (List ℕ)) → List ℕ
+  written_behind u packets = written (m.fields u) (state_behind m u (starts u) packets)
+
+  -- the cell of node u for node v in round i, where u has these packets before
+  abbrev cell_from : (i v u : ℕ) → List (List (List ℕ)) → List ℕ
+  cell_from i v u packets =
+      if is_in faulty u then sent (begins v + i) v u else written_behind u packets
+
+  -- the packets of node v to the end of so many rounds
+  abbrev packets_by : (rounds v : ℕ) → List (List (List ℕ))
+  packets_by zero v = sent_packets (begins v) v
+  packets_by (suc i) v =
+      packets_by i v
+      ++ map (λ u. cell_from i v u (packets_by i u)) (range_with_len 0 m.nodes) ∷ []
+
+  abbrev cell_by : (i v u : ℕ) → List ℕ
+  cell_by i v u = cell_from i v u (packets_by i u)
+
+  abbrev packet_by : (i v : ℕ) → List (List ℕ)
+  packet_by i v = map (cell_by i v) (range_with_len 0 m.nodes)
+
+  long : (rounds v : ℕ) → length (packets_by rounds v) ≡ begins v + rounds
+  long zero v = omega (arith, sent_long (begins v) v)
+  long (suc i) v = omega (arith, length-append (packets_by i v) (packet_by i v ∷ []), long i v)
+
+  are_full : (rounds v : ℕ) → AreFull m.nodes (packets_by rounds v)
+  are_full zero v = sent_full (begins v) v
+  are_full (suc i) v =
+      full_push m.nodes (packets_by i v) (packet_by i v) (are_full i v)
+      (length-map-range_with_len (cell_by i v) 0 m.nodes)
+
+  prefix_all : (rounds t v : ℕ) → t ≡ begins v + rounds
+      → take t (packets_by rounds v) ≡ packets_by rounds v
+  prefix_all rounds t v e = take_all t (packets_by rounds v) (omega (arith, long rounds v))
+
+  prefix : (rounds i v : ℕ) → i ≤ rounds
+      → take (begins v + i) (packets_by rounds v) ≡ packets_by i v
+  prefix zero i v le =
+      let none : i ≡ zero = omega arith in
+      prefix_all zero (begins v + i) v (omega arith) ∙ ap (λ k. packets_by k v) (sym none)
+  prefix (suc r) i v le = elim (cases_lt r i) [
+    | inl above ↦
+        let all : i ≡ suc r = omega arith in
+        prefix_all (suc r) (begins v + i) v (omega arith) ∙ ap (λ k. packets_by k v) (sym all)
+    | inr within ↦
+        take-append-le (begins v + i) (packets_by r v) (packet_by r v ∷ [])
+        (omega (arith, long r v))
+        ∙ prefix r i v within
+  ]
+
+  packet_is : (rounds i v : ℕ) → i < rounds
+      → get_or (packets_by rounds v) (begins v + i) [] ≡ packet_by i v
+  packet_is zero i v lt = absurd (omega arith)
+  packet_is (suc r) i v lt = elim (cases_lt i r) [
     | inl within ↦
-        get_or_append_left (packets_by r v) (packet_by r v ∷ []) [] t (omega (arith, long r v))
-        ∙ packet_is r t v within
+        get_or_append_left (packets_by r v) (packet_by r v ∷ []) [] (begins v + i)
+        (omega (arith, long r v))
+        ∙ packet_is r i v within
     | inr over ↦
-        let last : t ≡ r = omega arith in
-        get_or_push (packets_by r v) (packet_by r v) [] t (omega (arith, long r v))
+        let last : i ≡ r = omega arith in
+        get_or_push (packets_by r v) (packet_by r v) [] (begins v + i) (omega (arith, long r v))
         ∙ ap (λ k. packet_by k v) (sym last)
   ]
 
-  module _ (last : ℕ) where
+  early_is : (rounds t v : ℕ) → t < begins v
+      → get_or (packets_by rounds v) t [] ≡ sent_packet t v
+  early_is zero t v lt = sent_is (begins v) t v lt
+  early_is (suc r) t v lt =
+      get_or_append_left (packets_by r v) (packet_by r v ∷ []) [] t (omega (arith, long r v))
+      ∙ early_is r t v lt
+
+  module _ (rounds : ℕ) where
     abbrev nodes : Nodes
-    nodes = record { starts = starts; packets = packets_by last }
+    nodes = record { starts = starts; packets = packets_by rounds }
 
-    given_is : (t v u : ℕ) → t < last → u < plan_nodes plan
-        → cell_given nodes t v u ≡ cell_by t v u
-    given_is t v u lt ult =
-        ap (λ (packet : List (List ℕ)). get_or packet u []) (packet_is last t v lt)
-        ∙ get_or-map-range_with_len (cell_by t v) 0 (plan_nodes plan) u u [] ult (omega arith)
+    given_is : (i v u : ℕ) → i < rounds → u < m.nodes
+        → cell_given nodes (begins v + i) v u ≡ cell_by i v u
+    given_is i v u lt ult =
+        ap (λ (packet : List (List ℕ)). get_or packet u []) (packet_is rounds i v lt)
+        ∙ get_or-map-range_with_len (cell_by i v) 0 m.nodes u u [] ult (omega arith)
 
-    given : (t v u : ℕ) → t < last → u < plan_nodes plan
-        → (t < first) ⊎ (is_in faulty u ≡ true) → cell_given nodes t v u ≡ sent t v u
-    given t v u lt ult is =
-        given_is t v u lt ult
-        ∙ sent_by (nat_lt t first) (is_in faulty u) (sent t v u)
-        (written_behind u (packets_by t u)) (elim is [
-          | inl early ↦ inl (lt-ltb t first early)
-          | inr lies ↦ inr lies
-        ])
+    given_early : (t v u : ℕ) → t < begins v → u < m.nodes → cell_given nodes t v u ≡ sent t v u
+    given_early t v u lt ult =
+        ap (λ (packet : List (List ℕ)). get_or packet u []) (early_is rounds t v lt)
+        ∙ get_or-map-range_with_len (sent t v) 0 m.nodes u u [] ult (omega arith)
 
-    wrote : (t v u : ℕ) → first ≤ t → t < last → IsCorrect plan faulty u
-        → cell_given nodes t v u ≡ written (fields_of plan u) (state_at plan nodes t u)
-    wrote t v u low lt correct =
-        given_is t v u lt correct.0
-        ∙ wrote_by (nat_lt t first) (is_in faulty u) (sent t v u)
-        (written_behind u (packets_by t u)) (le-ltb t first low) correct.1
-        ∙ ap (written_behind u) (sym (front last t u (omega arith)))
+    given_faulty : (i v u : ℕ) → i < rounds → u < m.nodes → is_in faulty u ≡ true
+        → cell_given nodes (begins v + i) v u ≡ sent (begins v + i) v u
+    given_faulty i v u lt ult is =
+        given_is i v u lt ult
+        ∙ ap (λ b. cond b (sent (begins v + i) v u) (written_behind u (packets_by i u))) is
+
+    given : (t v u : ℕ) → t < begins v + rounds → u < m.nodes
+        → (t < begins v) ⊎ (is_in faulty u ≡ true) → cell_given nodes t v u ≡ sent t v u
+    given t v u lt ult (inl early) = given_early t v u early ult
+    given t v u lt ult (inr is) = elim (cases_lt t (begins v)) [
+      | inl early ↦ given_early t v u early ult
+      | inr late ↦
+          let at : begins v + (t - begins v) ≡ t = omega arith in
+          subst (λ k. cell_given nodes k v u ≡ sent k v u) at
+          (given_faulty (t - begins v) v u (omega arith) ult is)
+    ]
+
+    wrote : (i v u : ℕ) → i < rounds → IsCorrect m faulty u
+        → cell_given nodes (begins v + i) v u ≡ written (m.fields u) (state_in m nodes begins i u)
+    wrote i v u lt correct =
+        given_is i v u lt correct.0
+        ∙ ap (λ b. cond b (sent (begins v + i) v u) (written_behind u (packets_by i u))) correct.1
+        ∙ ap (written_behind u) (sym (prefix rounds i u (omega arith)))
 
     -- so they hear what the correct ones wrote
-    connected : IsAccepted plan → first ≤ last
-        → ((v : ℕ) → IsCorrect plan faulty v → IsState plan v (starts v))
-        → AreConnected plan faulty nodes first last
-    connected accepted rising begun = record {
-      rising = rising;
+    connected : IsSound m → ((v : ℕ) → IsCorrect m faulty v → IsState m v (starts v))
+        → AreConnected m faulty nodes begins rounds
+    connected sound begun = record {
       starts = begun;
-      enough = λ v correct. omega (arith, long last v);
-      cells = λ t v u low lt v_correct u_correct other.
-          ap (read (fields_of plan u)) (wrote t v u low lt u_correct)
-          ∙ reads_back plan accepted u u_correct.0 (state_at plan nodes t u)
-          (behind_is_state plan accepted u (starts u) (take t (packets_by last u))
-          (begun u u_correct));
+      enough = λ v correct. omega (arith, long rounds v);
+      cells = λ i v u lt v_correct u_correct other.
+          ap (read (m.fields u)) (wrote i v u lt u_correct)
+          ∙ reads_back m sound u u_correct.0 (state_in m nodes begins i u)
+          (behind_is_state m sound u u_correct.0 (starts u)
+          (take (begins u + i) (packets_by rounds u)) (begun u u_correct));
     }
 
 pub any_lies_connect : AnyLiesConnect
-any_lies_connect plan accepted faulty starts sent first last rising begun = record {
-  nodes = nodes plan faulty starts sent first last;
+any_lies_connect m sound faulty starts sent begins rounds begun = record {
+  nodes = nodes m faulty starts sent begins rounds;
   begin = refl;
-  are = connected plan faulty starts sent first last accepted rising begun;
-  long = long plan faulty starts sent first last;
-  full = are_full plan faulty starts sent first last;
-  given = given plan faulty starts sent first last;
-  wrote = wrote plan faulty starts sent first last;
+  are = connected m faulty starts sent begins rounds sound begun;
+  long = long m faulty starts sent begins rounds;
+  full = are_full m faulty starts sent begins rounds;
+  given = given m faulty starts sent begins rounds;
+  wrote = wrote m faulty starts sent begins rounds;
 }

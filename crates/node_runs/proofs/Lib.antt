@@ -1,7 +1,11 @@
 pub mod States
 pub mod Correct
+pub mod Follows
+pub mod Windows
 pub mod Runs
 pub mod Settled
 pub mod Written
 pub mod Connected
-pub mod Worked
+pub mod LossySteps
+pub mod Losses
+pub mod Heard

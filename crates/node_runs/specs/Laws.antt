@@ -1,88 +1,95 @@
 -- The laws of connected nodes.
-use Rattle.std.specs.Prelude.{◌≡◌, ℕ, ◌+◌, ◌-◌, ◌%◌, ◌<◌, ◌≤◌, List, length, true, ◌⊎◌}
+use Rattle.std.specs.Prelude.{◌≡◌, ℕ, ◌+◌, ◌%◌, ◌<◌, ◌≤◌, List, length, true, ◌⊎◌}
 use Rattle.sync_types.specs.States.{State}
-use Rattle.construction.specs.Plans.{Plan, plan_nodes, plan_bound, plan_modulus}
 use Rattle.construction.specs.Steps.{state_of}
-use Rattle.construction.specs.Runs.{is_in, IsState, configuration, Run, AllShow, IsBorne, IsLocked}
-use Rattle.plan_numbers.specs.Premises.{IsAccepted}
+use Rattle.construction.specs.Runs.{is_in, configuration}
 use Rattle.state_codec.specs.Writing.{written}
-use Rattle.node_stepper.specs.Nodes.{fields_of}
+use Rattle.machines.specs.Machines.{Machine, IsState, Run, AllShow, IsBorne, IsLocked}
+use Rattle.machines.specs.Laws.{IsSound}
 use Rattle.node_stepper.specs.Laws.{AreFull}
-use Rattle.node_runs.specs.NodeRuns.{Nodes, cell_given, IsCorrect, SomeIsCorrect, state_at}
-use Rattle.node_runs.specs.NodeRuns.{states_at, AreConnected}
+use Rattle.node_runs.specs.NodeRuns.{Nodes, cell_given, IsCorrect, SomeIsCorrect, state_in}
+use Rattle.node_runs.specs.NodeRuns.{states_in, AreConnected}
+use Rattle.node_runs.specs.Losses.{AreHeard}
 
--- of configurations, by their number
-module _ (plan : Plan) (faulty : List ℕ) (at : ℕ → List State) where
-  -- from one to another the correct nodes are in the states of a run
-  pub record RunThrough (first last : ℕ) : Type 0 where
+-- of the configurations of a window, by the number of rounds before them
+module _ (m : Machine) (faulty : List ℕ) (at : ℕ → List State) where
+  -- to the last one the correct nodes are in the states of a run
+  pub record RunThrough (rounds : ℕ) : Type 0 where
     pub run : List (List State)
-    pub is : Run plan faulty run
-    pub long : first + length run ≡ last + 1
-    pub states : (t v : ℕ) → first ≤ t → t ≤ last → IsCorrect plan faulty v
-        → state_of (configuration run (t - first)) v ≡ state_of (at t) v
+    pub is : Run m faulty run
+    pub long : length run ≡ rounds + 1
+    pub states : (i v : ℕ) → i ≤ rounds → IsCorrect m faulty v
+        → state_of (configuration run i) v ≡ state_of (at i) v
 
-  -- all correct nodes show one number, which grows by one modulo C
-  pub record CountThrough (first last : ℕ) : Type 0 where
+  -- from one on all correct nodes show one number, which grows by one modulo C
+  pub record CountThrough (from rounds : ℕ) : Type 0 where
     pub output : ℕ → ℕ
-    pub shows : (t : ℕ) → first ≤ t → t ≤ last → AllShow plan faulty (at t) (output t)
-    pub grows : (t : ℕ) → first ≤ t → t < last
-        → output (t + 1) ≡ (output t + 1) % plan_modulus plan
+    pub shows : (i : ℕ) → from ≤ i → i ≤ rounds → AllShow m faulty (at i) (output i)
+    pub grows : (i : ℕ) → from ≤ i → i < rounds
+        → output (i + 1) ≡ (output i + 1) % m.modulus
 
   -- each is locked, and they count
-  pub record StayLockedThrough (first last : ℕ) : Type 0 where
-    pub locked : (t : ℕ) → first ≤ t → t ≤ last → IsLocked plan faulty (at t)
-    pub counts : CountThrough first last
+  pub record StayLockedThrough (from rounds : ℕ) : Type 0 where
+    pub locked : (i : ℕ) → from ≤ i → i ≤ rounds → IsLocked m faulty (at i)
+    pub counts : CountThrough from rounds
 
 -- Connected nodes that begin in these states and are given these bytes: in packet t node v is
--- given `sent t v u` as the cell of a faulty node u, and before the first of these packets of each
--- node u. As the cell of a correct node it is given what that one writes behind t packets. Each has
--- just so many packets, with a cell of each node.
-pub record Connects (plan : Plan) (faulty : List ℕ) (starts : ℕ → State)
-    (sent : ℕ → ℕ → ℕ → List ℕ) (first last : ℕ) : Type 0 where
+-- given `sent t v u` as the cell of a faulty node u, and before the window of each node u. As the
+-- cell of a correct node it is given what that one writes after as many rounds. Each has just so
+-- many packets, with a cell of each node.
+pub record Connects (m : Machine) (faulty : List ℕ) (starts : ℕ → State)
+    (sent : ℕ → ℕ → ℕ → List ℕ) (begins : ℕ → ℕ) (rounds : ℕ) : Type 0 where
   pub nodes : Nodes
   pub begin : nodes.starts ≡ starts
-  pub are : AreConnected plan faulty nodes first last
-  pub long : (v : ℕ) → length (nodes.packets v) ≡ last
-  pub full : (v : ℕ) → AreFull (plan_nodes plan) (nodes.packets v)
-  pub given : (t v u : ℕ) → t < last → u < plan_nodes plan
-      → (t < first) ⊎ (is_in faulty u ≡ true) → cell_given nodes t v u ≡ sent t v u
-  pub wrote : (t v u : ℕ) → first ≤ t → t < last → IsCorrect plan faulty u
-      → cell_given nodes t v u ≡ written (fields_of plan u) (state_at plan nodes t u)
+  pub are : AreConnected m faulty nodes begins rounds
+  pub long : (v : ℕ) → length (nodes.packets v) ≡ begins v + rounds
+  pub full : (v : ℕ) → AreFull m.nodes (nodes.packets v)
+  pub given : (t v u : ℕ) → t < begins v + rounds → u < m.nodes
+      → (t < begins v) ⊎ (is_in faulty u ≡ true) → cell_given nodes t v u ≡ sent t v u
+  pub wrote : (i v u : ℕ) → i < rounds → IsCorrect m faulty u
+      → cell_given nodes (begins v + i) v u ≡ written (m.fields u) (state_in m nodes begins i u)
 
--- There are such nodes, whatever states of theirs the correct ones begin in, and whatever is sent.
+-- There are such nodes, whatever states of theirs the correct ones begin in, wherever in each of
+-- them the window begins, and whatever is sent.
 abbrev pub AnyLiesConnect : Type 0
-AnyLiesConnect = (plan : Plan) → IsAccepted plan → (faulty : List ℕ) (starts : ℕ → State)
-    (sent : ℕ → ℕ → ℕ → List ℕ) (first last : ℕ) → first ≤ last
-    → ((v : ℕ) → IsCorrect plan faulty v → IsState plan v (starts v))
-    → Connects plan faulty starts sent first last
+AnyLiesConnect = (m : Machine) → IsSound m → (faulty : List ℕ) (starts : ℕ → State)
+    (sent : ℕ → ℕ → ℕ → List ℕ) (begins : ℕ → ℕ) (rounds : ℕ)
+    → ((v : ℕ) → IsCorrect m faulty v → IsState m v (starts v))
+    → Connects m faulty starts sent begins rounds
 
--- Faulty nodes that an accepted plan bears leave a correct one.
+-- Faulty nodes that a sound machine tolerates leave a correct one.
 abbrev pub BorneLeavesSome : Type 0
-BorneLeavesSome = (plan : Plan) → IsAccepted plan → (faulty : List ℕ) → IsBorne plan faulty
-    → SomeIsCorrect plan faulty
+BorneLeavesSome = (m : Machine) → IsSound m → (faulty : List ℕ) → IsBorne m faulty
+    → SomeIsCorrect m faulty
 
--- Connected nodes of an accepted plan are a run of it.
+-- Connected nodes of a sound machine are a run of it.
 abbrev pub NodesRun : Type 0
-NodesRun = (plan : Plan) → IsAccepted plan → (faulty : List ℕ) (nodes : Nodes) (first last : ℕ)
-    → AreConnected plan faulty nodes first last
-    → RunThrough plan faulty (states_at plan nodes) first last
+NodesRun = (m : Machine) → IsSound m → (faulty : List ℕ) (nodes : Nodes) (begins : ℕ → ℕ)
+    (rounds : ℕ) → AreConnected m faulty nodes begins rounds
+    → RunThrough m faulty (states_in m nodes begins) rounds
 
--- So many packets later as the bound says they count.
+-- So many rounds later as the bound says they count.
 abbrev pub NodesSettle : Type 0
-NodesSettle = (plan : Plan) → IsAccepted plan → (faulty : List ℕ) → IsBorne plan faulty
-    → (nodes : Nodes) (first last : ℕ) → AreConnected plan faulty nodes first last
-    → CountThrough plan faulty (states_at plan nodes) (first + plan_bound plan) last
+NodesSettle = (m : Machine) → IsSound m → (faulty : List ℕ) → IsBorne m faulty
+    → (nodes : Nodes) (begins : ℕ → ℕ) (rounds : ℕ) → AreConnected m faulty nodes begins rounds
+    → CountThrough m faulty (states_in m nodes begins) m.bound rounds
 
 -- There they are locked.
 abbrev pub NodesLock : Type 0
-NodesLock = (plan : Plan) → IsAccepted plan → (faulty : List ℕ) → IsBorne plan faulty
-    → (nodes : Nodes) (first last : ℕ) → AreConnected plan faulty nodes first last
-    → first + plan_bound plan ≤ last
-    → IsLocked plan faulty (states_at plan nodes (first + plan_bound plan))
+NodesLock = (m : Machine) → IsSound m → (faulty : List ℕ) → IsBorne m faulty
+    → (nodes : Nodes) (begins : ℕ → ℕ) (rounds : ℕ) → AreConnected m faulty nodes begins rounds
+    → m.bound ≤ rounds → IsLocked m faulty (states_in m nodes begins m.bound)
 
 -- Where they are locked they stay so, and count, whatever cells of faulty nodes follow.
 abbrev pub NodesStayLocked : Type 0
-NodesStayLocked = (plan : Plan) → IsAccepted plan → (faulty : List ℕ) → IsBorne plan faulty
-    → (nodes : Nodes) (first last : ℕ) → AreConnected plan faulty nodes first last
-    → (from : ℕ) → first ≤ from → from ≤ last → IsLocked plan faulty (states_at plan nodes from)
-    → StayLockedThrough plan faulty (states_at plan nodes) from last
+NodesStayLocked = (m : Machine) → IsSound m → (faulty : List ℕ) → IsBorne m faulty
+    → (nodes : Nodes) (begins : ℕ → ℕ) (rounds : ℕ) → AreConnected m faulty nodes begins rounds
+    → (from : ℕ) → from ≤ rounds → IsLocked m faulty (states_in m nodes begins from)
+    → StayLockedThrough m faulty (states_in m nodes begins) from rounds
+
+-- So they do where states are lost, as long as each hears those of N - F nodes in each round.
+abbrev pub HeardNodesStayLocked : Type 0
+HeardNodesStayLocked = (m : Machine) → IsSound m → (faulty : List ℕ) → IsBorne m faulty
+    → (nodes : Nodes) (begins : ℕ → ℕ) (rounds : ℕ) → AreHeard m faulty nodes begins rounds
+    → (from : ℕ) → from ≤ rounds → IsLocked m faulty (states_in m nodes begins from)
+    → StayLockedThrough m faulty (states_in m nodes begins) from rounds

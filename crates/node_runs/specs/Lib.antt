@@ -1,3 +1,4 @@
 pub mod NodeRuns
 pub mod Cells
+pub mod Losses
 pub mod Laws

@@ -2,52 +2,58 @@
 
 ghost use Rattle.node_runs.specs.Cells.{NodeWritesStates};
 ghost use Rattle.node_runs.specs.Laws.{AnyLiesConnect, BorneLeavesSome, NodesRun, NodesSettle};
-ghost use Rattle.node_runs.specs.Laws.{NodesLock, NodesStayLocked};
+ghost use Rattle.node_runs.specs.Laws.{NodesLock, NodesStayLocked, HeardNodesStayLocked};
+ghost use Rattle.node_runs.specs.Losses.{LossesKeepLocked};
 
-use plan_laws::laws::{every_plan_settles, locked_runs_count, locks_at_bound};
-
-/// What a node writes is, cell by cell, its states: the first, and that behind each packet.
+/// What a node writes is, cell by cell, its states: the first, and that after each packet.
 pub fn node_writes_states()
     ensures { NodeWritesStates }
 {}
 
-/// There are connected nodes for all states of theirs in which the correct ones begin, and for all
-/// bytes that are sent as the cells of faulty ones, and of all nodes before they are connected.
-/// Their packets are whole, and hold of each correct node what it writes.
+/// There are connected nodes for all states of theirs in which the correct ones begin, wherever the
+/// window begins in each of them, and for all bytes that are sent as the cells of faulty ones, and
+/// of all nodes before the window. Their packets are whole, and hold of each correct node what it
+/// writes.
 pub fn any_lies_connect()
     ensures { AnyLiesConnect }
 {}
 
-/// Of an accepted plan some node is correct, whichever nodes are faulty that it bears.
+/// Of a sound machine some node is correct, whichever faulty nodes it tolerates.
 pub fn borne_leaves_some()
     ensures { BorneLeavesSome }
 {}
 
-/// Nodes that are connected from one packet to another, so that each correct one hears the states
-/// of the other correct ones, are a run of the plan there: whatever bytes, of whatever length, they
-/// are given as the cells of faulty nodes, and whatever was before.
+/// Nodes that are connected for a window of rounds, so that each correct one hears the states of
+/// the other correct ones, are a run of the machine there: whatever bytes, of whatever length, they
+/// are given as the cells of faulty nodes, and whatever was before. The window begins in each node
+/// at a packet of its own, as where some were started anew while others went on.
 pub fn nodes_run()
     ensures { NodesRun }
 {}
 
-/// So they settle, where the plan bears the faulty nodes: T packets later all correct nodes show
-/// one number, which grows by one modulo C with each packet.
+/// So they settle, if the machine tolerates the faulty nodes: T rounds later all correct nodes show
+/// one number, which grows by one modulo C with each round.
 pub fn nodes_settle()
     ensures { NodesSettle }
-{
-    every_plan_settles();
-}
+{}
 
 /// Then they are locked.
 pub fn nodes_lock()
     ensures { NodesLock }
-{
-    locks_at_bound();
-}
+{}
 
 /// Once they are locked, before that too, they stay locked and count.
 pub fn nodes_stay_locked()
     ensures { NodesStayLocked }
-{
-    locked_runs_count();
-}
+{}
+
+/// A sound machine stays locked, and counts, where states are lost: as long as each correct node
+/// hears in each round the true states of N - F nodes, itself among them, whichever these are.
+pub fn losses_keep_locked()
+    ensures { LossesKeepLocked }
+{}
+
+/// So do nodes over packets: a cell that is lost, or late, or wrong may be any bytes.
+pub fn heard_nodes_stay_locked()
+    ensures { HeardNodesStayLocked }
+{}

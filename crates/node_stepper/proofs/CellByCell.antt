@@ -12,12 +12,12 @@ use Rattle.std.proofs.lemmas.List.{length-set, length-take-le}
 use Rattle.std.proofs.lemmas.Slice.{take-put_mid}
 use Rattle.state_codec.proofs.Bytes.{length-bytes_of_bits}
 use Rattle.sync_types.specs.States.{State, zero_state}
-use Rattle.construction.specs.Plans.{Plan}
-use Rattle.state_codec.specs.Shapes.{Fields, Shape, shape_of, fields_at, bytes_in}
+use Rattle.state_codec.specs.Shapes.{Fields, bytes_in}
 use Rattle.state_codec.specs.Writing.{written, bits_of_state, padding}
 use Rattle.state_codec.specs.Reading.{read}
 use Rattle.node_stepper.specs.Packets.{cell_at}
-use Rattle.node_stepper.specs.Nodes.{Standing, IsOther, fields_of, hearing, cell_text, state_cell}
+use Rattle.machines.specs.Machines.{Machine}
+use Rattle.node_stepper.specs.Nodes.{Standing, IsOther, hearing, cell_text}
 use Rattle.node_stepper.specs.Hearing.{BodyFed, WholeCell, CellFed}
 use borrow.Rule.Slice.PartMut.{put_mid}
 
@@ -54,13 +54,6 @@ pub written_size : (fields : Fields) (s : State) → length (written fields s) �
 written_size fields s =
     length-bytes_of_bits (bytes_in fields) (bits_of_state fields s ++ padding fields)
 
--- the cell of a node's state, over the shape of its plan
-pub own_cell : (plan : Plan) (shape : Shape) (id : ℕ) (s t : State) → shape ≡ shape_of plan → s ≡ t
-    → cell_text (written (fields_at shape id) s) ≡ state_cell plan id t
-own_cell plan shape id s t shaped is =
-    ap (λ (x : Shape). cell_text (written (fields_at x id) s)) shaped
-    ∙ ap (λ (u : State). state_cell plan id u) is
-
 -- ---- cells that are read
 
 whole_by : (n : ℕ) (body rest : List ℕ) → length body ≡ n → take n (body ++ rest) ≡ body
@@ -84,67 +77,6 @@ cut_cell : (high low : ℕ) (body : List ℕ) → length body < 256 * high + low
     → cell_at (high ∷ low ∷ body) ≡ None
 cut_cell high low body lt = rw (lt-leb (256 * high + low) (length body) lt) refl
 
--- the length of a cell was read, and then its bytes
-pub rest_fed : {E : Type 0} (high low sender : ℕ) (before after : Standing)
-    (s t u : Option (List ℕ)) (result : Result Bool E) → Consumes s t (low ∷ [])
-    → BodyFed (256 * high + low) sender before after t u result
-    → CellFed (high ∷ []) sender before after s u result
-rest_fed high low sender before after s t u (Ok true) first (body, fed, heard) = (
-  low ∷ body,
-  body,
-  Consumes-trans s t u (low ∷ []) body first fed.0,
-  λ rest. whole_cell high low body rest fed.1,
-  heard,
-)
-rest_fed high low sender before after s t u (Ok false) first (body, fed, heard) = (
-  low ∷ body,
-  Consumes-trans s t u (low ∷ []) body first fed.0,
-  cut_cell high low body fed.1,
-  fed.2,
-  heard,
-)
-rest_fed high low sender before after s t u (Err e) first (body, fed, heard) = (
-  low ∷ body,
-  Consumes-trans s t u (low ∷ []) body first fed.0,
-  cut_cell high low body fed.1,
-  heard,
-)
-
--- a cell that stands at the front of bytes was read there
-pub held_cell : (n sender : ℕ) (before after : Standing) (s t : Option (List ℕ)) (bytes : List ℕ)
-    → 2 + n ≤ length bytes → 256 * get_or bytes 0 0 + get_or bytes 1 0 ≡ n
-    → Consumes s t (take (2 + n) bytes) → after ≡ hearing before sender (take n (drop 2 bytes))
-    → WholeCell [] sender before after s t
-held_cell n sender before after s t [] within size fed heard = absurd (omega (arith, within))
-held_cell n sender before after s t (high ∷ []) within size fed heard =
-    absurd (omega (arith, within))
-held_cell n sender before after s t (high ∷ low ∷ bytes) within size fed heard =
-    let two : 2 + n ≡ suc (suc n) = omega arith in (
-      high ∷ low ∷ take n bytes,
-      take n bytes,
-      subst (λ (k : ℕ). Consumes s t (take k (high ∷ low ∷ bytes))) two fed,
-      λ rest. whole_cell high low (take n bytes) rest
-          (length-take-le n bytes (omega (arith, within)) ∙ sym size),
-      heard,
-    )
-
--- the first byte of a cell was read, and then the others
-pub first_then : (high sender : ℕ) (before after : Standing) (s t u : Option (List ℕ))
-    → Consumes s t (high ∷ []) → WholeCell (high ∷ []) sender before after t u
-    → WholeCell [] sender before after s u
-first_then high sender before after s t u first (bytes, cell, fed, is, heard) =
-    (high ∷ bytes, cell, Consumes-trans s t u (high ∷ []) bytes first fed, is, heard)
-
-pub cell_fed : {E : Type 0} (high sender : ℕ) (before after : Standing)
-    (s t u : Option (List ℕ)) (result : Result Bool E) → Consumes s t (high ∷ [])
-    → CellFed (high ∷ []) sender before after t u result → CellFed [] sender before after s u result
-cell_fed high sender before after s t u (Ok true) first whole =
-    first_then high sender before after s t u first whole
-cell_fed high sender before after s t u (Ok false) first (bytes, fed, is, ended, heard) =
-    (high ∷ bytes, Consumes-trans s t u (high ∷ []) bytes first fed, is, ended, heard)
-cell_fed high sender before after s t u (Err e) first (bytes, fed, is, heard) =
-    (high ∷ bytes, Consumes-trans s t u (high ∷ []) bytes first fed, is, heard)
-
 -- bytes that are no state's are read as none are
 zero_by : (fields : Fields) (bytes : List ℕ) (test : Bool)
     → (length bytes == bytes_in fields) ≡ test
@@ -157,13 +89,81 @@ other_read fields a b first second =
     zero_by fields a false (ne_eqb (length a) (bytes_in fields) first) refl
     ∙ sym (zero_by fields b false (ne_eqb (length b) (bytes_in fields) second) refl)
 
--- two cells that are no states are heard alike
-pub other_heard : (e : Standing) (sender : ℕ) (a b : List ℕ) → IsOther e.plan sender (length a)
-    → IsOther e.plan sender (length b) → hearing e sender a ≡ hearing e sender b
-other_heard e sender a b first second =
-    ap (λ (s : State). if sender == e.id then e else record e {
-      states = slice_set e.states sender
-          s;
-      since = slice_set e.since sender true;
-    })
-    (other_read (fields_of e.plan sender) a b first second)
+-- which machine each counter is
+module _ {M : Type 0} (machine : M → Machine) where
+  -- the length of a cell was read, and then its bytes
+  pub rest_fed : {E : Type 0} (high low sender : ℕ) (before after : Standing M)
+      (s t u : Option (List ℕ)) (result : Result Bool E) → Consumes s t (low ∷ [])
+      → BodyFed machine (256 * high + low) sender before after t u result
+      → CellFed machine (high ∷ []) sender before after s u result
+  rest_fed high low sender before after s t u (Ok true) first (body, fed, heard) = (
+    low ∷ body,
+    body,
+    Consumes-trans s t u (low ∷ []) body first fed.0,
+    λ rest. whole_cell high low body rest fed.1,
+    heard,
+  )
+  rest_fed high low sender before after s t u (Ok false) first (body, fed, heard) = (
+    low ∷ body,
+    Consumes-trans s t u (low ∷ []) body first fed.0,
+    cut_cell high low body fed.1,
+    fed.2,
+    heard,
+  )
+  rest_fed high low sender before after s t u (Err e) first (body, fed, heard) = (
+    low ∷ body,
+    Consumes-trans s t u (low ∷ []) body first fed.0,
+    cut_cell high low body fed.1,
+    heard,
+  )
+
+  -- a cell that stands at the front of bytes was read there
+  pub held_cell : (n sender : ℕ) (before after : Standing M) (s t : Option (List ℕ))
+      (bytes : List ℕ)
+      → 2 + n ≤ length bytes → 256 * get_or bytes 0 0 + get_or bytes 1 0 ≡ n
+      → Consumes s t (take (2 + n) bytes)
+      → after ≡ hearing machine before sender (take n (drop 2 bytes))
+      → WholeCell machine [] sender before after s t
+  held_cell n sender before after s t [] within size fed heard = absurd (omega (arith, within))
+  held_cell n sender before after s t (high ∷ []) within size fed heard =
+      absurd (omega (arith, within))
+  held_cell n sender before after s t (high ∷ low ∷ bytes) within size fed heard =
+      let two : 2 + n ≡ suc (suc n) = omega arith in (
+        high ∷ low ∷ take n bytes,
+        take n bytes,
+        subst (λ (k : ℕ). Consumes s t (take k (high ∷ low ∷ bytes))) two fed,
+        λ rest. whole_cell high low (take n bytes) rest
+            (length-take-le n bytes (omega (arith, within)) ∙ sym size),
+        heard,
+      )
+
+  -- the first byte of a cell was read, and then the others
+  pub first_then : (high sender : ℕ) (before after : Standing M) (s t u : Option (List ℕ))
+      → Consumes s t (high ∷ []) → WholeCell machine (high ∷ []) sender before after t u
+      → WholeCell machine [] sender before after s u
+  first_then high sender before after s t u first (bytes, cell, fed, is, heard) =
+      (high ∷ bytes, cell, Consumes-trans s t u (high ∷ []) bytes first fed, is, heard)
+
+  pub cell_fed : {E : Type 0} (high sender : ℕ) (before after : Standing M)
+      (s t u : Option (List ℕ)) (result : Result Bool E) → Consumes s t (high ∷ [])
+      → CellFed machine (high ∷ []) sender before after t u result
+      → CellFed machine [] sender before after s u result
+  cell_fed high sender before after s t u (Ok true) first whole =
+      first_then high sender before after s t u first whole
+  cell_fed high sender before after s t u (Ok false) first (bytes, fed, is, ended, heard) =
+      (high ∷ bytes, Consumes-trans s t u (high ∷ []) bytes first fed, is, ended, heard)
+  cell_fed high sender before after s t u (Err e) first (bytes, fed, is, heard) =
+      (high ∷ bytes, Consumes-trans s t u (high ∷ []) bytes first fed, is, heard)
+
+  -- two cells that are no states are heard alike
+  pub other_heard : (e : Standing M) (sender : ℕ) (a b : List ℕ)
+      → IsOther (machine e.counter) sender (length a)
+      → IsOther (machine e.counter) sender (length b)
+      → hearing machine e sender a ≡ hearing machine e sender b
+  other_heard e sender a b first second =
+      ap (λ (s : State). if sender == e.id then e else record e {
+        states = slice_set e.states sender
+            s;
+        since = slice_set e.since sender true;
+      })
+      (other_read ((machine e.counter).fields sender) a b first second)

@@ -10,11 +10,11 @@ use Rattle.std.proofs.lemmas.List.{length_push, length-set, get_or-set_same, get
 use Rattle.std.proofs.lemmas.List.{get_or_append_left, get_or-append-add}
 use Rattle.std.proofs.lemmas.List.FromFn.{fill_by_all}
 use Rattle.sync_types.specs.States.{zero_state}
-use Rattle.construction.specs.Plans.{plan_nodes}
-use Rattle.construction.specs.Steps.{state_of, step_of}
+use Rattle.construction.specs.Steps.{state_of}
 use Rattle.state_codec.specs.Reading.{read}
 use Rattle.node_stepper.specs.Packets.{cell_at, onto_cell, cells_of}
-use Rattle.node_stepper.specs.Nodes.{Standing, own, fields_of, heard_of, heard_in, state_after}
+use Rattle.machines.specs.Machines.{Machine}
+use Rattle.node_stepper.specs.Nodes.{Standing, own, heard_of, heard_in, state_after}
 use Rattle.node_stepper.specs.Nodes.{hearing, stepped, AllHeard}
 use Rattle.node_stepper.specs.Hearing.{IsSame, HeardCells, WholeCell, CellFed, PacketFed, PacketCut}
 
@@ -63,200 +63,6 @@ last_or_before n u lt = elim (cases_eq u n) [
   | inr other ↦ inr (omega (arith, lt, other))
 ]
 
-module _ (before mid : Standing) (cells : List (List ℕ)) (cell : List ℕ)
-    (h : HeardCells before mid cells) (lt : length cells < plan_nodes before.plan) where
-  -- its own cell is dropped
-  own_at : (P : ℕ → Type 0) → length cells ≡ mid.id
-      → ((u : ℕ) → u < length cells → u ≢ before.id → P u)
-      → (u : ℕ) → u < length (cells ++ cell ∷ []) → u ≢ before.id → P u
-  own_at P at holds u within other =
-      elim (last_or_before (length cells) u (omega (arith, within, length_push cells cell))) [
-        | inl last ↦ absurd (other (last ∙ at ∙ h.same.id))
-        | inr inside ↦ holds u inside other
-      ]
-
-  heard_own : length cells ≡ mid.id → HeardCells before mid (cells ++ cell ∷ [])
-  heard_own at = record {
-    same = h.same;
-    states = h.states;
-    marks = h.marks;
-    heard = own_at (λ u. state_of mid.states u ≡ read (fields_of before.plan u)
-        (slice_index_or (cells ++ cell ∷ []) u [])) at
-        (λ u inside other. h.heard u inside other
-        ∙ ap (read (fields_of before.plan u)) (sym (cell_before cells cell u inside)));
-    since = own_at (λ u. slice_index_or mid.since u false ≡ true) at h.since;
-  }
-
-  -- another node's is heard
-  abbrev with_cell : Standing
-  with_cell = record mid {
-    states = set mid.states (length cells) (read (fields_of mid.plan (length cells)) cell);
-    since = set mid.since (length cells) true;
-  }
-
-  heard_other : (length cells ≡ mid.id → ⊥) → HeardCells before with_cell (cells ++ cell ∷ [])
-  heard_other apart =
-      let place : length cells < length mid.states = omega (arith, lt, h.states) in
-      let mark : length cells < length mid.since = omega (arith, lt, h.marks) in
-      record {
-        same = record {
-          plan = h.same.plan;
-          id = h.same.id;
-          own = get_or-set_other mid.states (length cells) mid.id
-              (read (fields_of mid.plan (length cells)) cell) (zero_state 0) (λ e. apart (sym e))
-              ∙ h.same.own;
-        };
-        states = length-set mid.states (length cells)
-            (read (fields_of mid.plan (length cells)) cell) ∙ h.states;
-        marks = length-set mid.since (length cells) true ∙ h.marks;
-        heard = λ u within other. elim
-            (last_or_before (length cells) u (omega (arith, within, length_push cells cell))) [
-              | inl last ↦
-                  subst (λ w. state_of with_cell.states w ≡ read (fields_of before.plan w)
-                  (slice_index_or (cells ++ cell ∷ []) w [])) (sym last)
-                  (get_or-set_same mid.states (length cells)
-                  (read (fields_of mid.plan (length cells)) cell) (zero_state 0) place
-                  ∙ ap (λ p. read (fields_of p (length cells)) cell) h.same.plan
-                  ∙ ap (read (fields_of before.plan (length cells))) (sym (cell_last cells cell)))
-              | inr inside ↦
-                  get_or-set_other mid.states (length cells) u
-                  (read (fields_of mid.plan (length cells)) cell) (zero_state 0)
-                  (λ e. absurd (omega (arith, e, inside)))
-                  ∙ h.heard u inside other
-                  ∙ ap (read (fields_of before.plan u)) (sym (cell_before cells cell u inside))
-            ];
-        since = λ u within other. elim
-            (last_or_before (length cells) u (omega (arith, within, length_push cells cell))) [
-              | inl last ↦ subst (λ w. slice_index_or with_cell.since w false ≡ true) (sym last)
-                  (get_or-set_same mid.since (length cells) true false mark)
-              | inr inside ↦
-                  get_or-set_other mid.since (length cells) u true false
-                  (λ e. absurd (omega (arith, e, inside)))
-                  ∙ h.since u inside other
-            ];
-      }
-
-  pub heard_more : (after : Standing) → after ≡ hearing mid (length cells) cell
-      → HeardCells before after (cells ++ cell ∷ [])
-  heard_more after is = elim (cases_eq (length cells) mid.id) [
-    | inl at ↦ subst (λ e. HeardCells before e (cells ++ cell ∷ []))
-        (sym (is ∙ rw (eq-eqb (length cells) mid.id at) refl)) (heard_own at)
-    | inr apart ↦ subst (λ e. HeardCells before e (cells ++ cell ∷ []))
-        (sym (is ∙ rw (ne_eqb (length cells) mid.id apart) refl)) (heard_other apart)
-  ]
-
--- nothing is heard yet
-pub heard_none : (before : Standing) → length before.states ≡ plan_nodes before.plan
-    → length before.since ≡ plan_nodes before.plan → HeardCells before before []
-heard_none before states marks = record {
-  same = record { plan = refl; id = refl; own = refl };
-  states = states;
-  marks = marks;
-  heard = λ u within. absurd (omega arith);
-  since = λ u within. absurd (omega arith);
-}
-
--- ---- the cells of a packet
-
--- so many cells of a packet were heard
-pub record CellsFed (before now : Standing) (s t : Option (List ℕ)) (count : ℕ) : Type 0 where
-  pub bytes : List ℕ
-  pub cells : List (List ℕ)
-  pub read : Consumes s t bytes
-  pub some : 0 < length bytes
-  pub short : count ≤ plan_nodes before.plan
-  pub long : length cells ≡ count
-  pub cells_are : (rest : List ℕ) → cells_of (plan_nodes before.plan) 0 (bytes ++ rest)
-      ≡ onto_cells cells (cells_of (plan_nodes before.plan - count) count rest)
-  pub heard : HeardCells before now cells
-
--- one cell more
-pub cells_more : (E : Type 0) (before mid after : Standing) (s t u : Option (List ℕ)) (count : ℕ)
-    → count < plan_nodes before.plan → CellsFed before mid s t count
-    → CellFed [] count mid after t u (let r : Result Bool E = Ok true in r)
-    → CellsFed before after s u (count + 1)
-cells_more E before mid after s t u count lt h (bytes, cell, read, is, heard) =
-    let nodes = plan_nodes before.plan in
-    let left : nodes - count ≡ suc (nodes - (count + 1)) = omega (arith, lt) in
-    record {
-      bytes = h.bytes ++ bytes;
-      cells = h.cells ++ cell ∷ [];
-      read = Consumes-trans s t u h.bytes bytes h.read read;
-      some = omega (arith, length-append h.bytes bytes, h.some);
-      short = omega (arith, lt);
-      long = omega (arith, length_push h.cells cell, h.long);
-      cells_are = λ rest.
-          ap (cells_of nodes 0) (append_assoc h.bytes bytes rest) ∙ h.cells_are (bytes ++ rest)
-          ∙ ap (onto_cells h.cells) (ap (λ n. cells_of n count (bytes ++ rest)) left
-          ∙ cells_next (nodes - (count + 1)) count (bytes ++ rest) cell rest (is rest))
-          ∙ onto_one_more h.cells cell (cells_of (nodes - (count + 1)) (count + 1) rest);
-      heard = heard_more before mid h.cells cell h.heard (omega (arith, h.long, lt)) after
-          (heard ∙ ap (λ n. hearing mid n cell) (sym h.long));
-    }
-
--- the first cell
-pub cells_first : (before after : Standing) (s t : Option (List ℕ)) → 0 < plan_nodes before.plan
-    → length before.states ≡ plan_nodes before.plan → length before.since ≡ plan_nodes before.plan
-    → WholeCell [] 0 before after s t → CellsFed before after s t 1
-cells_first before after s t lt states marks ([], cell, fed, is, heard) =
-    let e : cell_at [] ≡ Some (cell, []) = is [] in
-    absurd (cc)
-cells_first before after s t lt states marks (b ∷ bytes, cell, fed, is, heard) =
-    let nodes = plan_nodes before.plan in
-    let left : nodes ≡ suc (nodes - 1) = omega (arith, lt) in
-    record {
-      bytes = b ∷ bytes;
-      cells = cell ∷ [];
-      read = fed;
-      some = omega arith;
-      short = omega (arith, lt);
-      long = refl;
-      cells_are = λ rest.
-          ap (λ n. cells_of n 0 (b ∷ (bytes ++ rest))) left
-          ∙ cells_next (nodes - 1) 0 (b ∷ (bytes ++ rest)) cell rest (is rest)
-          ∙ sym (onto_none (onto_cell cell (cells_of (nodes - 1) 1 rest)))
-          ∙ onto_one_more [] cell (cells_of (nodes - 1) 1 rest);
-      heard = heard_more before before [] cell (heard_none before states marks) lt after heard;
-    }
-
--- all cells
-cells_all : (before now : Standing) (s t : Option (List ℕ))
-    → CellsFed before now s t (plan_nodes before.plan) → PacketFed before now s t
-cells_all before now s t h =
-    let nodes = plan_nodes before.plan in
-    let none_left : nodes - nodes ≡ 0 = omega arith in
-    record {
-      bytes = h.bytes;
-      packet = h.cells;
-      read = h.read;
-      whole = λ rest.
-          h.cells_are rest ∙ ap (onto_cells h.cells) (ap (λ n. cells_of n nodes rest) none_left)
-          ∙ ap (λ l. let r : Result (List (List ℕ) × List ℕ) ℕ = Ok (l, rest) in r)
-          (append-nil h.cells);
-      some = h.some;
-      size = h.long;
-      heard = h.heard;
-    }
-
-pub cells_whole : (before now : Standing) (s t : Option (List ℕ)) (count : ℕ)
-    → count ≡ plan_nodes before.plan → CellsFed before now s t count → PacketFed before now s t
-cells_whole before now s t count full h = cells_all before now s t (rw (← full) h)
-
--- the input ended, or a read failed, inside a cell
-pub cells_end : (before now : Standing) (s t u : Option (List ℕ)) (count : ℕ) (bytes : List ℕ)
-    → count < plan_nodes before.plan → CellsFed before now s t count → Consumes t u bytes
-    → cell_at bytes ≡ None → PacketCut (plan_nodes before.plan) count s u
-cells_end before now s t u count bytes lt h read none =
-    let nodes = plan_nodes before.plan in
-    let left : nodes - count ≡ suc (nodes - (count + 1)) = omega (arith, lt) in
-    record {
-      bytes = h.bytes ++ bytes;
-      read = Consumes-trans s t u h.bytes bytes h.read read;
-      some = omega (arith, length-append h.bytes bytes, h.some);
-      cut = h.cells_are bytes ∙ ap (onto_cells h.cells) (ap (λ n. cells_of n count bytes) left
-          ∙ cells_cut (nodes - (count + 1)) count bytes none);
-    }
-
 -- the same inside the first cell
 pub first_end : (nodes high : ℕ) (s t u : Option (List ℕ)) (bytes : List ℕ) → 0 < nodes
     → Consumes s t (high ∷ []) → Consumes t u bytes → cell_at (high ∷ bytes) ≡ None
@@ -271,39 +77,251 @@ first_end nodes high s t u bytes lt first read none =
           ∙ cells_cut (nodes - 1) 0 (high ∷ bytes) none;
     }
 
-pub unchanged : (before after : Standing) → after ≡ before → IsSame before after
+pub unchanged : {M : Type 0} (before after : Standing M) → after ≡ before → IsSame before after
 unchanged before after is =
-    subst (IsSame before) (sym is) (record { plan = refl; id = refl; own = refl })
+    subst (IsSame before) (sym is) (record { counter = refl; id = refl; own = refl })
 
-pub same_as : (before mid after : Standing) → IsSame before mid → after ≡ mid → IsSame before after
+pub same_as : {M : Type 0} (before mid after : Standing M) → IsSame before mid → after ≡ mid
+    → IsSame before after
 same_as before mid after same is = subst (IsSame before) (sym is) same
 
--- ---- a packet that was heard
+-- which machine each counter is
+module _ {M : Type 0} (machine : M → Machine) where
+  module _ (before mid : Standing M) (cells : List (List ℕ)) (cell : List ℕ)
+      (h : HeardCells machine before mid cells) (lt : length cells < (machine before.counter).nodes)
+    where
+      -- its own cell is dropped
+      own_at : (P : ℕ → Type 0) → length cells ≡ mid.id
+          → ((u : ℕ) → u < length cells → u ≢ before.id → P u)
+          → (u : ℕ) → u < length (cells ++ cell ∷ []) → u ≢ before.id → P u
+      own_at P at holds u within other =
+          elim (last_or_before (length cells) u (omega (arith, within, length_push cells cell))) [
+            | inl last ↦ absurd (other (last ∙ at ∙ h.same.id))
+            | inr inside ↦ holds u inside other
+          ]
 
-module _ (before mid : Standing) (packet : List (List ℕ)) (h : HeardCells before mid packet)
-    (size : length packet ≡ plan_nodes before.plan)
-    (node : before.id < plan_nodes before.plan) where
-  pub all_heard : AllHeard mid
-  all_heard u within other =
-      let same = h.same in
-      h.since u (rw size (subst (λ p. u < plan_nodes p) same.plan within)) (λ e. other (e
-      ∙ sym same.id))
+      heard_own : length cells ≡ mid.id → HeardCells machine before mid (cells ++ cell ∷ [])
+      heard_own at = record {
+        same = h.same;
+        states = h.states;
+        marks = h.marks;
+        heard = own_at (λ u. state_of mid.states u ≡ read ((machine before.counter).fields u)
+            (slice_index_or (cells ++ cell ∷ []) u [])) at
+            (λ u inside other. h.heard u inside other
+            ∙ ap (read ((machine before.counter).fields u))
+            (sym (cell_before cells cell u inside)));
+        since = own_at (λ u. slice_index_or mid.since u false ≡ true) at h.since;
+      }
 
-  -- the states are what the packet says
-  states_are : mid.states ≡ heard_in before.plan before.id (own before) packet
-  states_are =
-      fill_by_all (heard_of before.plan before.id (own before) packet) mid.states
-      (plan_nodes before.plan) (zero_state 0) h.states
-      (λ u within. elim (cases_eq u before.id) [
-        | inl at ↦ rw (eq-eqb u before.id at) (ap (state_of mid.states) (at ∙ sym h.same.id)
-            ∙ h.same.own)
-        | inr other ↦ rw (ne_eqb u before.id other) (h.heard u (rw size within) other)
-      ])
+      -- another node's is heard
+      abbrev with_cell : Standing M
+      with_cell = record mid {
+        states = set mid.states (length cells)
+            (read ((machine mid.counter).fields (length cells)) cell);
+        since = set mid.since (length cells) true;
+      }
 
-  -- its new state
-  pub own_stepped : own (stepped mid) ≡ state_after before.plan before.id (own before) packet
-  own_stepped =
-      let same = h.same in
-      get_or-set_same mid.states mid.id (step_of mid.plan mid.id mid.states) (zero_state 0)
-      (rw (same.id, h.states) node)
-      ∙ rw (same.plan, same.id) (ap (step_of before.plan before.id) states_are)
+      heard_other : (length cells ≡ mid.id → ⊥)
+          → HeardCells machine before with_cell (cells ++ cell ∷ [])
+      heard_other apart =
+          let place : length cells < length mid.states = omega (arith, lt, h.states) in
+          let mark : length cells < length mid.since = omega (arith, lt, h.marks) in
+          record {
+            same = record {
+              counter = h.same.counter;
+              id = h.same.id;
+              own = get_or-set_other mid.states (length cells) mid.id
+                  (read ((machine mid.counter).fields (length cells)) cell) (zero_state 0)
+                  (λ e. apart (sym e))
+                  ∙ h.same.own;
+            };
+            states = length-set mid.states (length cells)
+                (read ((machine mid.counter).fields (length cells)) cell) ∙ h.states;
+            marks = length-set mid.since (length cells) true ∙ h.marks;
+            heard = λ u within other. elim
+                (last_or_before (length cells) u (omega (arith, within, length_push cells cell))) [
+                  | inl last ↦
+                      subst (λ w. state_of with_cell.states w
+                      ≡ read ((machine before.counter).fields w)
+                      (slice_index_or (cells ++ cell ∷ []) w [])) (sym last)
+                      (get_or-set_same mid.states (length cells)
+                      (read ((machine mid.counter).fields (length cells)) cell) (zero_state 0) place
+                      ∙ ap (λ p. read ((machine p).fields (length cells)) cell) h.same.counter
+                      ∙ ap (read ((machine before.counter).fields (length cells)))
+                      (sym (cell_last cells cell)))
+                  | inr inside ↦
+                      get_or-set_other mid.states (length cells) u
+                      (read ((machine mid.counter).fields (length cells)) cell) (zero_state 0)
+                      (λ e. absurd (omega (arith, e, inside)))
+                      ∙ h.heard u inside other
+                      ∙ ap (read ((machine before.counter).fields u))
+                      (sym (cell_before cells cell u inside))
+                ];
+            since = λ u within other. elim
+                (last_or_before (length cells) u (omega (arith, within, length_push cells cell))) [
+                  | inl last ↦ subst (λ w. slice_index_or with_cell.since w false ≡ true) (sym last)
+                      (get_or-set_same mid.since (length cells) true false mark)
+                  | inr inside ↦
+                      get_or-set_other mid.since (length cells) u true false
+                      (λ e. absurd (omega (arith, e, inside)))
+                      ∙ h.since u inside other
+                ];
+          }
+
+      pub heard_more : (after : Standing M) → after ≡ hearing machine mid (length cells) cell
+          → HeardCells machine before after (cells ++ cell ∷ [])
+      heard_more after is = elim (cases_eq (length cells) mid.id) [
+        | inl at ↦ subst (λ e. HeardCells machine before e (cells ++ cell ∷ []))
+            (sym (is ∙ rw (eq-eqb (length cells) mid.id at) refl)) (heard_own at)
+        | inr apart ↦ subst (λ e. HeardCells machine before e (cells ++ cell ∷ []))
+            (sym (is ∙ rw (ne_eqb (length cells) mid.id apart) refl)) (heard_other apart)
+      ]
+
+  -- nothing is heard yet
+  pub heard_none : (before : Standing M) → length before.states ≡ (machine before.counter).nodes
+      → length before.since ≡ (machine before.counter).nodes → HeardCells machine before before []
+  heard_none before states marks = record {
+    same = record { counter = refl; id = refl; own = refl };
+    states = states;
+    marks = marks;
+    heard = λ u within. absurd (omega arith);
+    since = λ u within. absurd (omega arith);
+  }
+
+  -- ---- the cells of a packet
+
+  -- so many cells of a packet were heard
+  pub record CellsFed (before now : Standing M) (s t : Option (List ℕ)) (count : ℕ) : Type 0 where
+    pub bytes : List ℕ
+    pub cells : List (List ℕ)
+    pub read : Consumes s t bytes
+    pub some : 0 < length bytes
+    pub short : count ≤ (machine before.counter).nodes
+    pub long : length cells ≡ count
+    pub cells_are : (rest : List ℕ) → cells_of ((machine before.counter).nodes) 0 (bytes ++ rest)
+        ≡ onto_cells cells (cells_of ((machine before.counter).nodes - count) count rest)
+    pub heard : HeardCells machine before now cells
+
+  -- one cell more
+  pub cells_more : (E : Type 0) (before mid after : Standing M) (s t u : Option (List ℕ))
+      (count : ℕ)
+      → count < (machine before.counter).nodes → CellsFed before mid s t count
+      → CellFed machine [] count mid after t u (let r : Result Bool E = Ok true in r)
+      → CellsFed before after s u (count + 1)
+  cells_more E before mid after s t u count lt h (bytes, cell, read, is, heard) =
+      let nodes = (machine before.counter).nodes in
+      let left : nodes - count ≡ suc (nodes - (count + 1)) = omega (arith, lt) in
+      record {
+        bytes = h.bytes ++ bytes;
+        cells = h.cells ++ cell ∷ [];
+        read = Consumes-trans s t u h.bytes bytes h.read read;
+        some = omega (arith, length-append h.bytes bytes, h.some);
+        short = omega (arith, lt);
+        long = omega (arith, length_push h.cells cell, h.long);
+        cells_are = λ rest.
+            ap (cells_of nodes 0) (append_assoc h.bytes bytes rest) ∙ h.cells_are (bytes ++ rest)
+            ∙ ap (onto_cells h.cells) (ap (λ n. cells_of n count (bytes ++ rest)) left
+            ∙ cells_next (nodes - (count + 1)) count (bytes ++ rest) cell rest (is rest))
+            ∙ onto_one_more h.cells cell (cells_of (nodes - (count + 1)) (count + 1) rest);
+        heard = heard_more before mid h.cells cell h.heard (omega (arith, h.long, lt)) after
+            (heard ∙ ap (λ n. hearing machine mid n cell) (sym h.long));
+      }
+
+  -- the first cell
+  pub cells_first : (before after : Standing M) (s t : Option (List ℕ))
+      → 0 < (machine before.counter).nodes
+      → length before.states ≡ (machine before.counter).nodes
+      → length before.since ≡ (machine before.counter).nodes
+      → WholeCell machine [] 0 before after s t → CellsFed before after s t 1
+  cells_first before after s t lt states marks ([], cell, fed, is, heard) =
+      let e : cell_at [] ≡ Some (cell, []) = is [] in
+      absurd (cc)
+  cells_first before after s t lt states marks (b ∷ bytes, cell, fed, is, heard) =
+      let nodes = (machine before.counter).nodes in
+      let left : nodes ≡ suc (nodes - 1) = omega (arith, lt) in
+      record {
+        bytes = b ∷ bytes;
+        cells = cell ∷ [];
+        read = fed;
+        some = omega arith;
+        short = omega (arith, lt);
+        long = refl;
+        cells_are = λ rest.
+            ap (λ n. cells_of n 0 (b ∷ (bytes ++ rest))) left
+            ∙ cells_next (nodes - 1) 0 (b ∷ (bytes ++ rest)) cell rest (is rest)
+            ∙ sym (onto_none (onto_cell cell (cells_of (nodes - 1) 1 rest)))
+            ∙ onto_one_more [] cell (cells_of (nodes - 1) 1 rest);
+        heard = heard_more before before [] cell (heard_none before states marks) lt after heard;
+      }
+
+  -- all cells
+  cells_all : (before now : Standing M) (s t : Option (List ℕ))
+      → CellsFed before now s t ((machine before.counter).nodes) → PacketFed machine before now s t
+  cells_all before now s t h =
+      let nodes = (machine before.counter).nodes in
+      let none_left : nodes - nodes ≡ 0 = omega arith in
+      record {
+        bytes = h.bytes;
+        packet = h.cells;
+        read = h.read;
+        whole = λ rest.
+            h.cells_are rest ∙ ap (onto_cells h.cells) (ap (λ n. cells_of n nodes rest) none_left)
+            ∙ ap (λ l. let r : Result (List (List ℕ) × List ℕ) ℕ = Ok (l, rest) in r)
+            (append-nil h.cells);
+        some = h.some;
+        size = h.long;
+        heard = h.heard;
+      }
+
+  pub cells_whole : (before now : Standing M) (s t : Option (List ℕ)) (count : ℕ)
+      → count ≡ (machine before.counter).nodes → CellsFed before now s t count
+      → PacketFed machine before now s t
+  cells_whole before now s t count full h = cells_all before now s t (rw (← full) h)
+
+  -- the input ended, or a read failed, inside a cell
+  pub cells_end : (before now : Standing M) (s t u : Option (List ℕ)) (count : ℕ) (bytes : List ℕ)
+      → count < (machine before.counter).nodes → CellsFed before now s t count → Consumes t u bytes
+      → cell_at bytes ≡ None → PacketCut ((machine before.counter).nodes) count s u
+  cells_end before now s t u count bytes lt h read none =
+      let nodes = (machine before.counter).nodes in
+      let left : nodes - count ≡ suc (nodes - (count + 1)) = omega (arith, lt) in
+      record {
+        bytes = h.bytes ++ bytes;
+        read = Consumes-trans s t u h.bytes bytes h.read read;
+        some = omega (arith, length-append h.bytes bytes, h.some);
+        cut = h.cells_are bytes ∙ ap (onto_cells h.cells) (ap (λ n. cells_of n count bytes) left
+            ∙ cells_cut (nodes - (count + 1)) count bytes none);
+      }
+
+  -- ---- a packet that was heard
+
+  module _ (before mid : Standing M) (packet : List (List ℕ))
+      (h : HeardCells machine before mid packet)
+      (size : length packet ≡ (machine before.counter).nodes)
+      (node : before.id < (machine before.counter).nodes) where
+    pub all_heard : AllHeard machine mid
+    all_heard u within other =
+        let same = h.same in
+        h.since u (rw size (subst (λ c. u < (machine c).nodes) same.counter within)) (λ e. other (e
+        ∙ sym same.id))
+
+    -- the states are what the packet says
+    states_are : mid.states ≡ heard_in (machine before.counter) before.id (own before) packet
+    states_are =
+        fill_by_all (heard_of (machine before.counter) before.id (own before) packet) mid.states
+        ((machine before.counter).nodes) (zero_state 0) h.states
+        (λ u within. elim (cases_eq u before.id) [
+          | inl at ↦ rw (eq-eqb u before.id at) (ap (state_of mid.states) (at ∙ sym h.same.id)
+              ∙ h.same.own)
+          | inr other ↦ rw (ne_eqb u before.id other) (h.heard u (rw size within) other)
+        ])
+
+    -- its new state
+    pub own_stepped : own (stepped machine mid)
+        ≡ state_after (machine before.counter) before.id (own before) packet
+    own_stepped =
+        let same = h.same in
+        get_or-set_same mid.states mid.id ((machine mid.counter).step mid.id mid.states)
+        (zero_state 0)
+        (rw (same.id, h.states) node)
+        ∙ rw (same.counter, same.id) (ap ((machine before.counter).step before.id) states_are)

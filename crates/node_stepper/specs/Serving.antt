@@ -4,79 +4,84 @@ use Rattle.std.specs.Io.KnownBytes.{Consumes, IsAtEnd}
 use Rattle.texts.specs.Causes.{Counted}
 use Rattle.texts.specs.Growth.{Told, Wrote, Cut}
 use Rattle.texts.specs.Pending.{AllButLast}
-use Rattle.construction.specs.Plans.{plan_nodes}
+use Rattle.machines.specs.Machines.{Machine}
 use Rattle.node_stepper.specs.declared.faults.NodeFault.{NodeFault}
 use Rattle.node_stepper.specs.declared.faults.NodeFault.TheVariants as fault
 use Rattle.node_stepper.specs.Packets.{packets_of, Packets, IsWithin, whole, cut, beyond}
 use Rattle.node_stepper.specs.Nodes.{Standing, own, nobody, state_cell, state_behind, node_text}
 
--- the engine is the same node, behind these packets, and has heard nobody since
-pub record StandsBehind (before after : Standing) (packets : List (List (List ℕ))) : Type 0 where
-  pub plan : after.plan ≡ before.plan
-  pub id : after.id ≡ before.id
-  pub state : own after ≡ state_behind before.plan before.id (own before) packets
-  pub none : after.since ≡ nobody before.plan
+-- which machine each counter is
+module _ {M : Type 0} (machine : M → Machine) where
+  -- the engine is the same node, behind these packets, and has heard nobody since
+  pub record StandsBehind (before after : Standing M) (packets : List (List (List ℕ))) : Type 0
+    where
+      pub counter : after.counter ≡ before.counter
+      pub id : after.id ≡ before.id
+      pub state : own after ≡ state_behind (machine before.counter) before.id (own before) packets
+      pub none : after.since ≡ nobody (machine before.counter)
 
-module _ (before : Standing) where
-  -- the packets of an input
-  abbrev pub served : List ℕ → Packets
-  served bytes = packets_of (plan_nodes before.plan) 1000000 0 bytes
+  module _ (before : Standing M) where
+    -- the packets of an input
+    abbrev pub served : List ℕ → Packets
+    served bytes = packets_of ((machine before.counter).nodes) 1000000 0 bytes
 
-  -- these bytes do not show that there are too many: none is of packet 1,000,001
-  abbrev pub ServicePending : List ℕ → Type 0
-  ServicePending bytes = IsWithin (served bytes).ending
+    -- these bytes do not show that there are too many: none is of packet 1,000,001
+    abbrev pub ServicePending : List ℕ → Type 0
+    ServicePending bytes = IsWithin (served bytes).ending
 
-  -- what the node writes
-  abbrev pub answer : List (List (List ℕ)) → List ℕ
-  answer packets = node_text before.plan before.id (own before) packets
+    -- what the node writes
+    abbrev pub answer : List (List (List ℕ)) → List ℕ
+    answer packets = node_text (machine before.counter) before.id (own before) packets
 
-  -- the node's cell behind these packets
-  abbrev pub cell_behind : List (List (List ℕ)) → List ℕ
-  cell_behind packets =
-      state_cell before.plan before.id (state_behind before.plan before.id (own before) packets)
+    -- the node's cell behind these packets
+    abbrev pub cell_behind : List (List (List ℕ)) → List ℕ
+    cell_behind packets =
+        state_cell (machine before.counter) before.id
+        (state_behind (machine before.counter) before.id (own before) packets)
 
-  -- these bytes were read, and a cell was written at the start and for each whole packet of them
-  pub record Served (after : Standing) (old new : Option (List ℕ)) (s t : Told) : Type 0 where
-    pub bytes : List ℕ
-    pub read : Consumes old new bytes
-    pub wrote : Wrote (answer (served bytes).cells) s t
-    pub stands : StandsBehind before after (served bytes).cells
+    -- these bytes were read, and a cell was written at the start and for each whole packet of them
+    pub record Served (after : Standing M) (old new : Option (List ℕ)) (s t : Told) : Type 0 where
+      pub bytes : List ℕ
+      pub read : Consumes old new bytes
+      pub wrote : Wrote (answer (served bytes).cells) s t
+      pub stands : StandsBehind before after (served bytes).cells
 
-  -- All cells but the last were written, and that one was cut. The bytes end with its packet: no
-  -- packet was read before the cells of those before it were written.
-  pub record LastCut (bytes : List ℕ) (s t : Told) : Type 0 where
-    pub done : List (List (List ℕ))
-    pub packet : List (List ℕ)
-    pub mid : Told
-    pub count : ℕ
-    pub are : served bytes ≡ record { cells = done ++ packet ∷ []; ending = whole count }
-    pub wrote : Wrote (answer done) s mid
-    pub last : Cut (cell_behind (done ++ packet ∷ [])) mid t
+    -- All cells but the last were written, and that one was cut. The bytes end with its packet: no
+    -- packet was read before the cells of those before it were written.
+    pub record LastCut (bytes : List ℕ) (s t : Told) : Type 0 where
+      pub done : List (List (List ℕ))
+      pub packet : List (List ℕ)
+      pub mid : Told
+      pub count : ℕ
+      pub are : served bytes ≡ record { cells = done ++ packet ∷ []; ending = whole count }
+      pub wrote : Wrote (answer done) s mid
+      pub last : Cut (cell_behind (done ++ packet ∷ [])) mid t
 
-  -- these bytes were read, and what was written is cut, whatever may follow
-  pub record ServedCut (after : Standing) (old new : Option (List ℕ)) (s t : Told) : Type 0 where
-    pub bytes : List ℕ
-    pub read : Consumes old new bytes
-    pub cut : (rest : List ℕ) → Cut (answer (served (bytes ++ rest)).cells) s t
-    pub late : (bytes ≡ []) ⊎ LastCut bytes s t
-    pub stands : StandsBehind before after (served bytes).cells
+    -- these bytes were read, and what was written is cut, whatever may follow
+    pub record ServedCut (after : Standing M) (old new : Option (List ℕ)) (s t : Told) : Type 0
+      where
+        pub bytes : List ℕ
+        pub read : Consumes old new bytes
+        pub cut : (rest : List ℕ) → Cut (answer (served (bytes ++ rest)).cells) s t
+        pub late : (bytes ≡ []) ⊎ LastCut bytes s t
+        pub stands : StandsBehind before after (served bytes).cells
 
-  -- What serving did. `TooLong` is answered at the first byte of packet 1,000,001, and a read fault
-  -- comes only before it.
-  abbrev pub Serves : (after : Standing) (old new : Option (List ℕ)) (s t : Told)
-      → Result ℕ NodeFault → Type 0
-  Serves after old new s t (Ok n) =
-      (d : Served after old new s t) × ((served d.bytes).ending ≡ whole n) × IsAtEnd new
-  Serves after old new s t (Err (fault.Cut packet sender)) =
-      (d : Served after old new s t) × ((served d.bytes).ending ≡ cut packet sender) × IsAtEnd new
-  Serves after old new s t (Err fault.TooLong) =
-      (d : Served after old new s t)
-      × ((rest : List ℕ)
-      → served (d.bytes ++ rest) ≡ record { cells = (served d.bytes).cells; ending = beyond })
-      × AllButLast ServicePending d.bytes
-  Serves after old new s t (Err fault.ReadFault) =
-      (d : Served after old new s t) × ServicePending d.bytes
-  Serves after old new s t (Err fault.WriteFault) = ServedCut after old new s t
+    -- What serving did. `TooLong` is answered at the first byte of packet 1,000,001, and a read
+    -- fault comes only before it.
+    abbrev pub Serves : (after : Standing M) (old new : Option (List ℕ)) (s t : Told)
+        → Result ℕ NodeFault → Type 0
+    Serves after old new s t (Ok n) =
+        (d : Served after old new s t) × ((served d.bytes).ending ≡ whole n) × IsAtEnd new
+    Serves after old new s t (Err (fault.Cut packet sender)) =
+        (d : Served after old new s t) × ((served d.bytes).ending ≡ cut packet sender) × IsAtEnd new
+    Serves after old new s t (Err fault.TooLong) =
+        (d : Served after old new s t)
+        × ((rest : List ℕ)
+        → served (d.bytes ++ rest) ≡ record { cells = (served d.bytes).cells; ending = beyond })
+        × AllButLast ServicePending d.bytes
+    Serves after old new s t (Err fault.ReadFault) =
+        (d : Served after old new s t) × ServicePending d.bytes
+    Serves after old new s t (Err fault.WriteFault) = ServedCut after old new s t
 
 -- only a read fault is counted; `Dry` holds after it
 abbrev pub HasServeCause : {V : Type 0} → (before now : ℕ) → (Dry : Type 0) → Result V NodeFault

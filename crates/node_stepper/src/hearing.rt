@@ -1,15 +1,15 @@
 use crate::NodeEngine;
 use crate::faults::Amount;
 use edge_io::{Feed, ReadFault, Source, skip_bytes, take_bytes};
+use machines::Machine;
 
 /// How many bytes a state has at most.
 const MOST_BYTES: usize = 128;
 
-impl NodeEngine {
+impl<M: Machine> NodeEngine<M> {
     ghost use Rattle.std.specs.Prelude.{◌≡◌, ◌<◌, ◌||◌, true, false, not, [], ◌∷◌, OnErr, IfOk};
     ghost use Rattle.texts.specs.Causes.{HasCause};
     ghost use Rattle.edge_io.specs.Feeds.{feed_left, IsDry};
-    ghost use Rattle.construction.specs.Plans.{plan_nodes};
     ghost use Rattle.node_stepper.specs.Hearing.{BodyFed, WholeCell, CellFed, FirstHeard};
     ghost use Rattle.node_stepper.specs.Hearing.{PacketHeard, meets_end};
 
@@ -21,9 +21,9 @@ impl NodeEngine {
         sender: u32,
         length: usize,
     ) -> Result<bool, ReadFault>
-        requires { sender < plan_nodes self.old.plan }
+        requires { sender < (M.machine self.old.counter).nodes }
         ensures same_reference { feed.new.source.ghost_name ≡ feed.old.source.ghost_name }
-        ensures body { BodyFed length sender self.old self.new
+        ensures body { BodyFed M.machine length sender self.old self.new
             (feed_left S.left feed.old) (feed_left S.left feed.new) result }
         ensures cause { HasCause (S.faults feed.old.source.now)
             (S.faults feed.new.source.now) result }
@@ -57,9 +57,9 @@ impl NodeEngine {
         sender: u32,
         high: u8,
     ) -> Result<bool, ReadFault>
-        requires { sender < plan_nodes self.old.plan }
+        requires { sender < (M.machine self.old.counter).nodes }
         ensures same_reference { feed.new.source.ghost_name ≡ feed.old.source.ghost_name }
-        ensures cell { CellFed (high ∷ []) sender self.old self.new
+        ensures cell { CellFed M.machine (high ∷ []) sender self.old self.new
             (feed_left S.left feed.old) (feed_left S.left feed.new) result }
         ensures cause { HasCause (S.faults feed.old.source.now)
             (S.faults feed.new.source.now) result }
@@ -81,8 +81,8 @@ impl NodeEngine {
     // It is small, and called for each cell of each packet.
     #[inline(always)]
     fn hear_held<S: Source>(&mut self, feed: &mut Feed<'_, S>, sender: u32) -> bool
-        requires { sender < plan_nodes self.old.plan }
-        ensures cell { result ≡ true → WholeCell [] sender self.old self.new
+        requires { sender < (M.machine self.old.counter).nodes }
+        ensures cell { result ≡ true → WholeCell M.machine [] sender self.old self.new
             (feed_left S.left feed.old) (feed_left S.left feed.new) }
         ensures none { result ≡ false → (self.new ≡ self.old) × (feed.new ≡ feed.old) }
         ensures source { feed.new.source ≡ feed.old.source }
@@ -108,9 +108,9 @@ impl NodeEngine {
         feed: &mut Feed<'_, S>,
         sender: u32,
     ) -> Result<bool, ReadFault>
-        requires { sender < plan_nodes self.old.plan }
+        requires { sender < (M.machine self.old.counter).nodes }
         ensures same_reference { feed.new.source.ghost_name ≡ feed.old.source.ghost_name }
-        ensures cell { CellFed [] sender self.old self.new
+        ensures cell { CellFed M.machine [] sender self.old self.new
             (feed_left S.left feed.old) (feed_left S.left feed.new) result }
         ensures cause { HasCause (S.faults feed.old.source.now)
             (S.faults feed.new.source.now) result }
@@ -131,9 +131,9 @@ impl NodeEngine {
 
     /// Hears the first cell of a packet.
     fn hear_first<S: Source>(&mut self, feed: &mut Feed<'_, S>) -> Result<Amount, ReadFault>
-        requires { 0 < plan_nodes self.old.plan }
+        requires { 0 < (M.machine self.old.counter).nodes }
         ensures same_reference { feed.new.source.ghost_name ≡ feed.old.source.ghost_name }
-        ensures first { FirstHeard self.old self.new
+        ensures first { FirstHeard M.machine self.old self.new
             (feed_left S.left feed.old) (feed_left S.left feed.new) result }
         ensures cause { HasCause (S.faults feed.old.source.now)
             (S.faults feed.new.source.now) result }
@@ -162,8 +162,8 @@ impl NodeEngine {
         feed: &mut Feed<'_, S>,
     ) -> Result<Amount, ReadFault>
         ensures same_reference { feed.new.source.ghost_name ≡ feed.old.source.ghost_name }
-        ensures node { self.old.id < plan_nodes self.old.plan }
-        ensures packet { PacketHeard self.old self.new
+        ensures node { self.old.id < (M.machine self.old.counter).nodes }
+        ensures packet { PacketHeard M.machine self.old self.new
             (feed_left S.left feed.old) (feed_left S.left feed.new) result }
         ensures cause { HasCause (S.faults feed.old.source.now)
             (S.faults feed.new.source.now) result }

@@ -1,4 +1,4 @@
-//! One node of a plan's counter, which hears packets and answers each with a cell.
+//! One node of a machine, which hears packets and answers each with a cell.
 //!
 //! A cell is a state as bytes with its length before it, and a packet is a cell of each node. A
 //! [`NodeEngine`] hears cells and steps; [`NodeEngine::serve`] reads packets from a feed and writes

@@ -1,6 +1,7 @@
 use crate::faults::Amount;
 use crate::{NodeEngine, NodeFault};
 use edge_io::{Feed, ReadFault, Sink, Source, WriteFault, put_all};
+use machines::Machine;
 
 /// How many bytes a cell of a state has at most.
 const LONGEST_CELL: usize = 130;
@@ -8,30 +9,42 @@ const LONGEST_CELL: usize = 130;
 /// How many packets are answered at most.
 const MOST_PACKETS: u64 = 1_000_000;
 
-impl NodeEngine {
+impl<M: Machine> NodeEngine<M> {
     ghost use Rattle.std.specs.Prelude.{◌≡◌, ◌≤◌, length, take};
     ghost use Rattle.texts.specs.Growth.{Puts};
+    ghost use Rattle.state_codec.specs.Shapes.{bytes_in};
+    ghost use Rattle.state_codec.specs.Writing.{written};
     ghost use Rattle.edge_io.specs.Feeds.{feed_left, IsDry};
     ghost use Rattle.node_stepper.specs.Nodes.{own, state_cell};
     ghost use Rattle.node_stepper.specs.Serving.{Serves, HasServeCause};
 
+    /// Writes the bytes of its own state into `out`, which has just their length.
+    pub fn write_state(&self, out: &mut [u8])
+        requires { length out.old ≡ bytes_in ((M.machine self.now.counter).fields self.now.id) }
+        ensures { out.new
+            ≡ written ((M.machine self.now.counter).fields self.now.id) (own self.now) }
+    {
+        self.machine.write_state(self.id, self.state(), out);
+    }
+
     /// Writes the cell of its own state to the front of `out`, and answers how many bytes it has:
     /// two more than the state.
     fn write_cell(&self, out: &mut [u8; LONGEST_CELL]) -> usize
-        ensures cell { take result out.new ≡ state_cell self.now.plan self.now.id (own self.now) }
+        ensures cell { take result out.new
+            ≡ state_cell (M.machine self.now.counter) self.now.id (own self.now) }
         ensures within { result ≤ length out.new }
     {
-        let bytes = self.shape.bytes_of(self.id);
+        let bytes = self.machine.bytes_of(self.id);
         out[0] = (bytes / 256) as u8;
         out[1] = (bytes % 256) as u8;
-        self.shape
+        self.machine
             .write_state(self.id, self.state(), &mut out[2..2 + bytes]);
         2 + bytes
     }
 
     /// Writes the cell of its own state.
     fn put_cell<K: Sink>(&self, sink: &mut K) -> Result<(), WriteFault>
-        ensures { Puts result (state_cell self.now.plan self.now.id (own self.now))
+        ensures { Puts result (state_cell (M.machine self.now.counter) self.now.id (own self.now))
             (K.told sink.old) (K.told sink.new) }
     {
         let mut room = [0; LONGEST_CELL];
@@ -53,7 +66,7 @@ impl NodeEngine {
         sink: &mut K,
     ) -> Result<u64, NodeFault>
         ensures same_reference { feed.new.source.ghost_name ≡ feed.old.source.ghost_name }
-        ensures served { Serves self.old self.new
+        ensures served { Serves M.machine self.old self.new
             (feed_left S.left feed.old) (feed_left S.left feed.new)
             (K.told sink.old) (K.told sink.new) result }
         ensures cause { HasServeCause (S.faults feed.old.source.now)

@@ -12,14 +12,16 @@ use Rattle.state_codec.specs.Writing.{written}
 use Rattle.node_header.specs.Headers.{Header}
 use Rattle.node_header.specs.HeaderTexts.{header_text, header_stated, HeaderTextIsRead}
 use Rattle.node_stepper.specs.Packets.{Packets, packets_of, whole as all_whole}
-use Rattle.node_stepper.specs.Nodes.{fields_of, state_behind}
 use Rattle.node_stepper.specs.Laws.{packet_text, AreFull, PacketsReadBack}
-use Rattle.node_runs.specs.NodeRuns.{cell_given, IsCorrect, state_at}
 use Rattle.node_runs.specs.Cells.{cell_number, NodeWritesStates}
-use Rattle.node_runs.specs.Laws.{Connects, AnyLiesConnect}
+use Rattle.plan_machine.specs.PlanMachines.{machine_of_plan}
+use Rattle.plan_node_runs.specs.PlanNodes.{fields_of, state_behind}
+use Rattle.plan_node_runs.specs.NodeRuns.{cell_given, IsCorrect, state_at}
+use Rattle.plan_node_runs.specs.Laws.{Connects, AnyLiesConnect}
 use Rattle.outcomes.specs.NodeAnswers.{packets_for, served_outcome, behind_header, node_outcome}
 use Rattle.promises.specs.NodeCalls.{whole, header_of, packets_behind, packets_in, cell_heard}
-use Rattle.promises.specs.NodePromises.{cell_written, CallsConnect, InputsConnect, AnyInputsConnect}
+use Rattle.promises.specs.CallWindows.{cell_written, CallsConnect}
+use Rattle.promises.specs.NodePromises.{InputsConnect, AnyInputsConnect}
 
 -- ---- the input of one node
 
@@ -57,9 +59,10 @@ module _ (headers : HeaderTextIsRead) (read_back : PacketsReadBack) (plan : Plan
 
 module _ (headers : HeaderTextIsRead) (writes : NodeWritesStates) (read_back : PacketsReadBack)
     (plan : Plan) (accepted : IsAccepted plan) (faulty : List ℕ) (starts : ℕ → State)
-    (sent : ℕ → ℕ → ℕ → List ℕ) (first last : ℕ) (few : last ≤ 1000000)
+    (sent : ℕ → ℕ → ℕ → List ℕ) (begins : ℕ → ℕ) (rounds : ℕ)
+    (few : (v : ℕ) → begins v + rounds ≤ 1000000)
     (begun : (v : ℕ) → IsCorrect plan faulty v → IsState plan v (starts v))
-    (c : Connects plan faulty starts sent first last) where
+    (c : Connects plan faulty starts sent begins rounds) where
   abbrev packets : ℕ → List (List (List ℕ))
   packets v = c.nodes.packets v
 
@@ -67,11 +70,11 @@ module _ (headers : HeaderTextIsRead) (writes : NodeWritesStates) (read_back : P
   inputs v = header_text plan v (starts v) ++ flat_map packet_text (packets v)
 
   few_packets : (v : ℕ) → length (packets v) ≤ 1000000
-  few_packets v = omega (arith, c.long v)
+  few_packets v = omega (arith, c.long v, few v)
 
-  begins : (v : ℕ) → IsCorrect plan faulty v
+  begin : (v : ℕ) → IsCorrect plan faulty v
       → header_of (whole (inputs v)) ≡ Ok (header_stated plan v (starts v))
-  begins v correct =
+  begin v correct =
       header_is headers read_back plan accepted v correct.0 (starts v) (begun v correct) (packets v)
       (c.full v) (few_packets v)
 
@@ -93,22 +96,21 @@ module _ (headers : HeaderTextIsRead) (writes : NodeWritesStates) (read_back : P
       (packets v) (c.full v) (few_packets v)
 
   -- each writes its states
-  wrote : (t u : ℕ) → t ≤ last → IsCorrect plan faulty u
+  wrote : (t u : ℕ) → t ≤ begins u + rounds → IsCorrect plan faulty u
       → cell_written plan (λ v. whole (inputs v)) t u
       ≡ Some (written (fields_of plan u) (state_at plan c.nodes t u))
   wrote t u le correct =
       ap (λ o. cell_number t o.text) (outcome u correct)
-      ∙ writes plan u (starts u) (packets u) t (omega (arith, c.long u))
+      ∙ writes (machine_of_plan plan) u (starts u) (packets u) t (omega (arith, c.long u))
       ∙ ap (λ (s : ℕ → State).
       Some (written (fields_of plan u) (state_behind plan u (s u) (take t (packets u)))))
       (sym c.begin)
 
-  connect : CallsConnect plan faulty (λ v. whole (inputs v)) first last
+  connect : CallsConnect plan faulty (λ v. whole (inputs v)) begins rounds
   connect = record {
-    rising = c.are.rising;
     headers = λ v correct. record {
       header = header_stated plan v (starts v);
-      is = begins v correct;
+      is = begin v correct;
       names = refl;
       id = refl;
     };
@@ -116,24 +118,23 @@ module _ (headers : HeaderTextIsRead) (writes : NodeWritesStates) (read_back : P
         let same =
         ap (λ (ps : List (List (List ℕ))). length ps) (same_packets v correct) in
         omega (arith, same, c.long v);
-    cells = λ t v u low lt v_correct u_correct other.
-        wrote t u (omega arith) u_correct
+    cells = λ i v u lt v_correct u_correct other.
+        wrote (begins u + i) u (omega arith) u_correct
         ∙ ap (λ (cell : List ℕ). Some cell)
-        (sym (same_cell t v u v_correct ∙ c.wrote t v u low lt u_correct));
+        (sym (same_cell (begins v + i) v u v_correct ∙ c.wrote i v u lt u_correct));
   }
 
-  pub inputs_connect : InputsConnect plan faulty starts sent first last
+  pub inputs_connect : InputsConnect plan faulty starts sent begins rounds
   inputs_connect = record {
     inputs = inputs;
     connect = connect;
-    begin = begins;
+    begin = begin;
     given = λ t v u lt correct ult when. same_cell t v u correct ∙ c.given t v u lt ult when;
     ends = λ v correct. ap (λ o. o.status) (outcome v correct);
   }
 
 pub any_connect : HeaderTextIsRead → NodeWritesStates → AnyLiesConnect → PacketsReadBack
     → AnyInputsConnect
-any_connect headers writes any read_back plan accepted faulty starts sent first last rising few
-    begun =
-    inputs_connect headers writes read_back plan accepted faulty starts sent first last few begun
-    (any plan accepted faulty starts sent first last rising begun)
+any_connect headers writes any read_back plan accepted faulty starts sent begins rounds few begun =
+    inputs_connect headers writes read_back plan accepted faulty starts sent begins rounds few begun
+    (any plan accepted faulty starts sent begins rounds begun)

@@ -11,4 +11,6 @@ pub mod LockPromises
 pub mod FindPromises
 pub mod Printed
 pub mod NodeCalls
+pub mod CallWindows
+pub mod Restarts
 pub mod NodePromises

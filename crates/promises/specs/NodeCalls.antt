@@ -8,8 +8,8 @@ use Rattle.texts.specs.Limits.{room_in, behind_lines}
 use Rattle.sync_types.specs.declared.status.Status.{Status}
 use Rattle.sync_types.specs.declared.status.Status.TheVariants as status
 use Rattle.construction.specs.Plans.{Plan}
-use Rattle.node_header.specs.declared.headers.HeaderRefusal.{HeaderRefusal}
-use Rattle.node_header.specs.Headers.{Header, header_in}
+use Rattle.plan_laws.specs.VersionLaws.{in_version}
+use Rattle.node_header.specs.Headers.{Header, HeaderRefusal, header_in}
 use Rattle.outcomes.specs.declared.commands.Command.TheVariants as command
 use Rattle.outcomes.specs.Commands.{as_it_goes}
 use Rattle.outcomes.specs.Conduct.{Reads, Does}
@@ -46,11 +46,11 @@ abbrev pub text_of : Call → List ℕ
 text_of (whole input) = (node_outcome input).text
 text_of (failed seen) = node_so_far seen
 
--- its header names node v of the plan, in any state that is read
+-- its header names node v of the plan, in either version, in any state that is read
 pub record IsOfNode (plan : Plan) (v : ℕ) (call : Call) : Type 0 where
   pub header : Header
   pub is : header_of call ≡ Ok header
-  pub names : header.plan ≡ plan
+  pub names : in_version 2 header.plan ≡ in_version 2 plan
   pub id : header.node.id ≡ v
 
 -- ---- what a call did

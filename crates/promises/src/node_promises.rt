@@ -4,30 +4,34 @@
 ghost use Rattle.promises.specs.NodePromises.{NodePromiseIsKept, AnyInputsConnect};
 
 use node_header::laws::{header_texts_read_back, headers_are_of_plans};
-use node_runs::laws::{any_lies_connect, borne_leaves_some, node_writes_states, nodes_run};
+use node_runs::laws::node_writes_states;
 use node_stepper::laws::packets_read_back;
-use plan_laws::laws::{every_plan_settles, locked_runs_count, locks_at_bound};
+use plan_node_runs::laws::{
+    any_lies_connect, borne_leaves_some, heard_nodes_stay_locked, nodes_run,
+};
 
-/// N calls of `node`, one for each node of a plan, of which few are faulty. From some packet on
-/// each of the others is given, in packet t, the cells that they wrote behind t packets, and of the
-/// faulty ones any bytes. Then their cells are the states of a run, whatever came before: T packets
-/// later they show one number, which grows by one modulo C with each packet, and so they do from
-/// any locked configuration on. A call's text is what it writes with the statuses `Ok`, `Cut`,
-/// `TooLong` and `ReadFault`.
+/// N calls of `node`, one for each node of a plan, of which few are faulty. For a window of rounds
+/// each of the others is given, in each packet, the cells that they wrote after as many rounds, and
+/// of the faulty ones any bytes. The window begins in each call at a packet of its own. Then their
+/// cells are the states of a run, whatever came before: T rounds later they show one number, which
+/// grows by one modulo C with each packet, and so they do from any locked configuration on. From
+/// there on they do so where cells are lost too, as long as each is given in each round those of
+/// N - F nodes, its own among them. A process that is started anew is a faulty node of the whole
+/// window and a correct one of its rest. A call's text is what it writes with the statuses `Ok`,
+/// `Cut`, `TooLong` and `ReadFault`; with the last one it is that of the packets that were read.
 pub fn node_promise_is_kept()
     ensures { NodePromiseIsKept }
 {
     headers_are_of_plans();
     node_writes_states();
     nodes_run();
+    heard_nodes_stay_locked();
     borne_leaves_some();
-    every_plan_settles();
-    locks_at_bound();
-    locked_runs_count();
 }
 
-/// There are inputs of such calls, whatever states of theirs the correct nodes begin in, and
-/// whatever is given as the cells of faulty ones, and of all nodes before they are connected.
+/// There are inputs of such calls, whatever states of theirs the correct nodes begin in, wherever
+/// the window begins in each of them, and whatever is given as the cells of faulty ones, and of all
+/// nodes before the window.
 pub fn any_inputs_connect()
     ensures { AnyInputsConnect }
 {

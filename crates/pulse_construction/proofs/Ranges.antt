@@ -207,7 +207,7 @@ zero_has fields count some all = record {
 }
 
 -- at least one
-ArePositive : Fields → Type 0
+abbrev pub ArePositive : Fields → Type 0
 ArePositive fields = (0 < fields.base) × All (λ modulus. 0 < modulus) fields.moduli
 
 positive_chosen : (b : Bool) (these those : Fields) → ArePositive these → ArePositive those
@@ -220,7 +220,6 @@ positive_over : (f modulus : ℕ) (below : Fields) → 0 < modulus → ArePositi
       base = below.base;
       moduli = modulus ∷ instructions f ∷ left_period f ∷ 1 ∷ below.moduli;
     })
-unfolding ArePositive
 positive_over f modulus below some positive = (
   positive.0,
   All-cons (λ modulus. 0 < modulus) modulus
@@ -231,9 +230,8 @@ positive_over f modulus below some positive = (
       (All-cons (λ modulus. 0 < modulus) 1 below.moduli (omega arith) positive.1))),
 )
 
-positive_fields : (tree : Halving) (modulus v : ℕ) → 0 < modulus
+pub positive_fields : (tree : Halving) (modulus v : ℕ) → 0 < modulus
     → ArePositive (fields_in tree modulus v)
-unfolding ArePositive
 positive_fields One modulus v some = (some, All-nil (λ modulus. 0 < modulus))
 positive_fields (Split left right spares) modulus v some =
     let f : ℕ = faults_of (halves_of left right spares) in
@@ -254,7 +252,6 @@ positive_fields (Split left right spares) modulus v some =
 -- the zero state is a state of each node
 pub zero_is_state : (tree : Halving) (modulus v : ℕ) → 0 < modulus
     → IsState tree modulus v (zero_state (halving_depth tree))
-unfolding ArePositive
 zero_is_state tree modulus v some =
     let positive = positive_fields tree modulus v some in record {
       depth = length-replicate (halving_depth tree) zero_register;

@@ -1,5 +1,4 @@
 pub mod Halvings
 pub mod Registers
 pub mod Steps
-pub mod Machines
 pub mod Runs

@@ -235,7 +235,8 @@ module _ (halves : Halves) (next : ℕ → ℕ) (faulty : ℕ → Bool) (is : Ha
         locks_by y from lo within hi (λ v c. fires_by_left y v (all v c)) (record {
           none = λ k v lt c. fires_by_none (y + 1 + k) v (none.none k v lt c)
               (none_right n f faulty s last instruction begun_by_left by_left by_right
-              instruction_goes begun_by_left_goes y v lo (omega arith) c (all v c) none (held v) k lt);
+              instruction_goes begun_by_left_goes y v lo (omega arith) c
+              (all v c) none (held v) k lt);
         })
 
     left_settles_by : (from : ℕ) → from ≡ t + 2 * left_period f + instructions f + 1 → from ≤ last

@@ -40,6 +40,13 @@ pub nodes_of_half : (f : ℕ) → halving_nodes (halving_of f 0) ≡ 3 * f + 1
 nodes_of_half zero = refl
 nodes_of_half (suc f) = nodes_of_halving (suc f) 0 (omega arith) ∙ omega arith
 
+-- the tree of so many faults, with all further nodes as spares, has all nodes
+pub nodes_of_tree : (n f : ℕ) → 3 * f < n → (f ≡ 0 → n ≡ 1)
+    → halving_nodes (halving_of f (n - (3 * f + 1))) ≡ n
+nodes_of_tree n zero quorum single = omega (arith, single refl)
+nodes_of_tree n (suc f) quorum single =
+    omega (arith, nodes_of_halving (suc f) (n - (3 * suc f + 1)) (omega arith), quorum)
+
 -- ---- heights
 
 taller_within : (h m n d e : ℕ) → m ≤ n

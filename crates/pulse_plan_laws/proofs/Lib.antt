@@ -1,8 +1,10 @@
 pub mod Places
+pub mod States
 pub mod HalfRuns
 pub mod LevelRuns
 pub mod Counting
 pub mod TreeRuns
 pub mod RunLaws
 pub mod OneNext
-pub mod PlanMachines
+pub mod Further
+pub mod Sound

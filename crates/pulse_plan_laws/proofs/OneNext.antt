@@ -6,7 +6,9 @@ use Rattle.sync_types.specs.States.{State, zero_state}
 use Rattle.construction.specs.Runs.{heard_by}
 use Rattle.pulse_construction.specs.Halvings.{halving_nodes}
 use Rattle.pulse_construction.specs.Steps.{step_of}
-use Rattle.pulse_construction.specs.Runs.{IsState}
+use Rattle.state_codec.specs.Ranges.{InRange}
+use Rattle.pulse_construction.specs.Runs.{all_fields}
+use Rattle.pulse_plan_laws.proofs.States.{range_of_state}
 use Rattle.pulse_construction.proofs.Ranges.{step_is_state}
 use Rattle.pulse_plan_laws.specs.Laws.{EachHasOneNext}
 
@@ -25,8 +27,9 @@ each_has_one_next tree modulus two faulty old lies is table =
       states = record {
         size = length-map-range_with_len f 0 n;
         states =
-            made (IsState tree modulus) f n (zero_state 0)
-            (λ v. step_is_state tree modulus v (heard_by n faulty old lies v) (omega arith));
+            made (λ v. InRange (all_fields tree modulus v)) f n (zero_state 0)
+            (λ v. range_of_state tree modulus (omega arith) v (f v)
+            (step_is_state tree modulus v (heard_by n faulty old lies v) (omega arith)));
       };
       round = record {
         table = table;

@@ -12,7 +12,7 @@ use Rattle.pulse_laws.specs.Level.{OneHalfIsSound, PulsesSettle, LockedStaysLock
 use Rattle.pulse_construction.specs.Halvings.{Halving, One, Split, halving_nodes, halving_faults}
 use Rattle.pulse_construction.specs.Halvings.{halving_bound, halves_of}
 use Rattle.pulse_construction.specs.Registers.{level_state_of, with_level_state}
-use Rattle.pulse_construction.specs.Machines.{Run, CountsFrom, IsBorne}
+use Rattle.machines.specs.Machines.{Run, CountsFrom, IsBorne}
 use Rattle.pulse_construction.specs.Runs.{machine_of}
 use Rattle.pulse_construction.proofs.Numbers.{three_faults, faults_of_halving, nodes_of_halving}
 use Rattle.pulse_construction.proofs.Numbers.{bound_of_halving}
@@ -70,13 +70,13 @@ counts_over tree modulus faulty run counts = record {
 }
 
 -- a locked configuration has one
-one_stays : (modulus : ℕ) (faulty : List ℕ) (run : List (List State)) (from : ℕ)
+one_stays : (modulus : ℕ) → 2 ≤ modulus → (faulty : List ℕ) (run : List (List State)) (from : ℕ)
     → IsBorne (machine_of One modulus) faulty → Run (machine_of One modulus) faulty run
     → StaysLockedFrom One modulus faulty run from
-one_stays modulus faulty run from borne is =
+one_stays modulus two faulty run from borne is =
     let counts = one_counts modulus (is_in faulty) (length run - 1)
     (λ t v. state_of (configuration run t) v) (few_places One faulty borne.few)
-    (run_in One modulus faulty run is) in
+    (run_in One modulus faulty (omega (arith, two)) run is) in
     record {
       locked = λ t lo hi. tt;
       counts = record {
@@ -92,7 +92,7 @@ module _ (one_half : OneHalfIsSound) (settle : PulsesSettle) where
       counts_over tree modulus faulty run
       (tree_settles one_half settle tree modulus (is_in faulty) (length run - 1)
       (λ t v. state_of (configuration run t) v) (few_places tree faulty borne.few)
-      (run_in tree modulus faulty run is))
+      (run_in tree modulus faulty (omega (arith, two)) run is))
 
   pub locks_at_bound : LocksAtBound
   locks_at_bound One modulus two faulty run borne is long = tt
@@ -101,7 +101,7 @@ module _ (one_half : OneHalfIsSound) (settle : PulsesSettle) where
       let f : ℕ = faults_of (halves_of left right spares) in
       let stays = locked_over left right spares modulus (is_in faulty) (length run - 1)
       (λ t v. state_of (configuration run t) v) (few_places tree faulty borne.few)
-      (run_in tree modulus faulty run is) one_half settle
+      (run_in tree modulus faulty (omega (arith, two)) run is) one_half settle
       (tree_settles one_half settle left (left_period f))
       (tree_settles one_half settle right (right_period f)) in
       record {
@@ -111,12 +111,12 @@ module _ (one_half : OneHalfIsSound) (settle : PulsesSettle) where
 
 pub locked_runs_count : LockedStaysLocked → LockedRunsCount
 locked_runs_count stay One modulus two faulty run borne is from lt locked =
-    one_stays modulus faulty run from borne is
+    one_stays modulus two faulty run from borne is
 locked_runs_count stay (Split left right spares) modulus two faulty run borne is from lt locked =
     let tree : Halving = Split left right spares in
     let stays = stays_over left right spares modulus (is_in faulty) (length run - 1)
     (λ t v. state_of (configuration run t) v) (few_places tree faulty borne.few)
-    (run_in tree modulus faulty run is) stay from locked.value locked.each in
+    (run_in tree modulus faulty (omega (arith, two)) run is) stay from locked.value locked.each in
     record {
       locked = λ t lo hi. record { value = stays.value t; each = stays.locked t lo (omega arith) };
       counts = record {

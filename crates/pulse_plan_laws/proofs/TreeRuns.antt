@@ -9,9 +9,10 @@ use Rattle.construction.specs.Steps.{state_of}
 use Rattle.construction.specs.Runs.{is_in, configuration, heard_of, heard_by}
 use Rattle.pulse_construction.specs.Halvings.{Halving, halving_nodes}
 use Rattle.pulse_construction.specs.Steps.{step_in, halving_depth}
-use Rattle.pulse_construction.specs.Machines.{IsConfiguration, Round, Run}
+use Rattle.machines.specs.Machines.{IsConfiguration, Round, Run}
 use Rattle.pulse_construction.specs.Runs.{machine_of}
 use Rattle.pulse_plan_laws.proofs.Places.{StepsIn, RunIn}
+use Rattle.pulse_plan_laws.proofs.States.{state_of_range}
 
 module _ (tree : Halving) (modulus : ℕ) (faulty : List ℕ) where
   -- a node's round
@@ -36,14 +37,15 @@ module _ (tree : Halving) (modulus : ℕ) (faulty : List ℕ) where
         step = round.steps v lt correct;
       }
 
-  pub run_in : (run : List (List State)) → Run (machine_of tree modulus) faulty run
+  pub run_in : 0 < modulus → (run : List (List State)) → Run (machine_of tree modulus) faulty run
       → RunIn tree modulus (is_in faulty) (length run - 1)
       (λ t v. state_of (configuration run t) v)
-  run_in run is =
+  run_in positive run is =
       let some = is.some in record {
         fields = λ t v hi lt correct.
+            (state_of_range tree modulus positive v (state_of (configuration run t) v)
             ((All-get_or (IsConfiguration (machine_of tree modulus)) run t [] (omega arith)
-            is.configurations).states v lt).fields;
+            is.configurations).states v lt)).fields;
         steps = λ t v hi lt correct. let next =
             is.rounds t (omega arith) in
             node_steps (configuration run t) (configuration run (t + 1)) next.lies v next.round lt

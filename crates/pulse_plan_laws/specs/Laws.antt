@@ -1,5 +1,5 @@
 -- The laws of trees of halves and of their runs, with each modulus from 2 on.
-use Rattle.std.specs.Prelude.{◌≡◌, ℕ, ◌+◌, ◌*◌, ◌<◌, ◌≤◌, List, length, false}
+use Rattle.std.specs.Prelude.{◌≡◌, ℕ, ◌+◌, ◌*◌, ◌^◌, ◌<◌, ◌≤◌, List, length, false}
 use Rattle.sync_types.specs.States.{State, zero_state}
 use Rattle.construction.specs.Steps.{state_of}
 use Rattle.construction.specs.Runs.{is_in, configuration}
@@ -9,8 +9,9 @@ use Rattle.pulse_laws.specs.LevelStates.{LevelState}
 use Rattle.pulse_construction.specs.Registers.{level_state_of, inner, with_level_state}
 use Rattle.pulse_construction.specs.Registers.{IsLevelState, HasLevelState}
 use Rattle.pulse_construction.specs.Steps.{halving_depth, step_of}
-use Rattle.pulse_construction.specs.Machines.{IsConfiguration, IsTable, Round, Run, CountsFrom}
-use Rattle.pulse_construction.specs.Machines.{IsBorne, Settles}
+use Rattle.machines.specs.Machines.{IsConfiguration, IsTable, Round, Run, CountsFrom}
+use Rattle.machines.specs.Machines.{IsBorne, Settles}
+use Rattle.machines.specs.Laws.{IsSound}
 use Rattle.pulse_construction.specs.Runs.{IsState, machine_of, IsLocked}
 
 -- Every tree has more than three nodes for each fault.
@@ -94,3 +95,9 @@ EachHasOneNext =
     → (faulty : List ℕ) (old : List State) (lies : List (List State))
     → IsConfiguration (machine_of tree modulus) old → IsTable (machine_of tree modulus) lies
     → HasOneNext tree modulus faulty old lies
+
+-- The machine of each tree is sound, within the limits of what is read.
+abbrev pub MachinesAreSound : Type 0
+MachinesAreSound =
+    (tree : Halving) (modulus : ℕ) → 2 ≤ modulus → modulus ≤ 2 ^ 40 → halving_nodes tree ≤ 256
+    → IsSound (machine_of tree modulus)

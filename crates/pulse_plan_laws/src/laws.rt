@@ -3,7 +3,7 @@
 ghost use Rattle.pulse_plan_laws.specs.Laws.{HasQuorum, AreFast, LevelStatesAreRegisters};
 ghost use Rattle.pulse_plan_laws.specs.Laws.{ZeroIsInRange, NextIsInRange, EachHasOneNext};
 ghost use Rattle.pulse_plan_laws.specs.Laws.{EveryHalvingSettles, LocksAtBound, LockedRunsCount};
-ghost use Rattle.pulse_plan_laws.specs.PlanMachines.{PlansAreMachines};
+ghost use Rattle.pulse_plan_laws.specs.Laws.{MachinesAreSound};
 
 /// Every tree of halves has more than three nodes for each fault that it tolerates.
 pub fn every_halving_has_quorum()
@@ -60,8 +60,8 @@ pub fn locked_stays_locked()
     ensures { LockedRunsCount }
 {}
 
-/// A boosting plan is a machine too: it has the runs, the borne faulty sets and the outputs that
-/// the words of machines give it, and it settles by the ones exactly where it does by the others.
-pub fn plans_are_machines()
-    ensures { PlansAreMachines }
+/// The machine of each tree of halves, with each modulus, is sound, within the limits of what is
+/// read.
+pub fn machines_are_sound()
+    ensures { MachinesAreSound }
 {}

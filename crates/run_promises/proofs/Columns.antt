@@ -33,8 +33,8 @@ use Rattle.round_runner.proofs.Hits.{hit_has, put_has}
 use Rattle.round_runner.proofs.Places.{placed}
 use Rattle.run_promises.proofs.Heard.{heard_long, heard_is}
 use Rattle.node_stepper.specs.Packets.{whole}
-use Rattle.node_stepper.specs.Nodes.{fields_of, heard_of, heard_in, state_after, state_cell}
-use Rattle.node_stepper.specs.Nodes.{states_of}
+use Rattle.plan_node_runs.specs.PlanNodes.{fields_of, heard_of, heard_in, state_after, state_cell}
+use Rattle.plan_node_runs.specs.PlanNodes.{states_of}
 use Rattle.node_stepper.specs.Laws.{AreFull, PacketsReadBack}
 use Rattle.run_promises.specs.Columns.{round_packet, era_packets, NodesMakeColumns}
 use Rattle.run_promises.specs.Columns.{EraPacketsAreRead}
@@ -77,7 +77,7 @@ module _ (plan : Plan) (s : Script) (is : IsReadFor plan s) where
         (λ w. written (fields_of plan w) (state_of (heard t) w)) 0 (plan_nodes plan) u u [] ult
         (omega arith))
         ∙ written_reads_back (fields_of plan u) (state_of (heard t) u)
-        (fields_limited (shape_of plan) (get_or (shape_of plan).lows u 0)
+        (fields_limited (shape_of plan) u
         (shape_of_accepted plan is.accepted))
         (subst (λ (shape : Shape). InRange (fields_at shape u) (state_of (heard t) u))
         is.right.states

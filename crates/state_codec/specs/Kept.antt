@@ -6,11 +6,10 @@ use Rattle.state_codec.specs.Shapes.{IsFields, bits_in, register_bits, registers
 
 pub record IsKept (base : ℕ) (moduli offsets sizes : List ℕ) (front size : ℕ) : Type 0 where
   pub fields : IsFields (record { base = base; moduli = moduli })
-  pub depth : length moduli ≤ 16
-  pub room : length offsets ≡ 16
+  pub room : length offsets ≡ length moduli
   pub begins : (i : ℕ) → i < length moduli
       → slice_index_or offsets i 0 ≡ width base + registers_bits (take i moduli)
-  pub rooms : length sizes ≡ 16
+  pub rooms : length sizes ≡ length moduli
   pub each : (i : ℕ) → i < length moduli
       → slice_index_or sizes i 0 ≡ register_bits (slice_index_or moduli i 0)
   pub first : front ≡ width base

@@ -1,5 +1,5 @@
 ghost use Rattle.std.specs.Prelude.{◌≡◌, ◌<◌, ◌≤◌, ◌+◌, ◌*◌, ◌^◌, ◌++◌, length, take};
-ghost use Rattle.std.specs.Prelude.{slice_index_or};
+ghost use Rattle.std.specs.Prelude.{slice_index_or, IfOk, true, false, ◌≢◌};
 ghost use Rattle.std.specs.Int.{div_ceil};
 ghost use Rattle.state_codec.specs.Shapes.{Fields, register_bits, registers_bits, bits_in};
 ghost use Rattle.state_codec.specs.Shapes.{bytes_in, IsFields};
@@ -12,11 +12,9 @@ use crate::registers::{RegisterField, below, set_zero};
 use crate::widths::bit_length;
 use crate::writer::{Pending, SizedNumber, put};
 use byteorder::{BigEndian, ByteOrder};
+use std::alloc::Global;
 use std::marker::Model;
-use sync_types::NodeState;
-
-/// A state has no more registers.
-const MOST_REGISTERS: usize = 16;
+use sync_types::{NoMemory, NodeState};
 
 /// No state has more bytes.
 pub const MOST_BYTES: usize = 128;
@@ -34,8 +32,8 @@ pub struct Fields {
     // How many bits the number has, how many stand before each register and how many it has itself,
     // and how many all are.
     front: u32,
-    offsets: [u32; MOST_REGISTERS],
-    sizes: [u32; MOST_REGISTERS],
+    offsets: Vec<u32>,
+    sizes: Vec<u32>,
     size: u32,
 }
 
@@ -47,7 +45,8 @@ impl Model for Fields {
 
     ghost view = { λ s. record { base = s.base; moduli = s.moduli.items } };
 
-    ghost invariant = { λ s. IsKept s.base s.moduli.items s.offsets s.sizes s.front s.size };
+    ghost invariant = { λ s.
+        IsKept s.base s.moduli.items s.offsets.items s.sizes.items s.front s.size };
 }
 
 /// How many bits a register has; one that is lacking has none.
@@ -64,15 +63,17 @@ fn size_of_register(modulus: u64) -> u32
 }
 
 impl Fields {
-    /// Fields of these moduli.
-    pub fn new(base: u64, moduli: Vec<u64>) -> Fields
+    /// Fields of these moduli, whose states have at most 128 bytes. The only error is want of
+    /// memory.
+    pub fn new(alloc: Global, base: u64, moduli: Vec<u64>) -> Result<Fields, NoMemory>
         requires limits { IsFields (record { base = base; moduli = moduli.items }) }
-        requires few { length moduli.items ≤ 16 }
-        ensures { result ≡ record { base = base; moduli = moduli.items } }
+        requires few { bits_in (record { base = base; moduli = moduli.items }) ≤ 1024 }
+        ensures { IfOk result (λ fields.
+            fields ≡ record { base = base; moduli = moduli.items }) }
     {
         let front = bit_length(base - 1);
-        let mut offsets = [0; MOST_REGISTERS];
-        let mut sizes = [0; MOST_REGISTERS];
+        let mut offsets = vec![in alloc; 0; moduli.len()]?;
+        let mut sizes = vec![in alloc; 0; moduli.len()]?;
         let mut size = front;
         for i in 0..moduli.len() {
             let own = size_of_register(moduli[i]);
@@ -80,14 +81,30 @@ impl Fields {
             sizes[i] = own;
             size += own;
         }
-        Fields {
+        Ok(Fields {
             base,
             moduli,
             front,
             offsets,
             sizes,
             size,
-        }
+        })
+    }
+
+    /// The same fields. The only error is want of memory.
+    pub fn try_clone(&self, alloc: Global) -> Result<Fields, NoMemory>
+        ensures { IfOk result (λ made. made ≡ self.now) }
+    {
+        let moduli = self.moduli.clone()?;
+        Fields::new(alloc, self.base, moduli)
+    }
+
+    /// Whether they are the same fields.
+    pub fn is_same(&self, other: &Fields) -> bool
+        ensures same { result ≡ true → self.now ≡ other.now }
+        ensures other { result ≡ false → self.now ≢ other.now }
+    {
+        self.base == other.base && self.moduli == other.moduli
     }
 
     /// How many bits a state has, without padding.

@@ -17,6 +17,7 @@ mod texts;
 mod widths;
 mod writer;
 
+pub use fields::Fields;
 pub use packed::Packed;
 pub use shapes::StateShape;
 pub use texts::NotState;

@@ -3,31 +3,35 @@ ghost use Rattle.construction.specs.Plans.{plan_nodes};
 
 use edge_io::{Feed, MemSink, PlainSource};
 use node_stepper::{NodeEngine, NodeFault};
+use plan_machine::PlanMachine;
 use plan_numbers::Plan;
 use state_codec::StateShape;
 use std::alloc::{AllocError, Global};
 use std::test::Fail;
 use sync_types::{NoMemory, NodeState};
-use tower::build;
 use try_states::plans::{four, one, three_and_one};
 
 /// A node in the state of these bytes.
-pub fn engine(alloc: Global, plan: &Plan, id: u32, bytes: &[u8]) -> Result<NodeEngine, NoMemory>
+pub fn engine(
+    alloc: Global,
+    plan: &Plan,
+    id: u32,
+    bytes: &[u8],
+) -> Result<NodeEngine<PlanMachine>, NoMemory>
     requires { id < plan_nodes plan.now }
-    ensures { IfOk result (λ e. e.plan ≡ plan.now) }
+    ensures { IfOk result (λ e. e.counter ≡ plan.now) }
 {
-    plan.tell();
-    let tower = build(alloc, plan)?;
     let shape = StateShape::of(alloc, plan)?;
     let mut state = NodeState::zero(alloc, shape.depth())?;
     shape.read_state(id, bytes, &mut state);
-    NodeEngine::new(alloc, tower, shape, id, state)
+    let machine = PlanMachine::with_shape(alloc, plan, shape)?;
+    NodeEngine::new(alloc, machine, id, state)
 }
 
 /// What an engine answers to an input.
 pub fn served(
     alloc: Global,
-    mut engine: NodeEngine,
+    mut engine: NodeEngine<PlanMachine>,
     input: &[u8],
 ) -> Result<(Result<u64, NodeFault>, MemSink), Fail> {
     let mut source = PlainSource::new(input);

@@ -5,6 +5,7 @@ use crate::players::begun;
 use counter_core::NoOverlay;
 use edge_io::{Feed, MemSink, PlainSource};
 use node_stepper::{NodeEngine, NodeFault};
+use plan_machine::PlanMachine;
 use plan_numbers::Plan;
 use plan_reader::read_whole_plan;
 use round_runner::Runner;
@@ -12,18 +13,21 @@ use state_codec::StateShape;
 use std::alloc::Global;
 use std::test::Fail;
 use sync_types::{NoMemory, NodeState};
-use tower::build;
 
 /// Node `v` in the state of these bytes.
-fn engine(alloc: Global, plan: &Plan, v: u32, start: &[u8]) -> Result<NodeEngine, NoMemory>
+fn engine(
+    alloc: Global,
+    plan: &Plan,
+    v: u32,
+    start: &[u8],
+) -> Result<NodeEngine<PlanMachine>, NoMemory>
     requires { v < plan_nodes plan.now }
 {
-    plan.tell();
-    let tower = build(alloc, plan)?;
     let shape = StateShape::of(alloc, plan)?;
     let mut state = NodeState::zero(alloc, shape.depth())?;
     shape.read_state(v, start, &mut state);
-    NodeEngine::new(alloc, tower, shape, v, state)
+    let machine = PlanMachine::with_shape(alloc, plan, shape)?;
+    NodeEngine::new(alloc, machine, v, state)
 }
 
 /// What node `v` hears of node `u` in the runner's round: its own state, the state of a correct
@@ -97,7 +101,7 @@ const ROWS: [(&str, &str); 3] = [
 /// What an engine answers to packets: how many, and the cells of its states.
 fn served(
     alloc: Global,
-    mut node: NodeEngine,
+    mut node: NodeEngine<PlanMachine>,
     packets: &[u8],
     room: usize,
 ) -> Result<(Result<u64, NodeFault>, MemSink), Fail> {

@@ -42,7 +42,7 @@ const REFUSED: [(&str, u64, Rule); 13] = [
 ];
 
 /// What refuses a header.
-fn refusal(alloc: Global, line: &mut LineBuf, text: &str) -> Option<HeaderError> {
+fn refusal(alloc: Global, line: &mut LineBuf, text: &str) -> Option<HeaderError<Premise>> {
     let mut source = PlainSource::new(text.as_bytes());
     let mut feed = Feed::new(&mut source);
     read_header(alloc, &mut feed, line).err()
@@ -100,7 +100,7 @@ fn a_header_is_a_plan_and_a_node(rt: HostRuntime) -> Result<(), Fail> {
     Ok(())
 }
 
-const TEXTS: [(HeaderError, &str); 5] = [
+const TEXTS: [(HeaderError<Premise>, &str); 5] = [
     (HeaderError::ReadFault, "a read failed"),
     (HeaderError::TooLong, "the header is too long"),
     (

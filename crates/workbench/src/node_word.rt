@@ -4,6 +4,7 @@
 ghost use Rattle.std.specs.Prelude.{◌≡◌, Some, IfOk};
 ghost use Rattle.state_codec.specs.Shapes.{shape_of};
 ghost use Rattle.node_header.specs.Fits.{IsFit};
+ghost use Rattle.plan_machine.specs.PlanMachines.{machine_of_plan};
 ghost use Rattle.node_stepper.specs.Nodes.{begun};
 ghost use Rattle.outcomes.specs.NodeAnswers.{header_refusal};
 ghost use Rattle.workbench.specs.NodeService.{service_status};
@@ -13,22 +14,30 @@ use edge_io::{Feed, LineBuf, PlainSource, Sink, Source, WriteFault};
 use node_header::{HeaderError, HeaderRead, HeaderRefusal, read_header};
 use node_stepper::{NodeEngine, NodeFault};
 use outcomes::{Command, Refusal, put_refusal};
+use plan_machine::PlanMachine;
+use plan_numbers::Plan;
 use std::alloc::Global;
-use sync_types::{NoMemory, Part, Status};
-use tower::build;
+use sync_types::{NoMemory, Part, Premise, Status};
 
 /// The node of a header, which has heard nobody.
-fn engine_of(alloc: Global, read: HeaderRead) -> Result<NodeEngine, NoMemory>
+fn engine_of(alloc: Global, read: HeaderRead<Plan>) -> Result<NodeEngine<PlanMachine>, NoMemory>
     requires shape { read.shape ≡ shape_of read.plan }
     requires fits { IsFit read.shape read.header }
-    ensures { IfOk result (λ e. e ≡ begun read.plan read.header.id read.header.state) }
+    ensures { IfOk result (λ e. e
+        ≡ begun machine_of_plan read.plan read.header.id read.header.state) }
 {
-    let tower = build(alloc, &read.plan)?;
-    NodeEngine::new(alloc, tower, read.shape, read.header.id, read.header.state)
+    let HeaderRead {
+        plan,
+        shape,
+        header,
+        ended: _,
+    } = read;
+    let machine = PlanMachine::with_shape(alloc, &plan, shape)?;
+    NodeEngine::new(alloc, machine, header.id, header.state)
 }
 
 /// The refusal of a line of a header.
-fn header_refusal(refused: HeaderRefusal) -> Refusal
+fn header_refusal(refused: HeaderRefusal<Premise>) -> Refusal
     ensures { result ≡ header_refusal refused }
 {
     match refused {

@@ -1,8 +1,10 @@
-use Rattle.node_calls.proofs.Served.{last_register}
+use Rattle.std.proofs.Common.{subst, sym}
+use Rattle.machines.specs.Machines.{IsState}
+use Rattle.node_runs.proofs.States.{read_is_state}
 use Rattle.node_calls.proofs.calls.shown_by.Goals as goal
 
-pub reg-requires : goal.reg-requires
-reg-requires c =
-    let some = rw c.depth-depth.ensures at c.if-depth-eq0.false in
-    rw c.depth-depth.ensures
-    (last_register c.args.shape.now c.args.id _ c.read_state.ensures.range.depth some)
+pub output-requires-clause-state : goal.output-requires-clause-state
+output-requires-clause-state g c =
+    let m = g.M.Machine.machine c.args.machine.now in
+    subst (IsState m c.args.id) (sym c.read_state.ensures)
+    (read_is_state m c.tell.ensures c.args.id c.requires c.args.state.now)

@@ -1,25 +1,21 @@
-use Rattle.std.proofs.Common.{◌∙◌, ap}
-use Rattle.state_codec.specs.Shapes.{fields_at}
-use Rattle.state_codec.specs.Writing.{written}
-use Rattle.node_calls.proofs.Served.{step_whole, step_none, step_range}
+use Rattle.std.proofs.Common.{◌∙◌}
+use Rattle.node_calls.proofs.Served.{step_whole, step_none, room_is}
 use Rattle.node_calls.proofs.steps.step_in.Goals as goal
 
-pub write_state-requires-clause-range : goal.write_state-requires-clause-range
-write_state-requires-clause-range c =
-    step_range _ _ _ c.requires c.in_ok-shape.ensures.shape _ _
-    (c.if-state-bytes_of.false ∙ c.bytes_of.ensures.value) _ _ c.in_ok-engine.ensures _ _
-    c.tell.ensures.accepted c.in-Ok.ensures c.state.ensures.range
+pub write_state-requires : goal.write_state-requires
+write_state-requires g c =
+    room_is g.M.Machine.machine c.args.machine c.args.id c.requires _ _
+    (c.if-state-bytes_of.false ∙ c.bytes_of.ensures.value) _ _ c.in_ok-engine.ensures _
+    c.in-Ok.ensures
 
 pub returns-in-Ok-clause-exact : goal.returns-in-Ok-clause-exact
-returns-in-Ok-clause-exact c =
-    step_whole _ _ _ c.requires c.in_ok-shape.ensures.shape _ _
+returns-in-Ok-clause-exact g c =
+    step_whole g.M.Machine.machine c.args.machine c.args.id c.requires _ _
     (c.if-state-bytes_of.false ∙ c.bytes_of.ensures.value) _ _ c.in_ok-engine.ensures _ _
-    c.in-Ok.ensures
-    (c.write_state.ensures
-    ∙ ap (written (fields_at c.in_ok-shape.shape c.args.id)) c.state.ensures.value)
+    c.in-Ok.ensures c.write_state.ensures
 
 pub returns-clause-exact : goal.returns-clause-exact
-returns-clause-exact c =
-    step_none _ _ _ c.requires c.in_ok-shape.ensures.shape _ _
+returns-clause-exact g c =
+    step_none g.M.Machine.machine c.args.machine c.args.id c.requires _ _
     (c.if-state-bytes_of.false ∙ c.bytes_of.ensures.value) _ c.hear.new.engine
     c.in_ok-engine.ensures _ c.in-Err.ensures

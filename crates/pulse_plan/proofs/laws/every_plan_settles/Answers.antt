@@ -4,14 +4,8 @@ use Rattle.pulse_construction.proofs.Numbers.{faults_of_halving, nodes_of_halvin
 use Rattle.pulse_laws.proofs.Settles.{one_half_is_sound, pulses_settle}
 use Rattle.pulse_plan_laws.proofs.RunLaws.{every_halving_settles}
 use Rattle.pulse_plan.specs.Plans.{tree_of}
+use Rattle.pulse_plan.proofs.Trees.{nodes_of_tree}
 use Rattle.pulse_plan.proofs.laws.every_plan_settles.Goals as goal
-
--- the tree has all nodes
-nodes_of_tree : (n f : ℕ) → 3 * f < n → (f ≡ 0 → n ≡ 1)
-    → halving_nodes (halving_of f (n - (3 * f + 1))) ≡ n
-nodes_of_tree n zero quorum single = omega (arith, single refl)
-nodes_of_tree n (suc f) quorum single =
-    omega (arith, nodes_of_halving (suc f) (n - (3 * suc f + 1)) (omega arith), quorum)
 
 pub returns : goal.returns
 returns c = λ plan is. record {

@@ -6,5 +6,6 @@ pub returns-clause-cell : goal.returns-clause-cell
 returns-clause-cell g c =
     let none = c.if-hear_held.ensures.none refl in
     rw (← none.0, ← none.1)
-    (cell_fed _ _ _ _ _ _ _ _ (rw c.in-Ok-Some.field-0-is at c.in-Ok-Some.ensures.bytes)
+    (cell_fed g.M.Machine.machine _ _ _ _ _ _ _ _
+    (rw c.in-Ok-Some.field-0-is at c.in-Ok-Some.ensures.bytes)
     c.hear_rest.ensures.cell)

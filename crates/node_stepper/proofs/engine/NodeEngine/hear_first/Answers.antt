@@ -1,5 +1,4 @@
 use Rattle.std.proofs.Common.{◌<◌, inr, refl}
-use Rattle.construction.specs.Plans.{plan_nodes}
 use Rattle.node_stepper.proofs.CellByCell.{first_then}
 use Rattle.node_stepper.proofs.PacketByPacket.{first_end, unchanged}
 use Rattle.node_stepper.proofs.engine.NodeEngine.hear_first.Goals as goal
@@ -9,13 +8,15 @@ returns-in-Ok-true-clause-first g c =
     let none = c.if-hear_held.ensures.none refl in
     let first = rw c.in-Ok-Some.field-0-is at c.in-Ok-Some.ensures.bytes in
     rw (← none.0, ← none.1)
-    (first_then c.in-Ok-Some.high 0 c.hear_held.new.self c.hear_rest.new.self _ _ _ first
+    (first_then g.M.Machine.machine c.in-Ok-Some.high 0 c.hear_held.new.self c.hear_rest.new.self _
+    _ _ first
     (rw c.in-Ok-true.field-0-test at c.in-Ok-true.ensures.cell))
 
 pub returns-in-Ok-false-clause-first : goal.returns-in-Ok-false-clause-first
 returns-in-Ok-false-clause-first g c =
     let none = c.if-hear_held.ensures.none refl in
-    let some : 0 < plan_nodes c.hear_held.new.self.plan = rw none.0 c.requires in
+    let some : 0 < (g.M.Machine.machine c.hear_held.new.self.counter).nodes =
+    rw none.0 c.requires in
     let first = rw c.in-Ok-Some.field-0-is at c.in-Ok-Some.ensures.bytes in
     let h = rw c.in-Ok-false.field-0-test at c.in-Ok-false.ensures.cell in
     rw (← none.0, ← none.1)
@@ -24,7 +25,8 @@ returns-in-Ok-false-clause-first g c =
 pub returns-in-Err-hear_rest-clause-first : goal.returns-in-Err-hear_rest-clause-first
 returns-in-Err-hear_rest-clause-first g c =
     let none = c.if-hear_held.ensures.none refl in
-    let some : 0 < plan_nodes c.hear_held.new.self.plan = rw none.0 c.requires in
+    let some : 0 < (g.M.Machine.machine c.hear_held.new.self.counter).nodes =
+    rw none.0 c.requires in
     let first = rw c.in-Ok-Some.field-0-is at c.in-Ok-Some.ensures.bytes in
     let h = c.in-Err-hear_rest.ensures.cell in
     rw (← none.0, ← none.1)

@@ -4,7 +4,7 @@ use Rattle.std.specs.Io.KnownBytes.{Consumes}
 use Rattle.std.proofs.lemmas.List.{take-take}
 use Rattle.edge_io.specs.Feeds.{feed_left}
 use Rattle.state_codec.specs.Shapes.{bytes_in}
-use Rattle.node_stepper.specs.Nodes.{fields_of, hearing}
+use Rattle.node_stepper.specs.Nodes.{hearing}
 use Rattle.node_stepper.proofs.CellByCell.{held_cell}
 use Rattle.node_stepper.proofs.engine.NodeEngine.hear_held.Goals as goal
 
@@ -19,9 +19,9 @@ returns-clause-cell g c = λ _.
     (feed_left g.S.Source.left c.pass.new.self) (take (2 + n) held) =
     rw c.held-held.ensures c.pass.ensures.passed in
     let rest : ℕ = length held - 2 in
-    let front : take (bytes_in (fields_of c.args.self.now.plan c.args.sender))
+    let front : take (bytes_in ((g.M.Machine.machine c.args.self.now.counter).fields c.args.sender))
     (take rest (drop 2 held)) ≡ take n (drop 2 held) =
     ap (λ (k : ℕ). take k (take rest (drop 2 held))) (sym c.bytes_of-size.ensures.value)
     ∙ take-take n rest (drop 2 held) (omega (arith, within)) in
-    held_cell n c.args.sender _ _ _ _ held within size fed
-    (c.hear_front.ensures ∙ ap (hearing c.args.self.now c.args.sender) front)
+    held_cell g.M.Machine.machine n c.args.sender _ _ _ _ held within size fed
+    (c.hear_front.ensures ∙ ap (hearing g.M.Machine.machine c.args.self.now c.args.sender) front)

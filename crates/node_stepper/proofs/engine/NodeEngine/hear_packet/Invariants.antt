@@ -8,6 +8,6 @@ invariant-loop-sender g l = record {
   same : l.feed.source.ghost_name ≡ l.fn.feed.source.ghost_name;
   still : g.S.Source.faults l.feed.source.now ≡ g.S.Source.faults l.fn.feed.source.now;
   met : g.S.Source.met l.feed.source.now ≡ g.S.Source.met l.fn.feed.source.now;
-  cells : CellsFed l.fn.self l.self (feed_left g.S.Source.left l.fn.feed)
+  cells : CellsFed g.M.Machine.machine l.fn.self l.self (feed_left g.S.Source.left l.fn.feed)
       (feed_left g.S.Source.left l.feed) l.sender;
 }

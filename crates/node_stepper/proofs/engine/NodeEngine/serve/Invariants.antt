@@ -8,6 +8,6 @@ invariant-loop-packet g l = record {
   same : l.feed.source.ghost_name ≡ l.fn.feed.source.ghost_name;
   still : g.S.Source.faults l.feed.source.now ≡ g.S.Source.faults l.fn.feed.source.now;
   met : g.S.Source.met l.feed.source.now ≡ g.S.Source.met l.fn.feed.source.now;
-  so_far : ServedSoFar l.fn.self l.self (feed_left g.S.Source.left l.fn.feed)
+  so_far : ServedSoFar g.M.Machine.machine l.fn.self l.self (feed_left g.S.Source.left l.fn.feed)
       (feed_left g.S.Source.left l.feed) (g.K.Sink.told l.fn.sink) (g.K.Sink.told l.sink) l.packet;
 }

@@ -1,5 +1,5 @@
 use Rattle.std.proofs.Common.{arith, ℕ, ◌≡◌, ◌+◌, ◌<◌, inl, inr, ap, ap₂, sym, subst, ◌∙◌, List}
-use Rattle.std.proofs.Common.{length, set, take, drop, get_or}
+use Rattle.std.proofs.Common.{length, set, take, drop}
 use Rattle.std.proofs.lemmas.Bool.{cases_lt}
 use Rattle.std.proofs.lemmas.List.{length-set, get_or-set_same, get_or-set_other, ext_get_or}
 use Rattle.sync_types.specs.declared.states.Reg.{Reg}
@@ -9,6 +9,7 @@ use Rattle.state_codec.specs.Bits.{bits_of_bytes}
 use Rattle.state_codec.specs.Shapes.{Fields, register_bits, registers_bits, bytes_in}
 use Rattle.state_codec.specs.Ranges.{InRange}
 use Rattle.state_codec.specs.Reading.{read, register_from}
+use Rattle.state_codec.proofs.Lows.{any_default}
 use Rattle.state_codec.proofs.PackedFields.{register_among, register_fits}
 use Rattle.state_codec.proofs.Ranged.{read_is_in_range}
 use Rattle.state_codec.proofs.RegisterSteps.{state_is}
@@ -40,9 +41,11 @@ read-register-requires c =
     let long = ap (λ (f : Fields). length f.moduli) c.self.view_is in
     let lt : v < length fields.moduli = omega (arith, c.loop-i-test.true, long) in
     let inside : v < length c.self.inside.moduli.items = omega (arith, lt, long) in
-    let offset : get_or c.self.inside.offsets v 0
-    ≡ width fields.base + registers_bits (take v fields.moduli) =
-    c.self.invariant.begins v inside
+    let there : v < length c.self.inside.offsets.items =
+    omega (arith, inside, c.self.invariant.room) in
+    let offset : c.index.result.now ≡ width fields.base + registers_bits (take v fields.moduli) =
+    (c.index.ensures ∙ any_default c.self.inside.offsets.items v c.index.result.now 0 there)
+    ∙ c.self.invariant.begins v inside
     ∙ ap (λ (f : Fields). width f.base + registers_bits (take v f.moduli)) c.self.view_is in
     omega (
       arith,
@@ -62,9 +65,11 @@ loop-i-preserved c =
     let within : v < length c.loop-i.out.registers = omega (arith, moduli) in
     let lt : v < length fields.moduli = omega (arith, c.loop-i-test.true, moduli) in
     let inside : v < length c.self.inside.moduli.items = omega (arith, lt, moduli) in
-    let offset : get_or c.self.inside.offsets v 0
-    ≡ width fields.base + registers_bits (take v fields.moduli) =
-    c.self.invariant.begins v inside
+    let there : v < length c.self.inside.offsets.items =
+    omega (arith, inside, c.self.invariant.room) in
+    let offset : c.index.result.now ≡ width fields.base + registers_bits (take v fields.moduli) =
+    (c.index.ensures ∙ any_default c.self.inside.offsets.items v c.index.result.now 0 there)
+    ∙ c.self.invariant.begins v inside
     ∙ ap (λ (f : Fields). width f.base + registers_bits (take v f.moduli)) c.self.view_is in
     let found : c.read-register.result ≡ register_at v state =
     c.read-register.ensures

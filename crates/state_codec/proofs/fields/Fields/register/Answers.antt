@@ -14,8 +14,12 @@ invariant_of-result c =
     ∙ any_default c.self.inside.moduli.items c.args.i c.index.result.now 0 inside) in
     let most : c.index.result.now ≤ 2 ^ 40 =
     subst (λ m. m ≤ 2 ^ 40) at (c.self.invariant.fields.moduli c.args.i 0 inside) in
-    let sized : get_or c.self.inside.sizes c.args.i 0 ≡ register_bits c.index.result.now =
-    c.self.invariant.each c.args.i inside ∙ ap register_bits at in
+    let there : c.args.i < length c.self.inside.sizes.items =
+    omega (arith, inside, c.self.invariant.rooms) in
+    let sized : c.index-2.result.now ≡ register_bits c.index.result.now =
+    (c.index-2.ensures
+    ∙ any_default c.self.inside.sizes.items c.args.i c.index-2.result.now 0 there)
+    ∙ (c.self.invariant.each c.args.i inside ∙ ap register_bits at) in
     record {
       most = most;
       short = omega (arith, sized, register_short c.index.result.now most);

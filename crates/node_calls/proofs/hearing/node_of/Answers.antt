@@ -1,0 +1,10 @@
+use Rattle.std.proofs.Common.{subst, sym}
+use Rattle.machines.specs.Machines.{IsState}
+use Rattle.node_runs.proofs.States.{read_is_state}
+use Rattle.node_calls.proofs.hearing.node_of.Goals as goal
+
+pub new-requires-clause-state : goal.new-requires-clause-state
+new-requires-clause-state g c =
+    let m = g.M.Machine.machine c.args.machine in
+    subst (IsState m c.args.id) (sym c.read_state.ensures)
+    (read_is_state m c.tell.ensures c.args.id c.requires c.args.state.now)

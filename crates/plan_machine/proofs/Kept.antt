@@ -1,0 +1,72 @@
+-- What the shape and the tower of a plan give is what its machine says.
+use Rattle.std.proofs.Common.{◌≡◌, ℕ, zero, suc, ◌<◌, ◌≤◌, List, [], ◌∷◌, ◌++◌, length, get_or, All}
+use Rattle.std.proofs.Common.{refl, ap, ◌∙◌, subst, arith}
+use Rattle.std.proofs.lemmas.List.{append-nil, drop_all}
+use Rattle.sync_types.specs.declared.states.Reg.{Reg}
+use Rattle.sync_types.specs.States.{State, zero_state}
+use Rattle.construction.specs.Plans.{Plan, plan_nodes, plan_depth}
+use Rattle.construction.specs.Steps.{state_of}
+use Rattle.construction.specs.Runs.{IsState}
+use Rattle.plan_laws.specs.PlanMeaning.{IsInRange}
+use Rattle.plan_laws.proofs.PlanCounter.{positive}
+use Rattle.plan_laws.proofs.Ranges.{range_of_state}
+use Rattle.state_codec.specs.Shapes.{Shape, shape_of, fields_at, moduli_of, shape_nodes}
+use Rattle.state_codec.specs.Ranges.{InRange}
+use Rattle.state_codec.proofs.Plans.{depth_of_shape, nodes_of_shape}
+use Rattle.state_codec.proofs.PlanStates.{state_of_node}
+use Rattle.counter_core.specs.Meanings.{written}
+use Rattle.machines.specs.Machines.{IsConfiguration}
+use Rattle.plan_machine.specs.PlanMachines.{machine_of_plan}
+use Rattle.plan_machine.specs.Kept.{IsKept}
+
+-- a place within a list needs no default
+within : (states : List State) (v : ℕ) (d e : State) → v < length states
+    → get_or states v d ≡ get_or states v e
+within [] v d e lt = absurd (omega arith)
+within (state ∷ states) zero d e lt = refl
+within (state ∷ states) (suc v) d e lt = within states v d e (omega arith)
+
+-- a state that is written over one of the same depth
+pub whole_state : (d : ℕ) (s out : State) → length out.registers ≤ d → written d s out ≡ s
+whole_state d s out short =
+    ap (λ (l : List Reg). let t : State = record { x = s.x; registers = l } in t)
+    (ap (λ (l : List Reg). s.registers ++ l) (drop_all d out.registers short)
+    ∙ append-nil s.registers)
+
+module _ (plan : Plan) (shape : Shape) (kept : IsKept plan shape) where
+  pub node_of_shape : (v : ℕ) → v < plan_nodes plan → v < shape_nodes shape
+  node_of_shape v lt = rw (kept.shaped, nodes_of_shape plan (moduli_of plan.levels)) lt
+
+  pub moduli_are : shape.depth ≡ plan_depth plan
+  moduli_are = ap (λ (s : Shape). s.depth) kept.shaped ∙ depth_of_shape plan
+
+  pub fields_are : (v : ℕ) → fields_at shape v ≡ fields_at (shape_of plan) v
+  fields_are v = ap (λ (s : Shape). fields_at s v) kept.shaped
+
+  pub state_is : (v : ℕ) → v < plan_nodes plan → (s : State)
+      → InRange (fields_at (shape_of plan) v) s → IsState plan v s
+  state_is v lt s range = state_of_node plan kept.accepted v lt s range
+
+  pub range_is : (v : ℕ) → v < plan_nodes plan → (s : State)
+      → InRange (fields_at (shape_of plan) v) s → IsInRange plan s
+  range_is v lt s range =
+      let some = positive plan.base plan.levels kept.accepted.levels in
+      range_of_state plan some.0 some.1 v s (state_is v lt s range)
+
+  module _ (heard : List State) (is : IsConfiguration (machine_of_plan plan) heard) where
+    all_of : (P : State → Type 0) → ((v : ℕ) → v < plan_nodes plan → (s : State)
+        → IsState plan v s → P s)
+        → All P heard
+    all_of P holds = λ k d lt.
+        let node : k < plan_nodes plan = omega (arith, lt, is.size) in
+        subst P (within heard k (zero_state 0) d lt)
+        (holds k node (state_of heard k) (state_is k node (state_of heard k) (is.states k node)))
+
+    pub deep_enough : All (λ s. plan_depth plan ≤ length s.registers) heard
+    deep_enough = all_of (λ s. plan_depth plan ≤ length s.registers)
+        (λ v node s has. let d = has.depth in omega (arith, d))
+
+    pub in_range : All (IsInRange plan) heard
+    in_range =
+        let some = positive plan.base plan.levels kept.accepted.levels in
+        all_of (IsInRange plan) (λ v node s has. range_of_state plan some.0 some.1 v s has)

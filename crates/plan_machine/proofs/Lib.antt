@@ -1,0 +1,3 @@
+pub mod PlanMachines
+pub mod Sound
+pub mod Kept

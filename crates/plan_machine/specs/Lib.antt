@@ -1,0 +1,2 @@
+pub mod PlanMachines
+pub mod Kept

@@ -1,0 +1,3 @@
+pub mod NodeRuns
+pub mod Laws
+pub mod PlanNodes

@@ -1,0 +1,51 @@
+-- A process of `node` that is started anew while others go on.
+use Rattle.std.specs.Prelude.{◌≡◌, ◌≢◌, ℕ, ◌+◌, ◌≤◌, ◌==◌, true, List, if◌then◌else◌}
+use Rattle.construction.specs.Plans.{Plan}
+use Rattle.construction.specs.Steps.{state_of}
+use Rattle.construction.specs.Runs.{is_in, IsBorne}
+use Rattle.plan_node_runs.specs.NodeRuns.{IsCorrect, SomeIsCorrect}
+use Rattle.promises.specs.NodeCalls.{Call}
+use Rattle.promises.specs.CallWindows.{states_written, CallsConnect, NodesKeepPromise}
+
+-- A node is started anew: after so many rounds of a window it is another call, and the rest of the
+-- window begins with the first packet of that call. What it was before, and whether it was there,
+-- is of no matter.
+pub record Restart : Type 0 where
+  pub node : ℕ
+  pub after : ℕ
+  pub call : Call
+
+abbrev pub calls_after : Restart → (calls : ℕ → Call) → ℕ → Call
+calls_after restart calls v = if v == restart.node then restart.call else calls v
+
+abbrev pub begins_after : Restart → (begins : ℕ → ℕ) → ℕ → ℕ
+begins_after restart begins v =
+    if v == restart.node then 0 else begins v + restart.after
+
+-- the faulty nodes of the whole window: those of the rest, and the node that is started anew
+pub record AreFaultyMeanwhile (node : ℕ) (faulty meanwhile : List ℕ) : Type 0 where
+  pub own : is_in meanwhile node ≡ true
+  pub others : (v : ℕ) → v ≢ node → is_in meanwhile v ≡ is_in faulty v
+
+-- The other correct nodes keep their promise all the time; with the one that is started anew all
+-- keep it in the rest; and the others are in the same states in both.
+pub record RestartIsKept (plan : Plan) (faulty meanwhile : List ℕ) (calls : ℕ → Call)
+    (begins : ℕ → ℕ) (restart : Restart) (rounds : ℕ) : Type 0 where
+  pub others : NodesKeepPromise plan meanwhile calls begins (restart.after + rounds)
+  pub rest : NodesKeepPromise plan faulty (calls_after restart calls)
+      (begins_after restart begins) rounds
+  pub same : (i v : ℕ) → i ≤ rounds → IsCorrect plan meanwhile v
+      → state_of (states_written plan calls begins (restart.after + i)) v
+      ≡ state_of (states_written plan (calls_after restart calls) (begins_after restart begins) i) v
+
+-- Where the plan tolerates it as a faulty node too, the others are undisturbed while it is away. It
+-- counts with them T rounds after its start; and at once where the configuration then is locked, as
+-- it is where it was handed the last cell that it wrote, and the others were locked.
+abbrev pub RestartedNodesCount : Type 0
+RestartedNodesCount = (plan : Plan) (faulty meanwhile : List ℕ)
+    → IsBorne plan faulty → IsBorne plan meanwhile → (restart : Restart)
+    → AreFaultyMeanwhile restart.node faulty meanwhile → SomeIsCorrect plan meanwhile
+    → (calls : ℕ → Call) (begins : ℕ → ℕ) (rounds : ℕ)
+    → CallsConnect plan meanwhile calls begins (restart.after + rounds)
+    → CallsConnect plan faulty (calls_after restart calls) (begins_after restart begins) rounds
+    → RestartIsKept plan faulty meanwhile calls begins restart rounds

@@ -1,0 +1,7 @@
+//! The counter of a pulse plan, with the fields of its nodes' states, as a machine.
+#![tactic(auto)]
+
+mod making;
+mod pulse_machines;
+
+pub use pulse_machines::PulseMachine;
