@@ -3,11 +3,11 @@
 
     python3 bench/tools/statuses.py [PROGRAM ..]
 
-PROGRAM is the path of a built `counterlab`, `choose`, `draw`, `states`, `sweep` or `trace`; where
-none is named these are crates/NAME/out/NAME, as `rt ci` and `rt run` leave them. One that is not
-there is told in a line, and not tried. It is what the contracts of these programs leave to `main`:
-that all arguments are the words, that standard input, output and error are the source and the
-sinks, and that the status is the exit code. A case is an exit code, words, an input, the bytes that
+PROGRAM is the path of a built `counterlab`, `pulselab`, `choose`, `draw`, `states`, `sweep` or
+`trace`; where none is named these are crates/NAME/out/NAME, as `rt ci` and `rt run` leave them. One
+that is not there is told in a line, and not tried. It is what the contracts of these programs leave
+to `main`: that all arguments are the words, that standard input, output and error are the source
+and the sinks, and that the status is the exit code. A case is an exit code, words, an input, the bytes that
 must come out, and of the programs beside `counterlab` how the line on standard error must begin.
 The status is 1 where a case ends otherwise. A case that this machine cannot make is told in a line,
 and is no failure, nor is a machine that takes more than a minute.
@@ -23,7 +23,7 @@ TOP = pathlib.Path(__file__).resolve().parent.parent.parent
 CRATES = TOP / "crates"
 EXAMPLES = CRATES / "try_examples" / "data"
 FAULTS = CRATES / "try_faults" / "data"
-NAMES = ["counterlab", "choose", "draw", "states", "sweep", "trace"]
+NAMES = ["counterlab", "pulselab", "choose", "draw", "states", "sweep", "trace"]
 # How many bytes an input of `run` may have.
 LIMIT = 2**20
 TOO_LONG = b"#\n" * (LIMIT // 2) + b"#"
@@ -67,6 +67,16 @@ def counterlab_cases():
         stored(5, EXAMPLES, "certificates/row_differs", "check"),
         (8, ("run",), TOO_LONG, b"", b""),
         stored(9, FAULTS, "short/cut_packet", "node"),
+    ]
+
+
+def pulselab_cases():
+    refused = b"refused pulses line 2 premise quorum\n"
+    return [
+        own_run("pulselab"),
+        (1, ["plan"], b"pulses 1\ngroup 3 1 10\nend\n", refused, b""),
+        told(2, [], b"", b"usage: pulselab "),
+        told(8, ["plan"], TOO_LONG, b"the input is too long"),
     ]
 
 
@@ -122,6 +132,7 @@ def states_cases():
 
 CASES = {
     "counterlab": counterlab_cases,
+    "pulselab": pulselab_cases,
     "choose": choose_cases,
     "draw": draw_cases,
     "states": states_cases,
