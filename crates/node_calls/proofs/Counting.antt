@@ -33,7 +33,8 @@ use Rattle.node_runs.proofs.States.{read_is_state, reads_back, behind_is_state}
 use Rattle.node_calls.specs.declared.errors.CallError.{CallError}
 use Rattle.node_calls.specs.declared.errors.CallError.TheVariants as error
 use Rattle.node_calls.specs.Counters.{counter_answer}
-use Rattle.node_calls.specs.Answers.{packets_for, by_ending}
+use Rattle.node_calls.specs.Answers.{packets_for}
+use Rattle.node_calls.specs.Answers.{by_ending}
 use Rattle.node_calls.specs.Answers.{bytes_behind, steps_over, step_in, step_answer, output_answer}
 use Rattle.node_calls.specs.Counting.{cell_in, InRounds, InLossyRounds, states_of, CountFrom}
 use Rattle.node_calls.specs.Counting.{StayLockedFrom, CountByBytes, NodesCount, LossyNodesCount}

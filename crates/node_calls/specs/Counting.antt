@@ -60,7 +60,8 @@ module _ (text : List ℕ) (m : Machine) (faulty : List ℕ) (count : ℕ) (byte
 -- each of them, however many calls each has made before: so it is too where some were started anew.
 abbrev pub NodesCount : Type 0
 NodesCount = (text : List ℕ) (counter : AnyMachine) → counter_answer text ≡ Ok counter
-    → (faulty : List ℕ) → IsBorne (machine_of counter) faulty → (count : ℕ) (bytes packets : ℕ → ℕ → List ℕ)
+    → (faulty : List ℕ) → IsBorne (machine_of counter) faulty
+    → (count : ℕ) (bytes packets : ℕ → ℕ → List ℕ)
     → InRounds text (machine_of counter) faulty count bytes packets
     → CountByBytes text (machine_of counter) faulty count bytes
 
@@ -82,7 +83,8 @@ pub record InLossyRounds (text : List ℕ) (m : Machine) (faulty : List ℕ) (co
 -- round the states of N - F nodes, its own among them, whichever these are.
 abbrev pub LossyNodesCount : Type 0
 LossyNodesCount = (text : List ℕ) (counter : AnyMachine) → counter_answer text ≡ Ok counter
-    → (faulty : List ℕ) → IsBorne (machine_of counter) faulty → (count : ℕ) (bytes packets : ℕ → ℕ → List ℕ)
+    → (faulty : List ℕ) → IsBorne (machine_of counter) faulty
+    → (count : ℕ) (bytes packets : ℕ → ℕ → List ℕ)
     → InLossyRounds text (machine_of counter) faulty count bytes packets
     → (from : ℕ) → from ≤ count → IsLocked (machine_of counter) faulty
     (states_of (machine_of counter) bytes from)

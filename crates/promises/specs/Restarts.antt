@@ -2,10 +2,12 @@
 use Rattle.std.specs.Prelude.{◌≡◌, ◌≢◌, ℕ, ◌+◌, ◌≤◌, ◌==◌, true, List, if◌then◌else◌}
 use Rattle.construction.specs.Plans.{Plan}
 use Rattle.construction.specs.Steps.{state_of}
-use Rattle.construction.specs.Runs.{is_in, IsBorne}
+use Rattle.construction.specs.Runs.{is_in, IsBorne, IsLocked}
 use Rattle.plan_node_runs.specs.NodeRuns.{IsCorrect, SomeIsCorrect}
+use Rattle.plan_node_runs.specs.Laws.{StayLockedThrough}
 use Rattle.promises.specs.NodeCalls.{Call}
-use Rattle.promises.specs.CallWindows.{states_written, CallsConnect, NodesKeepPromise}
+use Rattle.promises.specs.CallWindows.{cell_written, states_written, CallsConnect}
+use Rattle.promises.specs.CallWindows.{NodesKeepPromise}
 
 -- A node is started anew: after so many rounds of a window it is another call, and the rest of the
 -- window begins with the first packet of that call. What it was before, and whether it was there,
@@ -28,7 +30,8 @@ pub record AreFaultyMeanwhile (node : ℕ) (faulty meanwhile : List ℕ) : Type 
   pub others : (v : ℕ) → v ≢ node → is_in meanwhile v ≡ is_in faulty v
 
 -- The other correct nodes keep their promise all the time; with the one that is started anew all
--- keep it in the rest; and the others are in the same states in both.
+-- keep it in the rest; the others are in the same states in both; and where it goes on from the
+-- cell that was written in its place all stay locked.
 pub record RestartIsKept (plan : Plan) (faulty meanwhile : List ℕ) (calls : ℕ → Call)
     (begins : ℕ → ℕ) (restart : Restart) (rounds : ℕ) : Type 0 where
   pub others : NodesKeepPromise plan meanwhile calls begins (restart.after + rounds)
@@ -37,10 +40,15 @@ pub record RestartIsKept (plan : Plan) (faulty meanwhile : List ℕ) (calls : �
   pub same : (i v : ℕ) → i ≤ rounds → IsCorrect plan meanwhile v
       → state_of (states_written plan calls begins (restart.after + i)) v
       ≡ state_of (states_written plan (calls_after restart calls) (begins_after restart begins) i) v
+  pub handed : cell_written plan (calls_after restart calls) 0 restart.node
+      ≡ cell_written plan calls (begins restart.node + restart.after) restart.node
+      → IsLocked plan faulty (states_written plan calls begins restart.after)
+      → StayLockedThrough plan faulty
+      (states_written plan (calls_after restart calls) (begins_after restart begins)) 0 rounds
 
 -- Where the plan tolerates it as a faulty node too, the others are undisturbed while it is away. It
--- counts with them T rounds after its start; and at once where the configuration then is locked, as
--- it is where it was handed the last cell that it wrote, and the others were locked.
+-- counts with them T rounds after its start; and at once where it was handed the last cell that was
+-- written in its place, so that this is its first one, and the configuration then was locked.
 abbrev pub RestartedNodesCount : Type 0
 RestartedNodesCount = (plan : Plan) (faulty meanwhile : List ℕ)
     → IsBorne plan faulty → IsBorne plan meanwhile → (restart : Restart)
