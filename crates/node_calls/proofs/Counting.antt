@@ -230,7 +230,8 @@ module _ (text : List ℕ) (counter : AnyMachine) (is : counter_answer text ≡ 
 
 -- ---- the laws
 
-module _ (text : List ℕ) (counter : AnyMachine) (is : counter_answer text ≡ Ok counter) (faulty : List ℕ)
+module _ (text : List ℕ) (counter : AnyMachine) (is : counter_answer text ≡ Ok counter)
+    (faulty : List ℕ)
     (borne : IsBorne (machine_of counter) faulty) (count : ℕ) (bytes packets : ℕ → ℕ → List ℕ)
     (rounds : InRounds text (machine_of counter) faulty count bytes packets) where
   stepping : Stepping text (machine_of counter) faulty count bytes packets
@@ -273,7 +274,8 @@ pub nodes_count : NodesCount
 nodes_count text counter is faulty borne count bytes packets rounds =
     count_by_bytes text counter is faulty borne count bytes packets rounds
 
-module _ (text : List ℕ) (counter : AnyMachine) (is : counter_answer text ≡ Ok counter) (faulty : List ℕ)
+module _ (text : List ℕ) (counter : AnyMachine) (is : counter_answer text ≡ Ok counter)
+    (faulty : List ℕ)
     (borne : IsBorne (machine_of counter) faulty) (count : ℕ) (bytes packets : ℕ → ℕ → List ℕ)
     (rounds : InLossyRounds text (machine_of counter) faulty count bytes packets) where
   lossy_stepping : Stepping text (machine_of counter) faulty count bytes packets
