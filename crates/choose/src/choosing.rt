@@ -42,6 +42,10 @@ impl ChooseError {
 }
 
 impl From<AllocError> for ChooseError {
+    ghost use Rattle.choose.specs.declared.choosing.ChooseError.TheVariants as error;
+
+    ghost from_gives = { λ _ e. e ≡ error.NoMemory };
+
     fn from(_: AllocError) -> Self {
         ChooseError::NoMemory
     }
