@@ -34,7 +34,7 @@ if [ ! -f "$archive" ]; then
     (cd crates/counterlab_c && rt lib > /dev/null)
 fi
 install -D -m 644 "$archive" "$prefix/lib/libcounterlab_c.a"
-install -D -m 644 bindings/counterlab.h "$prefix/include/counterlab.h"
+install -D -m 644 bench/library/counterlab.h "$prefix/include/counterlab.h"
 version=$(crates/choose/out/choose --version | cut -d ' ' -f 2)
 mkdir -p "$prefix/lib/pkgconfig"
 cat > "$prefix/lib/pkgconfig/counterlab.pc" <<PC

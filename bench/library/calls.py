@@ -1,4 +1,5 @@
-"""What the calls of the library answer, by the plain step of bench/tools/counter.py.
+"""What the calls of the library answer, by the plain steps of bench/tools/: counter.py, and of pulse
+plans pulse_counter.py.
 
 The library is tried against it. It shares nothing with the proved code.
 """
@@ -9,6 +10,7 @@ import sys
 sys.path.insert(0, str(pathlib.Path(__file__).resolve().parent.parent / "tools"))
 
 import counter
+import pulse_counter
 
 MOST_PACKETS = 1000000
 
@@ -17,6 +19,11 @@ def plan_of(base, rows):
     """The plan of a base modulus and rows `blocks faults modulus spares`, the lowest first."""
     lines = ["level {} {} {} spare {}".format(*row) for row in rows]
     return counter.Plan(["plan 2", f"base {base}", *lines, "end"])
+
+
+def pulse_plan_of(nodes, faults, modulus):
+    """The pulse plan of these numbers."""
+    return pulse_counter.Plan(["pulses 1", f"group {nodes} {faults} {modulus}", "end"])
 
 
 def text_of(plan):
@@ -30,7 +37,7 @@ def state_of(number, registers):
 
 def output(plan, node, state):
     """What `counterlab_output` answers of the bytes of a state."""
-    return counter.shown(plan.depth, plan.read(node, state))
+    return plan.shown(plan.read(node, state))
 
 
 def cells(plan, packets):
@@ -62,5 +69,5 @@ def answer(plan, node, state, packets):
     own = plan.read(node, state)
     for packet in found:
         heard = [own if u == node else plan.read(u, data) for u, data in enumerate(packet)]
-        own = counter.step(plan, node, heard)
+        own = plan.step(node, heard)
     return 0, 0, len(found), plan.write(node, own)

@@ -35,7 +35,7 @@ enum {
 /* Wrong arguments: the plan has no such node; the state has another length than the node's. */
 enum { COUNTERLAB_NO_NODE = 1, COUNTERLAB_LENGTH = 2 };
 
-/* The premises of a plan's line, in the order in which they are tested. */
+/* The premises of a line of a plan. Those of one construction are tested in this order. */
 enum {
     COUNTERLAB_FORM = 1,
     COUNTERLAB_LIMIT,
@@ -43,7 +43,8 @@ enum {
     COUNTERLAB_MODULUS,
     COUNTERLAB_QUORUM,
     COUNTERLAB_SHARE,
-    COUNTERLAB_MULTIPLE
+    COUNTERLAB_MULTIPLE,
+    COUNTERLAB_SINGLE /* of a pulse plan: it tolerates no faults, and has more than one node */
 };
 
 /* The numbers of a plan. */

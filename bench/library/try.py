@@ -5,9 +5,10 @@
     python3 bench/library/try.py --after-ci   build it over the libraries that `rt ci` has left
     python3 bench/library/try.py ARCHIVE      take this archive
 
-Random steps of six plans, and calls that are refused, have to give what the plain step of calls.py
-gives, and what the program's word `node` writes where the program is built; the numbers of the
-example plans have to be those of their stored tables; each allocation is refused in turn. A line says what was not tried, and why. The status is 1 where an answer is not
+Random steps of nine plans of both constructions, and calls that are refused, have to give what the
+plain step of calls.py gives, and of boosting plans what `counterlab node` writes where the program
+is built; the numbers of the example plans have to be those of their stored tables; each allocation
+is refused in turn. A line says what was not tried, and why. The status is 1 where an answer is not
 what it has to be, or what was proved is not compiled or linked. A tool that is missing or does not
 work is no failure, nor is a machine that has too little memory, or takes more than ten minutes.
 """
@@ -23,6 +24,9 @@ import tempfile
 import time
 
 import calls
+import pulse_counter
+import pulse_vectors
+import vectors
 
 HERE = pathlib.Path(__file__).resolve().parent
 TOP = HERE.parent.parent
@@ -31,7 +35,7 @@ ARCHIVE = CRATES / "counterlab_c" / "out" / "libcounterlab_c.a"
 PROGRAM = CRATES / "counterlab" / "out" / "counterlab"
 PLAN_EXAMPLES = CRATES / "try_examples" / "data" / "plans"
 REFUSED = CRATES / "try_examples" / "data" / "refused_plans"
-PREMISES = ["form", "limit", "blocks", "modulus", "quorum", "share", "multiple"]
+PREMISES = ["form", "limit", "blocks", "modulus", "quorum", "share", "multiple", "single"]
 STEPS = 1000
 MINUTES = 10
 KILLED = -9  # as for want of memory
@@ -43,6 +47,20 @@ PLANS = [
     calls.plan_of(576, [(3, 1, 960, 1), (3, 3, 10, 0)]),
     calls.plan_of(93312, [(5, 2, 10, 2)]),
     calls.plan_of(576, [(3, 1, 768, 1), (3, 2, 1152, 0), (3, 4, 10, 0)]),
+    calls.pulse_plan_of(4, 1, 10),
+    calls.pulse_plan_of(7, 2, 1000),
+    calls.pulse_plan_of(14, 4, 10),
+]
+
+# Texts of pulse plans that are refused, with the line and the premise that fail.
+REFUSED_PULSES = [
+    ("pulses 2\n", 1, "form"),
+    ("pulses 1\nend\n", 2, "form"),
+    ("pulses 1\ngroup 13 4 10\n", 3, "form"),
+    ("pulses 1\ngroup 257 4 10\nend\n", 2, "limit"),
+    ("pulses 1\ngroup 13 4 1\nend\n", 2, "modulus"),
+    ("pulses 1\ngroup 12 4 10\nend\n", 2, "quorum"),
+    ("pulses 1\ngroup 2 0 10\nend\n", 2, "single"),
 ]
 
 
@@ -202,12 +220,17 @@ def some_fields(source, plan):
 
 
 def some_common(source, plan):
-    """What nodes have in common: two states, and how many of them have the second one."""
+    """What nodes have in common: two states, and how many of them have the second one. Of a pulse
+    plan a state of each node."""
+    if isinstance(plan, pulse_counter.Plan):
+        return pulse_vectors.drawn_states(vectors.Draws(source.random()), plan)
     return some_fields(source, plan), some_fields(source, plan), source.choice([0.05, 0.3, 0.5])
 
 
 def some_state(source, plan, node, common):
     """The bytes of a state in range; nine fields of ten are those of one of the common states."""
+    if isinstance(plan, pulse_counter.Plan):
+        return common[node]
     first, second, share = common
     fields = some_fields(source, plan)
     for i in range(len(fields)):
@@ -264,6 +287,8 @@ def refused_plans():
         words = file.read_text().split()
         text = file.with_name(file.name[: -len(".plan.out")] + ".txt").read_bytes()
         yield text, int(words[3]), 1 + PREMISES.index(words[5])
+    for text, line, premise in REFUSED_PULSES:
+        yield text.encode(), line, 1 + PREMISES.index(premise)
 
 
 def plan_numbers():
@@ -274,6 +299,10 @@ def plan_numbers():
         text = file.with_name(file.name[: -len(".plan.out")] + ".txt").read_bytes()
         names = ["nodes", "faults", "modulus", "bound", "bytes"]
         yield " ".join([hexed(text), *(numbers[name] for name in names)]) + "\n"
+    for plan in PLANS:
+        if isinstance(plan, pulse_counter.Plan):
+            numbers = [plan.nodes, plan.faults, plan.modulus, plan.bound, plan.bytes(0)]
+            yield " ".join([hexed(calls.text_of(plan)), *map(str, numbers)]) + "\n"
 
 
 def hexed(data):
@@ -360,10 +389,12 @@ class Tried:
         return "the rows of four_nodes.c are those of the plain step"
 
     def arena(self):
-        """Nodes without malloc: an arena of 16 KB for all plans, and 4 KB for those of 12 nodes."""
-        flags = ["-DARENA=16384"]
+        """Nodes without malloc: an arena of 64 KB for all plans, and 4 KB for all but the largest
+        one of each construction."""
+        flags = ["-DARENA=65536"]
         whole = self.cases_by(self.link("gcc", "steps", HERE / "arena.c", heap="-lc", flags=flags))
-        small = [case for case in self.cases if case[0] != calls.text_of(PLANS[-1])]
+        large = [calls.text_of(plan) for plan in (PLANS[5], PLANS[-1])]
+        small = [case for case in self.cases if case[0] not in large]
         text = "".join(written(*case) + "\n" for case in small).encode()
         program = self.link("gcc", "steps", HERE / "arena.c", heap="-lc")
         said = run([program], input=text).decode().strip()
@@ -434,6 +465,8 @@ class Tried:
         if not PROGRAM.is_file():
             raise Skipped("the program is not built")
         for (plan, node, state, packets), answer in zip(self.steps, self.answers):
+            if isinstance(plan, pulse_counter.Plan):
+                continue
             text, digits = calls.text_of(plan), state.hex()
             header = text + f"node 1\nid {node}\nstate {digits}\nend\n".encode()
             said = run([PROGRAM, "node"], input=header + packets)

@@ -90,7 +90,8 @@ def cases_of(page):
 
 def why_not(commands):
     """Why these cannot be run here, or None."""
-    if not commands.strip():
+    if not commands.strip() or subprocess.run(["bash", "-n"], input=commands.encode(),
+                                              stderr=subprocess.DEVNULL).returncode:
         return "it only builds"
     for word in NOT_RUN:
         if word in commands:

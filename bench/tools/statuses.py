@@ -3,11 +3,11 @@
 
     python3 bench/tools/statuses.py [PROGRAM ..]
 
-PROGRAM is the path of a built `counterlab`, `choose`, `draw`, `states`, `sweep` or `trace`; where
-none is named these are crates/NAME/out/NAME, as `rt ci` and `rt run` leave them. One that is not
-there is told in a line, and not tried. It is what the contracts of these programs leave to `main`:
-that all arguments are the words, that standard input, output and error are the source and the
-sinks, and that the status is the exit code. A case is an exit code, words, an input, the bytes that
+PROGRAM is the path of a built `counterlab`, `pulselab`, `choose`, `draw`, `states`, `sweep` or
+`trace`; where none is named these are crates/NAME/out/NAME, as `rt ci` and `rt run` leave them. One
+that is not there is told in a line, and not tried. It is what the contracts of these programs leave
+to `main`: that all arguments are the words, that standard input, output and error are the source
+and the sinks, and that the status is the exit code. A case is an exit code, words, an input, the bytes that
 must come out, and of the programs beside `counterlab` how the line on standard error must begin.
 The status is 1 where a case ends otherwise. A case that this machine cannot make is told in a line,
 and is no failure, nor is a machine that takes more than a minute.
@@ -23,7 +23,7 @@ TOP = pathlib.Path(__file__).resolve().parent.parent.parent
 CRATES = TOP / "crates"
 EXAMPLES = CRATES / "try_examples" / "data"
 FAULTS = CRATES / "try_faults" / "data"
-NAMES = ["counterlab", "choose", "draw", "states", "sweep", "trace"]
+NAMES = ["counterlab", "pulselab", "choose", "draw", "states", "sweep", "trace"]
 # How many bytes an input of `run` may have.
 LIMIT = 2**20
 TOO_LONG = b"#\n" * (LIMIT // 2) + b"#"
@@ -70,9 +70,25 @@ def counterlab_cases():
     ]
 
 
+def pulselab_cases():
+    refused = b"refused pulses line 2 premise quorum\n"
+    return [
+        own_run("pulselab"),
+        (1, ["plan"], b"pulses 1\ngroup 3 1 10\nend\n", refused, b""),
+        told(2, [], b"", b"usage: pulselab "),
+        told(8, ["plan"], TOO_LONG, b"the input is too long"),
+    ]
+
+
+FRONT_OF_BOTH = b"nodes 10 bound 124 bytes 7 levels 2 pulses 1;group 10 3 1000;end\n"
+
+
 def choose_cases():
     return [
         own_run("choose"),
+        (0, ["3", "1000", "14"], b"", FRONT_OF_BOTH, b""),
+        (0, ["3", "1000", "14", "plan"], b"", b"pulses 1\ngroup 10 3 1000\nend\n", b""),
+        (0, ["3", "1000", "9"], b"", b"none\n", b""),
         told(2, [], b"", b"usage: choose "),
         told(2, ["1", "ten"], b"", b"usage: choose "),
     ]
@@ -122,6 +138,7 @@ def states_cases():
 
 CASES = {
     "counterlab": counterlab_cases,
+    "pulselab": pulselab_cases,
     "choose": choose_cases,
     "draw": draw_cases,
     "states": states_cases,

@@ -12,7 +12,6 @@ pub mod FormedEras
 pub mod DraftEras
 pub mod LineByLine
 pub mod SoundLines
-pub mod StateShapes
 pub mod ReadScripts
 pub mod LiesInRange
 pub mod Hits

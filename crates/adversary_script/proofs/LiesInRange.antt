@@ -4,7 +4,7 @@ use Rattle.std.proofs.Common.{◌≡◌, ℕ, zero, suc, ◌+◌, ◌*◌, ◌<�
 use Rattle.std.proofs.Common.{true, false, ◌&&◌, nat_le, if◌then◌else◌, Option, Some, None, get_or}
 use Rattle.std.proofs.Common.{refl, sym, subst, ◌∙◌, arith}
 use Rattle.std.proofs.lemmas.List.{get_or_default}
-use Rattle.std.specs.Prelude.{All, IfSome, slice_index_or}
+use Rattle.std.specs.Prelude.{All, IfSome}
 use Rattle.std.specs.List.{find}
 use Rattle.std.specs.Option.{option_map}
 use Rattle.std.proofs.lemmas.Bool.{eqb-true, and_parts}
@@ -12,7 +12,7 @@ use Rattle.sync_types.specs.States.{State, zero_state}
 use Rattle.construction.specs.Steps.{state_of}
 use Rattle.state_codec.specs.Shapes.{Fields, Shape, IsFields, IsShape, bytes_in, fields_at}
 use Rattle.state_codec.specs.Ranges.{InRange}
-use Rattle.state_codec.proofs.Lows.{fields_limited, length-moduli_from}
+use Rattle.state_codec.proofs.Lows.{fields_limited, depth_at}
 use Rattle.state_codec.proofs.Ranged.{read_is_in_range, zero_in_range}
 use Rattle.adversary_script.specs.declared.lies.CommonStart.{CommonStart}
 use Rattle.adversary_script.specs.declared.lies.CommonStart.TheVariants as common
@@ -50,17 +50,16 @@ noise_in_range fields key stream turn limited =
     limited
 
 pub zero_of_node : (shape : Shape) (v : ℕ) → IsShape shape
-    → InRange (fields_at shape v) (zero_state (length shape.moduli))
+    → InRange (fields_at shape v) (zero_state shape.depth)
 zero_of_node shape v sound =
-    let low = slice_index_or shape.lows v 0 in
-    subst (λ n. InRange (fields_at shape v) (zero_state n)) (length-moduli_from low shape.moduli)
-    (zero_in_range (fields_at shape v) (fields_limited shape low sound))
+    subst (λ n. InRange (fields_at shape v) (zero_state n)) (depth_at shape v)
+    (zero_in_range (fields_at shape v) (fields_limited shape v sound))
 
 -- a state in range has as many registers as the shape
 pub depth_of_node : (shape : Shape) (v : ℕ) (state : State) → InRange (fields_at shape v) state
-    → length state.registers ≡ length shape.moduli
+    → length state.registers ≡ shape.depth
 depth_of_node shape v state range =
-    range.depth ∙ length-moduli_from (slice_index_or shape.lows v 0) shape.moduli
+    range.depth ∙ depth_at shape v
 
 -- the state of a node in a configuration, as the code reads it
 pub state_at : (shape : Shape) (nodes : ℕ) (config : List State) (v : ℕ) (state : State)
@@ -96,7 +95,7 @@ sender_is s t u v lie speaking =
 
 module _ (s : Script) (is : IsScript s) (sound : IsShape s.shape) where
   limited : (v : ℕ) → IsFields (fields_at s.shape v)
-  limited v = fields_limited s.shape (slice_index_or s.shape.lows v 0) sound
+  limited v = fields_limited s.shape v sound
 
   common_in_range : (common : CommonStart) (v : ℕ) → InRange (fields_at s.shape v)
       (common_start s common v)
@@ -148,4 +147,4 @@ module _ (s : Script) (is : IsScript s) (sound : IsShape s.shape) where
       → u < s.nodes → InRange (fields_at s.shape u) (lie_of s t u v config)
   lies_in_range t u v config range node =
       lies_have (InRange (fields_at s.shape u)) t u v config (λ state range. range) (range u node)
-      (λ w lt. fitted_in_range s.shape u w (state_of config w) sound (range w lt))
+      (λ w lt. fitted_in_range (fields_at s.shape u) (state_of config w) (limited u))

@@ -2,7 +2,7 @@
 use Rattle.std.proofs.Common.{◌≡◌, ℕ, add-one, suc, ◌<◌, ◌≤◌, List, [], ◌∷◌, length, Bool, true}
 use Rattle.std.proofs.Common.{false, ◌&&◌, ◌||◌, not, nat_lt, nat_le, ◌==◌, if◌then◌else◌, Option}
 use Rattle.std.proofs.Common.{Some, None, Result, Ok, Err, refl, sym, arith}
-use Rattle.std.specs.Prelude.{All, IfOk, IfSome, is_some, codes, slice_index_or}
+use Rattle.std.specs.Prelude.{All, IfOk, IfSome, is_some, codes}
 use Rattle.std.specs.Option.{option_map}
 use Rattle.std.specs.Str.{bytes_eq}
 use Rattle.std.specs.List.{list_any}
@@ -122,7 +122,7 @@ module _ (plan : Plan) (shape : Shape) (sound : IsShape shape) (s : Script)
   -- the fields of a node are within the limits
   limited : (v : ℕ) → IsFields (fields_at s.shape v)
   limited v =
-      fields_limited s.shape (slice_index_or s.shape.lows v 0) (rw (sym h.right.states) at sound)
+      fields_limited s.shape v (rw (sym h.right.states) at sound)
 
   -- with another version, key, common start or other groups
   with_others : (version : ℕ) (key : List ℕ) (common : CommonStart) (groups : List Group)

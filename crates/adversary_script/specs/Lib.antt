@@ -14,6 +14,5 @@ pub mod ScriptRefusals
 pub mod Scripts
 pub mod Seen
 pub mod StartSteps
-pub mod StateShapes
 pub mod Steps
 pub mod WordTests

@@ -1,6 +1,6 @@
 -- In which state a node starts, and what a faulty node tells another.
 use Rattle.std.specs.Prelude.{ℕ, ◌+◌, ◌*◌, ◌%◌, ◌<◌, ◌==◌, if◌then◌else◌, List, length, map, Option}
-use Rattle.std.specs.Prelude.{Some, None, slice_index}
+use Rattle.std.specs.Prelude.{Some, None, slice_index, unwrap_or}
 use Rattle.std.specs.Option.{option_map}
 use Rattle.std.specs.List.{range_with_len}
 use Rattle.sync_types.specs.declared.states.Reg.{Reg}
@@ -8,6 +8,7 @@ use Rattle.sync_types.specs.States.{State, zero_state, zero_register, register_a
 use Rattle.construction.specs.Steps.{state_of}
 use Rattle.state_codec.specs.Shapes.{Fields, Shape, fields_at}
 use Rattle.state_codec.specs.Ranges.{InRange}
+use Rattle.state_codec.specs.Reading.{below}
 use Rattle.adversary_script.specs.declared.lies.CommonStart.{CommonStart}
 use Rattle.adversary_script.specs.declared.lies.CommonStart.TheVariants as common
 use Rattle.adversary_script.specs.declared.lies.What.{What}
@@ -32,14 +33,22 @@ shifted by fields state = record {
       (range_with_len 0 (length fields.moduli));
 }
 
--- a register where it is there, else zero
-abbrev pub fitted_register : (modulus : ℕ) → Reg → Reg
-fitted_register modulus register = if modulus == 0 then zero_register else register
+-- a finite value below the modulus, else infinity
+abbrev pub value_below : (modulus : ℕ) → Option ℕ → Option ℕ
+value_below modulus None = None
+value_below modulus (Some a) = below modulus a
 
--- those of a state's fields that are among these, and zero in the place of what is lacking
+-- a register with its value where that is below the modulus; one that is lacking is zero
+unfoldable pub fitted_register : (modulus : ℕ) → Reg → Reg
+fitted_register modulus register =
+    if modulus == 0 then zero_register
+    else record { a = value_below modulus register.a; d = register.d }
+
+-- Those of a state's fields that are among these, and zero in the place of what is lacking. A
+-- number or a value that is too large is taken as it is read from bytes: as 0, and as infinity.
 abbrev pub fitted : Fields → State → State
 fitted fields state = record {
-  x = if fields.base == 1 then 0 else state.x;
+  x = unwrap_or (below fields.base state.x) 0;
   registers =
       map (λ i. fitted_register (slice_index fields.moduli i) (register_at i state))
       (range_with_len 0 (length fields.moduli));
@@ -51,7 +60,7 @@ AreStates nodes shape config = (v : ℕ) → v < nodes → InRange (fields_at sh
 
 -- the start that all nodes have in common
 abbrev pub common_start : Script → CommonStart → ℕ → State
-common_start script common.Zero v = zero_state (length script.shape.moduli)
+common_start script common.Zero v = zero_state script.shape.depth
 common_start script common.Noise v = noise_state (fields_at script.shape v) script.key (65536 + v) 0
 
 abbrev pub own_or_common : Script → Option State → ℕ → State

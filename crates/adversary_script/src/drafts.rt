@@ -2,14 +2,13 @@ ghost use Rattle.std.specs.Prelude.{◌≡◌, ◌<◌, ◌≤◌, ◌++◌, ◌
 ghost use Rattle.std.specs.List.{list_any};
 ghost use Rattle.sync_types.specs.FaultSets.{is_in};
 ghost use Rattle.construction.specs.Plans.{plan_nodes};
-ghost use Rattle.state_codec.specs.Shapes.{fields_at};
+ghost use Rattle.state_codec.specs.Shapes.{fields_at, shape_nodes};
 ghost use Rattle.state_codec.specs.Ranges.{InRange};
 ghost use Rattle.adversary_script.specs.Scripts.{IsLying, AreWithin, empty_script};
 ghost use Rattle.adversary_script.specs.Seen.{faulty_or_none};
 ghost use Rattle.adversary_script.specs.LieSteps.{group_at};
 ghost use Rattle.adversary_script.specs.FaultySteps.{last_era, last_first, with_era};
 ghost use Rattle.adversary_script.specs.StartSteps.{started};
-ghost use Rattle.adversary_script.specs.StateShapes.{IsShapeFor};
 
 use crate::lies::{CommonStart, Lie, Start};
 use crate::links::link;
@@ -21,20 +20,6 @@ use std::alloc::{AllocError, AllocFailed, Global};
 use std::marker::Model;
 use std::mem;
 use sync_types::{FaultSet, NoMemory};
-
-/// A shape of a plan's states that is like one that was made, which is the plan's or one with
-/// further registers.
-fn shape_like(alloc: Global, plan: &Plan, shape: &StateShape) -> Result<StateShape, NoMemory>
-    requires { IsShapeFor plan.now shape.now }
-    ensures { IfOk result (λ made. made ≡ shape.now) }
-{
-    let depth = plan.depth();
-    if shape.depth() <= depth {
-        return Ok(StateShape::of(alloc, plan)?);
-    }
-    let count = shape.depth() - depth;
-    Ok(StateShape::with_registers(alloc, plan, shape.modulus(depth), count)?)
-}
 
 /// What a script said so far.
 pub struct Draft<'a> {
@@ -66,9 +51,9 @@ impl<'a> Drop for Draft<'a> {
 impl<'a> Model for Draft<'a> {
     ghost use Rattle.std.specs.Prelude.{◌≡◌};
     ghost use Rattle.construction.specs.Plans.{plan_nodes};
+    ghost use Rattle.state_codec.specs.Shapes.{shape_nodes};
     ghost use Rattle.adversary_script.specs.Scripts.{Script as ScriptSaid, IsFormed};
     ghost use Rattle.adversary_script.specs.Seen.{script_seen, faulty_or_none, IsOver};
-    ghost use Rattle.adversary_script.specs.StateShapes.{IsShapeFor};
 
     ghost Value = { ScriptSaid };
 
@@ -78,13 +63,13 @@ impl<'a> Model for Draft<'a> {
     ghost invariant = { λ d.
         IsFormed (script_seen d.shape.now (faulty_or_none (plan_nodes d.plan.now) d.faulty) d.parts)
         × IsOver (plan_nodes d.plan.now) d.faulty d.parts
-        × IsShapeFor d.plan.now d.shape.now };
+        × (shape_nodes d.shape.now ≡ plan_nodes d.plan.now) };
 }
 
 impl<'a> Draft<'a> {
     /// A script that says nothing yet.
     pub fn new(alloc: Global, plan: &'a Plan, shape: &'a StateShape) -> Draft<'a>
-        requires { IsShapeFor plan.now shape.now }
+        requires { shape_nodes shape.now ≡ plan_nodes plan.now }
         ensures { result ≡ empty_script (plan_nodes plan.now) shape.now }
     {
         Draft {
@@ -102,7 +87,7 @@ impl<'a> Draft<'a> {
         ensures { IfOk result (λ script. script ≡ self.old) }
     {
         let nodes = self.plan.nodes();
-        let shape = shape_like(self.alloc, self.plan, self.shape)?;
+        let shape = self.shape.try_clone(self.alloc)?;
         let links = link(self.alloc, nodes, &self.parts.lies)?;
         let parts = mem::replace(&mut self.parts, Parts::none(self.alloc));
         let faulty = faulty_or_none(self.alloc, nodes, self.faulty.take())?;
@@ -286,7 +271,7 @@ impl<'a> Draft<'a> {
     /// The shape of the states.
     pub fn shape(&self) -> &StateShape
         ensures value { result.now ≡ self.now.shape }
-        ensures nodes { length result.now.lows ≡ self.now.nodes }
+        ensures nodes { shape_nodes result.now ≡ self.now.nodes }
     {
         self.shape
     }

@@ -1,5 +1,5 @@
 ghost use Rattle.std.specs.Prelude.{◌≡◌, ◌<◌, ◌≤◌, ◌+◌, ◌*◌, length, take};
-ghost use Rattle.state_codec.specs.Shapes.{fields_at, bytes_in};
+ghost use Rattle.state_codec.specs.Shapes.{fields_at, bytes_in, shape_nodes};
 ghost use Rattle.state_codec.specs.Ranges.{InRange};
 ghost use Rattle.state_codec.specs.Reading.{read};
 ghost use Rattle.adversary_script.specs.Noise.{words_in};
@@ -15,7 +15,7 @@ pub struct Draw<'a> {
     pub v: u32,
     pub stream: u64,
     pub turn: u64,
-    ghost node: { v < length shape.now.lows },
+    ghost node: { v < shape_nodes shape.now },
     ghost few: { turn ≤ 1000000 },
 }
 
@@ -39,7 +39,7 @@ impl Draw<'_> {
     pub fn read(&self, bytes: &[u8], out: &mut NodeState)
         requires within { bytes_in (fields_at self.now.shape.now self.now.v) + 8
             ≤ length bytes.now }
-        requires depth { length out.old.registers ≡ length self.now.shape.now.moduli }
+        requires depth { length out.old.registers ≡ self.now.shape.now.depth }
         ensures value { out.new ≡ read (fields_at self.now.shape.now self.now.v)
             (take (bytes_in (fields_at self.now.shape.now self.now.v)) bytes.now) }
         ensures range { InRange (fields_at self.now.shape.now self.now.v) out.new }

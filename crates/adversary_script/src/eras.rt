@@ -82,7 +82,7 @@ impl Script {
             ≡ start_in (starts_of_era self.now j) v }
         ensures range { IfSome result (λ state. InRange (fields_at self.now.shape v) state.now) }
         ensures depth { IfSome result (λ state. length state.now.registers
-            ≡ length self.now.shape.moduli) }
+            ≡ self.now.shape.depth) }
     {
         for start in self.era_starts(j) {
             if start.node == u64::from(v) {
@@ -105,7 +105,7 @@ impl Script {
     /// read. It takes no memory.
     pub fn hit_into(&self, j: usize, v: u32, out: &mut NodeState) -> bool
         requires era { j ≤ length self.now.eras }
-        requires depth { length out.old.registers ≡ length self.now.shape.moduli }
+        requires depth { length out.old.registers ≡ self.now.shape.depth }
         ensures hits { result ≡ is_some (start_in (starts_of_era self.now j) v) }
         ensures value { out.new ≡ unwrap_or (start_in (starts_of_era self.now j) v) out.old }
         ensures range { InRange (fields_at self.now.shape v) out.old

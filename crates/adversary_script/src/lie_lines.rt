@@ -1,5 +1,5 @@
 ghost use Rattle.std.specs.Prelude.{◌≡◌, ◌<◌, ◌^◌, length, IfOk, IfSome, true};
-ghost use Rattle.state_codec.specs.Shapes.{fields_at};
+ghost use Rattle.state_codec.specs.Shapes.{fields_at, shape_nodes};
 ghost use Rattle.state_codec.specs.Ranges.{InRange};
 ghost use Rattle.adversary_script.specs.LieWords.{who_seen, what_seen, lie_seen};
 ghost use Rattle.adversary_script.specs.WordTests.{what_below, are_ids};
@@ -26,7 +26,7 @@ pub fn state_of_digits(
     v: u32,
     word: &[u8],
 ) -> Result<Option<NodeState>, TakeError<Rule>>
-    requires { v < length shape.now.lows }
+    requires { v < shape_nodes shape.now }
     ensures value { Gives (state_of_digits (fields_at shape.now v) word.now) result }
     ensures range { IfOk result (λ found. IfSome found (λ state. InRange (fields_at shape.now v)
         state)) }
@@ -48,12 +48,12 @@ fn what_of(
     sender: u32,
     what: &WhatWords,
 ) -> Result<Option<What>, TakeError<Rule>>
-    requires sender { sender < length shape.now.lows }
-    requires copied { what_below (length shape.now.lows) (what_seen what.now) ≡ true }
+    requires sender { sender < shape_nodes shape.now }
+    requires copied { what_below (shape_nodes shape.now) (what_seen what.now) ≡ true }
     ensures value { Gives (what_of (fields_at shape.now sender) (what_seen what.now)) result }
     ensures what { IfOk result
         (λ found. IfSome found
-        (λ what. IsLying (length shape.now.lows) (fields_at shape.now sender) what)) }
+        (λ what. IsLying (shape_nodes shape.now) (fields_at shape.now sender) what)) }
 {
     Ok(match *what {
         WhatWords::Noise => Some(What::Noise),

@@ -23,7 +23,7 @@ impl Script {
     pub fn start_into(&self, noise: &mut Noise, v: u32, out: &mut NodeState)
         requires noise { noise.old ≡ self.now.key }
         requires node { v < self.now.nodes }
-        requires depth { length out.old.registers ≡ length self.now.shape.moduli }
+        requires depth { length out.old.registers ≡ self.now.shape.depth }
         ensures value { out.new ≡ start_of self.now v }
         ensures range { InRange (fields_at self.now.shape v) out.new }
         ensures noise { noise.new ≡ noise.old }
@@ -67,7 +67,7 @@ impl Script {
         requires sender { is_in (faulty_at self.now t) u ≡ true }
         requires shape { config.now.shape ≡ self.now.shape }
         requires size { length config.now.current ≡ self.now.nodes }
-        requires depth { length out.old.registers ≡ length self.now.shape.moduli }
+        requires depth { length out.old.registers ≡ self.now.shape.depth }
         ensures value { out.new ≡ lie_of self.now t u v config.now.current }
         ensures range { InRange (fields_at self.now.shape u) out.new }
         ensures noise { noise.new ≡ noise.old }

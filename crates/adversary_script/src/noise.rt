@@ -199,7 +199,7 @@ impl Noise {
     /// Writes a state of noise, of which words may have been made.
     #[tactic(auto, unfolding(crate::specs::Noise::noise_state))]
     pub(crate) fn state_into(&mut self, draw: &Draw, out: &mut NodeState)
-        requires { length out.old.registers ≡ length draw.now.shape.now.moduli }
+        requires { length out.old.registers ≡ draw.now.shape.now.depth }
         ensures value { out.new
             ≡ noise_state (fields_at draw.now.shape.now draw.now.v) self.old draw.now.stream
             draw.now.turn }
@@ -217,7 +217,7 @@ impl Noise {
     #[inline(never)]
     #[tactic(auto, unfolding(crate::specs::Noise::noise_state))]
     pub(crate) fn make_state(&mut self, draw: &Draw, out: &mut NodeState)
-        requires { length out.old.registers ≡ length draw.now.shape.now.moduli }
+        requires { length out.old.registers ≡ draw.now.shape.now.depth }
         ensures value { out.new
             ≡ noise_state (fields_at draw.now.shape.now draw.now.v) self.old draw.now.stream
             draw.now.turn }

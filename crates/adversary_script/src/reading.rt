@@ -1,7 +1,8 @@
 ghost use Rattle.std.specs.Prelude.{◌≡◌, ◌≤◌, ◌<◌, ◌+◌, ◌^◌, [], length, IfOk};
 ghost use Rattle.texts.specs.Lines.{lines_of};
+ghost use Rattle.construction.specs.Plans.{plan_nodes};
+ghost use Rattle.state_codec.specs.Shapes.{shape_nodes};
 ghost use Rattle.adversary_script.specs.ScriptPart.{IsAnswer, IsFor};
-ghost use Rattle.adversary_script.specs.StateShapes.{IsShapeFor};
 
 use crate::refusals::{ScriptError, ScriptRefusal};
 use crate::script_lines::ScriptLines;
@@ -13,10 +14,10 @@ use state_codec::StateShape;
 use std::alloc::Global;
 use sync_types::Rule;
 
-/// Reads a script for a plan, to the end of the input. `shape` is the shape of the plan's states,
-/// or that with one or two further registers behind, for a layer above the counter. The first line
-/// of `bytes` has the number `first_line`, which is at least 1 and whose sum with the length of
-/// `bytes` is below 2^64.
+/// Reads a script for a plan, to the end of the input. `shape` is the shape of the states,
+/// which has as many nodes as the plan: that of the plan's states, or that with registers of a layer
+/// above the counter after them. The first line of `bytes` has the number `first_line`, which is at
+/// least 1 and whose sum with the length of `bytes` is below 2^64.
 ///
 /// A script of version 1 has no further eras. `Refused` is the first line that fails, with the
 /// first rule that it fails. A script that lacks its `end` is refused `Form` at the line after the
@@ -29,7 +30,7 @@ pub fn read_script(
     bytes: &[u8],
     first_line: u64,
 ) -> Result<Script, ScriptError>
-    requires shape { IsShapeFor plan.now shape.now }
+    requires shape { shape_nodes shape.now ≡ plan_nodes plan.now }
     requires first { 1 ≤ first_line }
     requires count { first_line + length bytes.now < 2 ^ 64 }
     ensures exact { IsAnswer plan.now shape.now first_line (lines_of bytes.now) result }
@@ -57,7 +58,7 @@ fn read_exactly(
     shape: &StateShape,
     input: &Numbered,
 ) -> Result<Script, ScriptError>
-    requires { IsShapeFor plan.now shape.now }
+    requires { shape_nodes shape.now ≡ plan_nodes plan.now }
     ensures { IsAnswer plan.now shape.now input.now.first_line (lines_of input.now.bytes.now)
         result }
 {

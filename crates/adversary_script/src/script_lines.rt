@@ -1,11 +1,11 @@
 ghost use Rattle.std.specs.Prelude.{◌≡◌, true, Some, IfOk, Ok};
 ghost use Rattle.construction.specs.Plans.{plan_nodes, plan_faults};
+ghost use Rattle.state_codec.specs.Shapes.{shape_nodes};
 ghost use Rattle.edge_io.specs.Taking.{Takes};
 ghost use Rattle.adversary_script.specs.Answers.{Adds};
 ghost use Rattle.adversary_script.specs.Steps.{line_step};
 ghost use Rattle.adversary_script.specs.Kinds.{kind_of, may_follow};
 ghost use Rattle.adversary_script.specs.ScriptPart.{nothing_read, passed, read_as};
-ghost use Rattle.adversary_script.specs.StateShapes.{IsShapeFor};
 
 use crate::drafts::Draft;
 use crate::kinds::{Kind, may_follow, read_kind};
@@ -50,7 +50,7 @@ impl<'a> Model for ScriptLines<'a> {
 impl<'a> ScriptLines<'a> {
     /// A reader of a part of which nothing was read.
     pub fn new(alloc: Global, plan: &'a Plan, shape: &'a StateShape) -> ScriptLines<'a>
-        requires { IsShapeFor plan.now shape.now }
+        requires { shape_nodes shape.now ≡ plan_nodes plan.now }
         ensures { result ≡ nothing_read (plan_nodes plan.now) (plan_faults plan.now) shape.now }
     {
         ScriptLines {

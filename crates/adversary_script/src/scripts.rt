@@ -38,6 +38,7 @@ impl Drop for Script {
 
 impl Model for Script {
     ghost use Rattle.std.specs.Prelude.{◌≡◌, Some, length};
+    ghost use Rattle.state_codec.specs.Shapes.{shape_nodes};
     ghost use Rattle.adversary_script.specs.Links.{IsLinked};
     ghost use Rattle.adversary_script.specs.Scripts.{Script as ScriptSaid, IsScript};
     ghost use Rattle.adversary_script.specs.Seen.{script_seen, IsOver};
@@ -47,7 +48,7 @@ impl Model for Script {
     ghost view = { λ s. script_seen s.shape s.faulty s.parts };
 
     ghost invariant = { λ s. IsScript (script_seen s.shape s.faulty s.parts)
-        × IsOver s.faulty.nodes (Some s.faulty) s.parts × (length s.shape.lows ≡ s.faulty.nodes)
+        × IsOver s.faulty.nodes (Some s.faulty) s.parts × (shape_nodes s.shape ≡ s.faulty.nodes)
         × IsLinked s.faulty.nodes s.parts.lies.items s.links.firsts.items s.links.nexts.items };
 }
 

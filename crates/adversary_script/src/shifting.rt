@@ -1,7 +1,7 @@
 ghost use Rattle.std.specs.Prelude.{◌≡◌, ◌<◌, ◌≤◌, ◌+◌, ◌%◌, ◌^◌, length};
 ghost use Rattle.sync_types.specs.States.{zero_state};
 ghost use Rattle.construction.specs.Steps.{state_of};
-ghost use Rattle.state_codec.specs.Shapes.{fields_at};
+ghost use Rattle.state_codec.specs.Shapes.{fields_at, shape_nodes};
 ghost use Rattle.state_codec.specs.Ranges.{InRange};
 ghost use Rattle.adversary_script.specs.Lies.{shifted_register, shifted, fitted_register, fitted};
 
@@ -47,11 +47,20 @@ impl Modulus {
     }
 }
 
-/// A register, or the zero register where the modulus is 0.
+/// A register whose value is infinite where it is not below the modulus; the zero register where
+/// the modulus is 0.
+#[tactic(auto, unfolding(crate::specs::Lies::fitted_register))]
 fn fitted_register(modulus: u64, register: Reg) -> Reg
     ensures { result ≡ fitted_register modulus register }
 {
-    if modulus == 0 { ZERO } else { register }
+    if modulus == 0 {
+        return ZERO;
+    }
+    let a = match register.a {
+        Some(a) if a < modulus => Some(a),
+        _ => None,
+    };
+    Reg { a, d: register.d }
 }
 
 /// The state of node `w` in a configuration, from which one of node `v` is made.
@@ -61,14 +70,14 @@ pub struct Source<'a> {
     pub w: u32,
     pub v: u32,
     ghost from: { w < length config.now.current },
-    ghost node: { v < length config.now.shape.lows },
+    ghost node: { v < shape_nodes config.now.shape },
 }
 
 impl Source<'_> {
     /// Writes the state of node `v` whose number and finite values are `by` larger, each modulo
     /// its own modulus.
     pub fn shift_into(&self, by: u64, out: &mut NodeState)
-        requires { length out.old.registers ≡ length self.now.config.now.shape.moduli }
+        requires { length out.old.registers ≡ self.now.config.now.shape.depth }
         ensures value { out.new ≡ shifted by (fields_at self.now.config.now.shape self.now.v)
             (state_of self.now.config.now.current self.now.w) }
         ensures range { InRange (fields_at self.now.config.now.shape self.now.v) out.new }
@@ -83,7 +92,7 @@ impl Source<'_> {
 
     /// Writes registers whose finite values are `by` larger, each modulo its own modulus.
     fn shift_registers(&self, by: u64, out: &mut NodeState)
-        requires { length out.old.registers ≡ length self.now.config.now.shape.moduli }
+        requires { length out.old.registers ≡ self.now.config.now.shape.depth }
         ensures { out.new ≡ record out.old {
           registers =
               (shifted by (fields_at self.now.config.now.shape self.now.v)
@@ -100,23 +109,24 @@ impl Source<'_> {
 
     /// Writes those fields that node `v` has, and zero in the place of what it lacks.
     pub fn fit_into(&self, out: &mut NodeState)
-        requires { length out.old.registers ≡ length self.now.config.now.shape.moduli }
+        requires { length out.old.registers ≡ self.now.config.now.shape.depth }
         ensures value { out.new ≡ fitted (fields_at self.now.config.now.shape self.now.v)
             (state_of self.now.config.now.current self.now.w) }
         ensures range { InRange (fields_at self.now.config.now.shape self.now.v) out.new }
     {
         self.config.tell();
-        out.set_x(if self.config.shape().base_of(self.v) == 1 {
-            0
+        let x = self.config.x(self.w);
+        out.set_x(if x < self.config.shape().base_of(self.v) {
+            x
         } else {
-            self.config.x(self.w)
+            0
         });
         self.fit_registers(out);
     }
 
     /// Writes those registers that node `v` has, and zero in the place of the others.
     fn fit_registers(&self, out: &mut NodeState)
-        requires { length out.old.registers ≡ length self.now.config.now.shape.moduli }
+        requires { length out.old.registers ≡ self.now.config.now.shape.depth }
         ensures { out.new ≡ record out.old {
           registers =
               (fitted (fields_at self.now.config.now.shape self.now.v)
@@ -133,9 +143,9 @@ impl Source<'_> {
 /// Writes the state of node `v` whose number and finite values are `by` larger than those of node
 /// `w`, each modulo its own modulus.
 pub fn shift_into(config: &Packed, v: u32, by: u64, w: u32, out: &mut NodeState)
-    requires node { v < length config.now.shape.lows }
+    requires node { v < shape_nodes config.now.shape }
     requires from { w < length config.now.current }
-    requires depth { length out.old.registers ≡ length config.now.shape.moduli }
+    requires depth { length out.old.registers ≡ config.now.shape.depth }
     ensures value { out.new
         ≡ shifted by (fields_at config.now.shape v) (state_of config.now.current w) }
     ensures range { InRange (fields_at config.now.shape v) out.new }

@@ -4,3 +4,5 @@ mod Examples
 pub mod FitInputs
 pub mod SlotLengths
 pub mod TrueCounts
+pub mod ChangingInputs
+pub mod AgreeTexts

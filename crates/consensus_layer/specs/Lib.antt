@@ -8,3 +8,5 @@ pub mod AgreePart
 pub mod AgreeRefusals
 pub mod AgreeAnswers
 pub mod InputAnswers
+pub mod ChangingInputs
+pub mod AgreeTexts

@@ -5,10 +5,7 @@
 //! `--version`, alone, it reads nothing and writes what these ask for; other words count for
 //! nothing.
 //!
-//! That each picture is the defined one of a chart or a trace, whose own text is just what was
-//! read, is proved ([`drawing::draw`]), and of a chart that its words stand row by row and node by
-//! node; so is what is written for words ([`asking::tell`]). That all that `run` and `trace` write
-//! is read, how wide columns are, how a trace is laid out, and who is found hit, is not.
+//! What it draws is said in [`run_pictures`], and what is written for words in [`asking::tell`].
 #![tactic(auto)]
 
 // As `?` behind a part of a text that is written, but with no call of its own.
@@ -22,31 +19,11 @@ macro_rules! written {
 }
 
 mod asking;
-mod charts;
-mod drawing;
-mod frames;
-mod hits;
-mod laid;
-mod layouts;
-mod lines;
-mod marks;
-mod pictures;
-mod printing;
-mod reading;
-mod squares;
-mod strips;
-mod trace_lines;
-mod trace_pictures;
-mod trace_printing;
-mod trace_reading;
-mod traces;
-mod turns;
 
 use crate::asking::tell;
-use crate::drawing::{DrawError, draw};
-use crate::reading::ChartError;
 use edge_io::{Sink, StdSink, StdSource, first_line, read_all};
 use program_words::{arguments, words};
+use run_pictures::draw;
 use std::io;
 use std::process::ExitCode;
 

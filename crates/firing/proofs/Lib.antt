@@ -2,3 +2,4 @@ pub mod FitRequests
 pub mod FiredTogether
 pub mod Replicated
 mod Examples
+pub mod RequestTexts

@@ -4,3 +4,4 @@ pub mod Firings
 pub mod FiringsSeen
 pub mod FireLaws
 pub mod FireAnswers
+pub mod RequestTexts

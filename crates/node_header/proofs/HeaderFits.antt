@@ -1,7 +1,7 @@
 -- A header that was read fits the plan.
-use Rattle.std.proofs.Common.{◌≡◌, ℕ, ◌<◌, Bool, true, false, List, [], ◌∷◌, ◌++◌, length, Option}
+use Rattle.std.proofs.Common.{◌≡◌, ℕ, ◌<◌, Bool, true, false, List, [], ◌∷◌, ◌++◌, Option}
 use Rattle.std.proofs.Common.{Some, None, Ok, Err, refl, sym, ap, subst, arith}
-use Rattle.std.specs.Prelude.{slice_index_or, IfOk, nat_le, if◌then◌else◌, codes}
+use Rattle.std.specs.Prelude.{IfOk, nat_le, if◌then◌else◌, codes}
 use Rattle.std.specs.Str.{bytes_eq}
 use Rattle.std.proofs.lemmas.Bool.{leb-false}
 use Rattle.texts.specs.Lines.{words_of, lines_of}
@@ -13,7 +13,7 @@ use Rattle.edge_io.specs.declared.fed_parts.FedPart.{FedPart}
 use Rattle.edge_io.specs.FedParts.{MayFollow, limited_part, WholePart}
 use Rattle.sync_types.specs.declared.answers.Rule.TheVariants as rule
 use Rattle.sync_types.specs.States.{State}
-use Rattle.state_codec.specs.Shapes.{Shape, IsShape, fields_at}
+use Rattle.state_codec.specs.Shapes.{Shape, IsShape, fields_at, shape_nodes}
 use Rattle.state_codec.specs.Texts.{is_state_text, read_text, decoded}
 use Rattle.state_codec.specs.Ranges.{InRange}
 use Rattle.state_codec.proofs.Lows.{fields_limited}
@@ -51,13 +51,13 @@ module _ (shape : Shape) (sound : IsShape shape) where
   abbrev Kept : HeaderSoFar → Type 0
   Kept h = (h.shape ≡ shape) × StageFits shape h.stage
 
-  named_by : (h : HeaderSoFar) (v : ℕ) (test : Bool) → (test ≡ false → v < length shape.lows)
+  named_by : (h : HeaderSoFar) (v : ℕ) (test : Bool) → (test ≡ false → v < shape_nodes shape)
       → h.shape ≡ shape
       → After Kept (IsFit shape) (goes_named h (if test then Err rule.Node else Ok v))
   named_by h v true lt same = tt
   named_by h v false lt same = (same, lt refl)
 
-  named : (h : HeaderSoFar) (n : ℕ) → n ≡ length shape.lows → h.shape ≡ shape
+  named : (h : HeaderSoFar) (n : ℕ) → n ≡ shape_nodes shape → h.shape ≡ shape
       → (numbers : Option (List ℕ)) → After Kept (IsFit shape) (goes_named h (id_by n numbers))
   named h n all same None = tt
   named h n all same (Some []) = tt
@@ -65,7 +65,7 @@ module _ (shape : Shape) (sound : IsShape shape) where
   named h n all same (Some (v ∷ [])) =
       named_by h v (nat_le n v) (λ e. let lt = leb-false n v e in omega (arith, lt, all)) same
 
-  module _ (h : HeaderSoFar) (id : ℕ) (node : id < length shape.lows) (same : h.shape ≡ shape) where
+  module _ (h : HeaderSoFar) (id : ℕ) (node : id < shape_nodes shape) (same : h.shape ≡ shape) where
     stated_by : (s : State) (test : Bool) → InRange (fields_at shape id) s
         → After Kept (IsFit shape) (goes_stated h (header_by id (if test then Some s else None)))
     stated_by s true range = (same, record { node = node; range = range })
@@ -78,7 +78,7 @@ module _ (shape : Shape) (sound : IsShape shape) where
         let fields = fields_at shape id in
         stated_by (read_text fields word) (is_state_text fields word)
         (read_is_in_range fields (decoded word)
-        (fields_limited shape (slice_index_or shape.lows id 0) sound))
+        (fields_limited shape id sound))
 
   stage_keeps : (h : HeaderSoFar) (stage : HeaderStage) (line : List ℕ) → h.shape ≡ shape
       → StageFits shape stage → After Kept (IsFit shape) (stage_step h stage line)
@@ -86,7 +86,7 @@ module _ (shape : Shape) (sound : IsShape shape) where
       after_if Kept (IsFit shape) (bytes_eq line (codes "node 1"))
       (goes (record h { stage = Begun })) (refuses rule.Form) (same, tt) tt
   stage_keeps h Begun line same fits =
-      named h (length h.shape.lows) (ap (λ (s : Shape). length s.lows) same) same
+      named h (shape_nodes h.shape) (ap shape_nodes same) same
       (numbers_after (codes "id") 1 (words_of line))
   stage_keeps h (Named id) line same fits =
       subst (λ (s : Shape). After Kept (IsFit shape) (goes_stated h (state_in s id line)))

@@ -1,5 +1,5 @@
 -- The text of a header is read as that header.
-use Rattle.std.proofs.Common.{◌≡◌, ℕ, ◌+◌, ◌<◌, ◌≤◌, Bool, true, false, List, [], ◌∷◌, ◌++◌, length}
+use Rattle.std.proofs.Common.{◌≡◌, ℕ, ◌+◌, ◌<◌, ◌≤◌, Bool, true, false, List, [], ◌∷◌, ◌++◌}
 use Rattle.std.proofs.Common.{Some, None, Result, Ok, Err, refl, ap, ◌∙◌, append_assoc, arith}
 use Rattle.std.specs.Prelude.{codes, decimal, nat_le, nat_lt, ◌==◌, if◌then◌else◌}
 use Rattle.std.specs.List.{list_all}
@@ -20,7 +20,7 @@ use Rattle.construction.specs.Plans.{Plan, plan_nodes}
 use Rattle.construction.specs.Runs.{IsState}
 use Rattle.plan_numbers.specs.Premises.{IsAccepted}
 use Rattle.plan_numbers.proofs.Accepted.{accepted_sized}
-use Rattle.state_codec.specs.Shapes.{Shape, shape_of, fields_at, moduli_of}
+use Rattle.state_codec.specs.Shapes.{Shape, shape_of, fields_at, moduli_of, shape_nodes}
 use Rattle.state_codec.specs.Texts.{read_text}
 use Rattle.state_codec.proofs.Digits.{text_is_taken, text_reads_back}
 use Rattle.state_codec.proofs.Lows.{fields_limited}
@@ -111,15 +111,15 @@ module _ (plan : Plan) (accepted : IsAccepted plan) (v : ℕ) (lt : v < plan_nod
   abbrev node : NodeHeader
   node = record { id = v; state = s }
 
-  id_read : id_in (length shape.lows) line_2 ≡ Ok v
+  id_read : id_in (shape_nodes shape) line_2 ≡ Ok v
   id_read =
       let numbers : numbers_after (codes "id") 1 (words_of line_2) ≡ Some (v ∷ []) =
       ap (numbers_after (codes "id") 1) (words_joined (codes "id") id_words plain_2)
       ∙ rw (printed_is_read v (omega (arith, lt, few_nodes))) refl in
-      let inside : nat_le (length shape.lows) v ≡ false =
-      lt-leb (length shape.lows) v
+      let inside : nat_le (shape_nodes shape) v ≡ false =
+      lt-leb (shape_nodes shape) v
       (omega (arith, lt, nodes_of_shape plan (moduli_of plan.levels))) in
-      ap (id_by (length shape.lows)) numbers
+      ap (id_by (shape_nodes shape)) numbers
       ∙ ap (λ (b : Bool). let r : Result ℕ Rule = if b then Err rule.Node else Ok v in r) inside
 
   state_read : state_in shape v line_3 ≡ Ok node

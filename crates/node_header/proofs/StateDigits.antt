@@ -1,11 +1,10 @@
 -- The digits of a state are a word: they are some, not many, and above a space.
 use Rattle.std.proofs.Common.{◌≡◌, ℕ, zero, suc, ◌+◌, ◌-◌, ◌*◌, ◌^◌, ◌<◌, ◌≤◌, Bool, true, false}
 use Rattle.std.proofs.Common.{cond, List, [], ◌∷◌, length, get_or, refl, sym, ap, ◌∙◌, subst, arith}
-use Rattle.std.specs.Prelude.{nat_lt, ◌==◌, All, slice_index_or}
+use Rattle.std.specs.Prelude.{nat_lt, ◌==◌, All}
 use Rattle.std.specs.List.{list_all}
 use Rattle.std.proofs.lemmas.Bool.{and_parts, eqb-true, le-ltb, ne_eqb}
 use Rattle.std.proofs.lemmas.Bool.Decides.{nat_tests}
-use Rattle.std.proofs.lemmas.List.FromFn.{get_or-map-range_with_len}
 use Rattle.texts.proofs.Printed.{IsPlain}
 use Rattle.construction.specs.Widths.{width}
 use Rattle.construction.specs.Plans.{Plan, plan_nodes, plan_low}
@@ -13,13 +12,15 @@ use Rattle.construction.proofs.Ranges.{low_most}
 use Rattle.plan_numbers.specs.Premises.{IsAccepted}
 use Rattle.plan_numbers.proofs.Accepted.{accepted_depth}
 use Rattle.sync_types.specs.States.{State}
-use Rattle.state_codec.specs.Shapes.{Fields, IsShape, Shape, shape_of, fields_at, fields_from}
+use Rattle.state_codec.specs.Shapes.{Fields, AreAll, all_of, moduli_of, shape_of, fields_at}
+use Rattle.state_codec.specs.Shapes.{fields_from}
 use Rattle.state_codec.specs.Shapes.{moduli_from, register_bits, registers_bits, bits_in, bytes_in}
 use Rattle.state_codec.specs.Texts.{is_lower_digit}
 use Rattle.state_codec.proofs.BitLengths.{width_fits, width_short}
 use Rattle.state_codec.proofs.Digits.{text_is_taken}
-use Rattle.state_codec.proofs.Lows.{length-moduli_from, modulus_at, fields_limited}
-use Rattle.state_codec.proofs.Plans.{length-moduli_of, shape_of_accepted}
+use Rattle.state_codec.proofs.Lows.{length-moduli_from, modulus_at, from_limited}
+use Rattle.state_codec.proofs.Lows.{fields_of_node}
+use Rattle.state_codec.proofs.Plans.{length-moduli_of, all_of_accepted}
 use Rattle.state_codec.proofs.RegisterSteps.{registers_bits-cons, registers_bits_of_none}
 use Rattle.node_header.specs.HeaderTexts.{digits_of}
 
@@ -68,37 +69,37 @@ one_counts (c ∷ cs) (suc i) lt two =
 
 -- ---- the fields of a node of a low
 
-module _ (shape : Shape) (sound : IsShape shape) (low : ℕ) where
-  some_bits : low ≤ length shape.moduli → 0 < bits_in (fields_from shape low)
+module _ (all : Fields) (sound : AreAll all) (low : ℕ) where
+  some_bits : low ≤ length all.moduli → 0 < bits_in (fields_from all low)
   some_bits le = by_low low le refl where
-    by_low : (l : ℕ) → l ≤ length shape.moduli → l ≡ low → 0 < bits_in (fields_from shape low)
+    by_low : (l : ℕ) → l ≤ length all.moduli → l ≡ low → 0 < bits_in (fields_from all low)
     by_low zero within is =
         let none : (low == 0) ≡ true = rw (← is) refl in
-        let base : (fields_from shape low).base ≡ shape.base =
-        ap (λ b. cond b shape.base 1) none in
-        omega (arith, ap width base, wide shape.base sound.least sound.most)
+        let base : (fields_from all low).base ≡ all.base =
+        ap (λ b. cond b all.base 1) none in
+        omega (arith, ap width base, wide all.base sound.least sound.most)
     by_low (suc l) within is =
-        let inside : l < length shape.moduli = omega arith in
-        let there : nat_lt (length shape.moduli - 1 + 1) low ≡ false =
-        le-ltb (length shape.moduli - 1 + 1) low (omega arith) in
-        let last : length shape.moduli - 1 < length shape.moduli = omega arith in
-        let seen : get_or (moduli_from low shape.moduli) (length shape.moduli - 1) 0
-        ≡ get_or shape.moduli (length shape.moduli - 1) 0 =
-        modulus_at low shape.moduli (length shape.moduli - 1) last
-        ∙ ap (λ b. cond b 0 (get_or shape.moduli (length shape.moduli - 1) 0)) there in
-        let two = (sound.moduli (length shape.moduli - 1) 0 last).0 in
-        let some = one_counts (moduli_from low shape.moduli) (length shape.moduli - 1)
-        (omega (arith, length-moduli_from low shape.moduli)) (omega (arith, seen, two)) in
+        let inside : l < length all.moduli = omega arith in
+        let there : nat_lt (length all.moduli - 1 + 1) low ≡ false =
+        le-ltb (length all.moduli - 1 + 1) low (omega arith) in
+        let last : length all.moduli - 1 < length all.moduli = omega arith in
+        let seen : get_or (moduli_from low all.moduli) (length all.moduli - 1) 0
+        ≡ get_or all.moduli (length all.moduli - 1) 0 =
+        modulus_at low all.moduli (length all.moduli - 1) last
+        ∙ ap (λ b. cond b 0 (get_or all.moduli (length all.moduli - 1) 0)) there in
+        let two = (sound.moduli (length all.moduli - 1) 0 last).0 in
+        let some = one_counts (moduli_from low all.moduli) (length all.moduli - 1)
+        (omega (arith, length-moduli_from low all.moduli)) (omega (arith, seen, two)) in
         omega (arith, some)
 
-  most_bits : length shape.moduli ≤ 5 → bits_in (fields_from shape low) ≤ 251
+  most_bits : length all.moduli ≤ 5 → bits_in (fields_from all low) ≤ 251
   most_bits few =
-      let fields = fields_limited shape low sound in
+      let fields = from_limited all low sound in
       omega (
         arith,
-        few_bits (moduli_from low shape.moduli) fields.moduli,
-        length-moduli_from low shape.moduli,
-        narrow (fields_from shape low).base fields.most fields.least,
+        few_bits (moduli_from low all.moduli) fields.moduli,
+        length-moduli_from low all.moduli,
+        narrow (fields_from all low).base fields.most fields.least,
       )
 
 -- ---- the digits
@@ -118,14 +119,8 @@ module _ (plan : Plan) (accepted : IsAccepted plan) (v : ℕ) (lt : v < plan_nod
     abbrev fields : Fields
     fields = fields_at (shape_of plan) v
 
-    low_within : slice_index_or (shape_of plan).lows v 0 ≤ length (shape_of plan).moduli
-    low_within =
-        omega (
-          arith,
-          get_or-map-range_with_len (plan_low plan) 0 (plan_nodes plan) v v 0 lt (omega arith),
-          low_most plan.levels v,
-          length-moduli_of plan.levels,
-        )
+    own_is : fields ≡ fields_from (all_of plan) (plan_low plan v)
+    own_is = fields_of_node plan (moduli_of plan.levels) v lt
 
     taken : (length (digits_of plan v s) ≡ 2 * bytes_in fields)
         × (list_all is_lower_digit (digits_of plan v s) ≡ true)
@@ -136,18 +131,16 @@ module _ (plan : Plan) (accepted : IsAccepted plan) (v : ℕ) (lt : v < plan_nod
 
     pub digits_plain : IsPlain (digits_of plan v s)
     digits_plain =
-        let sound = shape_of_accepted plan accepted in
-        let some = some_bits (shape_of plan) sound (slice_index_or (shape_of plan).lows v 0)
-        low_within in
+        let some = some_bits (all_of plan) (all_of_accepted plan accepted) (plan_low plan v)
+        (omega (arith, low_most plan.levels v, length-moduli_of plan.levels)) in
         record {
-          some = omega (arith, taken.0, some);
+          some = omega (arith, taken.0, some, ap bits_in own_is);
           above = digits_above (digits_of plan v s) taken.1;
         }
 
     pub digits_few : length (digits_of plan v s) ≤ 64
     digits_few =
-        let sound = shape_of_accepted plan accepted in
         let five = accepted_depth plan.base plan.levels accepted.levels in
-        let most = most_bits (shape_of plan) sound (slice_index_or (shape_of plan).lows v 0)
+        let most = most_bits (all_of plan) (all_of_accepted plan accepted) (plan_low plan v)
         (omega (arith, length-moduli_of plan.levels, five)) in
-        omega (arith, taken.0, most)
+        omega (arith, taken.0, most, ap bits_in own_is)

@@ -1,5 +1,5 @@
 -- The part `node` of an input: `node 1`, `id V`, `state H`, `end`.
-use Rattle.std.specs.Prelude.{◌≡◌, ℕ, nat_le, List, [], ◌∷◌, length, Option, Some, None, Result, Ok}
+use Rattle.std.specs.Prelude.{◌≡◌, ℕ, nat_le, List, [], ◌∷◌, Option, Some, None, Result, Ok}
 use Rattle.std.specs.Prelude.{Err, if◌then◌else◌, codes}
 use Rattle.std.specs.Str.{bytes_eq}
 use Rattle.texts.specs.Lines.{words_of}
@@ -10,7 +10,7 @@ use Rattle.edge_io.specs.declared.taking.TakeError.TheVariants as take
 use Rattle.sync_types.specs.declared.answers.Rule.{Rule}
 use Rattle.sync_types.specs.declared.answers.Rule.TheVariants.{Form, Node, Hex}
 use Rattle.sync_types.specs.States.{State}
-use Rattle.state_codec.specs.Shapes.{Fields, Shape, fields_at}
+use Rattle.state_codec.specs.Shapes.{Fields, Shape, fields_at, shape_nodes}
 use Rattle.state_codec.specs.Texts.{is_state_text, read_text}
 use Rattle.node_header.specs.declared.header_lines.NodeHeader.{NodeHeader}
 use Rattle.node_header.specs.declared.header_lines.HeaderStage.{HeaderStage}
@@ -79,7 +79,7 @@ goes_stated h (Err rule) = refuses rule
 abbrev pub stage_step : HeaderSoFar → HeaderStage → List ℕ → Next HeaderSoFar NodeHeader Rule
 stage_step h Unread line =
     if bytes_eq line (codes "node 1") then goes (record h { stage = Begun }) else refuses Form
-stage_step h Begun line = goes_named h (id_in (length h.shape.lows) line)
+stage_step h Begun line = goes_named h (id_in (shape_nodes h.shape) line)
 stage_step h (Named id) line = goes_stated h (state_in h.shape id line)
 stage_step h (Stated header) line =
     if bytes_eq line (codes "end") then ends header else refuses Form

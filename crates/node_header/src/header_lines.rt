@@ -1,7 +1,7 @@
 ghost use Rattle.std.specs.Prelude.{◌≡◌, ◌<◌, length, IfOk, IfSome};
 ghost use Rattle.std.specs.Option.{option_map};
 ghost use Rattle.texts.specs.Lines.{words_of};
-ghost use Rattle.state_codec.specs.Shapes.{fields_at};
+ghost use Rattle.state_codec.specs.Shapes.{fields_at, shape_nodes};
 ghost use Rattle.node_header.specs.NodePart.{id_in, state_word, state_of_digits};
 ghost use Rattle.state_codec.specs.Ranges.{InRange};
 ghost use Rattle.node_header.specs.NodePart.{HasState};
@@ -101,7 +101,7 @@ fn state_of_digits(
     v: u32,
     word: &[u8],
 ) -> Result<Option<NodeState>, NoMemory>
-    requires { v < length shape.now.lows }
+    requires { v < shape_nodes shape.now }
     ensures value { IfOk result (λ found.
         found ≡ state_of_digits (fields_at shape.now v) word.now) }
     ensures range { IfOk result (λ found.
@@ -121,7 +121,7 @@ fn with_state(
     id: u32,
     line: &[u8],
 ) -> Result<NodeHeader, TakeError<Rule>>
-    requires { id < length shape.now.lows }
+    requires { id < shape_nodes shape.now }
     ensures state { HasState shape.now id line.now result }
     ensures range { IfOk result (λ h. InRange (fields_at shape.now h.id) h.state) }
     ensures id { IfOk result (λ h. h.id ≡ id) }

@@ -2,7 +2,7 @@
 -- for both.
 use Rattle.std.proofs.Common.{◌≡◌, ℕ, ◌+◌, ◌^◌, ◌≤◌, List, replicate, Result, Ok, Err, refl, ◌∙◌}
 use Rattle.std.proofs.Common.{sym, subst, arith}
-use Rattle.std.specs.Prelude.{IfOk}
+use Rattle.std.specs.Prelude.{IfOk, ◌++◌}
 use Rattle.std.proofs.lemmas.List.Elements.{All-append, All-replicate}
 use Rattle.texts.specs.Parts.{At, Found}
 use Rattle.sync_types.specs.declared.answers.Premise.{Premise}
@@ -15,8 +15,8 @@ use Rattle.plan_laws.specs.PlanMeaning.{plan_meaning}
 use Rattle.plan_reader.specs.PlanPart.{plan_of}
 use Rattle.plan_reader.proofs.AcceptedPlans.{plan_accepted}
 use Rattle.counter_core.specs.Overlays.{Layer, StandsOver}
-use Rattle.state_codec.specs.Shapes.{Shape, IsShape, shape_of, shape_with}
-use Rattle.state_codec.proofs.Plans.{shape_of_accepted}
+use Rattle.state_codec.specs.Shapes.{Shape, IsShape, moduli_of, shape_with}
+use Rattle.state_codec.proofs.Plans.{shape_of_accepted, all_of_accepted, over_accepted}
 use Rattle.adversary_script.specs.Scripts.{Script, IsScript}
 use Rattle.adversary_script.specs.ScriptPart as script
 use Rattle.adversary_script.specs.ScriptPart.{script_of}
@@ -103,15 +103,16 @@ so (Ok l) is then = then l is
 pub further_sound : (plan : Plan) (values count : ℕ) → IsAccepted plan → 2 ≤ values → values ≤ 65536
     → IsShape (shape_with plan values count)
 further_sound plan values count accepted two few =
-    let own = shape_of_accepted plan accepted in
-    record {
+    let own = all_of_accepted plan accepted in
+    let moduli : List ℕ = moduli_of plan.levels in
+    over_accepted plan (moduli ++ replicate count values) accepted (record {
       least = own.least;
       most = own.most;
-      moduli = All-append (λ modulus. (2 ≤ modulus) × (modulus ≤ 2 ^ 40)) (shape_of plan).moduli
+      moduli = All-append (λ modulus. (2 ≤ modulus) × (modulus ≤ 2 ^ 40)) moduli
           (replicate count values) own.moduli
           (All-replicate (λ modulus. (2 ≤ modulus) × (modulus ≤ 2 ^ 40)) count values
           (two, omega (arith, few)));
-    }
+    })
 
 -- A part that fits its plan, and a script to play with the part's layer.
 pub record IsToPlay {Said Kept : Type 0} (Fits : Plan → Said → Type 0)

@@ -1,5 +1,6 @@
 -- What the word `node` makes of an input: a header, and behind it packets.
-use Rattle.std.specs.Prelude.{ℕ, ◌^◌, List, [], Option, Some, None, Result, Ok, Err}
+use Rattle.std.specs.Prelude.{ℕ, ◌+◌, ◌^◌, ◌≤◌, List, [], length, Option, Some, None, Result, Ok}
+use Rattle.std.specs.Prelude.{Err}
 use Rattle.texts.specs.Lines.{lines_of, whole_lines}
 use Rattle.texts.specs.Limits.{room_in, behind_lines}
 use Rattle.sync_types.specs.declared.answers.Part.TheVariants as part
@@ -50,11 +51,17 @@ behind_header input (Ok h) = served_outcome h (packets_for h (behind_lines h.lin
 abbrev pub node_outcome : List ℕ → Outcome
 node_outcome input = behind_header input (header_in (room_in (2 ^ 20) input) (lines_of input))
 
--- Bytes that do not show what decides an input: they do not show what decides its header; or it is
--- whole, and none of the bytes behind it is of a packet too many.
+-- these bytes are a whole header, which is not too long, and none of the bytes behind it is of a
+-- packet too many
+pub record PacketsPending (seen : List ℕ) (h : Header) : Type 0 where
+  pub header : length seen ≤ 2 ^ 20 + length (behind_lines h.lines seen)
+  pub packets : IsWithin (packets_for h (behind_lines h.lines seen)).ending
+
+-- Bytes that do not show what decides an input: they do not show what decides its header, or do not
+-- show what decides the packets behind it.
 abbrev pub pending_behind : (seen : List ℕ) → Result Header (Option HeaderRefusal) → Type 0
 pending_behind seen (Err refused) = HeaderPending plan_part seen
-pending_behind seen (Ok h) = IsWithin (packets_for h (behind_lines h.lines seen)).ending
+pending_behind seen (Ok h) = PacketsPending seen h
 
 abbrev pub IsNodePending : List ℕ → Type 0
 IsNodePending seen = pending_behind seen (header_in None (whole_lines seen))

@@ -2,7 +2,7 @@ mod LevelLines
 pub mod LevelTexts
 mod NamedNumbers
 pub mod ReadBack
-mod StatedLines
+pub mod StatedLines
 pub mod ReadTables
 pub mod WrittenTables
 mod StatedTables

@@ -19,13 +19,13 @@ use Rattle.plan_certificate.specs.Tables.{version_line, base_line}
 use Rattle.plan_certificate.specs.PlanTexts.{level_text}
 
 -- a number of a plan may be printed, in 15 digits at most, and is read
-small_plain : (n : ℕ) → n ≤ 2 ^ 40 → IsPlain (decimal n)
+pub small_plain : (n : ℕ) → n ≤ 2 ^ 40 → IsPlain (decimal n)
 small_plain n le = decimal_is_plain n (omega arith)
 
 pub small_short : (n : ℕ) → n ≤ 2 ^ 40 → length (decimal n) ≤ 15
 small_short n le = length-decimal-le 15 n (omega arith) (omega arith) (omega arith)
 
-small_read : (n : ℕ) → n ≤ 2 ^ 40 → number_of (decimal n) ≡ Some n
+pub small_read : (n : ℕ) → n ≤ 2 ^ 40 → number_of (decimal n) ≡ Some n
 small_read n le = printed_is_read n (omega arith)
 
 -- so are a level's

@@ -12,3 +12,4 @@ pub mod Enumerated
 pub mod PlainLevels
 pub mod LeastFound
 pub mod FitWants
+pub mod WantTexts

@@ -10,3 +10,4 @@ pub mod FindRefusals
 pub mod FindText
 pub mod Least
 pub mod FindLaws
+pub mod WantTexts

@@ -10,7 +10,7 @@ use Rattle.construction.specs.Runs.{IsState}
 use Rattle.plan_laws.specs.PlanMeaning.{IsInRange}
 use Rattle.plan_laws.proofs.PlanCounter.{positive}
 use Rattle.plan_laws.proofs.Ranges.{range_of_state}
-use Rattle.state_codec.specs.Shapes.{Shape, shape_of, fields_at, moduli_of}
+use Rattle.state_codec.specs.Shapes.{Shape, shape_of, fields_at, moduli_of, shape_nodes}
 use Rattle.state_codec.specs.Ranges.{InRange}
 use Rattle.state_codec.proofs.Plans.{depth_of_shape, nodes_of_shape}
 use Rattle.state_codec.proofs.PlanStates.{state_of_node}
@@ -34,11 +34,11 @@ whole_state d s out short =
     ∙ append-nil s.registers)
 
 module _ (plan : Plan) (shape : Shape) (kept : IsKept plan shape) where
-  pub node_of_shape : (v : ℕ) → v < plan_nodes plan → v < length shape.lows
+  pub node_of_shape : (v : ℕ) → v < plan_nodes plan → v < shape_nodes shape
   node_of_shape v lt = rw (kept.shaped, nodes_of_shape plan (moduli_of plan.levels)) lt
 
-  pub moduli_are : length shape.moduli ≡ plan_depth plan
-  moduli_are = ap (λ (s : Shape). length s.moduli) kept.shaped ∙ depth_of_shape plan
+  pub moduli_are : shape.depth ≡ plan_depth plan
+  moduli_are = ap (λ (s : Shape). s.depth) kept.shaped ∙ depth_of_shape plan
 
   pub fields_are : (v : ℕ) → fields_at shape v ≡ fields_at (shape_of plan) v
   fields_are v = ap (λ (s : Shape). fields_at s v) kept.shaped

@@ -4,13 +4,14 @@ use Rattle.run_certificates.specs.declared.Verdict.{Verdict}
 use Rattle.run_certificates.specs.declared.Verdict.TheVariants as verdict
 use Rattle.run_certificates.specs.Checking.{checked}
 use Rattle.run_certificates.specs.Laws.{IsAnswer, TextsAreChecked, StretchesAreRuns, TrueRowsCount}
+use Rattle.run_certificates.specs.Laws.{TrueLocksAreFirst}
 use Rattle.run_checker.specs.Checks.{LimitsMatterBeyond}
 use Rattle.run_checker.specs.TrueTexts.{ShortTextsAreChecked}
 use Rattle.outcomes.specs.CheckAnswers.{checked_outcome}
 use Rattle.promises.specs.CheckLaws.{Says, CheckIsExact}
 
 module _ (limits : LimitsMatterBeyond) (texts : TextsAreChecked) (certificates : ShortTextsAreChecked)
-    (runs : StretchesAreRuns) (counts : TrueRowsCount) where
+    (runs : StretchesAreRuns) (counts : TrueRowsCount) (locks : TrueLocksAreFirst) where
   says_by : (input : List ℕ) (answer : Result Verdict ℕ) → IsAnswer input answer → Says input answer
   says_by input (Ok (verdict.True rows locked)) h = record {
     certificate = h.certificate;
@@ -19,6 +20,7 @@ module _ (limits : LimitsMatterBeyond) (texts : TextsAreChecked) (certificates :
     comes_to = sym h.comes_to;
     runs = runs h.certificate h.is;
     counts = counts h.certificate h.is rows locked (sym h.comes_to);
+    locks = locks h.certificate h.is rows locked (sym h.comes_to);
   }
   says_by input (Ok (verdict.False row)) h = h
   says_by input (Err line) h = h

@@ -1,12 +1,34 @@
 -- What the lines of words that play a layer promise, by what their parts are read as.
+use Rattle.std.proofs.Common.{ℕ, List, [], replicate}
+use Rattle.construction.specs.Plans.{Plan, plan_nodes, plan_faults, plan_modulus, plan_depth}
 use Rattle.counter_core.specs.Overlays.{Layer}
-use Rattle.construction.specs.Plans.{Plan}
-use Rattle.run_promises.specs.LayeredEras.{IsReadFor}
-use Rattle.run_lines.specs.LayerLaws.{AtMostOneInALine}
+use Rattle.round_runner.specs.Laws as bare
+use Rattle.round_runner.specs.Played.{played_at}
+use Rattle.layer_laws.proofs.PlanSlots.{quorum_of}
+use Rattle.slot_table.specs.declared.lines.SlotLine.{SlotLine}
+use Rattle.slot_table.specs.SlotPart as slots
+use Rattle.consensus_layer.specs.AgreeSaid.{AgreeSaid}
+use Rattle.consensus_layer.specs.AgreePart as agree
+use Rattle.consensus_layer.specs.AgreeLaws.{agree_keeps}
+use Rattle.firing.specs.declared.requests.Request.{Request}
+use Rattle.firing.specs.declared.fires.Fire.{Fire}
+use Rattle.firing.specs.Firings.{fire_layer, unfired}
+use Rattle.firing.specs.FirePart as fire
+use Rattle.firing.specs.FireLaws.{fire_keeps}
+use Rattle.replicated_log.specs.declared.entries.Entry.{Entry}
+use Rattle.replicated_log.specs.LogSaid.{LogSaid}
+use Rattle.replicated_log.specs.Logs.{log_layer}
+use Rattle.replicated_log.specs.LogPart as log
+use Rattle.replicated_log.specs.LogLaws.{log_keeps}
+use Rattle.run_lines.specs.LayerLaws.{AtMostOneInALine, HoldWordsAreExact}
+use Rattle.run_promises.specs.LayeredEras.{IsReadFor, ScriptsArePlayed}
+use Rattle.run_promises.specs.PlainRuns.{PlainScriptsArePlayed}
 use Rattle.run_promises.specs.Promises.{LinesDecide, LinesFireTogether, LinesPutOne}
-use Rattle.outcomes.specs.Layered.{Layered}
-use Rattle.outcomes.proofs.LayeredRead.{IsToPlay, so, slots_read, decisions_to_play, fires_to_play}
-use Rattle.outcomes.proofs.LayeredRead.{entries_to_play}
+use Rattle.run_promises.proofs.Lines.{kept_for}
+use Rattle.outcomes.specs.Layered.{Layered, slots_shape}
+use Rattle.outcomes.proofs.LayeredRead.{IsRead, IsToPlay, so, agreed_layer, slots_read}
+use Rattle.outcomes.proofs.LayeredRead.{decisions_to_play, fires_to_play, entries_to_play}
+use Rattle.promises.specs.LayerPromises.{KeepsHolds, KeepsDecisions, KeepsFires, KeepsEntries}
 use Rattle.promises.specs.LayerPromises.{HoldsAreKept, DecisionsAreKept, FiresAreKept}
 use Rattle.promises.specs.LayerPromises.{EntriesAreKept}
 
@@ -20,19 +42,69 @@ played l is = record {
   sound = is.sound;
 }
 
-pub holds_kept : AtMostOneInALine → HoldsAreKept
-holds_kept law input = so _ (slots_read input) (λ l read. law l.plan l.script
-    (record { accepted = read.accepted; right = read.right; whole = read.whole }) l.said
-    read.fits.apart)
+-- ---- of a part and a script that were read
 
-pub decisions_kept : LinesDecide → DecisionsAreKept
-decisions_kept law input =
-    so _ (decisions_to_play input) (λ l read. law l.plan l.script l.said read.fits (played l read))
+module _ (plays : PlainScriptsArePlayed) (exact : HoldWordsAreExact) (law : AtMostOneInALine) where
+  holds_of : (l : Layered (List SlotLine)) → IsRead slots_shape slots.AreFor l
+      → KeepsHolds l.plan l.script l.said
+  holds_of l read =
+      let is : bare.IsReadFor l.plan l.script =
+      record { accepted = read.accepted; right = read.right; whole = read.whole } in
+      record {
+        played = plays l.plan l.script is;
+        words = λ t v. exact l.plan l.said read.fits.apart (played_at l.plan l.script t) v;
+        one = law l.plan l.script is l.said read.fits.apart;
+      }
 
-pub fires_kept : LinesFireTogether → FiresAreKept
-fires_kept law input =
-    so _ (fires_to_play input) (λ l read. law l.plan l.script l.said read.fits (played l read))
+module _ (plays : (layer : Layer ℕ) → ScriptsArePlayed layer) (law : LinesDecide) where
+  decisions_of : (l : Layered AgreeSaid) → IsToPlay agree.IsFor agreed_layer l
+      → KeepsDecisions l.plan l.script l.said
+  decisions_of l read =
+      let keeps = agree_keeps (plan_nodes l.plan) (plan_faults l.plan) (plan_modulus l.plan)
+      (plan_depth l.plan) l.said.values l.said.inputs (quorum_of l.plan read.accepted)
+      read.fits.nodes read.fits.range in
+      record {
+        played = plays (agreed_layer l.plan l.said) l.plan l.script keeps (played l read)
+            (replicate (plan_nodes l.plan) 0) (kept_for (plan_nodes l.plan) 0);
+        lines = law l.plan l.script l.said read.fits (played l read);
+      }
 
-pub entries_kept : LinesPutOne → EntriesAreKept
-entries_kept law input =
-    so _ (entries_to_play input) (λ l read. law l.plan l.script l.said read.fits (played l read))
+module _ (plays : (layer : Layer Fire) → ScriptsArePlayed layer) (law : LinesFireTogether) where
+  fires_of : (l : Layered (List Request)) → IsToPlay fire.AreFor fire_layer l
+      → KeepsFires l.plan l.script l.said
+  fires_of l read =
+      let keeps = fire_keeps (plan_nodes l.plan) (plan_faults l.plan) (plan_modulus l.plan)
+      (plan_depth l.plan) l.said (quorum_of l.plan read.accepted) in
+      record {
+        played = plays (fire_layer l.plan l.said) l.plan l.script keeps (played l read)
+            (replicate (plan_nodes l.plan) unfired) (kept_for (plan_nodes l.plan) unfired);
+        lines = law l.plan l.script l.said read.fits (played l read);
+      }
+
+module _ (plays : (layer : Layer (List Entry)) → ScriptsArePlayed layer) (law : LinesPutOne) where
+  entries_of : (l : Layered LogSaid) → IsToPlay log.IsFor log_layer l
+      → KeepsEntries l.plan l.script l.said
+  entries_of l read =
+      let keeps = log_keeps (plan_nodes l.plan) (plan_faults l.plan) (plan_modulus l.plan)
+      (plan_depth l.plan) l.said.values l.said.keep l.said.commands
+      (quorum_of l.plan read.accepted) read.fits.nodes read.fits.range in
+      record {
+        played = plays (log_layer l.plan l.said) l.plan l.script keeps (played l read)
+            (replicate (plan_nodes l.plan) []) (kept_for (plan_nodes l.plan) []);
+        lines = law l.plan l.script l.said read.fits (played l read);
+      }
+
+-- ---- of inputs
+
+pub holds_kept : PlainScriptsArePlayed → HoldWordsAreExact → AtMostOneInALine → HoldsAreKept
+holds_kept plays exact law input = so _ (slots_read input) (holds_of plays exact law)
+
+pub decisions_kept : ((layer : Layer ℕ) → ScriptsArePlayed layer) → LinesDecide → DecisionsAreKept
+decisions_kept plays law input = so _ (decisions_to_play input) (decisions_of plays law)
+
+pub fires_kept : ((layer : Layer Fire) → ScriptsArePlayed layer) → LinesFireTogether → FiresAreKept
+fires_kept plays law input = so _ (fires_to_play input) (fires_of plays law)
+
+pub entries_kept : ((layer : Layer (List Entry)) → ScriptsArePlayed layer) → LinesPutOne
+    → EntriesAreKept
+entries_kept plays law input = so _ (entries_to_play input) (entries_of plays law)

@@ -12,10 +12,17 @@ use Rattle.plan_reader.proofs.AcceptedPlans.{whole_plan_accepted}
 use Rattle.plan_certificate.specs.Tables.{table_text}
 use Rattle.plan_certificate.specs.TableLines.{table_of}
 use Rattle.plan_certificate.specs.TableLaws.{TablesAreRead, OnlyTablesAreRead}
-use Rattle.plan_certificate.specs.PlanTexts.{plan_text, PlanTextIsWhole}
-use Rattle.outcomes.specs.Inputs.{in_plan, in_table, or_refusal}
+use Rattle.plan_certificate.specs.PlanTexts.{plan_text, PlanTextIsRead, PlanTextIsWhole}
+use Rattle.plan_finder.specs.WantTexts.{WantTextIsRead}
+use Rattle.slot_table.specs.SlotTexts.{SlotTextIsRead}
+use Rattle.consensus_layer.specs.AgreeTexts.{AgreeTextIsRead}
+use Rattle.firing.specs.RequestTexts.{RequestTextIsRead}
+use Rattle.replicated_log.specs.LogTexts.{LogTextIsRead}
+use Rattle.node_header.specs.HeaderTexts.{HeaderTextIsRead}
+use Rattle.sync_types.specs.declared.answers.Part.TheVariants as part
+use Rattle.outcomes.specs.Inputs.{in_plan, in_part, in_table, or_refusal}
 use Rattle.outcomes.specs.Answers.{text_by}
-use Rattle.promises.specs.PlanPromises.{AreTextsOf, IsTableOf, TextsAreKept}
+use Rattle.promises.specs.PlanPromises.{AreTextsOf, IsTableOf, TextsAreKept, TextsAreRead}
 
 module _ (whole : PlanTextIsWhole) (read : TablesAreRead) (only : OnlyTablesAreRead)
     (versions : VersionsAgree) where
@@ -43,3 +50,18 @@ module _ (whole : PlanTextIsWhole) (read : TablesAreRead) (only : OnlyTablesAreR
     plans = λ input. texts_of (whole_plan_of input) (whole_plan_accepted input);
     tables = λ input. table_is input (table_of input) refl;
   }
+
+pub texts_read : PlanTextIsRead → PlanTextIsWhole → TablesAreRead → WantTextIsRead → SlotTextIsRead
+    → AgreeTextIsRead → RequestTextIsRead → LogTextIsRead → HeaderTextIsRead → TextsAreRead
+texts_read front whole tables wants slots inputs requests logs headers = record {
+  plans = λ plan version accepted later most.
+      ap (or_refusal in_plan) (whole plan version accepted later most);
+  fronts = front;
+  tables = λ plan accepted. ap (or_refusal in_table) (tables plan accepted);
+  wants = λ want fit. ap (or_refusal (in_part part.Find)) (wants want fit);
+  slots = slots;
+  inputs = inputs;
+  requests = requests;
+  logs = logs;
+  headers = headers;
+}

@@ -15,6 +15,7 @@ use Rattle.round_runner.specs.Laws.{EachIsOfOneEra, ErasAreRuns, ErasLock, ErasC
 use Rattle.round_runner.specs.Laws.{ErasStayLocked}
 use Rattle.round_runner.proofs.FirstLocked.{first_is_locked}
 use Rattle.run_explanations.specs.Laws.{ExplainedErasLock, LongErasAreExplained, FoundIsFirst}
+use Rattle.run_promises.specs.PlainRuns.{PlainScriptsArePlayed}
 use Rattle.run_lines.specs.RunTexts.{number_word}
 use Rattle.run_lines.proofs.FirstListed.{first_listed}
 use Rattle.promises.proofs.ExplainLaws.{why_is_true}
@@ -57,9 +58,9 @@ module _ (plan : Plan) (script : Script) (read : IsReadFor plan script) (j : ℕ
       subst (λ (era : ℕ). IsLocked plan (faulty_of_era script era) (played_at plan script w)) here first.1.locked in
       stays plan script read j among w first.1.from first.1.before locked
 
-module _ (each : EachIsOfOneEra) (runs : ErasAreRuns) (locks : ErasLock) (counts : ErasCount)
-    (stays : ErasStayLocked) (explained : ExplainedErasLock) (long : LongErasAreExplained)
-    (found : FoundIsFirst) where
+module _ (plays : PlainScriptsArePlayed) (each : EachIsOfOneEra) (runs : ErasAreRuns)
+    (locks : ErasLock) (counts : ErasCount) (stays : ErasStayLocked)
+    (explained : ExplainedErasLock) (long : LongErasAreExplained) (found : FoundIsFirst) where
   era_keeps : (plan : Plan) (script : Script) → IsReadFor plan script → (j : ℕ)
       → j ≤ length script.eras → EraKeepsPromise plan script j
   era_keeps plan script read j among = record {
@@ -80,6 +81,7 @@ module _ (each : EachIsOfOneEra) (runs : ErasAreRuns) (locks : ErasLock) (counts
       → IfOk scripted (λ s. KeepsPromise s.plan s.script)
   whichever (Err refusal) read = tt
   whichever (Ok s) read = record {
+    played = plays s.plan s.script read.for;
     shown = read.for.whole.formed.shown;
     all = each s.script read.for.whole;
     eras = era_keeps s.plan s.script read.for;

@@ -4,7 +4,7 @@ use Rattle.std.specs.Prelude.{IfOk}
 use Rattle.round_runner.specs.Locks.{era_locked}
 use Rattle.round_runner.specs.Played.{played_at}
 use Rattle.run_certificates.specs.declared.Verdict.TheVariants as verdict
-use Rattle.run_certificates.specs.Recorded.{certificate_of, RecordsAreTrue}
+use Rattle.run_certificates.specs.Recorded.{certificate_of, RecordsAreTrue, RecordsAreOfRuns}
 use Rattle.run_lines.proofs.FirstListed.{first_listed}
 use Rattle.outcomes.specs.declared.refusals.Refusal.{Refusal}
 use Rattle.outcomes.specs.Inputs.{Scripted, scripted_of}
@@ -13,7 +13,7 @@ use Rattle.outcomes.specs.CheckAnswers.{verdict_outcome}
 use Rattle.promises.specs.CheckLaws.{CheckIsExact}
 use Rattle.promises.specs.RecordLaws.{IsRecorded, RecordsAreChecked}
 
-module _ (check : CheckIsExact) (records : RecordsAreTrue) where
+module _ (check : CheckIsExact) (records : RecordsAreTrue) (runs : RecordsAreOfRuns) where
   recorded : (scripted : Result Scripted Refusal) → IfOk scripted IsRead
       → IfOk scripted (λ s. IsRecorded s.plan s.script)
   recorded (Err refusal) read = tt
@@ -24,6 +24,7 @@ module _ (check : CheckIsExact) (records : RecordsAreTrue) where
       let comes = true_one.verdict ∙ ap (verdict.True (s.script.rounds + 1)) same in
       record {
         is = true_one.is;
+        of_run = runs s.plan s.script read.for;
         comes_to = comes;
         checks = check.certificates (certificate_of s.plan s.script) true_one.is ∙ ap verdict_outcome comes;
       }

@@ -8,6 +8,7 @@ use Rattle.run_certificates.specs.Certificates.{Turn, Certificate, certificate_t
 use Rattle.run_certificates.specs.Grammar.{IsCertificate}
 use Rattle.run_certificates.specs.Stated.{first_stand, stands_behind, verdict_of}
 use Rattle.run_certificates.specs.Laws.{IsOf, IsRefusedAt, AreQuiet, stand_after, StretchCounts}
+use Rattle.run_certificates.specs.Laws.{LastEraLocks}
 use Rattle.run_checker.specs.Checks.{unlimited}
 use Rattle.outcomes.specs.declared.commands.Command.TheVariants as command
 use Rattle.outcomes.specs.CheckAnswers.{verdict_outcome, checked_outcome}
@@ -29,7 +30,8 @@ StretchesCount c = (before stretch after : List Turn)
     → StretchCounts c before stretch
 
 -- The input is the text of a certificate whose rows are those of the run that it states. This is a
--- run of the plan in each of its eras, and the rows count there from the bound on.
+-- run of the plan in each of its eras, and the rows count there from the bound on. What is said to
+-- be locked is the first locked configuration of the last era, from which on its rows count.
 pub record IsTrueText (input : List ℕ) (rows : ℕ) (locked : Option ℕ) : Type 0 where
   pub certificate : Certificate
   pub is : IsCertificate certificate
@@ -37,6 +39,7 @@ pub record IsTrueText (input : List ℕ) (rows : ℕ) (locked : Option ℕ) : Ty
   pub comes_to : verdict_of certificate ≡ verdict.True rows locked
   pub runs : StretchesRun certificate
   pub counts : StretchesCount certificate
+  pub locks : LastEraLocks certificate locked
 
 -- it is the text of a true certificate, or of one whose first row that differs is this, or no
 -- certificate begins with its lines up to this one

@@ -2,14 +2,17 @@
 -- of scripts alone.
 use Rattle.slot_table.specs.HoldLaws.{AtMostOneHolds}
 use Rattle.consensus_layer.specs.Agreements.{EveryRunDecides}
+use Rattle.consensus_layer.specs.ChangingInputs.{ChangingInputsDecide}
 use Rattle.firing.specs.Firings.{EveryRunFiresTogether}
 use Rattle.replicated_log.specs.PutEntries.{EverySlotPutsOne, LogsAreOne}
 
 -- From the bound on at most one correct node holds; each slot of consensus ends with one decision,
--- of firing with all firing or none, of a log with one entry in all logs, and these grow as one.
+-- also where inputs change from round to round, of firing with all firing or none, of a log with
+-- one entry in all logs, and these grow as one.
 pub record EveryRunKeeps : Type 0 where
   pub holds : AtMostOneHolds
   pub decides : EveryRunDecides
+  pub changing : ChangingInputsDecide
   pub fires : EveryRunFiresTogether
   pub puts : EverySlotPutsOne
   pub logs : LogsAreOne

@@ -1,5 +1,5 @@
 -- What the lines of words that play a layer promise, whatever the input.
-use Rattle.std.specs.Prelude.{◌≡◌, ℕ, ◌+◌, ◌<◌, ◌≤◌, List, true, false, codes, IfOk}
+use Rattle.std.specs.Prelude.{◌≡◌, ℕ, ◌+◌, ◌<◌, ◌≤◌, List, [], true, false, codes, replicate, IfOk}
 use Rattle.construction.specs.Plans.{Plan, plan_nodes, plan_faults, plan_bound}
 use Rattle.construction.specs.Runs.{is_in}
 use Rattle.adversary_script.specs.Scripts.{Script}
@@ -8,58 +8,75 @@ use Rattle.round_runner.specs.Played.{played_at}
 use Rattle.layer_laws.specs.Slots.{slot_length}
 use Rattle.slot_table.specs.declared.lines.SlotLine.{SlotLine}
 use Rattle.consensus_layer.specs.AgreeSaid.{AgreeSaid}
+use Rattle.consensus_layer.specs.Agreements.{agree_layer}
 use Rattle.firing.specs.declared.requests.Request.{Request}
+use Rattle.firing.specs.Firings.{fire_layer, unfired}
 use Rattle.replicated_log.specs.EntryLength.{entry_length}
 use Rattle.replicated_log.specs.LogSaid.{LogSaid}
+use Rattle.replicated_log.specs.Logs.{log_layer}
 use Rattle.run_lines.specs.SlotTexts.{begins_at}
 use Rattle.run_lines.specs.HoldTexts.{hold_word}
+use Rattle.run_lines.specs.LayerLaws.{HoldWordIs}
 use Rattle.run_lines.specs.DecisionTexts.{slot_of, agree_scene}
 use Rattle.run_lines.specs.FireTexts.{fire_scene}
 use Rattle.run_lines.specs.EntryTexts.{log_scene}
+use Rattle.run_promises.specs.LayeredEras.{PlaysScript}
+use Rattle.run_promises.specs.PlainRuns.{PlaysPlain}
 use Rattle.run_promises.specs.Promises.{LineDecides, LineFires, LinePuts}
 use Rattle.outcomes.specs.Layered.{slotted_of, agreed_of, firing_of, logging_of}
 
--- from the bound on, in each era, at most one word of a line is 1
-abbrev pub KeepsHolds : Plan → Script → List SlotLine → Type 0
-KeepsHolds plan script table = (t : ℕ)
-    → first_of_era script (era_of script t) + plan_bound plan ≤ t → t ≤ script.rounds
-    → (u v : ℕ) → u < plan_nodes plan → is_in (faulty_at script t) u ≡ false
-    → v < plan_nodes plan → is_in (faulty_at script t) v ≡ false
-    → hold_word plan table (played_at plan script t) u ≡ codes " 1"
-    → hold_word plan table (played_at plan script t) v ≡ codes " 1" → u ≡ v
+-- What is played is the script's. A node's word in a line is 1 exactly where the table gives it the
+-- output that it shows; from the bound on, in each era, at most one word of a line is.
+pub record KeepsHolds (plan : Plan) (script : Script) (table : List SlotLine) : Type 0 where
+  pub played : PlaysPlain plan script
+  pub words : (t v : ℕ) → HoldWordIs plan table (played_at plan script t) v
+  pub one : (t : ℕ) → first_of_era script (era_of script t) + plan_bound plan ≤ t
+      → t ≤ script.rounds
+      → (u v : ℕ) → u < plan_nodes plan → is_in (faulty_at script t) u ≡ false
+      → v < plan_nodes plan → is_in (faulty_at script t) v ≡ false
+      → hold_word plan table (played_at plan script t) u ≡ codes " 1"
+      → hold_word plan table (played_at plan script t) v ≡ codes " 1" → u ≡ v
 
 abbrev pub HoldsAreKept : Type 0
 HoldsAreKept = (input : List ℕ)
     → IfOk (slotted_of input) (λ read. KeepsHolds read.plan read.script read.said)
 
--- each line of a slot of consensus has one decision
-abbrev pub KeepsDecisions : Plan → Script → AgreeSaid → Type 0
-KeepsDecisions plan script said = (t : ℕ)
-    → begins_at plan script (slot_of plan script said) t (agree_scene plan script said t).states
-    ≡ true
-    → LineDecides plan script said t
+-- What is played is the script's, where each decision is 0 at first. Each line of a slot of
+-- consensus has one decision.
+pub record KeepsDecisions (plan : Plan) (script : Script) (said : AgreeSaid) : Type 0 where
+  pub played : PlaysScript plan script (agree_layer plan said.values said.inputs)
+      (replicate (plan_nodes plan) 0)
+  pub lines : (t : ℕ)
+      → begins_at plan script (slot_of plan script said) t (agree_scene plan script said t).states
+      ≡ true
+      → LineDecides plan script said t
 
 abbrev pub DecisionsAreKept : Type 0
 DecisionsAreKept = (input : List ℕ)
     → IfOk (agreed_of input) (λ read. KeepsDecisions read.plan read.script read.said)
 
--- in each line of a slot of firing all fire, or none does
-abbrev pub KeepsFires : Plan → Script → List Request → Type 0
-KeepsFires plan script requests = (t : ℕ)
-    → begins_at plan script (slot_length (plan_faults plan)) t
-    (fire_scene plan script requests t).states ≡ true
-    → LineFires plan script requests t
+-- What is played is the script's, where none fires at first. In each line of a slot of firing all
+-- fire, or none does.
+pub record KeepsFires (plan : Plan) (script : Script) (requests : List Request) : Type 0 where
+  pub played : PlaysScript plan script (fire_layer plan requests)
+      (replicate (plan_nodes plan) unfired)
+  pub lines : (t : ℕ)
+      → begins_at plan script (slot_length (plan_faults plan)) t
+      (fire_scene plan script requests t).states ≡ true
+      → LineFires plan script requests t
 
 abbrev pub FiresAreKept : Type 0
 FiresAreKept = (input : List ℕ)
     → IfOk (firing_of input) (λ read. KeepsFires read.plan read.script read.said)
 
--- each line of a slot of the log has one value, which its owner commands where it is correct
-abbrev pub KeepsEntries : Plan → Script → LogSaid → Type 0
-KeepsEntries plan script said = (t : ℕ)
-    → begins_at plan script (entry_length (plan_faults plan)) t
-    (log_scene plan script said t).states ≡ true
-    → LinePuts plan script said t
+-- What is played is the script's, where all logs are empty at first. Each line of a slot of the log
+-- has one value, which its owner commands where it is correct.
+pub record KeepsEntries (plan : Plan) (script : Script) (said : LogSaid) : Type 0 where
+  pub played : PlaysScript plan script (log_layer plan said) (replicate (plan_nodes plan) [])
+  pub lines : (t : ℕ)
+      → begins_at plan script (entry_length (plan_faults plan)) t
+      (log_scene plan script said t).states ≡ true
+      → LinePuts plan script said t
 
 abbrev pub EntriesAreKept : Type 0
 EntriesAreKept = (input : List ℕ)

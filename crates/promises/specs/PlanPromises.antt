@@ -1,13 +1,22 @@
--- What the texts of plans and of tables that are written promise, whatever the input.
-use Rattle.std.specs.Prelude.{◌≡◌, ℕ, List, Result, Ok, IfOk}
+-- What the texts of plans and of tables that are written promise, whatever the input; and that each
+-- such text is read.
+use Rattle.std.specs.Prelude.{◌≡◌, ℕ, ◌≤◌, List, Result, Ok, IfOk}
 use Rattle.construction.specs.Plans.{Plan}
 use Rattle.plan_numbers.specs.Premises.{IsAccepted}
 use Rattle.plan_laws.specs.VersionLaws.{in_version, AreSame}
 use Rattle.plan_certificate.specs.Tables.{table_text}
-use Rattle.plan_certificate.specs.PlanTexts.{plan_text}
+use Rattle.plan_certificate.specs.PlanTexts.{plan_text, PlanTextIsRead}
+use Rattle.plan_finder.specs.declared.wants.Want.{Want}
+use Rattle.plan_finder.specs.FindPart.{IsFit}
+use Rattle.plan_finder.specs.WantTexts.{want_text}
+use Rattle.slot_table.specs.SlotTexts.{SlotTextIsRead}
+use Rattle.consensus_layer.specs.AgreeTexts.{AgreeTextIsRead}
+use Rattle.firing.specs.RequestTexts.{RequestTextIsRead}
+use Rattle.replicated_log.specs.LogTexts.{LogTextIsRead}
+use Rattle.node_header.specs.HeaderTexts.{HeaderTextIsRead}
 use Rattle.outcomes.specs.declared.refusals.Refusal.{Refusal}
 use Rattle.outcomes.specs.declared.commands.Batch.TheVariants as batch
-use Rattle.outcomes.specs.Inputs.{plan_alone, tabled_of}
+use Rattle.outcomes.specs.Inputs.{plan_alone, tabled_of, wants_of}
 use Rattle.outcomes.specs.Answers.{answer_of}
 
 -- What `plan` answers is the plan's table, which is read back as the plan, and what `upgrade`
@@ -31,3 +40,19 @@ pub record TextsAreKept : Type 0 where
       → IfOk (plan_alone input)
       (AreTextsOf (answer_of batch.Plan input) (answer_of batch.Upgrade input))
   pub tables : (input : List ℕ) → IfOk (tabled_of input) (IsTableOf input)
+
+-- Every text that says a value is read as this value: none is refused. An accepted plan has a text
+-- in its own version and in each later one, and a table; wants, slot tables, inputs to agree on,
+-- requests to fire, logs and headers of nodes have one. All but tables and wants are read so at the
+-- front of any text.
+pub record TextsAreRead : Type 0 where
+  pub plans : (plan : Plan) (version : ℕ) → IsAccepted plan → plan.version ≤ version → version ≤ 2
+      → plan_alone (plan_text version plan) ≡ Ok (in_version version plan)
+  pub fronts : PlanTextIsRead
+  pub tables : (plan : Plan) → IsAccepted plan → tabled_of (table_text plan) ≡ Ok plan
+  pub wants : (want : Want) → IsFit want → wants_of (want_text want) ≡ Ok want
+  pub slots : SlotTextIsRead
+  pub inputs : AgreeTextIsRead
+  pub requests : RequestTextIsRead
+  pub logs : LogTextIsRead
+  pub headers : HeaderTextIsRead

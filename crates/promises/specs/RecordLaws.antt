@@ -7,7 +7,7 @@ use Rattle.run_certificates.specs.declared.Verdict.TheVariants as verdict
 use Rattle.run_certificates.specs.Certificates.{certificate_text}
 use Rattle.run_certificates.specs.Grammar.{IsCertificate}
 use Rattle.run_certificates.specs.Stated.{verdict_of}
-use Rattle.run_certificates.specs.Recorded.{certificate_of}
+use Rattle.run_certificates.specs.Recorded.{certificate_of, IsOfRun}
 use Rattle.outcomes.specs.declared.commands.Command.TheVariants as command
 use Rattle.run_lines.specs.RowTexts.{lock_played}
 use Rattle.outcomes.specs.Inputs.{scripted_of}
@@ -20,9 +20,11 @@ abbrev pub recorded_verdict : Plan → Script → Verdict
 recorded_verdict plan script =
     verdict.True (script.rounds + 1) (lock_played plan script (length script.eras))
 
--- what is written is the text of a run certificate, which is true, and which `check` calls true
+-- What is written is the text of a run certificate, of the plan and of what is played of the
+-- script. It is true, and `check` calls it true.
 pub record IsRecorded (plan : Plan) (script : Script) : Type 0 where
   pub is : IsCertificate (certificate_of plan script)
+  pub of_run : IsOfRun plan script
   pub comes_to : verdict_of (certificate_of plan script) ≡ recorded_verdict plan script
   pub checks : defined (Some command.Check) (certificate_text (certificate_of plan script))
       ≡ verdict_outcome (recorded_verdict plan script)

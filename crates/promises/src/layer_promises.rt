@@ -4,38 +4,53 @@
 ghost use Rattle.promises.specs.LayerPromises.{HoldsAreKept, DecisionsAreKept, FiresAreKept};
 ghost use Rattle.promises.specs.LayerPromises.{EntriesAreKept};
 
-use run_lines::laws::at_most_one_in_a_line;
-use run_promises::laws::{lines_decide, lines_fire_together, lines_put_one};
+use consensus_layer::Agreement;
+use firing::Firing;
+use replicated_log::Replica;
+use run_lines::laws::{at_most_one_in_a_line, hold_words_are_exact};
+use run_promises::laws::{
+    lines_decide, lines_fire_together, lines_put_one, plain_scripts_are_played, scripts_are_played,
+};
 
-/// Where an input is a plan, a slot table and a script: in each line from the plan's bound on,
-/// counted from the first configuration of its era, at most one word is 1.
+/// Where an input is a plan, a slot table and a script, what is played is the script's: its starts,
+/// its faulty sets and its lies. A node's word in a line is 1 exactly where the table gives it the
+/// output that it shows, and from the plan's bound on, counted from the first configuration of the
+/// era, at most one word is.
 pub fn holds_are_kept()
     ensures { HoldsAreKept }
 {
+    plain_scripts_are_played();
+    hold_words_are_exact();
     at_most_one_in_a_line();
 }
 
-/// Where an input is a plan, inputs to agree on and a script: in each line of a slot the words of
-/// all correct nodes are one number, which is their common input where they have one.
+/// Where an input is a plan, inputs to agree on and a script, what is played is the script's. In
+/// each line of a slot the words of all correct nodes are one number, which is their common input
+/// where they have one.
 pub fn decisions_are_kept()
     ensures { DecisionsAreKept }
 {
+    scripts_are_played::<Agreement>();
     lines_decide();
 }
 
-/// Where an input is a plan, requests and a script: in each line of a slot all correct nodes fire
-/// or none does, as they requested in the round before the slot, where they did the same.
+/// Where an input is a plan, requests and a script, what is played is the script's. In each line of
+/// a slot all correct nodes fire or none does, as they requested in the round before the slot,
+/// where they did the same.
 pub fn fires_are_kept()
     ensures { FiresAreKept }
 {
+    scripts_are_played::<Firing>();
     lines_fire_together();
 }
 
-/// Where an input is a plan, a log and a script: in each line of a slot the words of all correct
-/// nodes are one number, the value of the slot's own entry. It is what the owner that the line
-/// names commands at the output with which the slot begins, where that owner is correct.
+/// Where an input is a plan, a log and a script, what is played is the script's. In each line of a
+/// slot the words of all correct nodes are one number, the value of the slot's own entry. It is
+/// what the owner that the line names commands at the output with which the slot begins, where that
+/// owner is correct.
 pub fn entries_are_kept()
     ensures { EntriesAreKept }
 {
+    scripts_are_played::<Replica>();
     lines_put_one();
 }

@@ -1,10 +1,16 @@
-//! What the texts of plans and of tables promise, whatever the input. The function does nothing:
-//! its clause is the law.
+//! What the texts of plans and of tables promise, whatever the input, and that each text that says
+//! a value is read. The functions do nothing: their clauses are the laws.
 
-ghost use Rattle.promises.specs.PlanPromises.{TextsAreKept};
+ghost use Rattle.promises.specs.PlanPromises.{TextsAreKept, TextsAreRead};
 
+use consensus_layer::laws::agree_texts_read_back;
+use firing::laws::request_texts_read_back;
+use node_header::laws::header_texts_read_back;
 use plan_certificate::{plan_texts_read_back, tables_read_back};
+use plan_finder::laws::want_texts_read_back;
 use plan_laws::laws::versions_agree;
+use replicated_log::laws::log_texts_read_back;
+use slot_table::laws::slot_texts_read_back;
 
 /// Where an input is a plan: its table, which `plan` writes, is read back as this plan, and its
 /// text in version 2, which `upgrade` writes, as a plan of the same counter. Where `table` answers
@@ -15,4 +21,19 @@ pub fn texts_are_kept()
     plan_texts_read_back();
     tables_read_back();
     versions_agree();
+}
+
+/// Each text that says an accepted plan, its table, wants, a slot table, inputs to agree on,
+/// requests to fire, a log or a header of a node is read as that.
+pub fn texts_are_read()
+    ensures { TextsAreRead }
+{
+    plan_texts_read_back();
+    tables_read_back();
+    want_texts_read_back();
+    slot_texts_read_back();
+    agree_texts_read_back();
+    request_texts_read_back();
+    log_texts_read_back();
+    header_texts_read_back();
 }

@@ -18,7 +18,7 @@ use Rattle.pulse_construction.specs.Runs.{fields_in, all_fields}
 use Rattle.pulse_construction.proofs.Numbers.{three_faults}
 use Rattle.pulse_plan.specs.Plans.{PulseNumbers, IsAccepted, tree_of}
 use Rattle.pulse_plan.proofs.Trees.{taller}
-use Rattle.pulse_machine.proofs.Kept.{nodes_are}
+use Rattle.pulse_plan.proofs.Sound.{nodes_are}
 
 -- ---- one register, and four of a level
 

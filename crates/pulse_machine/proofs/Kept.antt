@@ -7,27 +7,16 @@ use Rattle.construction.specs.Steps.{state_of}
 use Rattle.state_codec.specs.Shapes.{Fields}
 use Rattle.state_codec.specs.Ranges.{InRange}
 use Rattle.machines.specs.Machines.{IsConfiguration}
-use Rattle.machines.specs.Laws.{IsSound}
 use Rattle.pulse_construction.specs.Halvings.{halving_nodes}
 use Rattle.pulse_construction.specs.Steps.{halving_depth}
 use Rattle.pulse_construction.specs.Runs.{fields_in, all_fields}
 use Rattle.pulse_construction.proofs.Ranges.{positive_fields}
 use Rattle.pulse_plan_laws.proofs.States.{long, fields_most}
-use Rattle.pulse_plan_laws.proofs.Sound.{machines_are_sound}
 use Rattle.pulse_plan.specs.Plans.{PulseNumbers, IsAccepted, tree_of}
 use Rattle.pulse_plan.specs.Laws.{machine_in}
-use Rattle.pulse_plan.proofs.Trees.{nodes_of_tree}
+use Rattle.pulse_plan.proofs.Sound.{nodes_are, accepted_are_sound}
 use Rattle.pulse_counter.specs.Groups.{CanHear, IsDeep}
 use Rattle.pulse_machine.specs.Kept.{IsKept}
-
-pub nodes_are : (plan : PulseNumbers) → IsAccepted plan → halving_nodes (tree_of plan) ≡ plan.nodes
-nodes_are plan is = nodes_of_tree plan.nodes plan.faults is.quorum is.single
-
-pub sound : (plan : PulseNumbers) → IsAccepted plan → IsSound (machine_in plan)
-sound plan is =
-    let most = is.most_nodes in
-    machines_are_sound (tree_of plan) plan.modulus is.least_modulus is.most_modulus
-    (omega (arith, nodes_are plan is))
 
 -- a modulus for each register
 pub all_long : (plan : PulseNumbers) → IsAccepted plan → (v : ℕ)
@@ -53,7 +42,7 @@ module _ (plan : PulseNumbers) (accepted : IsAccepted plan) (v : ℕ)
 
   pub state_deep : (s : State) → InRange (all_fields (tree_of plan) plan.modulus v) s
       → length s.registers ≡ halving_depth (tree_of plan)
-  state_deep s range = range.depth ∙ (sound plan accepted).depth v lt
+  state_deep s range = range.depth ∙ (accepted_are_sound plan accepted).depth v lt
 
 -- what may be heard
 pub can_hear : (plan : PulseNumbers) → IsAccepted plan → (heard : List State)

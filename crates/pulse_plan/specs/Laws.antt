@@ -3,6 +3,7 @@ use Rattle.std.specs.Prelude.{◌≡◌, ℕ, ◌*◌, ◌≤◌}
 use Rattle.pulse_construction.specs.Halvings.{halving_nodes, halving_faults, halving_bound}
 use Rattle.pulse_construction.specs.Halvings.{halving_of}
 use Rattle.machines.specs.Machines.{Machine, Settles}
+use Rattle.machines.specs.Laws.{IsSound}
 use Rattle.pulse_construction.specs.Runs.{machine_of}
 use Rattle.pulse_plan.specs.Plans.{PulseNumbers, tree_of, IsAccepted}
 
@@ -20,6 +21,11 @@ pub record PlanSettles (plan : PulseNumbers) : Type 0 where
 -- Every accepted plan settles.
 abbrev pub EveryPlanSettles : Type 0
 EveryPlanSettles = (plan : PulseNumbers) → IsAccepted plan → PlanSettles plan
+
+-- The machine of every accepted plan is sound: it settles, it is locked at its bound and stays so,
+-- and a step gives a state of its node, whatever was heard.
+abbrev pub AcceptedAreSound : Type 0
+AcceptedAreSound = (plan : PulseNumbers) → IsAccepted plan → IsSound (machine_in plan)
 
 -- The bound depends on the faults alone, and does not fall where they grow.
 abbrev pub BoundsRise : Type 0

@@ -1,12 +1,18 @@
 //! The laws of plans. Each function does nothing: its clause is the law.
 
-ghost use Rattle.pulse_plan.specs.Laws.{EveryPlanSettles, BoundsRise};
+ghost use Rattle.pulse_plan.specs.Laws.{EveryPlanSettles, AcceptedAreSound, BoundsRise};
 
 /// Each accepted plan's machine has the plan's nodes and faults, and counts from its bound on,
 /// which is at most 42 for each fault: whatever the start and the lies, with each faulty set that
 /// it tolerates.
 pub fn every_plan_settles()
     ensures { EveryPlanSettles }
+{}
+
+/// The machine of every accepted plan is sound: it settles, it is locked at its bound and stays so,
+/// and a step gives a state of its node, whatever was heard.
+pub fn accepted_are_sound()
+    ensures { AcceptedAreSound }
 {}
 
 /// The bound depends on the faults alone, and does not fall where they grow.

@@ -1,5 +1,5 @@
 -- How the program ends by its errors.
-use Rattle.std.specs.Prelude.{ℕ}
+use Rattle.std.specs.Prelude.{◌≡◌, ℕ, Bool}
 use Rattle.sync_types.specs.declared.status.Status.TheVariants as status
 use Rattle.sync_types.specs.Codes as codes
 use Rattle.pulselab.specs.declared.faults.LabError.{LabError}
@@ -13,6 +13,20 @@ code_of error.ReadFault = codes.code_of status.ReadFault
 code_of error.TooLong = codes.code_of status.TooLong
 code_of error.WriteFault = codes.code_of status.WriteFault
 code_of error.NoMemory = codes.code_of status.NoMemory
+
+-- nothing is written where it ends so
+abbrev pub KeptAt : {K : Type 0} → (old new : K) → LabError → Type 0
+KeptAt old new error.Usage = new ≡ old
+KeptAt old new error.ReadFault = new ≡ old
+KeptAt old new error.TooLong = new ≡ old
+KeptAt old new error.NoMemory = new ≡ old
+KeptAt old new error.WriteFault = Unit {0}
+KeptAt old new (error.Refused refusal) = Unit {0}
+
+-- a read failed before the end was met
+abbrev pub UnmetAt : (before now : Bool) → LabError → Type 0
+UnmetAt before now error.ReadFault = now ≡ before
+UnmetAt before now other = Unit {0}
 
 -- the answer says it
 abbrev pub IsAnswered : LabError → Type 0

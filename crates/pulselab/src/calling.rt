@@ -1,9 +1,10 @@
 //! Does what the words ask for.
 
-ghost use Rattle.std.specs.Prelude.{◌≡◌, map, string_bytes, MatchResult};
+ghost use Rattle.std.specs.Prelude.{◌≡◌, map, string_bytes, MatchResult, IfErr};
 ghost use Rattle.pulse_plan.specs.Laws.{EveryPlanSettles};
 ghost use Rattle.pulse_texts.specs.PulsesTexts.{PulsesTextIsWhole};
 ghost use Rattle.pulse_tables.specs.TableLaws.{TablesAreRead, OnlyTablesAreRead};
+ghost use Rattle.pulselab.specs.Faults.{KeptAt, UnmetAt};
 ghost use Rattle.pulselab.specs.Requests.{request_of};
 ghost use Rattle.pulselab.specs.Conduct.{Answers, Fails};
 
@@ -39,6 +40,10 @@ pub fn pulselab<S: Source, K: Sink>(
         (K.told sink.new))
         (Fails (request_of (map string_bytes words.now)) (S.left source.old) (S.left source.new)
         (S.faults source.old) (S.faults source.new) (K.told sink.old) (K.told sink.new)) }
+
+    // The same of a sink that tells nothing, and of the source's end.
+    ensures untouched { IfErr result (KeptAt sink.old sink.new) }
+    ensures unmet { IfErr result (UnmetAt (S.met source.old) (S.met source.new)) }
 
     // A plan that is accepted settles by its bound, from any start and under any lies.
     ensures settles { EveryPlanSettles }

@@ -1,7 +1,9 @@
 //! The table of the plan that is read.
 
-ghost use Rattle.std.specs.Prelude.{◌≡◌, MatchResult};
+ghost use Rattle.std.specs.Prelude.{◌≡◌, MatchResult, IfErr};
 ghost use Rattle.texts.specs.Growth.{Puts};
+ghost use Rattle.pulselab.specs.Faults.{KeptAt, UnmetAt};
+ghost use Rattle.pulselab.specs.declared.faults.LabError.TheVariants as error;
 ghost use Rattle.pulselab.specs.PlanWord.{refusal_line, IsTabled, FailsOn, PlanDone, PlanFails};
 
 use crate::faults::LabError;
@@ -32,9 +34,11 @@ fn put_refusal<K: Sink>(sink: &mut K, refusal: PulsesRefusal) -> Result<(), Writ
 
 /// Writes the table of the plan that an input is, or the line of its refusal.
 fn answer<K: Sink>(input: &[u8], sink: &mut K) -> Result<(), LabError>
-    ensures { MatchResult result
+    ensures does { MatchResult result
         (λ _. IsTabled input.now (K.told sink.old) (K.told sink.new))
         (FailsOn input.now (K.told sink.old) (K.told sink.new)) }
+    ensures untouched { IfErr result (KeptAt sink.old sink.new) }
+    ensures read { IfErr result (λ e. e ≡ error.ReadFault → ⊥) }
 {
     match read_whole_pulses(input) {
         Ok(plan) => Ok(write_table(&plan, sink)?),
@@ -52,11 +56,13 @@ pub fn table_plan<S: Source, K: Sink>(
     source: &mut S,
     sink: &mut K,
 ) -> Result<(), LabError>
-    ensures { MatchResult result
+    ensures does { MatchResult result
         (λ _. PlanDone (S.left source.old) (S.left source.new) (S.faults source.old)
         (S.faults source.new) (K.told sink.old) (K.told sink.new))
         (PlanFails (S.left source.old) (S.left source.new) (S.faults source.old)
         (S.faults source.new) (K.told sink.old) (K.told sink.new)) }
+    ensures untouched { IfErr result (KeptAt sink.old sink.new) }
+    ensures unmet { IfErr result (UnmetAt (S.met source.old) (S.met source.new)) }
 {
     match read_all(alloc, source, LONGEST_INPUT) {
         Ok(input) => answer(&input, sink),

@@ -6,3 +6,4 @@ pub mod Replicated
 mod Examples
 pub mod EntryLengths
 pub mod Turns
+pub mod LogTexts

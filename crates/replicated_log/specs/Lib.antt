@@ -9,3 +9,4 @@ pub mod Logs
 pub mod LogsSeen
 pub mod PutEntries
 pub mod Rings
+pub mod LogTexts

@@ -4,6 +4,7 @@ ghost use Rattle.std.specs.Prelude.{ℕ, List, IfOk};
 ghost use Rattle.construction.specs.Plans.{Plan};
 ghost use Rattle.replicated_log.specs.PutEntries.{EverySlotPutsOne, LogsAreOne};
 ghost use Rattle.replicated_log.specs.LogPart.{part_of, IsFor};
+ghost use Rattle.replicated_log.specs.LogTexts.{LogTextIsRead};
 
 /// In every run of an accepted plan with a log above, whose modulus is a multiple of an entry of
 /// each node, each slot that begins at the plan's bound or later and ends within the run puts one
@@ -24,4 +25,10 @@ pub fn logs_are_one()
 pub fn log_fits()
     ensures { (plan : Plan) (number : ℕ) (lines : List (List ℕ))
         → IfOk (part_of plan number lines) (λ found. IsFor plan found.value) }
+{}
+
+/// The text of a log for an accepted plan, whose nodes have at most 16 commands each, is read as
+/// this log, at the front of any text.
+pub fn log_texts_read_back()
+    ensures { LogTextIsRead }
 {}

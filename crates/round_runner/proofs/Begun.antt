@@ -53,13 +53,13 @@ zeros_deep n depth long same = λ k d lt.
 
 -- and each is one of some node, whatever node it is
 pub zeros_of_nodes : (script : Script) (n depth : ℕ) (states : List State) → IsShape script.shape
-    → depth ≡ length script.shape.moduli → n ≡ script.nodes
+    → depth ≡ script.shape.depth → n ≡ script.nodes
     → states ≡ replicate n (zero_state depth) → AreOfNodes script states
 zeros_of_nodes script n depth states sound deep many is = λ k d lt.
     let size = length-replicate n (zero_state depth) in
     let same = ap (λ (xs : List State). length xs) is in
     let inside : k < n = omega (arith, lt, size, same) in
-    let at : get_or states k d ≡ zero_state (length script.shape.moduli) =
+    let at : get_or states k d ≡ zero_state script.shape.depth =
     ap (λ (xs : List State). get_or xs k d) is ∙ get_or-replicate n k (zero_state depth) d inside
     ∙ ap zero_state deep in
     record {

@@ -30,7 +30,7 @@ alone_is out x depth same long none =
 
 -- the room is still that of the round, where a state was written into it
 pub ready_behind : (plan : Plan) (script : Script) (room : Room) (out : State)
-    → IsReady plan script room → length out.registers ≡ length script.shape.moduli
+    → IsReady plan script room → length out.registers ≡ script.shape.depth
     → IsReady plan script (record room { out = out })
 ready_behind plan script room out ready deep = record {
   noise = ready.noise;
@@ -44,7 +44,7 @@ ready_behind plan script room out ready deep = record {
 
 pub gathered_behind : {Kept : Type 0} (round : Round) (layer : Layer Kept) (states : Pack)
     (room : Room) (out : State) → IsGathered round layer states room
-    → length out.registers ≡ length round.script.now.shape.moduli
+    → length out.registers ≡ round.script.now.shape.depth
     → IsGathered round layer states (record room { out = out })
 gathered_behind round layer states room out gathered deep =
     let set = gathered.set in

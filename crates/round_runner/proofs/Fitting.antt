@@ -21,10 +21,10 @@ use Rattle.plan_laws.specs.PlanMeaning.{plan_meaning, IsInRange}
 use Rattle.plan_laws.proofs.PlanCounter.{positive}
 use Rattle.plan_laws.proofs.Ranges.{range_from_cut, range_of_state}
 use Rattle.state_codec.specs.Shapes.{Fields, Shape, IsShape, moduli_of, shape_of, shape_over}
-use Rattle.state_codec.specs.Shapes.{shape_with, lows_of, fields_at}
+use Rattle.state_codec.specs.Shapes.{shape_with, fields_at}
 use Rattle.state_codec.specs.Ranges.{IsField, InRange}
-use Rattle.state_codec.proofs.Further.{fields_with_further}
-use Rattle.state_codec.proofs.Lows.{length-moduli_from}
+use Rattle.state_codec.proofs.Further.{fields_with_further, further_some}
+use Rattle.state_codec.proofs.Lows.{depth_at, fields_limited}
 use Rattle.state_codec.proofs.Plans.{shape_of_accepted, length-moduli_of, nodes_of_shape}
 use Rattle.state_codec.proofs.PlanStates.{in_range_of_node, state_of_node}
 use Rattle.counter_core.specs.Meanings.{cut}
@@ -38,12 +38,12 @@ use Rattle.round_runner.specs.Fits.{Fits}
 use Rattle.round_runner.specs.Runners.{IsFor}
 
 -- a register that a node has is below its modulus, and one that is below it is the node's
-finite_below : (modulus : ℕ) (r : Reg) → 2 ≤ modulus → IsField modulus r
+finite_below : (modulus : ℕ) (r : Reg) → 1 ≤ modulus → IsField modulus r
     → IfSome r.a (λ a. a < modulus)
 finite_below modulus r two is = subst (λ b. IsRegister (not b) modulus r)
     (ne_eqb modulus 0 (λ e. absurd (omega arith))) is
 
-below_finite : (modulus : ℕ) (r : Reg) → 2 ≤ modulus → IfSome r.a (λ a. a < modulus)
+below_finite : (modulus : ℕ) (r : Reg) → 1 ≤ modulus → IfSome r.a (λ a. a < modulus)
     → IsField modulus r
 below_finite modulus r two is = subst (λ b. IsRegister (not b) modulus r)
     (sym (ne_eqb modulus 0 (λ e. absurd (omega arith)))) is
@@ -60,20 +60,14 @@ module _ {Kept : Type 0} (plan : Plan) (layer : Layer Kept) (accepted : IsAccept
   abbrev behind : List ℕ
   behind = replicate layer.extra layer.values
 
-  long : length shape.moduli ≡ depth + layer.extra
+  long : shape.depth ≡ depth + layer.extra
   long = length-append (moduli_of plan.levels) behind
       ∙ ap₂ (λ (a b : ℕ). a + b) (length-moduli_of plan.levels)
       (length-replicate layer.extra layer.values)
 
   -- the layer's values are a modulus of the shape
-  some_values : (i : ℕ) → i < layer.extra → 2 ≤ layer.values
-  some_values i lt =
-      let at : get_or shape.moduli (depth + i) 0 ≡ layer.values =
-      ap (λ (n : ℕ). get_or shape.moduli (n + i) 0) (sym (length-moduli_of plan.levels))
-      ∙ get_or-append-add (moduli_of plan.levels) behind i 0
-      ∙ get_or-replicate layer.extra i layer.values 0 lt in
-      let two = (sound.moduli (depth + i) 0 (omega (arith, lt, long))).0 in
-      omega (arith, at, two)
+  some_values : (i : ℕ) → i < layer.extra → 1 ≤ layer.values
+  some_values i lt = further_some plan layer.values layer.extra sound i lt
 
   module _ (v : ℕ) (node : v < plan_nodes plan) where
     -- the fields of the node in the plan
@@ -84,8 +78,7 @@ module _ {Kept : Type 0} (plan : Plan) (layer : Layer Kept) (accepted : IsAccept
     fields_are = fields_with_further plan layer.values layer.extra v node
 
     own_long : length own.moduli ≡ depth
-    own_long = length-moduli_from (get_or (lows_of plan) v 0) (moduli_of plan.levels)
-        ∙ length-moduli_of plan.levels
+    own_long = depth_at (shape_of plan) v ∙ length-moduli_of plan.levels
 
     fields_long : length (own.moduli ++ behind) ≡ depth + layer.extra
     fields_long = length-append own.moduli behind
@@ -168,14 +161,13 @@ module _ {Kept : Type 0} (plan : Plan) (layer : Layer Kept) (accepted : IsAccept
         record { x = (fitted own s).x; registers = registers } in t)
         (fill_by_all cut_made (take depth all) (length own.moduli) zero_register size each)
 
-    -- so they are a state of the node where its front is one of another node
-    pub fitted_is : (w : ℕ) → w < plan_nodes plan → (s : State) → IsState plan w (cut depth s)
-        → IsState plan v (cut depth (fitted (fields_at shape v) s))
-    fitted_is w other s is =
-        let range = in_range_of_node plan accepted w other (cut depth s) is in
+    -- so they are a state of the node
+    pub fitted_is : (s : State) → IsState plan v (cut depth (fitted (fields_at shape v) s))
+    fitted_is s =
         subst (IsState plan v) (sym (fitted_front s))
         (state_of_node plan accepted v node (fitted own (cut depth s))
-        (fitted_in_range (shape_of plan) v w (cut depth s) (shape_of_accepted plan accepted) range))
+        (fitted_in_range own (cut depth s)
+        (fields_limited (shape_of plan) v (shape_of_accepted plan accepted))))
 
     -- a state of the plan's node with registers of the layer behind is one of the node
     module _ (s : State) (registers : List Reg) (is : IsState plan v s)

@@ -10,13 +10,15 @@ use Rattle.std.proofs.lemmas.List.{get_or-take}
 use Rattle.std.proofs.lemmas.List.FromFn.{fill_by_all, get_or-map-range_with_len}
 use Rattle.sync_types.specs.declared.states.Reg.{Reg}
 use Rattle.sync_types.specs.States.{State, zero_state, zero_register, register_at}
-use Rattle.construction.specs.Plans.{Plan, plan_nodes, plan_depth}
+use Rattle.construction.specs.Plans.{Plan, plan_nodes, plan_depth, plan_low}
 use Rattle.construction.specs.PhaseKing.{locked_at}
 use Rattle.construction.specs.Runs.{IsRegister}
 use Rattle.construction.specs.Steps.{state_of}
-use Rattle.state_codec.specs.Shapes.{Fields, Shape, IsShape, moduli_from, fields_at}
+use Rattle.state_codec.specs.Shapes.{Fields, Shape, moduli_of, moduli_from, shape_of, fields_at}
+use Rattle.plan_numbers.specs.Premises.{IsAccepted}
 use Rattle.state_codec.specs.Ranges.{IsField, InRange}
-use Rattle.state_codec.proofs.Lows.{modulus_at, length-moduli_from}
+use Rattle.state_codec.proofs.Lows.{modulus_at, length-moduli_from, fields_of_node}
+use Rattle.state_codec.proofs.Plans.{length-moduli_of, all_of_accepted}
 use Rattle.state_codec.proofs.RegisterSteps.{state_is}
 use Rattle.shared_board.specs.Groups.{Group, groups_of, nodes_in}
 use Rattle.shared_board.proofs.Places.{groups_within, groups_low}
@@ -112,22 +114,29 @@ locked_has low h a moduli lt field = by (nat_lt (h + 1) low) refl where
   by false e = modulus_at low moduli h lt ∙ ap (λ b. cond b 0 (get_or moduli h 0)) e
 
 module _ (plan : Plan) (shape : Shape) (nodes : ℕ) (faulty : List ℕ) (config : List State) (d : ℕ)
-    (sound : IsShape shape) (size : nodes ≡ plan_nodes plan)
-    (deep : plan_depth plan ≤ length shape.moduli) (range : AreStates nodes shape config)
-    (settled : IsSettled plan faulty config) where
+    (accepted : IsAccepted plan) (same : shape ≡ shape_of plan) (size : nodes ≡ plan_nodes plan)
+    (range : AreStates nodes shape config) (settled : IsSettled plan faulty config) where
+  abbrev moduli : List ℕ
+  moduli = moduli_of plan.levels
+
   register_grown : (h u a : ℕ) → u < nodes → h < plan_depth plan
       → register_at h (state_of config u) ≡ locked_at a
       → register_at h (state_of (grown shape nodes d config) u)
-      ≡ locked_at ((a + d) % get_or shape.moduli h 0)
+      ≡ locked_at ((a + d) % get_or moduli h 0)
   register_grown h u a lt less locked =
       let fields : Fields = fields_at shape u in
-      let low : ℕ = get_or shape.lows u 0 in
-      let inside : h < length shape.moduli = omega (arith, less, deep) in
+      let low : ℕ = plan_low plan u in
+      let own : fields.moduli ≡ moduli_from low moduli =
+      ap (λ (s : Shape). (fields_at s u).moduli) same
+      ∙ ap (λ (f : Fields). f.moduli) (fields_of_node plan moduli u (omega (arith, lt, size))) in
+      let inside : h < length moduli = omega (arith, less, length-moduli_of plan.levels) in
       let there : h < length fields.moduli =
-      omega (arith, inside, length-moduli_from low shape.moduli) in
-      let two = (sound.moduli h 0 inside).0 in
-      let modulus = locked_has low h a shape.moduli inside
+      omega (arith, inside, ap length own, length-moduli_from low moduli) in
+      let two = ((all_of_accepted plan accepted).moduli h 0 inside).0 in
+      let field = subst (λ ms. IsField (get_or ms h 0) (locked_at a)) own
       (subst (IsField (get_or fields.moduli h 0)) locked ((range u lt).values h there)) in
+      let modulus : get_or fields.moduli h 0 ≡ get_or moduli h 0 =
+      ap (λ ms. get_or ms h 0) own ∙ locked_has low h a moduli inside field in
       ap (register_at h)
       (get_or-map-range_with_len (λ v. shifted d (fields_at shape v) (state_of config v)) 0 nodes u
       u (zero_state 0) lt (omega arith))
@@ -135,7 +144,7 @@ module _ (plan : Plan) (shape : Shape) (nodes : ℕ) (faulty : List ℕ) (config
       (λ i. shifted_register d (slice_index fields.moduli i) (register_at i (state_of config u))) 0
       (length fields.moduli) h h zero_register there (omega arith)
       ∙ (ap₂ (shifted_register d) modulus locked
-      ∙ shifted_locked d (get_or shape.moduli h 0) a two))
+      ∙ shifted_locked d (get_or moduli h 0) a two))
 
   pub settled_stays : IsSettled plan faulty (grown shape nodes d config)
   settled_stays = λ i none lt.
@@ -145,11 +154,11 @@ module _ (plan : Plan) (shape : Shape) (nodes : ℕ) (faulty : List ℕ) (config
       let less = groups_low plan.levels 0 i none lt in
       let there : (u : ℕ) → g.first ≤ u → u < g.first + nodes_in g
       → register_at g.below (state_of (grown shape nodes d config) u)
-      ≡ locked_at ((is.value + d) % get_or shape.moduli g.below 0) =
+      ≡ locked_at ((is.value + d) % get_or moduli g.below 0) =
       λ u from to. register_grown g.below u is.value (omega (arith, to, fits, size)) less
       (is.liars_too u from to) in
       record {
-        value = (is.value + d) % get_or shape.moduli g.below 0;
+        value = (is.value + d) % get_or moduli g.below 0;
         locked = record {
           quorum = is.locked.quorum;
           few = is.locked.few;

@@ -96,13 +96,13 @@ module _ {Kept : Type 0} (plan : Plan) (script : Script) (layer : Layer Kept) (k
           node = may.node;
           output = omega (arith, may.output, shows_it);
           size = long ∙ nodes ∙ sym (over some).nodes;
-          deep = All-weaker (λ (s : State). length s.registers ≡ length script.shape.moduli)
+          deep = All-weaker (λ (s : State). length s.registers ≡ script.shape.depth)
               (HasRegisters layer) (λ s deep. omega (arith, deep, depth, fit)) items
               (deep_lies script items are);
           range = laid_values are;
         })
 
-    pub can_step : (out : State) → length out.registers ≡ length script.shape.moduli
+    pub can_step : (out : State) → length out.registers ≡ script.shape.depth
         → (0 < layer.extra → AreOfNodes script items)
         → 0 < layer.extra → CanStep layer v shown told out
     can_step out room are some =
@@ -131,9 +131,9 @@ module _ {Kept : Type 0} (plan : Plan) (script : Script) (layer : Layer Kept) (k
 
   -- the counter's step leaves room for that of the layer
   pub counted_room : (before counted : State)
-      → length before.registers ≡ length script.shape.moduli
+      → length before.registers ≡ script.shape.depth
       → counted ≡ written (plan_depth plan) (step_of plan v heard) before
-      → length counted.registers ≡ length script.shape.moduli
+      → length counted.registers ≡ script.shape.depth
   counted_room before counted room is =
       let next : List Reg = (step_of plan v heard).registers in
       let deep : length next ≡ plan_depth plan =
@@ -143,12 +143,12 @@ module _ {Kept : Type 0} (plan : Plan) (script : Script) (layer : Layer Kept) (k
       let both = length-append next (drop (plan_depth plan) before.registers) in
       let rest = length-drop (plan_depth plan) before.registers in
       let size : length (next ++ drop (plan_depth plan) before.registers)
-      ≡ length script.shape.moduli = omega (arith, both, rest, deep, fit, room) in
+      ≡ script.shape.depth = omega (arith, both, rest, deep, fit, room) in
       ap (λ (s : State). length s.registers) is ∙ size
 
   -- written behind the counter's step it makes the new state
   pub out_is : (before counted out : State)
-      → length before.registers ≡ length script.shape.moduli
+      → length before.registers ≡ script.shape.depth
       → counted ≡ written (plan_depth plan) (step_of plan v heard) before
       → out ≡ layered layer (layer_step (plan_meaning plan) layer kept v heard).registers counted
       → out ≡ new_state (plan_meaning plan) layer kept v heard

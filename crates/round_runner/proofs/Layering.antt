@@ -28,11 +28,11 @@ state_laid script t v config heard out laid lt is some = record {
 
 -- and room for the states
 pub room_laid : (script : Script) (v : ℕ) (heard : List State) (out : State)
-    → HasRoom script heard → length out.registers ≡ length script.shape.moduli
+    → HasRoom script heard → length out.registers ≡ script.shape.depth
     → HasRoom script (set heard v out)
 room_laid script v heard out room deep = record {
   size = length-set heard v out ∙ room.size;
-  deep = All-set (λ (s : State). length s.registers ≡ length script.shape.moduli) heard v out deep
+  deep = All-set (λ (s : State). length s.registers ≡ script.shape.depth) heard v out deep
       room.deep;
 }
 

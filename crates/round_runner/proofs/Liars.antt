@@ -14,7 +14,7 @@ use Rattle.round_runner.proofs.Places.{all_places}
 
 module _ (script : Script) (lies : List State) (are : AreOfNodes script lies) where
   -- each has the depth of the shape
-  pub deep_lies : All (λ (s : State). length s.registers ≡ length script.shape.moduli) lies
+  pub deep_lies : All (λ (s : State). length s.registers ≡ script.shape.depth) lies
   deep_lies = λ k d lt. let some = are k d lt in depth_of_node script.shape some.node _ some.range
 
   module _ (q : ℕ) (le : q ≤ length lies) where
@@ -39,7 +39,7 @@ module _ (script : Script) (lies : List State) (are : AreOfNodes script lies) wh
         let some = taken_of j lt in counts some.node some.inside _ some.range)
 
     -- with a register for each level
-    pub taken_deep : (depth : ℕ) → depth ≤ length script.shape.moduli
+    pub taken_deep : (depth : ℕ) → depth ≤ script.shape.depth
         → All (λ (s : State). depth ≤ length s.registers) (take q lies)
     taken_deep depth room = all_places (λ (s : State). depth ≤ length s.registers) (take q lies)
         (λ j lt.

@@ -16,9 +16,8 @@ use Rattle.construction.specs.Steps.{state_of, step_of}
 use Rattle.plan_numbers.specs.Premises.{IsAccepted}
 use Rattle.plan_laws.specs.PlanMeaning.{plan_meaning}
 use Rattle.counter_core.specs.NoLayers.{no_layer}
-use Rattle.state_codec.specs.Shapes.{Shape, IsShape, moduli_of, shape_over, shape_of, shape_with}
+use Rattle.state_codec.specs.Shapes.{Shape, moduli_of, shape_over, shape_of, shape_with}
 use Rattle.state_codec.specs.Shapes.{fields_at}
-use Rattle.state_codec.proofs.Plans.{depth_of_shape, shape_of_accepted}
 use Rattle.shared_board.proofs.Stretches.{same_range}
 use Rattle.tower.specs.Settled.{IsSettled}
 use Rattle.layer_laws.specs.Scenes.{Scene}
@@ -88,8 +87,7 @@ module _ (plan : Plan) (script : Script) (at : ℕ) (config : List State)
       let here : IsSettled plan (faulty_at script t) config =
       subst (λ ids. IsSettled plan ids config) (sym (ap (faulty_of_era script) era)) settled in
       let stays = settled_stays plan script.shape script.nodes (faulty_at script t) config d
-      (subst (λ s. IsShape s) (sym shape) (shape_of_accepted plan accepted)) nodes
-      (omega (arith, ap (λ (s : Shape). length s.moduli) shape, depth_of_shape plan)) range here in
+      accepted shape nodes range here in
       settled_step plan accepted (faulty_at script t) (ahead d) (heard_at script t (ahead d) v) v
       stays (omega (arith, node, nodes)) (heard_long script t (ahead d) v ∙ nodes)
       (shown_itself script t v (ahead d) node)

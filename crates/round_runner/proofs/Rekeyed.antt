@@ -47,7 +47,7 @@ module _ (script : Script) (key : List ℕ) where
 
   pub ready_still : (plan : Plan) (room : Room) (noise : List ℕ) (out : State)
       → IsReady plan script room → noise ≡ key
-      → length out.registers ≡ length script.shape.moduli
+      → length out.registers ≡ script.shape.depth
       → IsReady plan (rekeyed script key) (record room { noise = noise; out = out })
   ready_still plan room noise out ready is deep = record {
     noise = is;

@@ -22,9 +22,9 @@ use Rattle.phase_king.proofs.Registers.{locked_register}
 use Rattle.plan_laws.specs.Stretches.{stretch, step_at}
 use Rattle.plan_laws.proofs.Stretches.{steps_by_stretches}
 use Rattle.state_codec.specs.Shapes.{Fields, moduli_of, moduli_from, fields_from, fields_at}
-use Rattle.state_codec.specs.Shapes.{shape_of}
-use Rattle.state_codec.proofs.Lows.{made_at, modulus_at, length-moduli_from}
-use Rattle.state_codec.proofs.Plans.{moduli_of-cons, length-moduli_of, shape_of_accepted}
+use Rattle.state_codec.specs.Shapes.{all_of, shape_of}
+use Rattle.state_codec.proofs.Lows.{modulus_at, length-moduli_from, fields_of_node}
+use Rattle.state_codec.proofs.Plans.{moduli_of-cons, length-moduli_of, all_of_accepted}
 use Rattle.state_codec.proofs.RegisterSteps.{state_is}
 use Rattle.shared_board.specs.Groups.{Group, group_at, index_at, nodes_in, register_for}
 use Rattle.shared_board.proofs.ByPlace.{by_places}
@@ -156,7 +156,7 @@ module _ (plan : Plan) (accepted : IsAccepted plan) (faulty : List ℕ) (config 
     register_shifted =
         let inside : l < length moduli = omega (arith, lt, length-moduli_of plan.levels) in
         let m : ℕ = get_or moduli l 0 in
-        let two = ((shape_of_accepted plan accepted).moduli l 0 inside).0 in
+        let two = ((all_of_accepted plan accepted).moduli l 0 inside).0 in
         let modulus : get_or (moduli_from low moduli) l 0 ≡ m =
         modulus_at low moduli l inside
         ∙ ap (λ b. cond b 0 m) (le-ltb (l + 1) low has) in
@@ -196,8 +196,7 @@ module _ (plan : Plan) (accepted : IsAccepted plan) (faulty : List ℕ) (config 
 
   pub settled_step : step_of plan v heard ≡ shifted 1 (fields_at (shape_of plan) v) state
   settled_step =
-      let fields : Fields = fields_from (shape_of plan) low in
-      let low_is = made_at (plan_low plan) (plan_nodes plan) v 0 (shape_of plan).lows refl within in
+      let fields : Fields = fields_from (all_of plan) low in
       let size : length fields.moduli ≡ plan_depth plan =
       length-moduli_from low moduli ∙ length-moduli_of plan.levels in
       steps_by_stretches plan v heard within long
@@ -206,4 +205,4 @@ module _ (plan : Plan) (accepted : IsAccepted plan) (faulty : List ℕ) (config 
       step.registers (length fields.moduli) zero_register
       (length-step_at plan.base plan.levels 0 v heard ∙ sym size)
       (λ i less. register_is i (omega (arith, less, size))))
-      ∙ ap (λ low. shifted 1 (fields_from (shape_of plan) low) state) (sym low_is))
+      ∙ ap (λ f. shifted 1 f state) (sym (fields_of_node plan moduli v within)))

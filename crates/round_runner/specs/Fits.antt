@@ -6,7 +6,7 @@ use Rattle.sync_types.specs.States.{State, register_at}
 use Rattle.sync_types.specs.declared.states.Reg.{Reg}
 use Rattle.construction.specs.Plans.{Level, Plan, plan_depth}
 use Rattle.plan_laws.specs.PlanMeaning.{InRange as IsCounted, IsInRange}
-use Rattle.state_codec.specs.Shapes.{Shape, fields_at}
+use Rattle.state_codec.specs.Shapes.{Shape, fields_at, shape_nodes}
 use Rattle.state_codec.specs.Ranges.{InRange}
 use Rattle.counter_core.specs.Meanings.{Meaning}
 use Rattle.counter_core.specs.Overlays.{Layer, HasValues, AreBelow}
@@ -16,8 +16,8 @@ use Rattle.adversary_script.specs.Scripts.{Script}
 -- node with registers of the layer behind gives a state of it.
 pub record Fits {Kept : Type 0} (shape : Shape) (counter : Meaning) (in_range : State → Type 0)
     (layer : Layer Kept) : Type 0 where
-  pub nodes : length shape.lows ≡ counter.nodes
-  pub depth : length shape.moduli ≡ counter.depth + layer.extra
+  pub nodes : shape_nodes shape ≡ counter.nodes
+  pub depth : shape.depth ≡ counter.depth + layer.extra
   pub counts : (v : ℕ) → v < counter.nodes → (s : State) → InRange (fields_at shape v) s
       → in_range s
   pub values : (v : ℕ) → v < counter.nodes → (s : State) → InRange (fields_at shape v) s
@@ -31,7 +31,7 @@ pub record Fits {Kept : Type 0} (shape : Shape) (counter : Meaning) (in_range : 
 
 -- the counter of a plan takes the states of a script
 pub record TakesStates (plan : Plan) (script : Script) : Type 0 where
-  pub deep : plan_depth plan ≤ length script.shape.moduli
+  pub deep : plan_depth plan ≤ script.shape.depth
   pub counts : (v : ℕ) → v < script.nodes → (s : State)
       → InRange (fields_at script.shape v) s → IsInRange plan s
 

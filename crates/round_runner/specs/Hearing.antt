@@ -17,7 +17,7 @@ heard_from script t v config u = if u == v then state_of config u else lie_of sc
 -- there is room for a state of each node
 pub record HasRoom (script : Script) (heard : List State) : Type 0 where
   pub size : length heard ≡ script.nodes
-  pub deep : All (λ s. length s.registers ≡ length script.shape.moduli) heard
+  pub deep : All (λ s. length s.registers ≡ script.shape.depth) heard
 
 -- the states of the nodes that are correct in round t stand in their places
 abbrev pub AreHonest : Script → (t : ℕ) → List State → (heard : List State) → Type 0

@@ -9,7 +9,7 @@ use Rattle.round_runner.specs.Hearing.{HasRoom, AreOfNodes}
 -- it writes states of the script, with the script's noise
 pub record CanWrite (script : Script) (room : Room) : Type 0 where
   pub noise : room.noise ≡ script.key
-  pub out : length room.out.registers ≡ length script.shape.moduli
+  pub out : length room.out.registers ≡ script.shape.depth
 
 -- it was made for the plan and the script; as many may lie as there are nodes
 pub record IsReady (plan : Plan) (script : Script) (room : Room) : Type 0 where
@@ -19,4 +19,4 @@ pub record IsReady (plan : Plan) (script : Script) (room : Room) : Type 0 where
   pub lies : AreOfNodes script room.lies.items
   pub shared : room.shared.plan ≡ plan
   pub work : IsFor script.nodes room.work
-  pub out : length room.out.registers ≡ length script.shape.moduli
+  pub out : length room.out.registers ≡ script.shape.depth

@@ -8,7 +8,7 @@ use sync_types::NodeState;
 /// Makes the next states the current ones with each field so much larger. `out` has room for a
 /// state.
 pub(crate) fn grow(by: u64, out: &mut NodeState, states: &mut Packed)
-    requires { length out.old.registers ≡ length states.old.shape.moduli }
+    requires { length out.old.registers ≡ states.old.shape.depth }
     ensures states { states.new ≡ record states.old {
       next = grown states.old.shape (length states.old.current) by states.old.current;
     } }

@@ -60,10 +60,10 @@ impl<O: Overlay> Runner<O> {
     /// the runner's.
     pub fn lay_states(&self, config: &mut [NodeState])
         requires size { length config.old ≡ plan_nodes self.now.plan }
-        requires deep { All (λ s. length s.registers ≡ length self.now.script.shape.moduli)
+        requires deep { All (λ s. length s.registers ≡ self.now.script.shape.depth)
             config.old }
         ensures states { config.new ≡ self.now.states }
-        ensures deep { All (λ s. length s.registers ≡ length self.now.script.shape.moduli)
+        ensures deep { All (λ s. length s.registers ≡ self.now.script.shape.depth)
             config.new }
     {
         self.states.tell();
@@ -76,10 +76,10 @@ impl<O: Overlay> Runner<O> {
         requires round { self.old.at < self.old.script.rounds }
         requires receiver { v < plan_nodes self.old.plan }
         requires size { length heard.old ≡ plan_nodes self.old.plan }
-        requires deep { All (λ s. length s.registers ≡ length self.old.script.shape.moduli)
+        requires deep { All (λ s. length s.registers ≡ self.old.script.shape.depth)
             heard.old }
         ensures heard { heard.new ≡ heard_at self.old.script self.old.at self.old.states v }
-        ensures deep { All (λ s. length s.registers ≡ length self.old.script.shape.moduli)
+        ensures deep { All (λ s. length s.registers ≡ self.old.script.shape.depth)
             heard.new }
         ensures same { self.new ≡ self.old }
     {

@@ -23,7 +23,7 @@ struct Registers<'a> {
     faulty: &'a FaultSet,
     config: &'a Packed,
     ghost size: { length config.now.current ≡ faulty.now.nodes },
-    ghost inside: { level < length config.now.shape.moduli },
+    ghost inside: { level < config.now.shape.depth },
 }
 
 impl Registers<'_> {
@@ -74,7 +74,7 @@ pub struct Snapshot<'a> {
     pub config: &'a Packed,
     ghost nodes: { faulty.now.nodes ≡ plan_nodes tower.now },
     ghost size: { length config.now.current ≡ faulty.now.nodes },
-    ghost deep: { plan_depth tower.now ≤ length config.now.shape.moduli },
+    ghost deep: { plan_depth tower.now ≤ config.now.shape.depth },
 }
 
 impl Snapshot<'_> {
@@ -120,7 +120,7 @@ impl Snapshot<'_> {
 pub fn is_locked(tower: &Tower, faulty: &FaultSet, config: &Packed) -> bool
     requires nodes { faulty.now.nodes ≡ plan_nodes tower.now }
     requires size { length config.now.current ≡ faulty.now.nodes }
-    requires deep { plan_depth tower.now ≤ length config.now.shape.moduli }
+    requires deep { plan_depth tower.now ≤ config.now.shape.depth }
     ensures { result ≡ is_locked tower.now faulty.now.ids config.now.current }
 {
     let snapshot = Snapshot {

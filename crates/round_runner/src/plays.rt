@@ -15,7 +15,7 @@ pub struct Play<'a> {
     /// The script.
     pub script: &'a Script,
     ghost nodes: { script.now.nodes ≡ plan_nodes tower.now },
-    ghost deep: { plan_depth tower.now ≤ length script.now.shape.moduli },
+    ghost deep: { plan_depth tower.now ≤ script.now.shape.depth },
 }
 
 /// What is played, and the configuration with which it begins.

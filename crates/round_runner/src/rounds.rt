@@ -25,7 +25,7 @@ use sync_types::NodeState;
 /// Lays the current states into their places.
 pub fn lay(states: &Packed, heard: &mut [NodeState])
     requires size { length heard.old ≡ length states.now.current }
-    requires deep { All (λ s. length s.registers ≡ length states.now.shape.moduli) heard.old }
+    requires deep { All (λ s. length s.registers ≡ states.now.shape.depth) heard.old }
     ensures { heard.new ≡ states.now.current }
 {
     states.tell();
@@ -70,7 +70,7 @@ pub fn beginning_in(script: &Script, era: usize, t: u64) -> Option<usize>
 
 /// Puts node `v` into the state that it is put into where an era begins behind the round.
 fn put_at(round: &Round<'_>, v: u32, out: &mut NodeState)
-    requires { length out.old.registers ≡ length round.now.script.now.shape.moduli }
+    requires { length out.old.registers ≡ round.now.script.now.shape.depth }
     ensures state { out.new
         ≡ unwrap_or (hit_at round.now.script.now (round.now.t + 1) v) out.old }
     ensures range { InRange (fields_at round.now.script.now.shape v) out.old
@@ -91,7 +91,7 @@ fn step_numbers<O: Overlay>(
     states: &mut Packed,
 )
     requires set { IsSet round.now (O.layer overlay.old) states.old room.old }
-    requires alone { length round.now.script.now.shape.moduli ≡ 0 }
+    requires alone { round.now.script.now.shape.depth ≡ 0 }
     ensures states { states.new ≡ record states.old {
       next = map (state_behind (plan_meaning round.now.tower.now) round.now.script.now
           (O.layer overlay.old) round.now.t states.old.current (O.kept overlay.old))

@@ -293,7 +293,7 @@ impl<O: Overlay> Runner<O> {
     /// Puts the state of node `v` into `out`, which has the depth of the runner's states.
     pub fn state(&self, v: u32, out: &mut NodeState)
         requires node { v < plan_nodes self.now.plan }
-        requires depth { length out.old.registers ≡ length self.now.script.shape.moduli }
+        requires depth { length out.old.registers ≡ self.now.script.shape.depth }
         ensures { out.new ≡ state_of self.now.states v }
     {
         self.states.old(v, out);

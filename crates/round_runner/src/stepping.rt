@@ -50,7 +50,7 @@ pub struct Room {
 /// register of that level, or 0 where that is infinite; without levels its number.
 pub fn shown_at(states: &Packed, v: u32, depth: usize) -> u64
     requires node { v < length states.now.current }
-    requires depth { depth ≤ length states.now.shape.moduli }
+    requires depth { depth ≤ states.now.shape.depth }
     ensures { result ≡ shown depth (state_of states.now.current v) }
 {
     match depth {
@@ -243,7 +243,7 @@ pub fn step_with<O: Overlay, G: Ledger>(
 /// has no registers.
 pub fn step_alone<O: Overlay>(turn: &Turn<'_>, overlay: &mut O, room: &mut Room)
     requires set { IsSet turn.now.round.now (O.layer overlay.old) turn.now.states.now room.old }
-    requires alone { length turn.now.round.now.script.now.shape.moduli ≡ 0 }
+    requires alone { turn.now.round.now.script.now.shape.depth ≡ 0 }
     ensures out { room.new.out ≡ new_state (plan_meaning turn.now.round.now.tower.now)
         (O.layer overlay.old) (O.kept overlay.old) turn.now.v (heard_in turn.now) }
     ensures range { InRange (fields_at turn.now.round.now.script.now.shape turn.now.v)

@@ -19,3 +19,5 @@ pub mod RecordedLines
 pub mod RecordedWhole
 mod Examples
 pub mod TrueRows
+pub mod TrueLocks
+pub mod RecordedRuns

@@ -24,10 +24,10 @@ use Rattle.run_certificates.specs.NodeFields.{fields_of}
 use Rattle.state_codec.specs.Texts.{is_state_text, is_lower_digit}
 use Rattle.state_codec.specs.Shapes.{shape_of, register_bits, registers_bits}
 use Rattle.state_codec.proofs.Plans.{shape_of_accepted, depth_of_shape}
-use Rattle.state_codec.proofs.Lows.{fields_limited, length-moduli_from}
+use Rattle.state_codec.proofs.Lows.{fields_limited, depth_at}
 use Rattle.construction.specs.Widths.{width}
 use Rattle.plan_numbers.proofs.WidthLaws.{width_most}
-use Rattle.std.specs.Prelude.{slice_index_or, ◌==◌, ◌^◌}
+use Rattle.std.specs.Prelude.{◌==◌, ◌^◌}
 use Rattle.std.proofs.lemmas.List.Sums.{sum_by-cons}
 use Rattle.round_runner.specs.Locks.{correct_nodes}
 use Rattle.run_certificates.specs.declared.Verdict.{Verdict}
@@ -77,10 +77,9 @@ registers_small (c ∷ cs) limits =
 pub few_bits : (plan : Plan) (v : ℕ) → IsAccepted plan → bits_in (fields_of plan v) ≤ 251
 few_bits plan v h =
     let shape = shape_of plan in
-    let low = slice_index_or shape.lows v 0 in
-    let limits = fields_limited shape low (shape_of_accepted plan h) in
+    let limits = fields_limited shape v (shape_of_accepted plan h) in
     let deep = accepted_depth plan.base plan.levels h.levels in
-    omega (arith, width_small (fields_of plan v).base (omega (arith, limits.most)), registers_small (fields_of plan v).moduli limits.moduli, length-moduli_from low shape.moduli, depth_of_shape plan, deep)
+    omega (arith, width_small (fields_of plan v).base (omega (arith, limits.most)), registers_small (fields_of plan v).moduli limits.moduli, depth_at shape v, depth_of_shape plan, deep)
 
 few_digits : (plan : Plan) (v : ℕ) → IsAccepted plan → length (zeros plan v) ≤ 2700
 few_digits plan v h =

@@ -157,7 +157,7 @@ is_correct n faulty v lt free = is_in_filter (λ u. not (is_in faulty u)) (range
 module _ (plan : Plan) (s : Script) (is : IsReadFor plan s) where
   limited : (v : ℕ) → IsFields (fields_of plan v)
   limited v =
-      fields_limited (shape_of plan) (slice_index_or (shape_of plan).lows v 0) (shape_of_accepted plan is.accepted)
+      fields_limited (shape_of plan) v (shape_of_accepted plan is.accepted)
 
   -- what is written of a played state is read back
   reads_back : (t v : ℕ) → v < plan_nodes plan
@@ -170,6 +170,21 @@ module _ (plan : Plan) (s : Script) (is : IsReadFor plan s) where
 
   ids_below : (t u : ℕ) → is_in (faulty_at s t) u ≡ true → u < plan_nodes plan
   ids_below t u e = id_below (plan_nodes plan) u (faulty_at s t) (λ k d l. (borne_at plan s is t).ids k d l) e
+
+  -- what is told is what the script lets a faulty node tell
+  pub told_is : (t u v : ℕ) → v < plan_nodes plan → is_in (faulty_at s t) u ≡ true
+      → is_in (faulty_at s t) v ≡ false
+      → told_of plan (map (told_by plan) (turn_at plan s t).lies) u v
+      ≡ lie_of s t u v (played_at plan s t)
+  told_is t u v vlt f free =
+      let faulty = faulty_at s t in
+      let pairs = pairs_of (plan_nodes plan) faulty in
+      ap (λ l. told_of plan l u v) (map_map (told_by plan) (lie_at plan s t) pairs)
+      ∙ told_state plan (λ u v. read_text (fields_of plan u) (written_text (fields_of plan u)
+      (lie_of s t u v (played_at plan s t)))) pairs u v
+      (paired (plan_nodes plan) faulty faulty u v f
+      (is_correct (plan_nodes plan) faulty v vlt free))
+      ∙ lie_reads_back t u v (ids_below t u f)
 
   -- what v hears is the same
   heard_same : (t v : ℕ) (x : Stand) → v < plan_nodes plan → Agrees plan x (stand_at plan s t) → is_in (faulty_at s t) v ≡ false
@@ -194,10 +209,7 @@ module _ (plan : Plan) (s : Script) (is : IsReadFor plan s) where
           by false true o f =
               ap (λ row. state_of row v) (get_or-map-range_with_len (λ u. map (λ v. told_of plan (map (told_by plan) (turn_at plan s t).lies) u v) (range_with_len 0 (plan_nodes plan))) 0 (plan_nodes plan) u u [] lt (omega arith))
               ∙ get_or-map-range_with_len (λ v. told_of plan (map (told_by plan) (turn_at plan s t).lies) u v) 0 (plan_nodes plan) v v (zero_state 0) vlt (omega arith)
-              ∙ ap (λ l. told_of plan l u v) (map_map (told_by plan) (lie_at plan s t) (pairs_of (plan_nodes plan) (faulty_at s t)))
-              ∙ told_state plan (λ u v. read_text (fields_of plan u) (written_text (fields_of plan u) (lie_of s t u v (played_at plan s t)))) (pairs_of (plan_nodes plan) (faulty_at s t)) u v
-              (paired (plan_nodes plan) (faulty_at s t) (faulty_at s t) u v f (is_correct (plan_nodes plan) (faulty_at s t) v vlt free))
-              ∙ lie_reads_back t u v lt
+              ∙ told_is t u v vlt f free
               ∙ sym (ap (λ row. state_of row v) (get_or-map-range_with_len (λ u. map (λ v. lie_of s t u v (played_at plan s t)) (range_with_len 0 s.nodes)) 0 s.nodes u u [] (omega (arith, is.right.nodes)) (omega arith))
               ∙ get_or-map-range_with_len (λ v. lie_of s t u v (played_at plan s t)) 0 s.nodes v v (zero_state 0) (omega (arith, is.right.nodes)) (omega arith))
 

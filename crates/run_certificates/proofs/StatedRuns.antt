@@ -2,7 +2,7 @@
 use Rattle.std.proofs.Common.{inl, inr, ◌≡◌, ℕ, zero, suc, ◌+◌, ◌<◌, Bool, true, false, cond, eqb}
 use Rattle.std.proofs.Common.{◌&&◌, List, [], ◌∷◌, length, map, set, All, Option, Some, None, find}
 use Rattle.std.proofs.Common.{unwrap_or, refl, sym, ap, subst, ◌∙◌, arith}
-use Rattle.std.specs.Prelude.{IfSome, slice_index_or}
+use Rattle.std.specs.Prelude.{IfSome}
 use Rattle.std.proofs.lemmas.Bool.{and_parts, eqb-true, cases_eq}
 use Rattle.std.specs.Option.{option_map}
 use Rattle.std.specs.List.{range_with_len}
@@ -22,7 +22,7 @@ use Rattle.run_certificates.specs.NodeFields.{fields_of}
 use Rattle.state_codec.specs.Texts.{read_text, decoded}
 use Rattle.state_codec.proofs.Plans.{shape_of_accepted, depth_of_shape}
 use Rattle.state_codec.proofs.PlanStates.{state_of_node}
-use Rattle.state_codec.proofs.Lows.{fields_limited, length-moduli_from}
+use Rattle.state_codec.proofs.Lows.{fields_limited, depth_at}
 use Rattle.state_codec.proofs.Ranged.{zero_in_range, read_is_in_range}
 use Rattle.round_runner.proofs.Places.{each, placed}
 use Rattle.run_certificates.specs.Certificates.{Put, Lie, Era, Turn}
@@ -58,13 +58,12 @@ module _ (plan : Plan) (accepted : IsAccepted plan) where
   sound = shape_of_accepted plan accepted
 
   fields_sound : (v : ℕ) → IsFields (fields_of plan v)
-  fields_sound v = fields_limited (shape_of plan) (slice_index_or (shape_of plan).lows v 0) sound
+  fields_sound v = fields_limited (shape_of plan) v sound
 
   zero_is : (v : ℕ) → v < plan_nodes plan → IsState plan v (zero_state (plan_depth plan))
   zero_is v lt =
-      let low = slice_index_or (shape_of plan).lows v 0 in
       let depth : length (fields_of plan v).moduli ≡ plan_depth plan =
-      length-moduli_from low (shape_of plan).moduli ∙ depth_of_shape plan in
+      depth_at (shape_of plan) v ∙ depth_of_shape plan in
       subst (λ d. IsState plan v (zero_state d)) depth
       (state_of_node plan accepted v lt _ (zero_in_range (fields_of plan v) (fields_sound v)))
 

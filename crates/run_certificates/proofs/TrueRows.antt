@@ -8,18 +8,19 @@ use Rattle.std.specs.List.{range_with_len}
 use Rattle.std.proofs.lemmas.Bool.{and_parts, eqb-true}
 use Rattle.std.proofs.lemmas.List.{length-map, length-append, get_or-map, same_lists}
 use Rattle.std.proofs.lemmas.List.FromFn.{length-map-range_with_len, get_or-map-range_with_len}
-use Rattle.construction.specs.Plans.{Plan, plan_nodes, plan_depth}
+use Rattle.sync_types.specs.States.{State}
+use Rattle.construction.specs.Plans.{Plan, plan_nodes, plan_bound, plan_depth}
 use Rattle.construction.specs.Shown.{shown}
 use Rattle.construction.specs.Steps.{state_of}
-use Rattle.construction.specs.Runs.{is_in, IsBorne, AllShow, configuration}
+use Rattle.construction.specs.Runs.{is_in, IsBorne, AllShow, Run, CountsFrom, configuration}
 use Rattle.plan_laws.specs.Laws.{EveryPlanSettles}
 use Rattle.run_certificates.specs.declared.Verdict.TheVariants as verdict
 use Rattle.run_certificates.specs.Certificates.{Era, Turn, Certificate}
-use Rattle.run_certificates.specs.Grammar.{AreTurns, IsEra, faulty_behind}
+use Rattle.run_certificates.specs.Grammar.{IsCertificate, AreTurns, IsEra, faulty_behind}
 use Rattle.run_certificates.specs.Stated.{Stand, stand_behind, first_stand, stands_behind, stated}
 use Rattle.run_certificates.specs.Stated.{shown_row, rows_of, same_rows, differences, first_from}
 use Rattle.run_certificates.specs.Stated.{first_difference, verdict_by, verdict_of}
-use Rattle.run_certificates.specs.Laws.{AreQuiet, stand_after, TrueRowsCount}
+use Rattle.run_certificates.specs.Laws.{AreQuiet, stand_after, StretchCountsFrom, TrueRowsCount}
 use Rattle.run_certificates.proofs.StatedRuns.{stretches_are_runs}
 
 -- ---- rows are what is shown
@@ -56,7 +57,8 @@ true_none : (d : Option ℕ) (rows : ℕ) (l : Option ℕ) (n : ℕ) (m : Option
 true_none None rows l n m e = refl
 true_none (Some t) rows l n m e = absurd cc
 
-count_stands : (plan : Plan) (stand : Stand) (turns : List Turn) → length (stands_behind plan stand turns) ≡ length turns
+pub count_stands : (plan : Plan) (stand : Stand) (turns : List Turn)
+    → length (stands_behind plan stand turns) ≡ length turns
 count_stands plan stand [] = refl
 count_stands plan stand (turn ∷ turns) = ap suc (count_stands plan (stand_behind plan stand turn) turns)
 
@@ -86,7 +88,8 @@ within_at plan stand (turn ∷ stretch) after (suc i) d le =
     within_at plan (stand_behind plan stand turn) stretch after i d (omega arith)
 
 -- in a stretch the faulty nodes stay
-quiet_faulty : (plan : Plan) (stand : Stand) (stretch : List Turn) (i : ℕ) (d : Stand) → AreQuiet stretch → i ≤ length stretch
+pub quiet_faulty : (plan : Plan) (stand : Stand) (stretch : List Turn) (i : ℕ) (d : Stand)
+    → AreQuiet stretch → i ≤ length stretch
     → (get_or (stand ∷ stands_behind plan stand stretch) i d).faulty ≡ stand.faulty
 quiet_faulty plan stand stretch zero d quiet le = refl
 quiet_faulty plan stand [] (suc i) d quiet le = absurd (omega arith)
@@ -124,36 +127,79 @@ row_of_one plan faulty stand o same all =
     ∙ same_word (is_in faulty v) _ o (λ free. all v lt free)
     ∙ sym (get_or-map-range_with_len one 0 n v v d lt (omega arith)))
 
+-- ---- a stretch of a true certificate counts from where its run does
+
+module _ (c : Certificate) (is : IsCertificate c) (rows : ℕ) (locked : Option ℕ)
+    (true_is : verdict_of c ≡ verdict.True rows locked) (before stretch after : List Turn)
+    (parts : c.turns ≡ before ++ (stretch ++ after)) (quiet : AreQuiet stretch) where
+  abbrev pub stand : Stand
+  stand = stand_after c.plan (first_stand c) before
+
+  abbrev pub stands : List Stand
+  stands = stand ∷ stands_behind c.plan stand stretch
+
+  abbrev pub configs : List (List State)
+  configs = map (λ (s : Stand). s.config) stands
+
+  pub run : Run c.plan stand.faulty configs
+  run = stretches_are_runs c is before stretch after parts quiet
+
+  pub borne : IsBorne c.plan stand.faulty
+  borne = borne_after c.plan before (stretch ++ after) (first_stand c) is.borne
+      (subst (AreTurns c.plan c.faulty) parts is.turns)
+
+  pub size : length configs ≡ length stretch + 1
+  size = length-map stands (λ (s : Stand). s.config)
+      ∙ ap suc (count_stands c.plan stand stretch) ∙ omega arith
+
+  length_parts : length before + length stretch ≤ length (before ++ (stretch ++ after))
+  length_parts = omega (arith, length-append before (stretch ++ after), length-append stretch after)
+
+  pub inside : (i : ℕ) → i ≤ length stretch → length before + i < length (stated c)
+  inside i high = omega (
+    arith,
+    high,
+    count_stands c.plan (first_stand c) c.turns,
+    ap length parts,
+    length_parts,
+  )
+
+  -- configuration i of the stretch, among all
+  pub stand_is : (i : ℕ) → i ≤ length stretch
+      → get_or (stated c) (length before + i) (first_stand c) ≡ get_or stands i (first_stand c)
+  stand_is i high =
+      let first = first_stand c in
+      ap (λ ts. get_or (first ∷ stands_behind c.plan first ts) (length before + i) first) parts
+      ∙ after_at c.plan first before (stretch ++ after) i first
+      ∙ within_at c.plan stand stretch after i first high
+
+  pub config_is : (i : ℕ) → i ≤ length stretch
+      → configuration configs i ≡ (get_or stands i (first_stand c)).config
+  config_is i high =
+      get_or-map (λ (s : Stand). s.config) stands i (first_stand c) []
+      (omega (arith, high, count_stands c.plan stand stretch))
+
+  pub rows_count : (from : ℕ) → CountsFrom c.plan stand.faulty configs from
+      → StretchCountsFrom c before stretch from
+  rows_count from counts = record {
+    output = counts.output;
+    shows = λ i low high.
+        let first = first_stand c in
+        let all : AllShow c.plan stand.faulty (configuration configs i) (counts.output i) =
+        counts.shows i low (omega (arith, size, high)) in
+        ap (λ rs. get_or rs (length before + i) []) (all_shown c rows locked true_is)
+        ∙ get_or-map (shown_row c.plan) (stated c) (length before + i) first [] (inside i high)
+        ∙ ap (shown_row c.plan) (stand_is i high)
+        ∙ row_of_one c.plan stand.faulty (get_or stands i first) (counts.output i)
+        (quiet_faulty c.plan stand stretch i first quiet high)
+        (subst (λ config. AllShow c.plan stand.faulty config (counts.output i))
+        (config_is i high) all);
+    grows = λ i low high. counts.grows i low (omega (arith, size, high));
+  }
+
 pub true_rows_count : EveryPlanSettles → TrueRowsCount
 true_rows_count settle c is rows locked true_is before stretch after parts quiet =
-    let plan = c.plan in
-    let first = first_stand c in
-    let stand = stand_after plan first before in
-    let stands = stand ∷ stands_behind plan stand stretch in
-    let run = stretches_are_runs c is before stretch after parts quiet in
-    let turns : AreTurns plan c.faulty (before ++ (stretch ++ after)) = subst (AreTurns plan c.faulty) parts is.turns in
-    let borne = borne_after plan before (stretch ++ after) first is.borne turns in
-    let counts = settle plan is.accepted stand.faulty (map (λ (s : Stand). s.config) stands) borne run in
-    let size : length (map (λ (s : Stand). s.config) stands) ≡ length stretch + 1 =
-    length-map stands (λ (s : Stand). s.config) ∙ ap suc (count_stands plan stand stretch) ∙ omega arith in
-    record {
-      output = counts.output;
-      shows = λ i low high.
-          let at = get_or stands i first in
-          let here : length before + i < length (stated c) = omega (arith, high, count_stands plan first c.turns, ap length parts, length_parts before stretch after) in
-          let inside : i < length stands = omega (arith, high, count_stands plan stand stretch) in
-          let all : AllShow plan stand.faulty (configuration (map (λ (s : Stand). s.config) stands) i) (counts.output i) =
-          counts.shows i low (omega (arith, size, high)) in
-          let config : configuration (map (λ (s : Stand). s.config) stands) i ≡ at.config =
-          get_or-map (λ (s : Stand). s.config) stands i first [] inside in
-          ap (λ rs. get_or rs (length before + i) []) (all_shown c rows locked true_is)
-          ∙ get_or-map (shown_row plan) (stated c) (length before + i) first [] here
-          ∙ ap (shown_row plan) (ap (λ ts. get_or (first ∷ stands_behind plan first ts) (length before + i) first) parts
-          ∙ after_at plan first before (stretch ++ after) i first
-          ∙ within_at plan stand stretch after i first high)
-          ∙ row_of_one plan stand.faulty at (counts.output i) (quiet_faulty plan stand stretch i first quiet high)
-          (subst (λ config. AllShow plan stand.faulty config (counts.output i)) config all);
-      grows = λ i low high. counts.grows i low (omega (arith, size, high));
-    } where
-      length_parts : (before stretch after : List Turn) → length before + length stretch ≤ length (before ++ (stretch ++ after))
-      length_parts before stretch after = omega (arith, length-append before (stretch ++ after), length-append stretch after)
+    rows_count c is rows locked true_is before stretch after parts quiet (plan_bound c.plan)
+    (settle c.plan is.accepted _ _
+    (borne c is rows locked true_is before stretch after parts quiet)
+    (run c is rows locked true_is before stretch after parts quiet))

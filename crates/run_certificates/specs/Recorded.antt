@@ -1,6 +1,7 @@
 -- The certificate of a script's run.
-use Rattle.std.specs.Prelude.{◌≡◌, ℕ, ◌+◌, ◌==◌, ◌&&◌, ◌||◌, List, [], map, filter, length, Bool}
-use Rattle.std.specs.Prelude.{not, Option, Some, None, find, is_some, if◌then◌else◌}
+use Rattle.std.specs.Prelude.{◌≡◌, ℕ, ◌+◌, ◌<◌, ◌≤◌, ◌==◌, ◌&&◌, ◌||◌, List, [], map, filter}
+use Rattle.std.specs.Prelude.{length, Bool, true, false, not, Option, Some, None, find, is_some}
+use Rattle.std.specs.Prelude.{slice_index_or, if◌then◌else◌}
 use Rattle.std.specs.List.{range_with_len}
 use Rattle.construction.specs.Plans.{Plan, plan_nodes}
 use Rattle.construction.specs.Steps.{state_of}
@@ -18,7 +19,8 @@ use Rattle.run_certificates.specs.declared.Verdict.TheVariants as verdict
 use Rattle.run_certificates.specs.NodeFields.{fields_of}
 use Rattle.run_certificates.specs.Certificates.{Put, Lie, Era, Turn, Certificate}
 use Rattle.run_certificates.specs.Grammar.{pairs_of, IsCertificate}
-use Rattle.run_certificates.specs.Stated.{Stand, shown_row, first_difference, verdict_of}
+use Rattle.run_certificates.specs.Stated.{Stand, told_by, told_of, stated, shown_row}
+use Rattle.run_certificates.specs.Stated.{first_difference, verdict_of}
 
 module _ (plan : Plan) (s : Script) where
   -- configuration t, with its faulty nodes
@@ -100,3 +102,25 @@ pub record IsTrueRecord (plan : Plan) (s : Script) : Type 0 where
 
 abbrev pub RecordsAreTrue : Type 0
 RecordsAreTrue = (plan : Plan) (s : Script) → IsReadFor plan s → HasItsEras s → IsTrueRecord plan s
+
+-- What is recorded is of the plan, and its stated run is what is played of the script: it has as
+-- many rounds, in each configuration the same nodes are faulty and each correct one is in its
+-- played state, and in each round a faulty node tells a correct one what the script lets it tell.
+pub record IsOfRun (plan : Plan) (s : Script) : Type 0 where
+  pub of_plan : (certificate_of plan s).plan ≡ plan
+  pub rounds : length (certificate_of plan s).turns ≡ s.rounds
+  pub faulty : (t : ℕ) (d : Stand) → t ≤ s.rounds
+      → (slice_index_or (stated (certificate_of plan s)) t d).faulty ≡ faulty_at s t
+  pub states : (t v : ℕ) (d : Stand) → t ≤ s.rounds → v < plan_nodes plan
+      → is_in (faulty_at s t) v ≡ false
+      → state_of (slice_index_or (stated (certificate_of plan s)) t d).config v
+      ≡ state_of (played_at plan s t) v
+  pub told : (t u v : ℕ) (d : Turn) → t < s.rounds → is_in (faulty_at s t) u ≡ true
+      → v < plan_nodes plan → is_in (faulty_at s t) v ≡ false
+      → told_of plan
+      (map (told_by plan) (slice_index_or (certificate_of plan s).turns t d).lies) u v
+      ≡ lie_of s t u v (played_at plan s t)
+
+-- Each record is of its plan and script.
+abbrev pub RecordsAreOfRuns : Type 0
+RecordsAreOfRuns = (plan : Plan) (s : Script) → IsReadFor plan s → IsOfRun plan s

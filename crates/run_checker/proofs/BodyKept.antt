@@ -13,19 +13,17 @@ use Rattle.plan_numbers.specs.Premises.{IsAccepted}
 use Rattle.plan_laws.specs.PlanMeaning.{IsInRange}
 use Rattle.plan_laws.proofs.PlanCounter.{positive, plan_zero}
 use Rattle.plan_laws.proofs.Ranges.{range_of_state}
-use Rattle.state_codec.specs.Shapes.{Shape, shape_of, fields_at}
+use Rattle.state_codec.specs.Shapes.{Shape, moduli_of, shape_of, shape_nodes, fields_at}
 use Rattle.state_codec.specs.Ranges.{InRange}
 use Rattle.state_codec.proofs.PlanStates.{state_of_node}
 use Rattle.state_codec.specs.Texts.{read_text, decoded}
 use Rattle.state_codec.proofs.Ranged.{read_is_in_range}
 use Rattle.state_codec.proofs.Lows.{fields_limited}
-use Rattle.state_codec.proofs.Plans.{shape_of_accepted, length-moduli_of}
-use Rattle.std.specs.Prelude.{slice_index_or, nat_lt}
+use Rattle.state_codec.proofs.Plans.{shape_of_accepted, nodes_of_shape, depth_of_shape}
+use Rattle.std.specs.Prelude.{nat_lt}
 use Rattle.run_certificates.specs.Checking.{is_next}
 use Rattle.run_certificates.specs.Stated.{unless_faulty}
 use Rattle.run_checker.specs.Tellings.{Telling, AddsState}
-use Rattle.std.proofs.lemmas.List.FromFn.{length-map-range_with_len}
-use Rattle.construction.specs.Plans.{plan_low}
 use Rattle.std.specs.List.{flat_map}
 use Rattle.std.proofs.lemmas.Bool.{and_parts, eqb-true, ltb-true, lt-ltb, le-ltb, ne_eqb}
 use Rattle.run_checker.specs.Rounds.{AreStates, IsTold}
@@ -86,7 +84,7 @@ module _ (plan : Plan) (accepted : IsAccepted plan) where
       let s : State = read_text (fields_at (shape_of plan) v) digits in
       let range : InRange (fields_at (shape_of plan) v) s =
       read_is_in_range (fields_at (shape_of plan) v) (decoded digits)
-      (fields_limited (shape_of plan) (slice_index_or (shape_of plan).lows v 0) (shape_of_accepted plan accepted)) in
+      (fields_limited (shape_of plan) v (shape_of_accepted plan accepted)) in
       let more : AreStates plan (old.states ++ s ∷ []) =
       states_more old.states s states (node_deep v lt s range) (node_range v lt s range) in
       record {
@@ -118,12 +116,13 @@ zeros_known plan faulty = zeros_from faulty (zero_state (plan_depth plan)) 0 (pl
 
 -- ---- the shape of a plan
 
-pub shape_nodes : (plan : Plan) (fields : Shape) → fields ≡ shape_of plan → length fields.lows ≡ plan_nodes plan
-shape_nodes plan fields is =
-    ap (λ (f : Shape). length f.lows) is ∙ length-map-range_with_len (plan_low plan) 0 (plan_nodes plan)
+pub shape_has_nodes : (plan : Plan) (shape : Shape) → shape ≡ shape_of plan
+    → shape_nodes shape ≡ plan_nodes plan
+shape_has_nodes plan shape is = ap shape_nodes is ∙ nodes_of_shape plan (moduli_of plan.levels)
 
-pub shape_depth : (plan : Plan) (fields : Shape) → fields ≡ shape_of plan → length fields.moduli ≡ plan_depth plan
-shape_depth plan fields is = ap (λ (f : Shape). length f.moduli) is ∙ length-moduli_of plan.levels
+pub shape_has_depth : (plan : Plan) (shape : Shape) → shape ≡ shape_of plan
+    → shape.depth ≡ plan_depth plan
+shape_has_depth plan shape is = ap (λ (s : Shape). s.depth) is ∙ depth_of_shape plan
 
 -- ---- a round
 

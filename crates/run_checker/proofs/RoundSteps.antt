@@ -41,8 +41,8 @@ written_over depth s out long =
 
 module _ (plan : Plan) (accepted : IsAccepted plan) (pack : Pack)
     (shape : pack.shape ≡ shape_of plan) where
-  pub pack_deep : length pack.shape.moduli ≡ plan_depth plan
-  pack_deep = ap (λ (f : Shape). length f.moduli) shape ∙ length-moduli_of plan.levels
+  pub pack_deep : pack.shape.depth ≡ plan_depth plan
+  pack_deep = ap (λ (f : Shape). f.depth) shape ∙ length-moduli_of plan.levels
 
   -- the current states are those of the plan's counter
   module _ (size : length pack.current ≡ plan_nodes plan)

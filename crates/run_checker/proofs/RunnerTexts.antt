@@ -1,11 +1,11 @@
 -- The texts that are written of a runner, by the configurations that are played.
-use Rattle.std.proofs.Common.{◌≡◌, ℕ, ◌+◌, List, [], ◌++◌, length, codes, Result, sym, ap, subst}
+use Rattle.std.proofs.Common.{◌≡◌, ℕ, ◌+◌, List, [], ◌++◌, codes, Result, sym, ap, subst}
 use Rattle.std.proofs.Common.{◌∙◌, append-nil}
 use Rattle.sync_types.specs.States.{State}
 use Rattle.texts.specs.Growth.{Told, Wrote, Cut, Puts}
 use Rattle.texts.proofs.Growth.{cut_more, cut_then, puts_then}
 use Rattle.construction.specs.Plans.{Plan, plan_nodes}
-use Rattle.state_codec.specs.Shapes.{Shape, moduli_of}
+use Rattle.state_codec.specs.Shapes.{moduli_of, shape_nodes}
 use Rattle.state_codec.proofs.Plans.{nodes_of_shape}
 use Rattle.counter_core.specs.declared.overlays.NoOverlay.{NoOverlay}
 use Rattle.counter_core.specs.NoLayers.{no_layer}
@@ -20,10 +20,10 @@ use Rattle.run_checker.specs.RunLines.{turns_text, head_text, record_text}
 use Rattle.run_checker.specs.Playing.{Plays, IsToRecord, HasPlayedOne}
 
 -- the shape of a runner's states has a low for each node
-pub lows_of_nodes : (r : Running NoOverlay) → IsToRecord r
-    → length r.script.shape.lows ≡ plan_nodes r.plan
-lows_of_nodes r h =
-    ap (λ (shape : Shape). length shape.lows) h.shape ∙ nodes_of_shape r.plan (moduli_of r.plan.levels)
+pub shape_sized : (r : Running NoOverlay) → IsToRecord r
+    → shape_nodes r.script.shape ≡ plan_nodes r.plan
+shape_sized r h =
+    ap shape_nodes h.shape ∙ nodes_of_shape r.plan (moduli_of r.plan.levels)
 
 -- ---- at configuration 0
 

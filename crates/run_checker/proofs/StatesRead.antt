@@ -10,7 +10,7 @@ use Rattle.std.proofs.lemmas.List.Elements.{All-nil}
 use Rattle.std.proofs.lemmas.Grind.{get_or-set_at, take-set_at}
 use Rattle.sync_types.specs.States.{State}
 use Rattle.construction.specs.Steps.{state_of}
-use Rattle.state_codec.specs.Shapes.{Shape, fields_at, bytes_in}
+use Rattle.state_codec.specs.Shapes.{Shape, fields_at, bytes_in, shape_nodes}
 use Rattle.state_codec.specs.Texts.{is_lower_digit, is_state_text, read_text}
 use Rattle.run_checker.specs.Tellings.{Telling, room_of, states_read, next_fields, AddsState}
 use Rattle.run_checker.specs.Tellings.{IsTelling}
@@ -72,7 +72,7 @@ module _ (shape : Shape) where
     fits = omega arith;
     many = omega arith;
     room = room;
-    senders = All-nil (λ pair. pair.0 < length shape.lows);
+    senders = All-nil (λ pair. pair.0 < shape_nodes shape);
     short = short;
     rooms = λ k lt. absurd (omega (arith, lt));
   }
@@ -124,9 +124,9 @@ module _ (shape : Shape) where
 
     -- the sender of a pair that was read is a node
     pub sender_below : (k : ℕ) (pair : ℕ × ℕ) → k < length pairs → pair ≡ get_or pairs k pair
-        → pair.0 < length shape.lows
+        → pair.0 < shape_nodes shape
     sender_below k pair lt at =
-        subst (λ (p : ℕ × ℕ). p.0 < length shape.lows) (sym at) (h.senders k pair lt)
+        subst (λ (p : ℕ × ℕ). p.0 < shape_nodes shape) (sym at) (h.senders k pair lt)
 
     -- one more
     module _ (text : List ℕ) (more : count < length pairs)

@@ -1,8 +1,8 @@
 -- A runner whose run is recorded while it plays its script.
-use Rattle.std.specs.Prelude.{◌≡◌, ℕ, ◌+◌, ◌<◌, ◌≤◌, length, [], true, Some}
+use Rattle.std.specs.Prelude.{◌≡◌, ℕ, ◌+◌, ◌<◌, ◌≤◌, [], true, Some}
 use Rattle.sync_types.specs.FaultSets.{is_in}
 use Rattle.construction.specs.Plans.{plan_nodes}
-use Rattle.state_codec.specs.Shapes.{shape_of}
+use Rattle.state_codec.specs.Shapes.{shape_of, shape_nodes}
 use Rattle.counter_core.specs.declared.overlays.NoOverlay.{NoOverlay}
 use Rattle.counter_core.specs.NoLayers.{no_layer}
 use Rattle.adversary_script.specs.Scripts.{Script, IsScript}
@@ -25,7 +25,7 @@ pub record IsToRecord (r : Running NoOverlay) : Type 0 where
 -- a node of its plan, which has digits
 pub record HasNode (r : Running NoOverlay) (v : ℕ) : Type 0 where
   pub node : v < plan_nodes r.plan
-  pub lows : length r.script.shape.lows ≡ plan_nodes r.plan
+  pub sized : shape_nodes r.script.shape ≡ plan_nodes r.plan
 
 -- a node that is faulty in the coming round
 pub record HasLiar (r : Running NoOverlay) (u : ℕ) : Type 0 where

@@ -3,7 +3,7 @@ use Rattle.std.specs.Prelude.{◌≡◌, ℕ, ◌-◌, ◌≤◌, ◌<◌, ◌*�
 use Rattle.std.specs.Prelude.{true, false, slice_index_or}
 use Rattle.sync_types.specs.States.{State}
 use Rattle.construction.specs.Plans.{Plan, plan_nodes, plan_faults}
-use Rattle.state_codec.specs.Shapes.{Fields, Shape, fields_at, bytes_in}
+use Rattle.state_codec.specs.Shapes.{Fields, Shape, fields_at, bytes_in, shape_nodes}
 use Rattle.state_codec.specs.Texts.{is_state_text, read_text}
 
 pub record Telling : Type 0 where
@@ -33,7 +33,7 @@ pub record IsTelling (shape : Shape) (pairs : List (ℕ × ℕ)) (texts : List (
   pub fits : count ≤ length pairs
   pub many : length pairs ≤ length texts
   pub room : length texts ≤ capacity
-  pub senders : All (λ pair. pair.0 < length shape.lows) pairs
+  pub senders : All (λ pair. pair.0 < shape_nodes shape) pairs
   pub short : (v : ℕ) → bytes_in (fields_at shape v) ≤ 32
   pub rooms : (k : ℕ) → k < length pairs
       → length (slice_index_or texts k []) ≡ room_of shape (slice_index_or pairs k (0, 0))

@@ -33,7 +33,7 @@ fn lay_told(
     requires stretch { (stretch.0 ≤ stretch.1) × (stretch.1 ≤ length lies.old.items) }
     requires before { before < correct }
     requires whole { stretch.1 * correct ≤ length told.now.states }
-    requires deep { All (λ s. length s.registers ≡ length told.now.shape.moduli) lies.old.items }
+    requires deep { All (λ s. length s.registers ≡ told.now.shape.depth) lies.old.items }
     ensures { Lays stretch.0 stretch.1 (λ j. state_of told.now.states (j * correct + before))
         lies.old.items lies.new.items }
 {

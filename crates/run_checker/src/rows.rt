@@ -46,7 +46,7 @@ pub struct Showing<'a> {
     /// The configuration.
     pub config: &'a Packed,
     ghost size: { length config.now.current ≡ faulty.now.nodes },
-    ghost deep: { depth ≤ length config.now.shape.moduli },
+    ghost deep: { depth ≤ config.now.shape.depth },
 }
 
 impl Showing<'_> {

@@ -5,6 +5,7 @@ ghost use Rattle.run_certificates.specs.Recorded.{is_put};
 ghost use Rattle.run_checker.specs.Playing.{HasNode, Begins};
 ghost use Rattle.run_checker.specs.RunLines.{start_text, first_start, first_starts, start_if};
 ghost use Rattle.run_checker.specs.RunLines.{starts_text};
+ghost use Rattle.state_codec.specs.Shapes.{shape_nodes};
 
 use adversary_script::Script;
 use counter_core::NoOverlay;
@@ -63,7 +64,7 @@ pub fn put_first_starts<K: Sink>(
     sink: &mut K,
     runner: &mut Runner<NoOverlay>,
 ) -> Result<(), WriteFault>
-    requires lows { length runner.old.script.shape.lows ≡ plan_nodes runner.old.plan }
+    requires sized { shape_nodes runner.old.script.shape ≡ plan_nodes runner.old.plan }
     ensures text { Puts result
         (first_starts runner.old.script (plan_nodes runner.old.plan) runner.old.states)
         (K.told sink.old) (K.told sink.new) }
@@ -126,7 +127,7 @@ pub fn put_starts<K: Sink>(
     j: usize,
 ) -> Result<(), WriteFault>
     requires begins { Begins runner.old.script t j }
-    requires lows { length runner.old.script.shape.lows ≡ plan_nodes runner.old.plan }
+    requires sized { shape_nodes runner.old.script.shape ≡ plan_nodes runner.old.plan }
     ensures text { Puts result (starts_text runner.old.plan runner.old.script t runner.old.states)
         (K.told sink.old) (K.told sink.new) }
     ensures same { runner.new ≡ runner.old }

@@ -5,7 +5,7 @@ ghost use Rattle.run_certificates.specs.Grammar.{pairs_of};
 ghost use Rattle.round_runner.specs.Locks.{correct_nodes};
 ghost use Rattle.run_certificates.specs.Checking.{is_next};
 ghost use Rattle.construction.specs.Steps.{state_of};
-ghost use Rattle.state_codec.specs.Shapes.{shape_of};
+ghost use Rattle.state_codec.specs.Shapes.{shape_of, shape_nodes};
 ghost use Rattle.run_checker.specs.Tellings.{most_pairs, AddsState};
 ghost use Rattle.run_checker.specs.NextLies.{IsNextLine};
 
@@ -155,7 +155,7 @@ impl Tellings {
 
     /// Begins a round with these faulty nodes.
     pub fn begin(&mut self, faulty: &FaultSet)
-        requires nodes { faulty.now.nodes ≡ length self.old.shape.lows }
+        requires nodes { faulty.now.nodes ≡ shape_nodes self.old.shape }
         requires room { length (pairs_of faulty.now.nodes faulty.now.ids) ≤ self.old.room }
         ensures value { self.new ≡ record self.old {
           pairs = pairs_of faulty.now.nodes faulty.now.ids;
@@ -234,7 +234,7 @@ impl Tellings {
     /// Reads what was told for pair `k` into `out`.
     pub fn read(&self, k: usize, out: &mut NodeState)
         requires told { k < length self.now.states }
-        requires depth { length out.old.registers ≡ length self.now.shape.moduli }
+        requires depth { length out.old.registers ≡ self.now.shape.depth }
         ensures { out.new ≡ state_of self.now.states k }
     {
         let sender = self.pairs[k].sender();

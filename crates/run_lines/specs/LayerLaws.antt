@@ -1,7 +1,9 @@
 -- What is written while a script is played is the text that is defined, and what its lines promise.
-use Rattle.std.specs.Prelude.{◌≡◌, ℕ, ◌+◌, ◌<◌, ◌≤◌, List, [], codes, false, replicate}
+use Rattle.std.specs.Prelude.{◌≡◌, ℕ, ◌+◌, ◌<◌, ◌≤◌, ◌↔◌, List, [], codes, false, replicate}
 use Rattle.sync_types.specs.States.{State}
-use Rattle.construction.specs.Plans.{Plan, plan_nodes, plan_faults, plan_bound}
+use Rattle.construction.specs.Plans.{Plan, plan_nodes, plan_faults, plan_bound, plan_depth}
+use Rattle.construction.specs.Shown.{shown}
+use Rattle.construction.specs.Steps.{state_of}
 use Rattle.construction.specs.Runs.{is_in}
 use Rattle.plan_numbers.specs.Premises.{IsAccepted}
 use Rattle.counter_core.specs.NoLayers.{no_layer}
@@ -13,7 +15,7 @@ use Rattle.round_runner.specs.Played.{played_at}
 use Rattle.round_runner.specs.Runners as runner
 use Rattle.layer_laws.specs.Slots.{slot_length}
 use Rattle.slot_table.specs.declared.lines.SlotLine.{SlotLine}
-use Rattle.slot_table.specs.Tables.{AreApart}
+use Rattle.slot_table.specs.Tables.{Holds, AreApart}
 use Rattle.consensus_layer.specs.AgreeSaid.{AgreeSaid}
 use Rattle.consensus_layer.specs.AgreePart.{IsFor}
 use Rattle.consensus_layer.specs.Agreements.{agree_layer}
@@ -60,3 +62,17 @@ AtMostOneInALine = (plan : Plan) (script : Script) → IsReadFor plan script
     → v < plan_nodes plan → is_in (faulty_at script t) v ≡ false
     → hold_word plan lines (played_at plan script t) u ≡ codes " 1"
     → hold_word plan lines (played_at plan script t) v ≡ codes " 1" → u ≡ v
+
+-- The word of node v is 1 exactly where some line of the table gives v the output that it shows,
+-- and else a dot.
+pub record HoldWordIs (plan : Plan) (lines : List SlotLine) (config : List State) (v : ℕ)
+    : Type 0 where
+  pub one : (hold_word plan lines config v ≡ codes " 1")
+      ↔ Holds lines v (shown (plan_depth plan) (state_of config v))
+  pub dot : (Holds lines v (shown (plan_depth plan) (state_of config v)) → ⊥)
+      → hold_word plan lines config v ≡ codes " ."
+
+-- so it is in each line of a slot table
+abbrev pub HoldWordsAreExact : Type 0
+HoldWordsAreExact = (plan : Plan) (lines : List SlotLine) → AreApart lines
+    → (config : List State) (v : ℕ) → HoldWordIs plan lines config v

@@ -1,8 +1,11 @@
-//! The laws of what the words with a layer write. Each function is empty: its clause is the law.
+//! The laws of what the words with a layer write. Each function is empty, or calls another
+//! law: its clause is the law.
 
 ghost use Rattle.run_lines.specs.LayerLaws.{RowsAsDefined, HoldsAsDefined, DecisionsAsDefined};
-ghost use Rattle.run_lines.specs.LayerLaws.{AtMostOneInALine};
+ghost use Rattle.run_lines.specs.LayerLaws.{AtMostOneInALine, HoldWordsAreExact};
 ghost use Rattle.run_lines.specs.LogLaws.{FiresAsDefined, EntriesAsDefined};
+
+use slot_table::laws::one_holder;
 
 /// What is written of a run while a script is played is a row for each configuration that is shown.
 pub fn rows_as_defined()
@@ -21,6 +24,14 @@ pub fn holds_as_defined()
 pub fn decisions_as_defined()
     ensures { DecisionsAsDefined }
 {}
+
+/// In each line of a slot table a node's word is 1 exactly where the table gives it the output that
+/// it shows.
+pub fn hold_words_are_exact()
+    ensures { HoldWordsAreExact }
+{
+    one_holder();
+}
 
 /// In each line of a slot table at most one word of a correct node is 1, from the plan's bound on,
 /// counted from the first configuration of the era.

@@ -77,7 +77,7 @@ module _ (plan : Plan) (s : Script) (is : IsReadFor plan s) where
         (λ w. written (fields_of plan w) (state_of (heard t) w)) 0 (plan_nodes plan) u u [] ult
         (omega arith))
         ∙ written_reads_back (fields_of plan u) (state_of (heard t) u)
-        (fields_limited (shape_of plan) (get_or (shape_of plan).lows u 0)
+        (fields_limited (shape_of plan) u
         (shape_of_accepted plan is.accepted))
         (subst (λ (shape : Shape). InRange (fields_at shape u) (state_of (heard t) u))
         is.right.states

@@ -26,7 +26,7 @@ use Rattle.round_runner.specs.Known.{lowest_correct}
 use Rattle.run_lines.specs.SlotTexts.{lead_output, counts_at, begins_at}
 use Rattle.round_runner.proofs.LowestCorrect.{lowest_among}
 use Rattle.run_promises.specs.LayeredEras.{IsReadFor, era_scenes}
-use Rattle.run_promises.proofs.EraRuns.{eras_are_layer_runs}
+use Rattle.run_promises.proofs.EraRuns.{era_is_run}
 
 module _ {Kept : Type 0} (plan : Plan) (script : Script) (layer : Layer Kept)
     (keeps : KeepsRange layer) (is : IsReadFor plan layer script) (began : List Kept)
@@ -85,7 +85,7 @@ module _ {Kept : Type 0} (plan : Plan) (script : Script) (layer : Layer Kept)
       (omega (arith, among, length-map script.eras (λ (e : Era). e.faulty))) is.right.borne
 
   pub is_run : LayerRun plan layer faulty first run
-  is_run = eras_are_layer_runs layer plan script keeps is began enough era among
+  is_run = era_is_run layer plan script keeps is began enough era among
 
   run_long : length run ≡ end_of_era script era - first
   run_long = length-map-range_with_len (λ i. scene_in plan script layer began (first + i)) 0

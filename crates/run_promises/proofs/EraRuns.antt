@@ -1,27 +1,31 @@
--- What is played of each era of a script with a layer is a run with the layer.
+-- What is played of a script with a layer is the script's, and each era is a run with the layer.
 use Rattle.std.proofs.Common.{◌≡◌, inl, inr, ℕ, zero, suc, ◌+◌, ◌-◌, ◌<◌, ◌≤◌, cond, List, [], ◌++◌}
-use Rattle.std.proofs.Common.{length, get_or, None, unwrap_or, add-one, refl, ap, ◌∙◌, subst, arith}
+use Rattle.std.proofs.Common.{length, get_or, Some, None, unwrap_or, add-one, refl, ap, ◌∙◌, subst}
+use Rattle.std.proofs.Common.{arith}
 use Rattle.std.proofs.lemmas.Bool.{lt-ltb}
 use Rattle.std.proofs.lemmas.List.{length-map, get_or-map}
+use Rattle.std.proofs.lemmas.List.Elements.{All-get_or}
 use Rattle.std.proofs.lemmas.List.FromFn.{length-map-range_with_len, get_or-map-range_with_len}
 use Rattle.sync_types.specs.States.{State, zero_state}
 use Rattle.construction.specs.Plans.{Plan, plan_nodes}
 use Rattle.construction.specs.Steps.{state_of}
-use Rattle.construction.specs.Runs.{heard_by}
+use Rattle.construction.specs.Runs.{is_in, heard_by, IsBorne}
 use Rattle.plan_laws.specs.PlanMeaning.{plan_meaning}
 use Rattle.counter_core.specs.Overlays.{Layer, KeepsRange}
-use Rattle.adversary_script.specs.Scripts.{Script}
+use Rattle.adversary_script.specs.Scripts.{Script, Era, faulty_sets}
 use Rattle.adversary_script.specs.Eras.{first_of_era, end_of_era, faulty_of_era, faulty_at}
 use Rattle.adversary_script.specs.Lookup.{hit_at}
 use Rattle.layer_laws.specs.Scenes.{Scene, kept_of, layer_step, new_state}
-use Rattle.layer_laws.specs.LayerRuns.{IsLayerConfiguration, IsNextScene, LayerRun, StepsAs, scene}
+use Rattle.layer_laws.specs.LayerRuns.{IsLayerConfiguration, IsNextScene, LayerRound, LayerRun}
+use Rattle.layer_laws.specs.LayerRuns.{IsLayerTable, StepsAs, scene}
 use Rattle.layer_laws.specs.Played.{IsKeptFor}
 use Rattle.layer_laws.proofs.NodesSteps.{each_below}
 use Rattle.round_runner.specs.Played.{lies_at, heard_at}
 use Rattle.round_runner.specs.Scenes.{begun_kept, kept_at, state_behind, scene_at}
 use Rattle.round_runner.specs.Scenes as played
 use Rattle.round_runner.proofs.Firsts.{in_era, none_inside, none_hit, era_some}
-use Rattle.run_promises.specs.LayeredEras.{IsReadFor, era_scenes, ErasAreLayerRuns}
+use Rattle.run_promises.specs.LayeredEras.{IsReadFor, played_scene, lies_played, era_scenes}
+use Rattle.run_promises.specs.LayeredEras.{EraIsLayerRun, PlaysScript, ScriptsArePlayed}
 use Rattle.run_promises.proofs.States.{table_is, in_range_at, configuration_is}
 
 module _ {Kept : Type 0} (plan : Plan) (script : Script) (layer : Layer Kept) (began : List Kept)
@@ -64,7 +68,19 @@ module _ {Kept : Type 0} (plan : Plan) (script : Script) (layer : Layer Kept) (b
       registers = ((plan_meaning plan).next v heard).registers ++ step.registers;
     } in s) step_is
 
-  -- a round in which nobody is put into a state: a node steps from what it hears
+  -- a node that a start line puts into a state behind a round is in it
+  put_is : (t v : ℕ) (state : State) → v < plan_nodes plan → hit_at script (t + 1) v ≡ Some state
+      → state_of (scenes (t + 1)).states v ≡ state
+  put_is t v state lt hit =
+      let kept : List Kept = begun_kept layer t (scenes t).kept in
+      let config : List State = (scenes t).states in
+      ap (λ k. state_of (scenes k).states v) (add-one t)
+      ∙ get_or-map-range_with_len (state_behind (plan_meaning plan) script layer t config kept) 0
+      script.nodes v v (zero_state 0) (omega (arith, lt, nodes)) (omega arith)
+      ∙ ap (λ h. unwrap_or h (played.new_state (plan_meaning plan) layer kept v
+      (heard_at script t config v))) hit
+
+  -- a node that none puts into a state steps from what it hears
   module _ (t v : ℕ) (faulty : List ℕ) (same : faulty_at script t ≡ faulty)
       (lt : v < plan_nodes plan) (none : hit_at script (t + 1) v ≡ None) where
     abbrev config : List State
@@ -109,55 +125,78 @@ module _ {Kept : Type 0} (plan : Plan) (script : Script) (layer : Layer Kept) (b
 
 module _ {Kept : Type 0} (layer : Layer Kept) (plan : Plan) (script : Script)
     (keeps : KeepsRange layer) (is : IsReadFor plan layer script) (began : List Kept)
-    (enough : IsKeptFor (plan_nodes plan) began) (j : ℕ) (among : j ≤ length script.eras) where
-  abbrev first : ℕ
-  first = first_of_era script j
-
-  abbrev count : ℕ
-  count = end_of_era script j - first_of_era script j
-
+    (enough : IsKeptFor (plan_nodes plan) began) where
   abbrev at : ℕ → Scene Kept
-  at t = scene_at (plan_meaning plan) script layer began t
+  at t = played_scene plan script layer began t
 
-  next_is : (t : ℕ) → first ≤ t → t + 1 < end_of_era script j
-      → IsNextScene plan layer (faulty_of_era script j) t (at t) (at (t + 1))
-  next_is t low high =
-      let rising = is.whole.formed.rising in
-      let same : faulty_at script t ≡ faulty_of_era script j =
-      ap (faulty_of_era script) (in_era script rising j t among low (omega arith)) in
-      let none = none_inside script rising j t among low high in
-      record {
-        lies = lies_at script t (at t).states;
-        round = record {
-          table = table_is plan script layer keeps is t (at t).states
-              (in_range_at plan script layer keeps is began t);
+  -- the table of what is told is in range
+  table_in : (t : ℕ) → IsLayerTable plan layer (lies_played plan script layer began t)
+  table_in t = table_is plan script layer keeps is t (at t).states
+      (in_range_at plan script layer keeps is began t)
+
+  module _ (j : ℕ) (among : j ≤ length script.eras) where
+    abbrev first : ℕ
+    first = first_of_era script j
+
+    abbrev count : ℕ
+    count = end_of_era script j - first_of_era script j
+
+    round_is : (t : ℕ) → first ≤ t → t + 1 < end_of_era script j
+        → LayerRound plan layer (faulty_of_era script j) t (at t)
+        (lies_played plan script layer began t) (at (t + 1))
+    round_is t low high =
+        let rising = is.whole.formed.rising in
+        let same : faulty_at script t ≡ faulty_of_era script j =
+        ap (faulty_of_era script) (in_era script rising j t among low (omega arith)) in
+        let none = none_inside script rising j t among low high in
+        record {
+          table = table_in t;
           steps = λ v lt correct. steps_as plan script layer began enough is.right.nodes t v
               (faulty_of_era script j) same lt (none_hit script (t + 1) v none);
-        };
-      }
+        }
 
-  era_is_run : LayerRun plan layer (faulty_of_era script j) first
-      (era_scenes plan script layer began j)
-  era_is_run =
-      let f : ℕ → Scene Kept = λ i. at (first + i) in
-      let long = length-map-range_with_len f 0 count in
-      let scene_is : (i : ℕ) → i < count
-      → scene (era_scenes plan script layer began j) i ≡ at (first + i) =
-      λ i lt. get_or-map-range_with_len f 0 count i i (record { states = []; kept = [] }) lt
-      (omega arith) in
-      record {
-        some = let some = era_some script is.whole j among in omega (arith, some, long);
-        configurations = each_below (λ s. IsLayerConfiguration plan layer s.states) f count
-            (λ i lt. configuration_is plan script layer keeps is began (first + i));
-        rounds = λ i lt.
-            let here = scene_is i (omega (arith, lt, long)) in
-            let there = scene_is (i + 1) (omega (arith, lt, long)) in
-            let next : first + i + 1 ≡ first + (i + 1) = omega arith in
-            rw (here, there) (subst (λ t. IsNextScene plan layer (faulty_of_era script j)
-            (first + i) (at (first + i)) (at t)) next
-            (next_is (first + i) (omega arith) (omega (arith, lt, long))));
-      }
+    next_is : (t : ℕ) → first ≤ t → t + 1 < end_of_era script j
+        → IsNextScene plan layer (faulty_of_era script j) t (at t) (at (t + 1))
+    next_is t low high =
+        record { lies = lies_played plan script layer began t; round = round_is t low high }
 
-pub eras_are_layer_runs : {Kept : Type 0} (layer : Layer Kept) → ErasAreLayerRuns layer
-eras_are_layer_runs layer plan script keeps is began enough j among =
-    era_is_run layer plan script keeps is began enough j among
+    pub era_is_run : LayerRun plan layer (faulty_of_era script j) first
+        (era_scenes plan script layer began j)
+    era_is_run =
+        let f : ℕ → Scene Kept = λ i. at (first + i) in
+        let long = length-map-range_with_len f 0 count in
+        let scene_is : (i : ℕ) → i < count
+        → scene (era_scenes plan script layer began j) i ≡ at (first + i) =
+        λ i lt. get_or-map-range_with_len f 0 count i i (record { states = []; kept = [] }) lt
+        (omega arith) in
+        record {
+          some = let some = era_some script is.whole j among in omega (arith, some, long);
+          configurations = each_below (λ s. IsLayerConfiguration plan layer s.states) f count
+              (λ i lt. configuration_is plan script layer keeps is began (first + i));
+          rounds = λ i lt.
+              let here = scene_is i (omega (arith, lt, long)) in
+              let there = scene_is (i + 1) (omega (arith, lt, long)) in
+              let next : first + i + 1 ≡ first + (i + 1) = omega arith in
+              rw (here, there) (subst (λ t. IsNextScene plan layer (faulty_of_era script j)
+              (first + i) (at (first + i)) (at t)) next
+              (next_is (first + i) (omega arith) (omega (arith, lt, long))));
+        }
+
+    borne_in : IsBorne plan (faulty_of_era script j)
+    borne_in = All-get_or (IsBorne plan) (faulty_sets script) j []
+        (omega (arith, among, length-map script.eras (λ (era : Era). era.faulty))) is.right.borne
+
+  plays_script : PlaysScript plan script layer began
+  plays_script = record {
+    starts = refl;
+    puts = λ t v state inside lt hit.
+        put_is plan script layer began enough is.right.nodes t v state lt hit;
+    steps = λ t v inside lt correct none.
+        steps_as plan script layer began enough is.right.nodes t v (faulty_at script t) refl lt none;
+    borne = borne_in;
+    eras = λ j among. record { run = era_is_run j among; rounds = round_is j among };
+  }
+
+pub scripts_are_played : {Kept : Type 0} (layer : Layer Kept) → ScriptsArePlayed layer
+scripts_are_played layer plan script keeps is began enough =
+    plays_script layer plan script keeps is began enough

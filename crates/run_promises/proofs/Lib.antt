@@ -5,3 +5,4 @@ pub mod Heard
 pub mod States
 pub mod EraRuns
 pub mod Columns
+pub mod PlainRuns

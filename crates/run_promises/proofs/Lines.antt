@@ -31,7 +31,7 @@ at_most : (q : ℕ) → q ≤ q
 at_most q = omega arith
 
 -- as many things are kept as there are nodes
-kept_for : {Kept : Type 0} (n : ℕ) (kept : Kept) → IsKeptFor n (replicate n kept)
+pub kept_for : {Kept : Type 0} (n : ℕ) (kept : Kept) → IsKeptFor n (replicate n kept)
 kept_for n kept = inr (omega (arith, length-replicate n kept))
 
 pub lines_decide : LinesDecide

@@ -2,3 +2,4 @@ pub mod Promises
 pub mod Locks
 pub mod LayeredEras
 pub mod Columns
+pub mod PlainRuns

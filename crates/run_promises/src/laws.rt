@@ -2,18 +2,28 @@
 //! law: its clause is the law.
 
 ghost use Rattle.counter_core.specs.Overlays.{Layer};
-ghost use Rattle.run_promises.specs.LayeredEras.{ErasAreLayerRuns};
+ghost use Rattle.run_promises.specs.PlainRuns.{PlainScriptsArePlayed};
+ghost use Rattle.run_promises.specs.LayeredEras.{ScriptsArePlayed};
 ghost use Rattle.run_promises.specs.Promises.{LinesDecide, LinesFireTogether, LinesPutOne};
 ghost use Rattle.run_promises.specs.Columns.{NodesMakeColumns, EraPacketsAreRead};
 
 use counter_core::Overlay;
 use node_stepper::laws::packets_read_back;
+use round_runner::laws::eras_are_runs;
 
-/// What is played of each era of a script with a layer whose step keeps values in range is a run
-/// with the layer, with the era's faulty nodes, whose first round is that of the era's first
-/// configuration.
-pub fn eras_are_layer_runs<O: Overlay>()
-    ensures { (layer : Layer O.Kept) → ErasAreLayerRuns layer }
+/// What is played of a script that was read for an accepted plan has the script's starts, faulty
+/// sets and lies.
+pub fn plain_scripts_are_played()
+    ensures { PlainScriptsArePlayed }
+{
+    eras_are_runs();
+}
+
+/// What is played of a script with a layer whose step keeps values in range has the script's
+/// starts, faulty sets and lies. Each era is a run with the layer, with the era's faulty nodes and
+/// lies, whose first round is that of the era's first configuration.
+pub fn scripts_are_played<O: Overlay>()
+    ensures { (layer : Layer O.Kept) → ScriptsArePlayed layer }
 {}
 
 /// In each line of a slot of consensus the words of all correct nodes are one number, which is

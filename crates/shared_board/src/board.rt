@@ -83,7 +83,7 @@ impl Board {
     /// who lies in it.
     pub fn take(&mut self, config: &Packed, faulty: &FaultSet)
         requires size { length config.now.current ≡ length self.old.states }
-        requires deep { self.old.depth ≤ length config.now.shape.moduli }
+        requires deep { self.old.depth ≤ config.now.shape.depth }
         requires ids { All (λ id. id < length self.old.states) faulty.now.ids }
         ensures { self.new ≡ record {
           depth = self.old.depth;

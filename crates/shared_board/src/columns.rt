@@ -58,7 +58,7 @@ fn fill_numbers(config: &Packed, numbers: &mut Vec<u64>)
 
 /// Puts the registers of a level into a column, and what they show into another.
 fn fill_level(config: &Packed, level: usize, registers: &mut Vec<Reg>, outputs: &mut Vec<u64>)
-    requires level { level < length config.now.shape.moduli }
+    requires level { level < config.now.shape.depth }
     requires registers { length registers.old.items ≡ length config.now.current }
     requires outputs { length outputs.old.items ≡ length config.now.current }
     ensures registers { registers.new.items ≡ registers_of level config.now.current }
@@ -74,7 +74,7 @@ fn fill_level(config: &Packed, level: usize, registers: &mut Vec<Reg>, outputs: 
 /// Puts the numbers into the first column of outputs, and the registers of each level into its
 /// column; what they show is in the next column of outputs.
 pub(crate) fn fill(config: &Packed, registers: &mut Vec<Vec<Reg>>, outputs: &mut Vec<Vec<u64>>)
-    requires deep { length registers.old.items ≤ length config.now.shape.moduli }
+    requires deep { length registers.old.items ≤ config.now.shape.depth }
     requires many { length outputs.old.items ≡ length registers.old.items + 1 }
     requires registers { All (λ c. length c.items ≡ length config.now.current) registers.old.items }
     requires outputs { All (λ c. length c.items ≡ length config.now.current) outputs.old.items }

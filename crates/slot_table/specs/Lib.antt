@@ -3,3 +3,4 @@ pub mod HoldLaws
 pub mod SlotPart
 pub mod SlotRefusals
 pub mod SlotAnswers
+pub mod SlotTexts

@@ -5,6 +5,7 @@ ghost use Rattle.construction.specs.Plans.{Plan};
 ghost use Rattle.slot_table.specs.Tables.{HolderHolds, HolderIsOne};
 ghost use Rattle.slot_table.specs.HoldLaws.{AtMostOneHolds};
 ghost use Rattle.slot_table.specs.SlotPart.{part_of, AreFor};
+ghost use Rattle.slot_table.specs.SlotTexts.{SlotTextIsRead};
 
 /// Where no output stands in two lines, a node that holds at an output is its holder, and the
 /// holder holds.
@@ -24,4 +25,9 @@ pub fn at_most_one_holds()
 pub fn lines_fit()
     ensures { (plan : Plan) (number : ℕ) (lines : List (List ℕ))
         → IfOk (part_of plan number lines) (λ found. AreFor plan found.value) }
+{}
+
+/// The text of each table for an accepted plan is read as this table, at the front of any text.
+pub fn slot_texts_read_back()
+    ensures { SlotTextIsRead }
 {}

@@ -11,6 +11,8 @@ pub mod Ranged
 pub mod Digits
 pub mod Lows
 pub mod Plans
+pub mod PlanShapes
+pub mod Grouping
 pub mod LevelModuli
 pub mod PlanStates
 pub mod Further

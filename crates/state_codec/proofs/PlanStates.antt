@@ -10,10 +10,11 @@ use Rattle.sync_types.specs.declared.states.Reg.{Reg}
 use Rattle.construction.specs.Plans.{Level, Plan, plan_low, plan_nodes}
 use Rattle.construction.specs.Runs.{IsNumber, IsRegister, HasRegisters, IsState}
 use Rattle.plan_numbers.specs.Premises.{IsAccepted}
-use Rattle.state_codec.specs.Shapes.{moduli_of, moduli_from, fields_at, fields_from, shape_of}
+use Rattle.state_codec.specs.Shapes.{moduli_of, moduli_from, fields_at, fields_from, all_of}
+use Rattle.state_codec.specs.Shapes.{shape_of}
 use Rattle.state_codec.specs.Ranges.{IsField, AreBelow, InRange}
-use Rattle.state_codec.proofs.Lows.{length-moduli_from, made_at, modulus_at}
-use Rattle.state_codec.proofs.Plans.{moduli_of-cons, length-moduli_of, shape_of_accepted}
+use Rattle.state_codec.proofs.Lows.{length-moduli_from, fields_of_node, modulus_at}
+use Rattle.state_codec.proofs.Plans.{moduli_of-cons, length-moduli_of, all_of_accepted}
 
 -- each register of a node is in range, or zero where the node lacks it
 abbrev AreRegisters : (low : ℕ) → List ℕ → State → Type 0
@@ -122,17 +123,17 @@ number_from false base x is = omega arith
 
 module _ (plan : Plan) (accepted : IsAccepted plan) (v : ℕ) (vlt : v < plan_nodes plan) (s : State)
   where
-    low_is : get_or (shape_of plan).lows v 0 ≡ plan_low plan v
-    low_is = made_at (plan_low plan) (plan_nodes plan) v 0 (shape_of plan).lows refl vlt
+    own_is : fields_at (shape_of plan) v ≡ fields_from (all_of plan) (plan_low plan v)
+    own_is = fields_of_node plan (moduli_of plan.levels) v vlt
 
     limits : All (λ c. (2 ≤ c) × (c ≤ 2 ^ 40)) (moduli_of plan.levels)
-    limits = (shape_of_accepted plan accepted).moduli
+    limits = (all_of_accepted plan accepted).moduli
 
     -- a state of the node is one of its fields
     pub in_range_of_node : IsState plan v s → InRange (fields_at (shape_of plan) v) s
     in_range_of_node is =
         let low : ℕ = plan_low plan v in
-        subst (λ l. InRange (fields_from (shape_of plan) l) s) (sym low_is) (record {
+        subst (λ f. InRange f s) (sym own_is) (record {
           depth = is.depth ∙ sym (length-moduli_from low (moduli_of plan.levels)
               ∙ length-moduli_of plan.levels);
           x = number_by (low == 0) plan.base s.x
@@ -145,8 +146,8 @@ module _ (plan : Plan) (accepted : IsAccepted plan) (v : ℕ) (vlt : v < plan_no
     pub state_of_node : InRange (fields_at (shape_of plan) v) s → IsState plan v s
     state_of_node range =
         let low : ℕ = plan_low plan v in
-        let here : InRange (fields_from (shape_of plan) low) s =
-        subst (λ l. InRange (fields_from (shape_of plan) l) s) low_is range in
+        let here : InRange (fields_from (all_of plan) low) s =
+        subst (λ f. InRange f s) own_is range in
         record {
           depth = here.depth ∙ (length-moduli_from low (moduli_of plan.levels)
               ∙ length-moduli_of plan.levels);

@@ -1,22 +1,24 @@
 -- The shape of a plan.
 use Rattle.std.proofs.Common.{◌≡◌, cond, ℕ, ◌+◌, ◌≤◌, ◌^◌, List, [], ◌∷◌, ◌++◌, length, map, refl}
-use Rattle.std.proofs.Common.{ap, ◌∙◌, arith, None}
-use Rattle.std.specs.Prelude.{All}
-use Rattle.std.proofs.lemmas.Bool.{ne_eqb}
+use Rattle.std.proofs.Common.{ap, sym, subst, ◌∙◌, ◌*◌, ◌%◌, ◌<◌, arith, None, true, get_or}
+use Rattle.std.specs.Prelude.{All, nat_lt}
+use Rattle.std.proofs.Math.Nat.{mod-eq_of_lt, mul-le-mul_right}
+use Rattle.std.proofs.lemmas.Bool.{ne_eqb, lt-ltb}
 use Rattle.std.proofs.lemmas.List.{length-map, length-reverse}
 use Rattle.std.proofs.lemmas.List.Elements.{All-push}
-use Rattle.std.proofs.lemmas.List.FromFn.{length-map-range_with_len}
+use Rattle.std.proofs.lemmas.List.FromFn.{length-map-range_with_len, get_or-map-range_with_len}
 use mathlib.Core.List.{reverse-cons}
 use Rattle.construction.specs.Widths.{width}
 use Rattle.construction.specs.Plans.{Level, Plan, bits_of, plan_bits, plan_depth, plan_low}
-use Rattle.construction.specs.Plans.{plan_nodes}
+use Rattle.construction.specs.Plans.{plan_nodes, low_of, nodes_of}
 use Rattle.plan_numbers.specs.Numbers.{below_of}
 use Rattle.plan_numbers.specs.Premises.{LevelsAccepted, IsAccepted, base_premise}
 use Rattle.plan_numbers.proofs.Accepted.{meets}
-use Rattle.state_codec.specs.Shapes.{IsShape, moduli_of, fields_from, shape_over, shape_of}
+use Rattle.state_codec.specs.Shapes.{Fields, IsFields, fields_at, IsShape, shape_nodes, moduli_of}
+use Rattle.state_codec.specs.Shapes.{fields_from, AreAll, all_over, all_of, shape_over, shape_of}
 use Rattle.state_codec.specs.Shapes.{register_bits, registers_bits, bits_in}
 use Rattle.state_codec.proofs.RegisterSteps.{registers_bits_push, registers_bits_of_none}
-use Rattle.state_codec.proofs.Lows.{all_moduli}
+use Rattle.state_codec.proofs.Lows.{all_moduli, from_limited, fields_of_node}
 
 -- the top level's modulus is the last
 pub moduli_of-cons : (level : Level) (levels : List Level)
@@ -33,13 +35,14 @@ pub no_moduli : moduli_of [] ≡ []
 unfolding moduli_of
 no_moduli = refl
 
-pub depth_of_shape : (plan : Plan) → length (shape_of plan).moduli ≡ plan_depth plan
+pub depth_of_shape : (plan : Plan) → (shape_of plan).depth ≡ plan_depth plan
 depth_of_shape plan = length-moduli_of plan.levels
 
--- a low for each node
+-- fields for each node
 pub nodes_of_shape : (plan : Plan) (moduli : List ℕ)
-    → length (shape_over plan moduli).lows ≡ plan_nodes plan
-nodes_of_shape plan moduli = length-map-range_with_len (plan_low plan) 0 (plan_nodes plan)
+    → shape_nodes (shape_over plan moduli) ≡ plan_nodes plan
+nodes_of_shape plan moduli = length-map-range_with_len
+    (λ v. fields_from (all_over plan moduli) (plan_low plan v)) 0 (plan_nodes plan)
 
 -- the moduli of accepted levels keep the limits
 moduli_limited : (base : ℕ) (levels : List Level) → LevelsAccepted base levels
@@ -62,15 +65,74 @@ base_limited base none =
     let most : base ≤ 2 ^ 40 = grind arith in
     (least, most)
 
--- so the shape of an accepted plan keeps them
-pub shape_of_accepted : (plan : Plan) → IsAccepted plan → IsShape (shape_of plan)
-shape_of_accepted plan accepted =
+-- so all fields of an accepted plan keep them
+pub all_of_accepted : (plan : Plan) → IsAccepted plan → AreAll (all_of plan)
+all_of_accepted plan accepted =
     let limits = base_limited plan.base (base_accepted plan.base plan.levels accepted.levels) in
     record {
       least = limits.0;
       most = limits.1;
       moduli = moduli_limited plan.base plan.levels accepted.levels;
     }
+
+-- ---- node 0 is no spare
+
+nodes_some : (base : ℕ) (levels : List Level) → LevelsAccepted base levels → 1 ≤ nodes_of levels
+nodes_some base [] accepted = omega arith
+nodes_some base (level ∷ below) (accepted, none) =
+    let met = meets (below_of base below) level none in
+    let three : 3 * nodes_of below ≤ level.blocks * nodes_of below =
+    mul-le-mul_right (nodes_of below) met.blocks in
+    omega (arith, nodes_some base below accepted, three)
+
+first_low : (base : ℕ) (levels : List Level) → LevelsAccepted base levels → low_of levels 0 ≡ 0
+first_low base [] accepted = refl
+first_low base (level ∷ below) (accepted, none) =
+    let n : ℕ = nodes_of below in
+    let met = meets (below_of base below) level none in
+    let some : 1 ≤ n = nodes_some base below accepted in
+    let three : 3 * n ≤ level.blocks * n = mul-le-mul_right n met.blocks in
+    let within : nat_lt 0 (level.blocks * n) ≡ true =
+    lt-ltb 0 (level.blocks * n) (omega (arith, three, some)) in
+    let front : 0 % n ≡ 0 = mod-eq_of_lt (omega (arith, some)) in
+    ap (λ b. cond b (low_of below (0 % n)) (length below + 1)) within
+    ∙ (ap (low_of below) front ∙ first_low base below accepted)
+
+-- so the shape of an accepted plan is within the limits, and node 0 has each register
+module _ (plan : Plan) (moduli : List ℕ) (accepted : IsAccepted plan)
+    (full : AreAll (all_over plan moduli)) where
+  first_fields : fields_at (shape_over plan moduli) 0 ≡ fields_from (all_over plan moduli) 0
+  first_fields =
+      fields_of_node plan moduli 0
+      (let some = nodes_some plan.base plan.levels accepted.levels in omega (arith, some))
+      ∙ ap (fields_from (all_over plan moduli)) (first_low plan.base plan.levels accepted.levels)
+
+  first_has : (i : ℕ) → i < length moduli
+      → 1 ≤ get_or (fields_at (shape_over plan moduli) 0).moduli i 0
+  first_has i lt =
+      let two = (full.moduli i 0 lt).0 in
+      let same : get_or (fields_at (shape_over plan moduli) 0).moduli i 0 ≡ get_or moduli i 0 =
+      ap (λ (f : Fields). get_or f.moduli i 0) first_fields
+      ∙ ap (λ ms. get_or ms i 0) (all_moduli moduli) in
+      omega (arith, two, same)
+
+  pub over_accepted : IsShape (shape_over plan moduli)
+  over_accepted = record {
+    fields = λ k d lt. subst IsFields (sym (get_or-map-range_with_len
+        (λ v. fields_from (all_over plan moduli) (plan_low plan v)) 0 (plan_nodes plan) k k d
+        (omega (arith, lt, nodes_of_shape plan moduli)) (omega arith)))
+        (from_limited (all_over plan moduli) (plan_low plan k) full);
+    used = λ i lt. (
+      0,
+      let some = nodes_some plan.base plan.levels accepted.levels in
+          omega (arith, some, nodes_of_shape plan moduli),
+      first_has i lt,
+    );
+  }
+
+pub shape_of_accepted : (plan : Plan) → IsAccepted plan → IsShape (shape_of plan)
+shape_of_accepted plan accepted =
+    over_accepted plan (moduli_of plan.levels) accepted (all_of_accepted plan accepted)
 
 -- ---- a state with all fields has the plan's bits
 
@@ -91,7 +153,10 @@ bits_of_levels base (level ∷ below) (accepted, none) =
       full_register level.modulus met.modulus,
     )
 
-pub bits_of_shape : (plan : Plan) → IsAccepted plan
-    → bits_in (fields_from (shape_of plan) 0) ≡ plan_bits plan
-bits_of_shape plan accepted = ap (λ ms. width plan.base + registers_bits ms)
-    (all_moduli (moduli_of plan.levels)) ∙ bits_of_levels plan.base plan.levels accepted.levels
+pub bits_of_shape : (plan : Plan) → IsAccepted plan → (v : ℕ) → v < plan_nodes plan
+    → plan_low plan v ≡ 0 → bits_in (fields_at (shape_of plan) v) ≡ plan_bits plan
+bits_of_shape plan accepted v lt none =
+    ap bits_in (fields_of_node plan (moduli_of plan.levels) v lt
+    ∙ ap (fields_from (all_of plan)) none)
+    ∙ (ap (λ ms. width plan.base + registers_bits ms) (all_moduli (moduli_of plan.levels))
+    ∙ bits_of_levels plan.base plan.levels accepted.levels)

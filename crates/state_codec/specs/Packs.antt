@@ -2,7 +2,7 @@
 use Rattle.std.specs.Prelude.{◌≡◌, ◌<◌, ◌≤◌, ℕ, List, length, replicate}
 use Rattle.sync_types.specs.States.{State, zero_state}
 use Rattle.construction.specs.Steps.{state_of}
-use Rattle.state_codec.specs.Shapes.{Shape, fields_at, IsShape}
+use Rattle.state_codec.specs.Shapes.{Shape, fields_at, shape_nodes, IsShape}
 use Rattle.state_codec.specs.Ranges.{InRange}
 
 -- states of a shape: the current ones, which are read, and the next ones, which are written
@@ -13,7 +13,7 @@ pub record Pack : Type 0 where
 
 -- so many zero states
 abbrev pub zeros : Shape → (nodes : ℕ) → List State
-zeros shape nodes = replicate nodes (zero_state (length shape.moduli))
+zeros shape nodes = replicate nodes (zero_state shape.depth)
 
 -- a state in range for each node
 abbrev pub AreOfShape : Shape → List State → Type 0
@@ -24,7 +24,7 @@ AreOfShape shape states = (v : ℕ) → v < length states
 -- nodes
 pub record IsPack (shape : Shape) (first second : List State) : Type 0 where
   pub sound : IsShape shape
-  pub few : length first ≤ length shape.lows
+  pub few : length first ≤ shape_nodes shape
   pub most : length first ≤ 256
   pub size : length second ≡ length first
   pub current : AreOfShape shape first

@@ -1,14 +1,15 @@
--- What the shape of a plan's states keeps.
-use Rattle.std.specs.Prelude.{◌≡◌, ◌<◌, ◌≤◌, List, length, map, All}
-use Rattle.std.specs.List.{range_with_len}
-use Rattle.state_codec.specs.Shapes.{Fields, Shape, fields_from, IsShape}
+-- What the shape of states keeps.
+use Rattle.std.specs.Prelude.{◌≡◌, ◌<◌, ◌≤◌, ℕ, List, length, map, slice_index_or, All}
+use Rattle.state_codec.specs.Shapes.{Fields, no_fields, Shape, IsShape}
 
--- the shape is within the limits; there are the fields for each low from 0 on, and every node has
--- one of these lows
-pub record IsKept (shape : Shape) (kinds : List Fields) : Type 0 where
+-- the fields of each node, where there are these kinds, and it has this one
+abbrev pub fields_by : List Fields → (which : List ℕ) → List Fields
+fields_by kinds which = map (λ kind. slice_index_or kinds kind no_fields) which
+
+-- a shape within the limits, whose nodes have fields of these kinds, all of its depth
+pub record IsKept (shape : Shape) (kinds : List Fields) (which : List ℕ) : Type 0 where
   pub sound : IsShape shape
-  pub few : length shape.moduli ≤ 16
-  pub nodes : length shape.lows ≤ 256
-  pub some : 1 ≤ length kinds
-  pub each : kinds ≡ map (fields_from shape) (range_with_len 0 (length kinds))
-  pub lows : All (λ low. low < length kinds) shape.lows
+  pub nodes : length which ≤ 256
+  pub fields : shape.fields ≡ fields_by kinds which
+  pub depth : All (λ fields. length fields.moduli ≡ shape.depth) kinds
+  pub among : All (λ kind. kind < length kinds) which

@@ -1,5 +1,5 @@
 ghost use Rattle.std.specs.Prelude.{◌≡◌, ◌<◌, ◌≤◌, ◌+◌, ◌*◌, ◌^◌, ◌++◌, length, take};
-ghost use Rattle.std.specs.Prelude.{slice_index_or, IfOk};
+ghost use Rattle.std.specs.Prelude.{slice_index_or, IfOk, true, false, ◌≢◌};
 ghost use Rattle.std.specs.Int.{div_ceil};
 ghost use Rattle.state_codec.specs.Shapes.{Fields, register_bits, registers_bits, bits_in};
 ghost use Rattle.state_codec.specs.Shapes.{bytes_in, IsFields};
@@ -89,6 +89,22 @@ impl Fields {
             sizes,
             size,
         })
+    }
+
+    /// The same fields. The only error is want of memory.
+    pub fn try_clone(&self, alloc: Global) -> Result<Fields, NoMemory>
+        ensures { IfOk result (λ made. made ≡ self.now) }
+    {
+        let moduli = self.moduli.clone()?;
+        Fields::new(alloc, self.base, moduli)
+    }
+
+    /// Whether they are the same fields.
+    pub fn is_same(&self, other: &Fields) -> bool
+        ensures same { result ≡ true → self.now ≡ other.now }
+        ensures other { result ≡ false → self.now ≢ other.now }
+    {
+        self.base == other.base && self.moduli == other.moduli
     }
 
     /// How many bits a state has, without padding.

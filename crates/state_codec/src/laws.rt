@@ -2,11 +2,11 @@
 
 ghost use Rattle.std.specs.Prelude.{◌≡◌, ◌↔◌, ◌<◌, ℕ, List, true, length};
 ghost use Rattle.sync_types.specs.States.{State};
-ghost use Rattle.construction.specs.Plans.{Plan, plan_nodes, plan_bits, plan_depth};
+ghost use Rattle.construction.specs.Plans.{Plan, plan_low, plan_nodes, plan_bits, plan_depth};
 ghost use Rattle.construction.specs.Runs.{IsState};
 ghost use Rattle.plan_numbers.specs.Premises.{IsAccepted};
 ghost use Rattle.state_codec.specs.Shapes.{Fields, IsFields, bits_in, Shape, IsShape, shape_of};
-ghost use Rattle.state_codec.specs.Shapes.{shape_with, with_further, fields_from, fields_at};
+ghost use Rattle.state_codec.specs.Shapes.{shape_with, with_further, shape_nodes, fields_at};
 ghost use Rattle.state_codec.specs.Ranges.{InRange};
 ghost use Rattle.state_codec.specs.Writing.{written};
 ghost use Rattle.state_codec.specs.Reading.{read};
@@ -32,15 +32,17 @@ pub fn text_reads_back()
         → read_text fields (written_text fields state) ≡ state }
 {}
 
-/// The shape of an accepted plan is within the limits, and has the plan's bits, depth and nodes;
-/// where a shape is within the limits, so are the fields of each of its nodes.
+/// The shape of an accepted plan is within the limits, and has the plan's depth and nodes, and a
+/// node that is no spare the plan's bits; where a shape is within the limits, so are the fields of
+/// each of its nodes.
 pub fn plans_have_shapes()
     ensures shape { (plan : Plan) → IsAccepted plan → IsShape (shape_of plan) }
-    ensures fields { (shape : Shape) (low : ℕ) → IsShape shape → IsFields (fields_from shape low) }
+    ensures fields { (shape : Shape) (v : ℕ) → IsShape shape → IsFields (fields_at shape v) }
     ensures bits { (plan : Plan) → IsAccepted plan
-        → bits_in (fields_from (shape_of plan) 0) ≡ plan_bits plan }
-    ensures depth { (plan : Plan) → length (shape_of plan).moduli ≡ plan_depth plan }
-    ensures nodes { (plan : Plan) → length (shape_of plan).lows ≡ plan_nodes plan }
+        → (v : ℕ) → v < plan_nodes plan → plan_low plan v ≡ 0
+        → bits_in (fields_at (shape_of plan) v) ≡ plan_bits plan }
+    ensures depth { (plan : Plan) → (shape_of plan).depth ≡ plan_depth plan }
+    ensures nodes { (plan : Plan) → shape_nodes (shape_of plan) ≡ plan_nodes plan }
 {}
 
 /// The states of a node's fields are those of the plan's node.
@@ -49,7 +51,7 @@ pub fn range_is_of_plan()
         → IsState plan v state ↔ InRange (fields_at (shape_of plan) v) state }
 {}
 
-/// Further registers stand behind those of the plan, and no node lacks them.
+/// Further registers stand after those of the plan, and no node lacks them.
 pub fn further_registers_are_every_nodes()
     ensures { (plan : Plan) (values count v : ℕ) → v < plan_nodes plan
         → fields_at (shape_with plan values count) v

@@ -1,10 +1,9 @@
 ghost use Rattle.std.specs.Prelude.{◌≡◌, ◌<◌, ◌≤◌, ◌+◌, ◌^◌, nat_lt, ◌==◌, if◌then◌else◌, length};
-ghost use Rattle.std.specs.Prelude.{map};
-ghost use Rattle.std.specs.Prelude.{All, IfOk};
+ghost use Rattle.std.specs.Prelude.{map, slice_index_or, ◌++◌, ◌∷◌, [], ◌⊎◌, All, IfOk};
 ghost use Rattle.std.specs.List.{range_with_len};
 ghost use Rattle.construction.specs.Plans.{plan_depth};
 ghost use Rattle.state_codec.specs.Shapes.{moduli_of, lows_of, moduli_from, fields_from};
-ghost use Rattle.state_codec.specs.Shapes.{shape_over};
+ghost use Rattle.state_codec.specs.Shapes.{all_over, no_fields};
 
 use crate::fields::Fields;
 use plan_numbers::Plan;
@@ -73,7 +72,7 @@ pub fn kinds(alloc: Global, plan: &Plan, moduli: &[u64]) -> Result<Vec<Fields>, 
     requires moduli { All (λ modulus. (2 ≤ modulus) × (modulus ≤ 2 ^ 40)) moduli.now }
     requires few { length moduli.now ≤ 16 }
     ensures { IfOk result (λ kinds. kinds.items
-        ≡ map (fields_from (shape_over plan.now moduli.now))
+        ≡ map (fields_from (all_over plan.now moduli.now))
         (range_with_len 0 (plan_depth plan.now + 1))) }
 {
     plan.tell();
@@ -86,4 +85,51 @@ pub fn kinds(alloc: Global, plan: &Plan, moduli: &[u64]) -> Result<Vec<Fields>, 
         kinds.push(fields).map_err(|_| NoMemory)?;
     }
     Ok(kinds)
+}
+
+/// The same fields, each made anew.
+#[tactic(auto, using(crate::proofs::Lows::taken_more))]
+pub fn copies(alloc: Global, kinds: &[Fields]) -> Result<Vec<Fields>, NoMemory>
+    ensures { IfOk result (λ made. made.items ≡ kinds.now) }
+{
+    let mut made = Vec::with_capacity(alloc, kinds.len())?;
+    for i in 0..kinds.len() {
+        let fields = kinds[i].try_clone(alloc)?;
+        made.push(fields).map_err(|_| NoMemory)?;
+    }
+    Ok(made)
+}
+
+/// The place of the first of these fields that are the same, or the end where there are none.
+fn place_of(kinds: &[Fields], fields: &Fields) -> usize
+    ensures most { result ≤ length kinds.now }
+    ensures same { result < length kinds.now
+        → slice_index_or kinds.now result no_fields ≡ fields.now }
+{
+    for i in 0..kinds.len() {
+        if kinds[i].is_same(fields) {
+            return i;
+        }
+    }
+    kinds.len()
+}
+
+/// The place of fields among kinds, to which they are added where they are new.
+pub fn kind_among(
+    alloc: Global,
+    kinds: &mut Vec<Fields>,
+    fields: &Fields,
+) -> Result<usize, NoMemory>
+    ensures within { IfOk result (λ kind. kind < length kinds.new.items) }
+    ensures same { IfOk result (λ kind.
+        slice_index_or kinds.new.items kind no_fields ≡ fields.now) }
+    ensures grown { IfOk result (λ kind. (kinds.new.items ≡ kinds.old.items)
+        ⊎ (kinds.new.items ≡ kinds.old.items ++ fields.now ∷ [])) }
+{
+    let kind = place_of(kinds, fields);
+    if kind == kinds.len() {
+        let made = fields.try_clone(alloc)?;
+        kinds.push(made).map_err(|_| NoMemory)?;
+    }
+    Ok(kind)
 }

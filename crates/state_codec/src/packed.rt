@@ -1,7 +1,7 @@
 ghost use Rattle.std.specs.Prelude.{◌≡◌, ◌<◌, ◌≤◌, ℕ, length, slice_set, IfOk};
 ghost use Rattle.sync_types.specs.States.{register_at};
 ghost use Rattle.construction.specs.Steps.{state_of};
-ghost use Rattle.state_codec.specs.Shapes.{fields_at, IsShape};
+ghost use Rattle.state_codec.specs.Shapes.{fields_at, shape_nodes, IsShape};
 ghost use Rattle.state_codec.specs.Ranges.{InRange};
 ghost use Rattle.state_codec.specs.Writing.{number_alone};
 ghost use Rattle.state_codec.specs.Packs.{zeros};
@@ -53,7 +53,7 @@ impl Packed {
     /// Two configurations of `nodes` nodes, at most those of the shape, whose states are all zero.
     /// It takes all the memory that they ever need.
     pub fn new(alloc: Global, shape: StateShape, nodes: u32) -> Result<Packed, NoMemory>
-        requires { nodes ≤ length shape.lows }
+        requires { nodes ≤ shape_nodes shape }
         ensures { IfOk result (λ packed. packed
             ≡ record { shape = shape; current = zeros shape nodes; next = zeros shape nodes }) }
     {
@@ -89,7 +89,7 @@ impl Packed {
     /// most as many as the shape. It does nothing when it runs.
     pub fn tell(&self)
         ensures sound { IsShape self.now.shape }
-        ensures few { length self.now.current ≤ length self.now.shape.lows }
+        ensures few { length self.now.current ≤ shape_nodes self.now.shape }
         ensures size { length self.now.next ≡ length self.now.current }
         ensures current { (v : ℕ) → v < length self.now.current
             → InRange (fields_at self.now.shape v) (state_of self.now.current v) }
@@ -110,7 +110,7 @@ impl Packed {
     /// Reads the current state of node `v` into `out`, which has the depth of the shape.
     pub fn old(&self, v: u32, out: &mut NodeState)
         requires node { v < length self.now.current }
-        requires depth { length out.old.registers ≡ length self.now.shape.moduli }
+        requires depth { length out.old.registers ≡ self.now.shape.depth }
         ensures { out.new ≡ state_of self.now.current v }
     {
         self.tell();
@@ -128,7 +128,7 @@ impl Packed {
     /// Register `i` of the current state of node `v`, the lowest being 0.
     pub fn reg(&self, v: u32, i: usize) -> Reg
         requires node { v < length self.now.current }
-        requires register { i < length self.now.shape.moduli }
+        requires register { i < self.now.shape.depth }
         ensures { result ≡ register_at i (state_of self.now.current v) }
     {
         self.tell();

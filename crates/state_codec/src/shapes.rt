@@ -1,73 +1,71 @@
 ghost use Rattle.std.specs.Prelude.{◌≡◌, ◌<◌, ◌≤◌, ◌+◌, ◌^◌, length, take, slice_index, All};
 ghost use Rattle.std.specs.Prelude.{IfOk};
-ghost use Rattle.construction.specs.Plans.{plan_bits, plan_depth, plan_nodes};
-ghost use Rattle.state_codec.specs.Shapes.{shape_over, shape_of, shape_with, fields_from};
+ghost use Rattle.construction.specs.Plans.{plan_depth, plan_nodes};
+ghost use Rattle.state_codec.specs.Shapes.{shape_over, shape_of, shape_with, shape_nodes};
 ghost use Rattle.state_codec.specs.Shapes.{fields_at, bits_in, bytes_in, IsShape};
 ghost use Rattle.state_codec.specs.Ranges.{InRange};
 ghost use Rattle.state_codec.specs.Writing.{written};
 ghost use Rattle.state_codec.specs.Reading.{read};
 
 use crate::fields::Fields;
-use crate::making::{kinds, level_moduli, node_lows};
+use crate::making::{copies, kind_among, kinds, level_moduli, node_lows};
 use plan_numbers::Plan;
 use std::alloc::Global;
 use std::marker::Model;
 use sync_types::{NoMemory, NodeState};
 
-/// Which fields the states of a plan's nodes have, and so which bits they take: the modulus of the
-/// number, that of each register, the lowest first, each 2 to 2^40, and for each node the level
-/// from which on it takes part. A node that is no spare has all fields.
+/// Which fields the states of nodes have, and so which bits they take: how many registers there
+/// are, and for each node the modulus of its number, and that of each register, the lowest first,
+/// each at most 2^40. A node that lacks its number has the modulus 1 there, and one that lacks a
+/// register 0.
 #[derive(Debug)]
 pub struct StateShape {
-    base: u64,
-    moduli: Vec<u64>,
-    lows: Vec<usize>,
-    // For each low from 0 on the fields of its nodes.
+    depth: usize,
+    // The fields that there are, and which of these each node has.
     kinds: Vec<Fields>,
+    which: Vec<usize>,
 }
 
 // Written out, so that what lets go of one calls this, and no more.
 impl Drop for StateShape {
     fn drop(self) {
         let StateShape {
-            base: _,
-            moduli,
-            lows,
+            depth: _,
             kinds,
+            which,
         } = self;
-        drop(moduli);
-        drop(lows);
         drop(kinds);
+        drop(which);
     }
 }
 
 impl Model for StateShape {
     ghost use Rattle.state_codec.specs.Shapes.{Shape};
-    ghost use Rattle.state_codec.specs.ShapesKept.{IsKept};
+    ghost use Rattle.state_codec.specs.ShapesKept.{fields_by, IsKept};
 
     ghost Value = { Shape };
 
-    ghost view = { λ s. record { base = s.base; moduli = s.moduli.items; lows = s.lows.items } };
+    ghost view = { λ s.
+        record { depth = s.depth; fields = fields_by s.kinds.items s.which.items } };
 
     ghost invariant = { λ s.
-        IsKept (record { base = s.base; moduli = s.moduli.items; lows = s.lows.items })
-        s.kinds.items };
+        IsKept (record { depth = s.depth; fields = fields_by s.kinds.items s.which.items })
+        s.kinds.items s.which.items };
 }
 
 impl StateShape {
     /// The shape of the states of a plan. It takes all the memory that the shape ever needs.
     pub fn of(alloc: Global, plan: &Plan) -> Result<StateShape, NoMemory>
         ensures shape { IfOk result (λ shape. shape ≡ shape_of plan.now) }
-        ensures bits { IfOk result (λ shape. bits_in (fields_from shape 0) ≡ plan_bits plan.now) }
-        ensures depth { IfOk result (λ shape. length shape.moduli ≡ plan_depth plan.now) }
-        ensures nodes { IfOk result (λ shape. length shape.lows ≡ plan_nodes plan.now) }
+        ensures depth { IfOk result (λ shape. shape.depth ≡ plan_depth plan.now) }
+        ensures nodes { IfOk result (λ shape. shape_nodes shape ≡ plan_nodes plan.now) }
     {
         plan.tell();
         let moduli = level_moduli(alloc, plan)?;
         StateShape::over(alloc, plan, moduli)
     }
 
-    /// The shape of a plan's states with one further register behind, which every node has and
+    /// The shape of a plan's states with one further register after the plan's, which every node has and
     /// whose values are those below `values`, 2 to 65536. It takes all the memory that the shape
     /// ever needs.
     pub fn with_register(alloc: Global, plan: &Plan, values: u64) -> Result<StateShape, NoMemory>
@@ -78,8 +76,8 @@ impl StateShape {
         StateShape::with_registers(alloc, plan, values, 1)
     }
 
-    /// The shape of a plan's states with `count` further registers behind, at most 2, which every
-    /// node has and whose values are those below `values`, 2 to 65536. It takes all the memory that
+    /// The shape of a plan's states with `count` further registers after the plan's, at most 2,
+    /// which every node has and whose values are those below `values`, 2 to 65536. It takes all the memory that
     /// the shape ever needs.
     pub fn with_registers(
         alloc: Global,
@@ -106,75 +104,83 @@ impl StateShape {
         ensures { IfOk result (λ shape. shape ≡ shape_over plan.now moduli.items) }
     {
         plan.tell();
-        let base = plan.base_modulus();
-        let lows = node_lows(alloc, plan)?;
+        let depth = moduli.len();
         let kinds = kinds(alloc, plan, &moduli)?;
+        let which = node_lows(alloc, plan)?;
         Ok(StateShape {
-            base,
-            moduli,
-            lows,
+            depth,
             kinds,
+            which,
         })
     }
 
-    /// How many nodes there are, 1 to 256.
+    /// The shape of states of these fields by node, all of one depth. It takes all the memory that
+    /// the shape ever needs.
+    pub fn by_node(alloc: Global, depth: usize, nodes: &[Fields]) -> Result<StateShape, NoMemory>
+        requires few { length nodes.now ≤ 256 }
+        requires deep { All (λ fields. length fields.moduli ≡ depth) nodes.now }
+        requires shape { IsShape (record { depth = depth; fields = nodes.now }) }
+        ensures { IfOk result (λ shape. shape ≡ record { depth = depth; fields = nodes.now }) }
+    {
+        let mut kinds = Vec::new(alloc);
+        let mut which = Vec::with_capacity(alloc, nodes.len())?;
+        for v in 0..nodes.len() {
+            let kind = kind_among(alloc, &mut kinds, &nodes[v])?;
+            which.push(kind).map_err(|_| NoMemory)?;
+        }
+        Ok(StateShape {
+            depth,
+            kinds,
+            which,
+        })
+    }
+
+    /// The same shape. It takes all the memory that the shape ever needs.
+    pub fn try_clone(&self, alloc: Global) -> Result<StateShape, NoMemory>
+        ensures { IfOk result (λ made. made ≡ self.now) }
+    {
+        let kinds = copies(alloc, &self.kinds)?;
+        let which = self.which.clone()?;
+        Ok(StateShape {
+            depth: self.depth,
+            kinds,
+            which,
+        })
+    }
+
+    /// How many nodes there are, at most 256.
     pub fn nodes(&self) -> u32
-        ensures value { result ≡ length self.now.lows }
+        ensures value { result ≡ shape_nodes self.now }
         ensures most { result ≤ 256 }
     {
-        self.lows.len() as u32
-    }
-
-    /// How many bits a state with all fields has, without padding.
-    pub fn bits(&self) -> u32
-        ensures { result ≡ bits_in (fields_from self.now 0) }
-    {
-        self.kinds[0].bits()
-    }
-
-    /// How many bytes a state with all fields has, at most 128.
-    pub fn bytes(&self) -> usize
-        ensures value { result ≡ bytes_in (fields_from self.now 0) }
-        ensures most { result ≤ 128 }
-    {
-        self.kinds[0].bytes()
+        self.which.len() as u32
     }
 
     /// How many registers a state has, those that a node lacks among them.
     pub fn depth(&self) -> usize
-        ensures { result ≡ length self.now.moduli }
+        ensures { result ≡ self.now.depth }
     {
-        self.moduli.len()
-    }
-
-    /// The modulus of register `i`, the lowest being 0, at a node that has it. It is 2 to 2^40.
-    pub fn modulus(&self, i: usize) -> u64
-        requires { i < length self.now.moduli }
-        ensures value { result ≡ slice_index self.now.moduli i }
-        ensures least { 2 ≤ result }
-        ensures most { result ≤ 2 ^ 40 }
-    {
-        self.moduli[i]
+        self.depth
     }
 
     /// Tells a caller's proof that the moduli are within the limits. It does nothing when it runs.
     pub fn tell(&self)
         ensures { IsShape self.now }
     {
-        let _base = self.base;
+        let _depth = self.depth;
     }
 
     /// The fields of node `v`.
     pub(crate) fn fields(&self, v: u32) -> &Fields
-        requires { v < length self.now.lows }
+        requires { v < shape_nodes self.now }
         ensures { result.now ≡ fields_at self.now v }
     {
-        &self.kinds[self.lows[v as usize]]
+        &self.kinds[self.which[v as usize]]
     }
 
     /// The modulus of the number of node `v`, at most 2^40; it is 1 where the node lacks a number.
     pub fn base_of(&self, v: u32) -> u64
-        requires { v < length self.now.lows }
+        requires { v < shape_nodes self.now }
         ensures value { result ≡ (fields_at self.now v).base }
         ensures least { 1 ≤ result }
         ensures most { result ≤ 2 ^ 40 }
@@ -185,8 +191,8 @@ impl StateShape {
     /// The modulus of register `i` of node `v`, the lowest being 0. It is at most 2^40, and 0 where
     /// the node lacks the register.
     pub fn modulus_of(&self, v: u32, i: usize) -> u64
-        requires node { v < length self.now.lows }
-        requires register { i < length self.now.moduli }
+        requires node { v < shape_nodes self.now }
+        requires register { i < self.now.depth }
         ensures value { result ≡ slice_index (fields_at self.now v).moduli i }
         ensures most { result ≤ 2 ^ 40 }
     {
@@ -195,7 +201,7 @@ impl StateShape {
 
     /// How many bits a state of node `v` has, without padding.
     pub fn bits_of(&self, v: u32) -> u32
-        requires { v < length self.now.lows }
+        requires { v < shape_nodes self.now }
         ensures { result ≡ bits_in (fields_at self.now v) }
     {
         self.fields(v).bits()
@@ -203,7 +209,7 @@ impl StateShape {
 
     /// How many bytes a state of node `v` has, at most 128.
     pub fn bytes_of(&self, v: u32) -> usize
-        requires { v < length self.now.lows }
+        requires { v < shape_nodes self.now }
         ensures value { result ≡ bytes_in (fields_at self.now v) }
         ensures most { result ≤ 128 }
     {
@@ -213,7 +219,7 @@ impl StateShape {
     /// Writes the bytes of a state of node `v` into `out`, which has just their length,
     /// `bytes_of(v)`.
     pub fn write_state(&self, v: u32, state: &NodeState, out: &mut [u8])
-        requires node { v < length self.now.lows }
+        requires node { v < shape_nodes self.now }
         requires range { InRange (fields_at self.now v) state.now }
         requires length { length out.old ≡ bytes_in (fields_at self.now v) }
         ensures { out.new ≡ written (fields_at self.now v) state.now }
@@ -226,8 +232,8 @@ impl StateShape {
     /// its modulus or more is read as 0, and a value as infinity; padding is ignored, and what the
     /// node lacks is zero.
     pub fn read_state(&self, v: u32, bytes: &[u8], out: &mut NodeState)
-        requires node { v < length self.now.lows }
-        requires depth { length out.old.registers ≡ length self.now.moduli }
+        requires node { v < shape_nodes self.now }
+        requires depth { length out.old.registers ≡ self.now.depth }
         ensures value { out.new ≡ read (fields_at self.now v) bytes.now }
         ensures range { InRange (fields_at self.now v) out.new }
     {
@@ -238,9 +244,9 @@ impl StateShape {
     /// shape; eight bytes more stand behind it. It is read as
     /// [`read_state`](StateShape::read_state) reads it.
     pub fn read_front(&self, v: u32, bytes: &[u8], out: &mut NodeState)
-        requires node { v < length self.now.lows }
+        requires node { v < shape_nodes self.now }
         requires within { bytes_in (fields_at self.now v) + 8 ≤ length bytes.now }
-        requires depth { length out.old.registers ≡ length self.now.moduli }
+        requires depth { length out.old.registers ≡ self.now.depth }
         ensures value { out.new ≡ read (fields_at self.now v)
             (take (bytes_in (fields_at self.now v)) bytes.now) }
         ensures range { InRange (fields_at self.now v) out.new }

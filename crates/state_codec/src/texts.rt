@@ -1,6 +1,6 @@
 ghost use Rattle.std.specs.Prelude.{◌≡◌, ◌<◌, ◌*◌, length, true, false, OnOk, OnErr};
 ghost use Rattle.std.specs.List.{list_all};
-ghost use Rattle.state_codec.specs.Shapes.{bytes_in, fields_at};
+ghost use Rattle.state_codec.specs.Shapes.{bytes_in, fields_at, shape_nodes};
 ghost use Rattle.state_codec.specs.Ranges.{InRange};
 ghost use Rattle.state_codec.specs.Texts.{is_lower_digit, is_state_text, decoded, written_text};
 ghost use Rattle.state_codec.specs.Texts.{read_text};
@@ -37,7 +37,7 @@ impl StateShape {
     /// Writes the bytes of a state of node `v` as digits of `0-9a-f` into `out`, which has just
     /// their length, `2 * bytes_of(v)`.
     pub fn write_hex(&self, v: u32, state: &NodeState, out: &mut [u8])
-        requires node { v < length self.now.lows }
+        requires node { v < shape_nodes self.now }
         requires range { InRange (fields_at self.now v) state.now }
         requires length { length out.old ≡ 2 * bytes_in (fields_at self.now v) }
         ensures { out.new ≡ written_text (fields_at self.now v) state.now }
@@ -53,8 +53,8 @@ impl StateShape {
     /// error comes where the text is not `2 * bytes_of(v)` digits of `0-9a-f`, and leaves the state
     /// as it was.
     pub fn read_hex(&self, v: u32, text: &[u8], out: &mut NodeState) -> Result<(), NotState>
-        requires node { v < length self.now.lows }
-        requires depth { length out.old.registers ≡ length self.now.moduli }
+        requires node { v < shape_nodes self.now }
+        requires depth { length out.old.registers ≡ self.now.depth }
         ensures accepted { OnOk result (is_state_text (fields_at self.now v) text.now ≡ true) }
         ensures value { OnOk result (out.new ≡ read_text (fields_at self.now v) text.now) }
         ensures range { OnOk result (InRange (fields_at self.now v) out.new) }

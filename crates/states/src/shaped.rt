@@ -1,4 +1,5 @@
 ghost use Rattle.std.specs.Prelude.{◌≡◌, ◌<◌, length};
+ghost use Rattle.state_codec.specs.Shapes.{shape_nodes};
 
 use state_codec::StateShape;
 use std::alloc::Global;
@@ -14,8 +15,8 @@ pub struct ShapedState<'a> {
     pub node: u32,
     /// Its state.
     pub state: NodeState,
-    ghost among: { node < length shape.now.lows },
-    ghost depth: { length state.registers ≡ length shape.now.moduli },
+    ghost among: { node < shape_nodes shape.now },
+    ghost depth: { length state.registers ≡ shape.now.depth },
 }
 
 impl<'a> ShapedState<'a> {
@@ -25,7 +26,7 @@ impl<'a> ShapedState<'a> {
         shape: &'a StateShape,
         node: u32,
     ) -> Result<ShapedState<'a>, NoMemory>
-        requires { node < length shape.now.lows }
+        requires { node < shape_nodes shape.now }
     {
         let state = NodeState::zero(alloc, shape.depth())?;
         Ok(ShapedState { shape, node, state })
@@ -38,7 +39,7 @@ impl<'a> ShapedState<'a> {
 
     /// Whether the node has register `i`.
     pub fn has_register(&self, i: usize) -> bool
-        requires { i < length self.now.shape.now.moduli }
+        requires { i < self.now.shape.now.depth }
     {
         self.shape.modulus_of(self.node, i) > 0
     }

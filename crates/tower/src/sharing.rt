@@ -75,7 +75,7 @@ impl Tower {
     )
         requires plan { shared.old.plan ≡ self.now }
         requires size { length config.now.current ≡ plan_nodes self.now }
-        requires deep { plan_depth self.now ≤ length config.now.shape.moduli }
+        requires deep { plan_depth self.now ≤ config.now.shape.depth }
         requires range { All (IsInRange self.now) config.now.current }
         requires ids { All (λ id. id < plan_nodes self.now) faulty.now.ids }
         ensures stands { shared.new ≡ stands_for self.now config.now.current faulty.now.ids }

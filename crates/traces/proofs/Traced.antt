@@ -1,7 +1,6 @@
 -- The lines of configurations that are written while a runner plays.
 use Rattle.std.proofs.Common.{◌≡◌, ℕ, ◌+◌, ◌-◌, ◌<◌, ◌≤◌, List, [], All, Result, Ok, Err, refl, sym}
 use Rattle.std.proofs.Common.{ap, ap₂, ◌∙◌, subst, arith}
-use Rattle.std.specs.Prelude.{length}
 use Rattle.texts.specs.Growth.{Told, Wrote, Cut, Puts}
 use Rattle.texts.proofs.Growth.{wrote_none}
 use Rattle.construction.specs.Plans.{Plan, plan_nodes}
@@ -40,13 +39,13 @@ module _ (start : Running NoOverlay) where
 
     pub fit_here : (desk : Desk) → IsFitFor start desk → IsFitFor r desk
     fit_here desk fit =
-        subst (λ (s : Script). IsMade r.plan (length s.shape.moduli) desk) (sym here.script)
-        (subst (λ (p : Plan). IsMade p (length start.script.shape.moduli) desk) (sym here.plan) fit)
+        subst (λ (s : Script). IsMade r.plan s.shape.depth desk) (sym here.script)
+        (subst (λ (p : Plan). IsMade p start.script.shape.depth desk) (sym here.plan) fit)
 
     pub fit_back : (desk : Desk) → IsFitFor r desk → IsFitFor start desk
     fit_back desk fit =
-        subst (λ (s : Script). IsMade start.plan (length s.shape.moduli) desk) here.script
-        (subst (λ (p : Plan). IsMade p (length r.script.shape.moduli) desk) here.plan fit)
+        subst (λ (s : Script). IsMade start.plan s.shape.depth desk) here.script
+        (subst (λ (p : Plan). IsMade p r.script.shape.depth desk) here.plan fit)
 
     pub nodes_here : (nodes : List ℕ) → All (λ v. v < plan_nodes start.plan) nodes
         → All (λ v. v < plan_nodes r.plan) nodes

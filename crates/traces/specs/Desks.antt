@@ -27,4 +27,4 @@ pub record IsMade (plan : Plan) (depth : ℕ) (desk : Desk) : Type 0 where
 
 -- the desk is one for the states of a runner
 abbrev pub IsFitFor : Running NoOverlay → Desk → Type 0
-IsFitFor r desk = IsMade r.plan (length r.script.shape.moduli) desk
+IsFitFor r desk = IsMade r.plan r.script.shape.depth desk

@@ -23,12 +23,12 @@ use sync_types::NodeState;
 /// that.
 fn hear(runner: &mut Runner<NoOverlay>, v: u32, heard: &mut [NodeState]) -> bool
     requires node { v < plan_nodes runner.old.plan }
-    requires room { HasRoom (plan_nodes runner.old.plan) (length runner.old.script.shape.moduli)
+    requires room { HasRoom (plan_nodes runner.old.plan) runner.old.script.shape.depth
         heard.old }
     ensures hears { result ≡ nat_lt runner.old.at runner.old.script.rounds }
     ensures heard { result ≡ true
         → heard.new ≡ heard_at runner.old.script runner.old.at runner.old.states v }
-    ensures room { HasRoom (plan_nodes runner.old.plan) (length runner.old.script.shape.moduli)
+    ensures room { HasRoom (plan_nodes runner.old.plan) runner.old.script.shape.depth
         heard.new }
     ensures same { runner.new ≡ runner.old }
 {

@@ -1,10 +1,10 @@
 -- The engine of a header.
-use Rattle.std.proofs.Common.{◌≡◌, ℕ, ◌<◌, List, Option, length, refl, sym, ap, ◌∙◌, subst, arith}
+use Rattle.std.proofs.Common.{◌≡◌, ℕ, ◌<◌, List, Option, refl, sym, ap, ◌∙◌, subst, arith}
 use Rattle.std.proofs.lemmas.List.{get_or-set_same, length-replicate}
 use Rattle.std.specs.Prelude.{replicate}
 use Rattle.sync_types.specs.States.{State, zero_state}
 use Rattle.construction.specs.Plans.{Plan, plan_nodes, plan_depth}
-use Rattle.state_codec.specs.Shapes.{Shape, shape_of, moduli_of}
+use Rattle.state_codec.specs.Shapes.{Shape, shape_of, moduli_of, shape_nodes}
 use Rattle.state_codec.proofs.Plans.{nodes_of_shape}
 use Rattle.node_header.specs.declared.header_lines.NodeHeader.{NodeHeader}
 use Rattle.node_header.specs.declared.headers.HeaderRead.{HeaderRead}
@@ -39,10 +39,9 @@ begun_for h lt = record {
 }
 
 pub node_of_shape : (plan : Plan) (shape : Shape) (v : ℕ) → shape ≡ shape_of plan
-    → v < length shape.lows → v < plan_nodes plan
+    → v < shape_nodes shape → v < plan_nodes plan
 node_of_shape plan shape v same lt =
-    subst (λ n. v < n) (ap (λ (s : Shape). length s.lows) same
-    ∙ nodes_of_shape plan (moduli_of plan.levels)) lt
+    subst (λ n. v < n) (ap shape_nodes same ∙ nodes_of_shape plan (moduli_of plan.levels)) lt
 
 -- of a header that was read
 module _ (s t : Option (List ℕ)) (x : HeaderRead Plan) (w : HeaderWhole plan_part s t x)

@@ -76,9 +76,12 @@ module _ (s f m l : Option (List ℕ)) (held : List ℕ) (before now : ℕ) (kee
       let seen = w.decided.bytes ++ rest in
       let behind : behind_lines w.header.lines seen ≡ rest =
       w.behind false rest (anything false rest) in
-      subst (pending_behind seen) (sym (w.whole open_end rest))
-      (subst (λ (p : Packets). IsWithin p.ending)
-      (sym (ap (packets_for w.header) behind ∙ node.hears rest)) pending)
+      let within = w.decided.within in
+      subst (pending_behind seen) (sym (w.whole open_end rest)) (record {
+        header = omega (arith, within, ap length behind, length-append w.decided.bytes rest);
+        packets = subst (λ (p : Packets). IsWithin p.ending)
+            (sym (ap (packets_for w.header) behind ∙ node.hears rest)) pending;
+      })
 
   all_of : (bytes : List ℕ) → Consumes m (prepend_known held l) bytes
       → IsAtEnd (prepend_known held l) → ReadsAll s l (w.decided.bytes ++ bytes)

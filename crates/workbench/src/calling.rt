@@ -8,7 +8,7 @@ ghost use Rattle.promises.specs.LayerPromises.{HoldsAreKept, DecisionsAreKept, F
 ghost use Rattle.promises.specs.LayerPromises.{EntriesAreKept};
 ghost use Rattle.promises.specs.LockPromises.{LocksAreKept};
 ghost use Rattle.promises.specs.FindPromises.{LeastIsFound};
-ghost use Rattle.promises.specs.PlanPromises.{TextsAreKept};
+ghost use Rattle.promises.specs.PlanPromises.{TextsAreKept, TextsAreRead};
 ghost use Rattle.promises.specs.EveryRun.{EveryRunKeeps};
 ghost use Rattle.promises.specs.Printed.{Prints};
 ghost use Rattle.promises.specs.NodePromises.{NodePromiseIsKept};
@@ -28,7 +28,7 @@ use promises::layer_promises::{
 };
 use promises::lock_promises::locks_are_kept;
 use promises::node_promises::node_promise_is_kept;
-use promises::plan_promises::texts_are_kept;
+use promises::plan_promises::{texts_are_kept, texts_are_read};
 use promises::printed_promises::promises_are_printed;
 use std::alloc::Global;
 use sync_types::Status;
@@ -133,6 +133,10 @@ pub fn counterlab<S: Source, K: Sink>(
     // table.
     ensures texts { TextsAreKept }
 
+    // Each text that says a plan, a table, wants, a slot table, inputs, requests, a log or a header
+    // is read as that.
+    ensures accepts { TextsAreRead }
+
     // Where it is a plan and a script, what is played is a run of the plan, what is written of it
     // counts, and what `explain` writes is why it locks.
     ensures promise { PromiseIsKept }
@@ -171,6 +175,7 @@ pub fn counterlab<S: Source, K: Sink>(
     promises_are_printed();
     accepted_plans_settle();
     texts_are_kept();
+    texts_are_read();
     promise_is_kept();
     check_is_exact();
     records_are_checked();

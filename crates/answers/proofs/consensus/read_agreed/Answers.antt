@@ -1,8 +1,9 @@
-use Rattle.std.proofs.Common.{◌≡◌, inr, ℕ, ◌≤◌, refl, sym, ap, ◌∙◌, subst, arith}
+use Rattle.std.proofs.Common.{◌++◌, replicate, ◌≡◌, ℕ, ◌≤◌, refl, sym, ap, ◌∙◌, subst}
 use Rattle.sync_types.specs.declared.answers.Part.TheVariants as part
 use Rattle.counter_core.specs.Overlays.{Layer}
 use Rattle.state_codec.specs.Shapes.{shape_with}
-use Rattle.adversary_script.specs.StateShapes.{HasFurther}
+use Rattle.state_codec.specs.Shapes.{moduli_of, shape_nodes}
+use Rattle.state_codec.proofs.Plans.{nodes_of_shape}
 use Rattle.consensus_layer.specs.AgreePart.{part_of}
 use Rattle.consensus_layer.specs.AgreementsSeen.{layer_seen, decisions_seen}
 use Rattle.layer_laws.specs.Slots.{slot_length}
@@ -30,19 +31,8 @@ with_register-requires-clause-most c =
 
 pub read_script-requires-clause-shape : goal.read_script-requires-clause-shape
 read_script-requires-clause-shape c =
-    let read = c.in_ok-agreement.ensures.exact in
-    let fit = said_is_for read in
-    let further : HasFurther c.in_ok-plan.plan c.in_ok-shape.shape = record {
-      values = read.said.values;
-      count = 1;
-      least = fit.two;
-      most = fit.few;
-      some = omega arith;
-      few = omega arith;
-      is = c.in_ok-shape.ensures
-          ∙ ap (λ (n : ℕ). shape_with c.in_ok-plan.plan n 1)
-          (c.values.ensures ∙ ap (λ (l : Layer ℕ). l.values) read.fresh.layer);
-    } in inr further
+    ap shape_nodes c.in_ok-shape.ensures ∙ nodes_of_shape c.in_ok-plan.plan
+    (moduli_of c.in_ok-plan.plan.levels ++ replicate 1 c.values.result)
 
 pub runner_of-requires-clause-over : goal.runner_of-requires-clause-over
 runner_of-requires-clause-over c = agree_stands c.in_ok-plan.plan _ _ _

@@ -1,6 +1,7 @@
-use Rattle.std.proofs.Common.{inr, refl, ap, ◌∙◌, arith}
+use Rattle.std.proofs.Common.{◌++◌, replicate, refl, ap, ◌∙◌}
 use Rattle.sync_types.specs.declared.answers.Part.TheVariants as part
-use Rattle.adversary_script.specs.StateShapes.{HasFurther}
+use Rattle.state_codec.specs.Shapes.{moduli_of, shape_nodes}
+use Rattle.state_codec.proofs.Plans.{nodes_of_shape}
 use Rattle.firing.specs.FirePart.{part_of}
 use Rattle.firing.specs.FiringsSeen.{layer_seen, fires_seen}
 use Rattle.outcomes.specs.Layered.{fire_shape}
@@ -10,15 +11,8 @@ use Rattle.answers.proofs.fire.read_firing.Goals as goal
 
 pub read_script-requires-clause-shape : goal.read_script-requires-clause-shape
 read_script-requires-clause-shape c =
-    let further : HasFurther c.in_ok-plan.plan c.in_ok-shape.shape = record {
-      values = 2;
-      count = 1;
-      least = omega arith;
-      most = omega arith;
-      some = omega arith;
-      few = omega arith;
-      is = c.in_ok-shape.ensures;
-    } in inr further
+    ap shape_nodes c.in_ok-shape.ensures ∙ nodes_of_shape c.in_ok-plan.plan
+    (moduli_of c.in_ok-plan.plan.levels ++ replicate 1 2)
 
 pub returns : goal.returns
 returns c =

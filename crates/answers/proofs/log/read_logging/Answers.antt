@@ -1,8 +1,9 @@
-use Rattle.std.proofs.Common.{inr, ℕ, List, refl, ap, ◌∙◌, arith}
+use Rattle.std.proofs.Common.{◌++◌, replicate, ℕ, List, refl, ap, ◌∙◌}
 use Rattle.sync_types.specs.declared.answers.Part.TheVariants as part
 use Rattle.counter_core.specs.Overlays.{Layer}
 use Rattle.state_codec.specs.Shapes.{shape_with}
-use Rattle.adversary_script.specs.StateShapes.{HasFurther}
+use Rattle.state_codec.specs.Shapes.{moduli_of, shape_nodes}
+use Rattle.state_codec.proofs.Plans.{nodes_of_shape}
 use Rattle.replicated_log.specs.declared.entries.Entry.{Entry}
 use Rattle.replicated_log.specs.LogPart.{part_of}
 use Rattle.replicated_log.specs.LogsSeen.{layer_seen, logs_seen}
@@ -26,16 +27,8 @@ with_registers-requires-clause-most c =
 
 pub read_script-requires-clause-shape : goal.read_script-requires-clause-shape
 read_script-requires-clause-shape c =
-    let range = log_values _ _ _ _ _ _ c.in_ok-replica.ensures.exact in
-    let further : HasFurther c.in_ok-plan.plan c.in_ok-shape.shape = record {
-      values = c.values.result;
-      count = 2;
-      least = rw c.values.ensures range.0;
-      most = rw c.values.ensures range.1;
-      some = omega arith;
-      few = omega arith;
-      is = c.in_ok-shape.ensures;
-    } in inr further
+    ap shape_nodes c.in_ok-shape.ensures ∙ nodes_of_shape c.in_ok-plan.plan
+    (moduli_of c.in_ok-plan.plan.levels ++ replicate 2 c.values.result)
 
 pub returns-in_err-script : goal.returns-in_err-script
 returns-in_err-script c =

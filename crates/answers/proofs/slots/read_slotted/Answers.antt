@@ -1,4 +1,4 @@
-use Rattle.std.proofs.Common.{inl, refl, ◌∙◌, arith}
+use Rattle.std.proofs.Common.{refl, ◌∙◌, arith}
 use Rattle.sync_types.specs.declared.answers.Part.TheVariants as part
 use Rattle.slot_table.specs.SlotPart.{part_of}
 use Rattle.outcomes.specs.Layered.{slots_shape}
@@ -7,7 +7,7 @@ use Rattle.answers.proofs.ReadSlots.{none_behind, read_is_script, slots_text_is}
 use Rattle.answers.proofs.slots.read_slotted.Goals as goal
 
 pub read_script-requires-clause-shape : goal.read_script-requires-clause-shape
-read_script-requires-clause-shape c = inl c.in_ok-shape.ensures.shape
+read_script-requires-clause-shape c = c.in_ok-shape.ensures.nodes
 
 pub runner_of-requires-clause-over : goal.runner_of-requires-clause-over
 runner_of-requires-clause-over c = λ lt. absurd (omega (arith, lt))

@@ -1,7 +1,8 @@
 use Rattle.std.proofs.Common.{◌≤◌, subst, sym, arith}
 use Rattle.state_codec.specs.Shapes.{IsFields, bits_in}
 use Rattle.pulse_machine.proofs.Bits.{few_bits}
-use Rattle.pulse_machine.proofs.Kept.{nodes_are, sound, same_fields}
+use Rattle.pulse_plan.proofs.Sound.{nodes_are, accepted_are_sound}
+use Rattle.pulse_machine.proofs.Kept.{same_fields}
 use Rattle.pulse_machine.proofs.making.node_fields.Goals as goal
 
 pub new-requires-clause-limits : goal.new-requires-clause-limits
@@ -12,7 +13,7 @@ new-requires-clause-limits c =
     same_fields plan v c.base_of.result c.in_ok-moduli.moduli.items c.base_of.ensures
     c.in_ok-moduli.ensures in
     subst IsFields (sym same)
-    ((sound plan c.tell.ensures).fields v
+    ((accepted_are_sound plan c.tell.ensures).fields v
     (omega (arith, c.requires, nodes_are plan c.tell.ensures)))
 
 pub new-requires-clause-few : goal.new-requires-clause-few

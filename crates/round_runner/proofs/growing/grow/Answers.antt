@@ -4,7 +4,7 @@ use Rattle.std.proofs.lemmas.List.FromFn.{fill_by_all}
 use Rattle.sync_types.specs.States.{State, zero_state}
 use Rattle.construction.specs.Steps.{state_of}
 use Rattle.state_codec.specs.Packs.{Pack}
-use Rattle.state_codec.specs.Shapes.{fields_at}
+use Rattle.state_codec.specs.Shapes.{fields_at, shape_nodes}
 use Rattle.adversary_script.specs.Lies.{shifted}
 use Rattle.adversary_script.proofs.LiesInRange.{depth_of_node}
 use Rattle.round_runner.proofs.Places.{set_has}
@@ -20,8 +20,8 @@ loop-v-init c = record {
 
 pub shift_into-requires-clause-node : goal.shift_into-requires-clause-node
 shift_into-requires-clause-node c =
-    let lows = ap (λ (p : Pack). length p.shape.lows) c.loop-v.invariant.fixed in
-    omega (arith, lows, c.tell.ensures.few, c.loop-v-test.true, c.nodes-v-end.ensures.current)
+    let nodes = ap (λ (p : Pack). shape_nodes p.shape) c.loop-v.invariant.fixed in
+    omega (arith, nodes, c.tell.ensures.few, c.loop-v-test.true, c.nodes-v-end.ensures.current)
 
 pub shift_into-requires-clause-from : goal.shift_into-requires-clause-from
 shift_into-requires-clause-from c =
@@ -31,7 +31,7 @@ shift_into-requires-clause-from c =
 pub shift_into-requires-clause-depth : goal.shift_into-requires-clause-depth
 shift_into-requires-clause-depth c =
     c.loop-v.invariant.depth
-    ∙ (c.requires ∙ sym (ap (λ (p : Pack). length p.shape.moduli) c.loop-v.invariant.fixed))
+    ∙ (c.requires ∙ sym (ap (λ (p : Pack). p.shape.depth) c.loop-v.invariant.fixed))
 
 pub put-requires-clause-node : goal.put-requires-clause-node
 put-requires-clause-node c =
@@ -58,7 +58,7 @@ loop-v-preserved c =
       size = ap (λ (p : Pack). length p.next) c.put.ensures
           ∙ (length-set c.loop-v.states.next v c.shift_into.new.out ∙ h.size);
       depth = depth_of_node c.loop-v.states.shape v _ c.shift_into.ensures.range
-          ∙ (ap (λ (p : Pack). length p.shape.moduli) h.fixed ∙ sym c.requires);
+          ∙ (ap (λ (p : Pack). p.shape.depth) h.fixed ∙ sym c.requires);
       filled = λ u less. subst (λ (next : List State). P u (state_of next u))
           (sym (ap (λ (p : Pack). p.next) c.put.ensures))
           (set_has P c.loop-v.states.next v c.shift_into.new.out lt here u

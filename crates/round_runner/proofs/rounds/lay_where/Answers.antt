@@ -15,7 +15,7 @@ returns-then-hears-clause-room c =
     let config = c.args.states.now.current in
     subst (HasRoom script) (sym c.lay.ensures) (record {
       size = c.requires.config.size;
-      deep = all_places (λ (s : State). length s.registers ≡ length script.shape.moduli) config
+      deep = all_places (λ (s : State). length s.registers ≡ script.shape.depth) config
           (λ u lt. depth_of_node script.shape u _
           (subst (λ (s : Shape). InRange (fields_at s u) (state_of config u))
           c.requires.config.shape

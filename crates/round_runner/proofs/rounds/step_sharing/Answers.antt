@@ -33,7 +33,7 @@ lay_where-requires-clause-config g c = record {
 pub gather-requires-clause-deep : goal.gather-requires-clause-deep
 gather-requires-clause-deep g c =
     let deep = c.requires.set.fits.depth in
-    let same = ap (λ (s : Shape). length s.moduli) c.requires.set.shape in
+    let same = ap (λ (s : Shape). s.depth) c.requires.set.shape in
     omega (arith, deep, same)
 
 pub gather-requires-clause-range : goal.gather-requires-clause-range

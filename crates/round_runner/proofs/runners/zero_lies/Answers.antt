@@ -16,6 +16,6 @@ pub returns-clause-lies : goal.returns-clause-lies
 returns-clause-lies c =
     zeros_of_nodes c.args.script.now c.nodes.result c.depth.result _
     (subst IsShape c.requires c.tell.ensures)
-    (c.depth.ensures ∙ ap (λ (s : Shape). length s.moduli) c.requires)
+    (c.depth.ensures ∙ ap (λ (s : Shape). s.depth) c.requires)
     (c.nodes.ensures ∙ ap (λ (s : FaultIds). s.nodes) c.faulty.ensures)
     c.in_ok-lies.ensures

@@ -31,7 +31,7 @@ loop-j-preserved c =
     in
     let some = subst (IsOfSome script) (sym c.index-lies-j.is)
     (c.requires.lies.states c.loop-j.j c.index-lies-j.result lies) in
-    one_laid (length script.shape.moduli) c.args.round.now.faulty.now.ids c.args.stretch.0
+    one_laid script.shape.depth c.args.round.now.faulty.now.ids c.args.stretch.0
     c.args.stretch.1
     c.args.lies.now c.args.heard.now
     c.tell.ensures.rising c.loop-j.j c.at.result c.loop-j.heard c.copy_from.new.self
@@ -53,7 +53,7 @@ returns-clause-told c = λ j low lt.
 
 pub returns-clause-each : goal.returns-clause-each
 returns-clause-each c =
-    all_laid (length c.args.round.now.script.now.shape.moduli) c.args.round.now.faulty.now.ids
+    all_laid c.args.round.now.script.now.shape.depth c.args.round.now.faulty.now.ids
     c.args.stretch.0
     c.args.stretch.1 c.args.lies.now c.args.heard.now c.loop-j.j c.loop-j.heard c.loop-j.invariant
 

@@ -11,7 +11,7 @@ old-requires-clause-depth c =
     let some = c.requires.states c.place_of-own.result c.index-lies-own.result
     (omega (arith, c.place_of-own.ensures.within, c.requires.size, few)) in
     depth_of_node c.args.turn.now.round.now.script.now.shape some.node _ some.range
-    ∙ sym (ap (λ (s : Shape). length s.moduli) c.args.turn.now.shape)
+    ∙ sym (ap (λ (s : Shape). s.depth) c.args.turn.now.shape)
 
 pub returns-then-contains-clause-own : goal.returns-then-contains-clause-own
 returns-then-contains-clause-own c =

@@ -36,7 +36,7 @@ read-requires-clause-depth c =
     omega (arith, c.loop-j-test.true, c.requires.stretch.1) in
     ap (λ (s : State). length s.registers) c.index_mut.ensures.value ∙ deep_at c.args.stretch.0
     (λ j. state_of c.args.told.now.states (j * c.args.correct + c.args.before)) c.args.lies.now.items
-    c.loop-j.j c.loop-j.lies.items (length c.args.told.now.shape.moduli)
+    c.loop-j.j c.loop-j.lies.items c.args.told.now.shape.depth
     c.loop-j.invariant.laid inside c.requires.deep c.index_mut.result.now
 
 pub loop-j-preserved : goal.loop-j-preserved

@@ -14,7 +14,7 @@ use Rattle.round_runner.proofs.Heard.{is_among}
 use Rattle.run_checker.specs.Playing.{HasLiar}
 use Rattle.run_checker.specs.RunLines.{lies_from}
 use Rattle.run_checker.proofs.Recording.{faulty_ids}
-use Rattle.run_checker.proofs.RunnerTexts.{lows_of_nodes}
+use Rattle.run_checker.proofs.RunnerTexts.{shape_sized}
 use Rattle.run_checker.proofs.lie_lines.put_lies.Goals as goal
 
 pub loop-i-init : goal.loop-i-init
@@ -40,7 +40,7 @@ put_lies_from-requires g c =
     subst (λ (x : Running NoOverlay). HasLiar x c.at-u.result) (sym same) (record {
       round = c.requires.round;
       sender = subst (λ (w : ℕ). is_in ids w ≡ true) (sym u) (is_among ids c.loop-i.i within);
-      has = record { node = node; lows = lows_of_nodes r c.requires.plays };
+      has = record { node = node; sized = shape_sized r c.requires.plays };
     })
 
 pub returns-in-Err-clause-text : goal.returns-in-Err-clause-text

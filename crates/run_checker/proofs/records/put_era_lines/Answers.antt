@@ -6,7 +6,7 @@ use Rattle.round_runner.specs.Beginnings.{BeginsAt}
 use Rattle.run_checker.specs.RunLines.{era_text}
 use Rattle.run_checker.proofs.EraFound.{era_none, era_cut, era_put}
 use Rattle.run_checker.proofs.Recording.{faulty_ids}
-use Rattle.run_checker.proofs.RunnerTexts.{lows_of_nodes}
+use Rattle.run_checker.proofs.RunnerTexts.{shape_sized}
 use Rattle.run_checker.proofs.records.put_era_lines.Goals as goal
 
 pub returns-in-None-clause-text : goal.returns-in-None-clause-text
@@ -42,5 +42,5 @@ put_starts-requires-clause-begins g c =
     (subst (λ (s : Script). BeginsAt s (c.args.t + 1) c.beginning_at.result) c.script.ensures c.beginning_at.ensures) in
     record { script = c.requires.plays.script; begins = begins; small = c.requires.small }
 
-pub put_starts-requires-clause-lows : goal.put_starts-requires-clause-lows
-put_starts-requires-clause-lows g c = lows_of_nodes c.args.runner.now c.requires.plays
+pub put_starts-requires-clause-sized : goal.put_starts-requires-clause-sized
+put_starts-requires-clause-sized g c = shape_sized c.args.runner.now c.requires.plays

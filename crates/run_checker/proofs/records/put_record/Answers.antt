@@ -4,7 +4,7 @@ use Rattle.texts.proofs.Growth.{puts_exit}
 use Rattle.adversary_script.specs.Scripts.{Script}
 use Rattle.run_checker.specs.RunLines.{head_text}
 use Rattle.run_checker.proofs.Recording.{on_err, on_ok, stops_here, stops_as, ends_as}
-use Rattle.run_checker.proofs.RunnerTexts.{lows_of_nodes, first_starts_is, first_row_is, turns_is}
+use Rattle.run_checker.proofs.RunnerTexts.{shape_sized, first_starts_is, first_row_is, turns_is}
 use Rattle.run_checker.proofs.RunnerTexts.{wrote_as, cut_as, cut_in_head, cut_in_starts, cut_in_row}
 use Rattle.run_checker.proofs.RunnerTexts.{cut_in_turns, puts_record}
 use Rattle.run_checker.proofs.records.put_record.Goals as goal
@@ -15,7 +15,7 @@ returns-in_err-put_head-clause-text g c =
     (cut_in_head c.args.plan.now c.args.runner.now.script _ _ (subst (λ (s : Script). Cut (head_text c.args.plan.now s) (g.K.Sink.told c.args.sink.now) (g.K.Sink.told c.put_head.new.sink)) c.script.ensures c.in_err-put_head.ensures))
 
 pub put_first_starts-requires : goal.put_first_starts-requires
-put_first_starts-requires g c = record { lows = lows_of_nodes c.args.runner.now c.requires.plays }
+put_first_starts-requires g c = record { sized = shape_sized c.args.runner.now c.requires.plays }
 
 pub returns-in_err-put_first_starts-clause-text : goal.returns-in_err-put_first_starts-clause-text
 returns-in_err-put_first_starts-clause-text g c =

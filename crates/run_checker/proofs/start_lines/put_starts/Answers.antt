@@ -38,4 +38,4 @@ put_start_if-requires-clause-node g c =
     let lt : c.loop-v.v < plan_nodes c.args.runner.now.plan =
     omega (arith, c.loop-v-test.true, c.nodes-v-end.ensures) in
     subst (λ (r : Running NoOverlay). HasNode r c.loop-v.v) (sym c.loop-v.invariant.same)
-    (record { node = lt; lows = c.requires.lows })
+    (record { node = lt; sized = c.requires.sized })

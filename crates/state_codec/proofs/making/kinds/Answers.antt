@@ -1,14 +1,14 @@
 use Rattle.std.proofs.Common.{◌==◌, ◌≤◌, ℕ, cond, length, ap, ◌∙◌, arith}
-use Rattle.state_codec.specs.Shapes.{shape_over}
+use Rattle.state_codec.specs.Shapes.{all_over}
 use Rattle.state_codec.proofs.FullNumbers.{fields_short}
 use Rattle.state_codec.proofs.Lows.{length-moduli_from, own_limited}
-use Rattle.state_codec.proofs.Plans.{shape_of_accepted}
+use Rattle.state_codec.proofs.Plans.{all_of_accepted}
 use Rattle.state_codec.proofs.making.kinds.Goals as goal
 
 pub new-requires-clause-limits : goal.new-requires-clause-limits
 new-requires-clause-limits c =
-    let plans = shape_of_accepted c.args.plan.now c.tell.ensures.accepted in
-    own_limited (shape_over c.args.plan.now c.args.moduli.now) c.loop-low.low _ _
+    let plans = all_of_accepted c.args.plan.now c.tell.ensures.accepted in
+    own_limited (all_over c.args.plan.now c.args.moduli.now) c.loop-low.low _ _
     (record { least = plans.least; most = plans.most; moduli = c.requires.moduli })
     (c.base_from-own.ensures
     ∙ ap (λ (b : ℕ). cond (c.loop-low.low == 0) b 1) c.base_modulus-base.ensures)

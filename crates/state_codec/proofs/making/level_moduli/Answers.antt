@@ -1,7 +1,7 @@
 use Rattle.std.proofs.Common.{arith, ◌<◌, ◌≤◌, ◌^◌, length, refl, sym, subst, ◌∙◌}
 use Rattle.std.specs.Prelude.{All}
 use Rattle.std.proofs.lemmas.List.{length-set}
-use Rattle.state_codec.proofs.Plans.{shape_of_accepted}
+use Rattle.state_codec.proofs.Plans.{all_of_accepted}
 use Rattle.state_codec.proofs.LevelModuli.{moduli_step, moduli_end}
 use Rattle.state_codec.proofs.making.level_moduli.Goals as goal
 
@@ -24,7 +24,7 @@ returns-clause-limits c =
     subst (λ ms. All (λ m. (2 ≤ m) × (m ≤ 2 ^ 40)) ms)
     (sym (moduli_end c.loop-i.moduli.items c.args.plan.now.levels c.loop-i.i
     c.loop-i.invariant.depth (omega arith) c.loop-i.invariant.begun))
-    (shape_of_accepted c.args.plan.now c.tell.ensures.accepted).moduli
+    (all_of_accepted c.args.plan.now c.tell.ensures.accepted).moduli
 
 pub returns-clause-few : goal.returns-clause-few
 returns-clause-few c = omega (arith, c.loop-i.invariant.depth, c.tell.ensures.depth)

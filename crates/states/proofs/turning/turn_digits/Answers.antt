@@ -3,7 +3,7 @@ use Rattle.std.specs.Prelude.{Result, Ok, Err, OnOk, OnErr}
 use Rattle.sync_types.specs.States.{State}
 use Rattle.state_codec.specs.Shapes.{Fields}
 use Rattle.state_codec.specs.Ranges.{InRange}
-use Rattle.state_codec.proofs.Lows.{length-moduli_from}
+use Rattle.state_codec.proofs.Lows.{depth_at}
 use Rattle.states.proofs.turning.turn_digits.Goals as goal
 
 -- a state that was read has a register for each of its fields, and one that was not is the old one
@@ -17,4 +17,4 @@ pub invariant_of-held-clause-depth : goal.invariant_of-held-clause-depth
 invariant_of-held-clause-depth c =
     let held = c.args.held.now in
     depth_kept _ _ _ _ _ c.read_hex.ensures.range c.read_hex.ensures.unchanged
-    (length-moduli_from _ held.shape.now.moduli) held.depth
+    (depth_at held.shape.now held.node) held.depth

@@ -12,7 +12,7 @@ use Rattle.traces.proofs.tracing.put_moment.Goals as goal
 pub loop-i-init : goal.loop-i-init
 loop-i-init g c =
     let fit = c.requires.desk in
-    let depth = length c.args.runner.now.script.shape.moduli in
+    let depth = c.args.runner.now.script.shape.depth in
     let HasDepth : State → Type 0 = λ s. length s.registers ≡ depth in
     let long = c.lay_states.auto.config ∙ c.deref_mut.ensures.len in
     let items = with_items_is c.args.desk.now.config c.lay_states.new.config long in

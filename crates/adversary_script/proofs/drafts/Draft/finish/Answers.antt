@@ -1,11 +1,10 @@
-use Rattle.std.proofs.Common.{◌≡◌, length, Some, refl, sym, ap, ◌∙◌, subst}
+use Rattle.std.proofs.Common.{◌≡◌, Some, refl, sym, ap, ◌∙◌, subst}
 use Rattle.construction.specs.Plans.{plan_nodes}
-use Rattle.state_codec.specs.Shapes.{Shape}
+use Rattle.state_codec.specs.Shapes.{shape_nodes}
 use Rattle.adversary_script.specs.Scripts.{IsScript, AreWithin}
 use Rattle.adversary_script.specs.Seen.{script_seen, faulty_or_none, IsOver}
 use Rattle.adversary_script.specs.Links.{IsLinked}
 use Rattle.adversary_script.proofs.DraftEras.{nothing_kept, over_nodes}
-use Rattle.adversary_script.proofs.StateShapes.{nodes_of}
 use Rattle.adversary_script.proofs.drafts.Draft.finish.Goals as goal
 
 pub invariant_of-self : goal.invariant_of-self
@@ -46,7 +45,6 @@ invariant_of-result c =
     (rw c.deref.ensures.value at c.in_ok-links.ensures) in (
       rw (shape, faulty, parts) said,
       over,
-      ap (λ (s : Shape). length s.lows) shape
-          ∙ nodes_of c.self.inside.plan.now c.self.inside.shape.now c.self.invariant.2 ∙ sym nodes,
+      ap shape_nodes shape ∙ (c.self.invariant.2 ∙ sym nodes),
       linked,
     )

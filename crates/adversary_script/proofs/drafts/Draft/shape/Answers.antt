@@ -2,12 +2,11 @@ use Rattle.std.proofs.Common.{◌∙◌, ap, sym}
 use Rattle.construction.specs.Plans.{plan_nodes}
 use Rattle.adversary_script.specs.Scripts.{Script}
 use Rattle.adversary_script.proofs.DraftEras.{over_nodes}
-use Rattle.adversary_script.proofs.StateShapes.{nodes_of}
 use Rattle.adversary_script.proofs.drafts.Draft.shape.Goals as goal
 
 pub returns-clause-nodes : goal.returns-clause-nodes
 returns-clause-nodes c =
-    nodes_of c.self.inside.plan.now c.self.inside.shape.now c.self.invariant.2
+    c.self.invariant.2
     ∙ sym (over_nodes (plan_nodes c.self.inside.plan.now) c.self.inside.faulty
     c.self.invariant.1.first)
     ∙ ap (λ (s : Script). s.nodes) c.self.view_is

@@ -8,7 +8,7 @@ use Rattle.adversary_script.proofs.shifting.Source.fit_registers.Given as goal
 abbrev pub invariant-loop-i : goal.invariant-loop-i
 invariant-loop-i l = record {
   number : l.out.x ≡ l.fn.out.x;
-  depth : length l.out.registers ≡ length l.self.config.now.shape.moduli;
+  depth : length l.out.registers ≡ l.self.config.now.shape.depth;
   filled : (j : ℕ) → j < l.i → slice_index_or l.out.registers j zero_register ≡ fitted_register
       (slice_index (fields_at l.self.config.now.shape l.self.v).moduli j)
       (register_at j (state_of l.self.config.now.current l.self.w));

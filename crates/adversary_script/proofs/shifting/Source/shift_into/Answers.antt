@@ -1,4 +1,4 @@
-use Rattle.std.proofs.Common.{rules, ◌≡◌, slice_index_or}
+use Rattle.std.proofs.Common.{rules, ◌≡◌}
 use Rattle.construction.specs.Steps.{state_of}
 use Rattle.state_codec.specs.Shapes.{fields_at}
 use Rattle.state_codec.specs.Ranges.{InRange}
@@ -12,7 +12,7 @@ returns-clause-range c =
     let shape = c.args.self.now.config.now.shape in
     let fields = fields_at shape c.args.self.now.v in
     let state = state_of c.args.self.now.config.now.current c.args.self.now.w in
-    let limited = fields_limited shape (slice_index_or shape.lows c.args.self.now.v 0)
+    let limited = fields_limited shape c.args.self.now.v
     c.tell.ensures.sound in
     let range : InRange fields (shifted c.args.by fields state) = shifted_in_range c.args.by _ state
     limited in

@@ -1,5 +1,6 @@
 use Rattle.std.proofs.Common.{◌∙◌, ap, length, rules}
-use Rattle.pulse_machine.proofs.Kept.{index_is, fields_are, sound}
+use Rattle.pulse_plan.proofs.Sound.{accepted_are_sound}
+use Rattle.pulse_machine.proofs.Kept.{index_is, fields_are}
 use Rattle.pulse_machine.proofs.pulse_machines.PulseMachine.fields_of.Goals as goal
 
 pub index-requires : goal.index-requires
@@ -21,4 +22,4 @@ returns-clause-depth c =
     (ap (λ fields. length fields.moduli)
     (fields_are c.self.inside.plan c.self.inside.fields.items c.self.invariant c.args.v lt
     c.index.result.now c.index.ensures)
-    ∙ (sound c.self.inside.plan c.self.invariant.accepted).depth c.args.v lt)
+    ∙ (accepted_are_sound c.self.inside.plan c.self.invariant.accepted).depth c.args.v lt)

@@ -1,5 +1,6 @@
 use Rattle.std.proofs.Common.{arith}
-use Rattle.pulse_machine.proofs.Kept.{node_is, can_hear, nodes_are}
+use Rattle.pulse_plan.proofs.Sound.{nodes_are}
+use Rattle.pulse_machine.proofs.Kept.{node_is, can_hear}
 use Rattle.pulse_machine.proofs.pulse_machines.PulseMachineMachine.advance.Goals as goal
 
 pub advance-requires-clause-node : goal.advance-requires-clause-node

@@ -1,5 +1,5 @@
 use Rattle.std.proofs.Common.{◌∙◌, sym}
-use Rattle.pulse_machine.proofs.Kept.{nodes_are}
+use Rattle.pulse_plan.proofs.Sound.{nodes_are}
 use Rattle.pulse_machine.proofs.pulse_machines.PulseMachineMachine.nodes.Goals as goal
 
 pub returns : goal.returns

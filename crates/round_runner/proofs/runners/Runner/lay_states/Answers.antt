@@ -11,12 +11,12 @@ returns-clause-deep g c =
     let script = c.self.inside.script in
     let states = c.self.inside.states in
     let config : List State = states.current in
-    let HasDepth : State → Type 0 = λ s. length s.registers ≡ length script.shape.moduli in
+    let HasDepth : State → Type 0 = λ s. length s.registers ≡ script.shape.depth in
     let all : All HasDepth config = all_places HasDepth config (λ u lt.
     depth_of_node states.shape u _ (c.tell.ensures.current u lt)
-    ∙ ap (λ (s : Shape). length s.moduli) c.self.invariant.shape) in
+    ∙ ap (λ (s : Shape). s.depth) c.self.invariant.shape) in
     let laid : All HasDepth c.lay.new.heard =
     subst (λ (xs : List State). All HasDepth xs) (sym c.lay.ensures) all in
     subst (λ (r : Running _).
-    All (λ (s : State). length s.registers ≡ length r.script.shape.moduli) c.lay.new.heard)
+    All (λ (s : State). length s.registers ≡ r.script.shape.depth) c.lay.new.heard)
     c.self.view_is laid

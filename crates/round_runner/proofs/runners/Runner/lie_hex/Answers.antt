@@ -1,6 +1,6 @@
-use Rattle.std.proofs.Common.{◌≡◌, ◌<◌, ◌∙◌, length, true, sym, ap, subst, arith}
+use Rattle.std.proofs.Common.{◌≡◌, ◌<◌, ◌∙◌, true, sym, ap, subst, arith}
 use Rattle.sync_types.specs.FaultSets.{is_in}
-use Rattle.state_codec.specs.Shapes.{Shape}
+use Rattle.state_codec.specs.Shapes.{shape_nodes}
 use Rattle.adversary_script.specs.Scripts.{faulty_sets}
 use Rattle.adversary_script.specs.Eras.{era_of, faulty_at}
 use Rattle.adversary_script.proofs.FaultyIds.{member_below}
@@ -17,7 +17,7 @@ write_hex-requires-clause-node g c =
     let below : c.args.u < script.nodes =
     member_below script.nodes c.args.u (faulty_sets script) (era_of script c.self.inside.at)
     c.self.invariant.whole.formed.ids sender in
-    let shape = ap (λ (s : Shape). length s.lows) (c.shape.ensures ∙ c.self.invariant.shape) in
+    let shape = ap shape_nodes (c.shape.ensures ∙ c.self.invariant.shape) in
     omega (arith, below, shape, c.self.invariant.fits.nodes, c.self.invariant.right.nodes)
 
 pub invariant_of-self : goal.invariant_of-self

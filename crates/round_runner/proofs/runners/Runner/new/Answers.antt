@@ -26,7 +26,7 @@ pub start_all-requires-clause-config : goal.start_all-requires-clause-config
 start_all-requires-clause-config g c = record {
   shape = ap (λ (p : Pack). p.shape) c.in_ok-states.ensures ∙ sym c.requires.shape;
   size = ap (λ (p : Pack). length p.current) c.in_ok-states.ensures
-      ∙ length-replicate c.nodes.result (zero_state (length c.args.shape.moduli))
+      ∙ length-replicate c.nodes.result (zero_state c.args.shape.depth)
       ∙ c.nodes.ensures ∙ ap (λ (s : FaultIds). s.nodes) c.faulty.ensures;
 }
 

@@ -20,7 +20,7 @@ pub start_all-requires-clause-room : goal.start_all-requires-clause-room
 start_all-requires-clause-room g c = record {
   noise = c.restart.ensures ∙ sym (ap (λ (s : Script). s.key) c.set_key.ensures);
   out = c.self.invariant.ready.out
-      ∙ sym (ap (λ (s : Script). length s.shape.moduli) c.set_key.ensures);
+      ∙ sym (ap (λ (s : Script). s.shape.depth) c.set_key.ensures);
 }
 
 pub invariant_of-self : goal.invariant_of-self
@@ -28,7 +28,7 @@ invariant_of-self g c =
     let now = c.set_key.new.self in
     let room = c.start_all.ensures.room in
     let key = ap (λ (s : Script). s.key) c.set_key.ensures in
-    let deep = ap (λ (s : Script). length s.shape.moduli) c.set_key.ensures in
+    let deep = ap (λ (s : Script). s.shape.depth) c.set_key.ensures in
     let layer = g.O.Overlay.layer c.self.inside.overlay in
     subst (λ (r : Room). IsKept c.self.inside.tower now layer r c.start_all.new.states
     c.begin_locks.new.locks.items 0 0) (sym c.start_all.ensures.same)

@@ -1,7 +1,7 @@
 use Rattle.std.proofs.Common.{◌≡◌, ◌<◌, ◌*◌, ◌∙◌, length, sym, ap, subst, arith}
 use Rattle.construction.specs.Plans.{plan_nodes}
 use Rattle.construction.specs.Steps.{state_of}
-use Rattle.state_codec.specs.Shapes.{Shape, fields_at, bytes_in}
+use Rattle.state_codec.specs.Shapes.{Shape, fields_at, bytes_in, shape_nodes}
 use Rattle.state_codec.specs.Ranges.{InRange}
 use Rattle.state_codec.specs.Texts.{written_text}
 use Rattle.round_runner.specs.Runners.{Running}
@@ -19,7 +19,7 @@ write_hex-requires-clause-node g c =
     let kept = c.self.invariant in
     let node : c.args.v < plan_nodes c.self.inside.tower =
     subst (λ (r : Running _). c.args.v < plan_nodes r.plan) (sym c.self.view_is) c.requires.node in
-    let shape = ap (λ (s : Shape). length s.lows) c.shape.ensures in
+    let shape = ap shape_nodes c.shape.ensures in
     omega (arith, node, kept.size, kept.right.nodes, c.tell.ensures.few, shape)
 
 pub write_hex-requires-clause-range : goal.write_hex-requires-clause-range

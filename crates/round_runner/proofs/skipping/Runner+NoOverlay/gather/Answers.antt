@@ -1,4 +1,4 @@
-use Rattle.std.proofs.Common.{◌≡◌, ◌<◌, List, length, map, All, sym, ap, ◌∙◌, subst, arith, []}
+use Rattle.std.proofs.Common.{◌≡◌, ◌<◌, List, map, All, sym, ap, ◌∙◌, subst, arith, []}
 use Rattle.std.proofs.lemmas.List.{length-map}
 use Rattle.std.proofs.lemmas.List.Elements.{All-get_or}
 use Rattle.sync_types.specs.FaultSets.{FaultIds}
@@ -24,7 +24,7 @@ pub gather-requires-clause-deep : goal.gather-requires-clause-deep
 gather-requires-clause-deep g c =
     let kept = c.self.invariant in
     let deep = kept.fits.depth in
-    let same = ap (λ (s : Shape). length s.moduli) kept.shape in
+    let same = ap (λ (s : Shape). s.depth) kept.shape in
     omega (arith, deep, same)
 
 pub gather-requires-clause-range : goal.gather-requires-clause-range

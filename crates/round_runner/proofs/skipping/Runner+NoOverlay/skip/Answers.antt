@@ -16,7 +16,7 @@ use Rattle.round_runner.proofs.skipping.Runner+NoOverlay.skip.Goals as goal
 
 pub grow-requires : goal.grow-requires
 grow-requires c =
-    c.self.invariant.ready.out ∙ sym (ap (λ (s : Shape). length s.moduli) c.self.invariant.shape)
+    c.self.invariant.ready.out ∙ sym (ap (λ (s : Shape). s.depth) c.self.invariant.shape)
 
 pub invariant_of-self : goal.invariant_of-self
 invariant_of-self c =

@@ -1,17 +1,19 @@
 use Rattle.std.proofs.Common.{arith}
 use Rattle.run_certificates.specs.Items.{values_said}
 use Rattle.run_checker.proofs.BodySteps.{row_marks}
-use Rattle.run_checker.proofs.BodyKept.{shape_depth}
+use Rattle.run_checker.proofs.BodyKept.{shape_has_depth}
 use Rattle.run_checker.proofs.bodies.Body.mark_row.Goals as goal
 
 pub invariant_of-showing-clause-deep : goal.invariant_of-showing-clause-deep
 invariant_of-showing-clause-deep c =
-    let deep = shape_depth c.self.inside.tower c.self.inside.config.shape c.self.invariant.shape in
+    let deep = shape_has_depth c.self.inside.tower c.self.inside.config.shape
+    c.self.invariant.shape in
     omega (arith, deep, c.depth.ensures)
 
 pub is_locked-locked-requires-clause-deep : goal.is_locked-locked-requires-clause-deep
 is_locked-locked-requires-clause-deep c =
-    let deep = shape_depth c.self.inside.tower c.self.inside.config.shape c.self.invariant.shape in
+    let deep = shape_has_depth c.self.inside.tower c.self.inside.config.shape
+    c.self.invariant.shape in
     omega (arith, deep)
 
 pub returns : goal.returns

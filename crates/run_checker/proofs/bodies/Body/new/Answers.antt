@@ -14,14 +14,14 @@ use Rattle.run_checker.specs.Bodies.{BodySeen}
 use Rattle.run_checker.specs.Rounds.{AreStates}
 use Rattle.run_checker.specs.Sets.{no_ids}
 use Rattle.run_checker.specs.Tellings.{Telling, most_pairs}
-use Rattle.run_checker.proofs.BodyKept.{Below, shape_nodes, zeros_known, no_states}
+use Rattle.run_checker.proofs.BodyKept.{Below, shape_has_nodes, zeros_known, no_states}
 use Rattle.run_checker.proofs.Rooms.{pairs_few}
 use Rattle.run_checker.proofs.bodies.Body.new.Goals as goal
 
 pub begin-requires-clause-nodes : goal.begin-requires-clause-nodes
 begin-requires-clause-nodes c =
     c.requires.nodes
-    ∙ sym (shape_nodes c.args.plan.now c.in_ok-tellings.tellings.shape
+    ∙ sym (shape_has_nodes c.args.plan.now c.in_ok-tellings.tellings.shape
     (ap (λ (t : Telling). t.shape) c.in_ok-tellings.ensures))
 
 pub begin-requires-clause-room : goal.begin-requires-clause-room
@@ -83,7 +83,7 @@ returns c =
       told = told;
     } in
     let plan = c.args.plan.now in
-    let depth = ap (λ (f : Shape). length f.moduli) c.in_ok-shape.ensures.shape
+    let depth = ap (λ (f : Shape). f.depth) c.in_ok-shape.ensures.shape
     ∙ length-moduli_of plan.levels in
     let zeros = ap (λ (p : Pack). p.current) c.in_ok-config.ensures
     ∙ (ap₂ (λ (n d : ℕ). replicate n (zero_state d)) c.nodes-2.ensures depth

@@ -11,7 +11,7 @@ use Rattle.run_checker.specs.Bodies.{BodySeen}
 use Rattle.run_checker.specs.Rounds.{AreStates}
 use Rattle.run_checker.specs.Changes.{played_into}
 use Rattle.run_checker.proofs.Attributed.{stepped_is}
-use Rattle.run_checker.proofs.BodyKept.{Below, shape_nodes, told_of, none_are, round_left}
+use Rattle.run_checker.proofs.BodyKept.{Below, shape_has_nodes, told_of, none_are, round_left}
 use Rattle.run_checker.proofs.Rooms.{pairs_few}
 use Rattle.run_checker.proofs.bodies.Body.play_into.Goals as goal
 
@@ -19,7 +19,7 @@ pub begin-requires-clause-nodes : goal.begin-requires-clause-nodes
 begin-requires-clause-nodes c =
     c.requires.nodes
     ∙ sym (ap (λ (b : BodySeen). plan_nodes b.known.plan) c.self.view_is)
-    ∙ sym (shape_nodes c.self.inside.tower c.self.inside.tellings.shape c.self.invariant.kept)
+    ∙ sym (shape_has_nodes c.self.inside.tower c.self.inside.tellings.shape c.self.invariant.kept)
 
 pub begin-requires-clause-room : goal.begin-requires-clause-room
 begin-requires-clause-room c =

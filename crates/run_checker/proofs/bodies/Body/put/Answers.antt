@@ -6,20 +6,20 @@ use Rattle.state_codec.specs.Shapes.{Shape, shape_of, fields_at}
 use Rattle.state_codec.specs.Ranges.{InRange}
 use Rattle.plan_laws.proofs.PlanCounter.{plan_sizes}
 use Rattle.run_checker.specs.Bodies.{BodySeen}
-use Rattle.run_checker.proofs.BodyKept.{shape_nodes, shape_depth, node_deep}
+use Rattle.run_checker.proofs.BodyKept.{shape_has_nodes, shape_has_depth, node_deep}
 use Rattle.run_checker.proofs.bodies.Body.put.Goals as goal
 
 pub read_hex-requires-clause-node : goal.read_hex-requires-clause-node
 read_hex-requires-clause-node c =
     let nodes = ap (λ (b : BodySeen). plan_nodes b.known.plan) c.self.view_is in
-    let lows = shape_nodes c.self.inside.tower c.shape.result.now
+    let sized = shape_has_nodes c.self.inside.tower c.shape.result.now
     (c.shape.ensures ∙ c.self.invariant.shape) in
-    omega (arith, c.requires, nodes, lows)
+    omega (arith, c.requires, nodes, sized)
 
 pub read_hex-requires-clause-depth : goal.read_hex-requires-clause-depth
 read_hex-requires-clause-depth c =
     c.self.invariant.room.out
-    ∙ sym (shape_depth c.self.inside.tower c.shape.result.now
+    ∙ sym (shape_has_depth c.self.inside.tower c.shape.result.now
     (c.shape.ensures ∙ c.self.invariant.shape))
 
 pub set-requires-clause-node : goal.set-requires-clause-node

@@ -3,7 +3,7 @@ use Rattle.std.proofs.Common.{subst, arith}
 use Rattle.std.proofs.lemmas.List.{length-set, get_or_default}
 use Rattle.sync_types.specs.States.{State}
 use Rattle.run_certificates.specs.Grammar.{pairs_of}
-use Rattle.state_codec.specs.Shapes.{Shape, fields_at, bytes_in}
+use Rattle.state_codec.specs.Shapes.{Shape, fields_at, bytes_in, shape_nodes}
 use Rattle.run_checker.specs.Tellings.{Telling, states_read}
 use Rattle.run_checker.proofs.BodyKept.{Below}
 use Rattle.run_checker.proofs.StatesRead.{none_read, counted_more}
@@ -31,7 +31,7 @@ bytes_of-bytes-requires c =
     let h = c.loop-k.invariant in
     let senders = subst (All (Below c.args.faulty.now.nodes))
     (c.take_pairs.ensures.pairs ∙ sym h.pairs) c.take_pairs.ensures.senders in
-    let nodes = c.requires.nodes ∙ ap (λ (s : Shape). length s.lows) (sym h.shape) in
+    let nodes = c.requires.nodes ∙ ap shape_nodes (sym h.shape) in
     let count = ap (λ (l : List (ℕ × ℕ)). length l) h.pairs in
     let ends = ap (λ (l : List (ℕ × ℕ)). length l) c.take_pairs.ensures.pairs in
     let below = subst (λ (p : ℕ × ℕ). p.0 < c.args.faulty.now.nodes) (sym c.index.ensures)
@@ -79,7 +79,7 @@ invariant_of-self c =
     let inside = c.loop-k.self-inside in
     let senders = subst (All (Below c.args.faulty.now.nodes))
     (c.take_pairs.ensures.pairs ∙ sym h.pairs) c.take_pairs.ensures.senders in
-    let nodes = c.requires.nodes ∙ ap (λ (s : Shape). length s.lows) (sym h.shape) in
+    let nodes = c.requires.nodes ∙ ap shape_nodes (sym h.shape) in
     let count = ap (λ (l : List (ℕ × ℕ)). length l) h.pairs in
     let ends = ap (λ (l : List (ℕ × ℕ)). length l) c.take_pairs.ensures.pairs in
     record {

@@ -3,7 +3,7 @@ use Rattle.sync_types.specs.States.{State, zero_state}
 use Rattle.construction.specs.Plans.{plan_nodes, plan_depth}
 use Rattle.plan_laws.specs.PlanMeaning.{IsInRange}
 use Rattle.plan_laws.proofs.PlanCounter.{plan_zero}
-use Rattle.run_checker.proofs.BodyKept.{shape_depth}
+use Rattle.run_checker.proofs.BodyKept.{shape_has_depth}
 use Rattle.run_checker.proofs.HeardLaid.{zero_long, laid_states, told_room, faulty_heard}
 use Rattle.run_checker.proofs.HeardLaid.{correct_heard}
 use Rattle.run_checker.proofs.ToldPlaces.{fewer_before}
@@ -86,7 +86,8 @@ lay_told-requires-clause-whole c =
 pub lay_told-requires-clause-deep : goal.lay_told-requires-clause-deep
 lay_told-requires-clause-deep c =
     subst (λ (n : ℕ). All (λ (s : State). length s.registers ≡ n) c.args.room.now.lies.items)
-    (sym (shape_depth c.args.self.now.round.now.tower.now c.args.self.now.round.now.told.now.shape c.args.self.now.round.now.shape))
+    (sym (shape_has_depth c.args.self.now.round.now.tower.now
+    c.args.self.now.round.now.told.now.shape c.args.self.now.round.now.shape))
     c.requires.room.ready.lies.deep
 
 pub returns-else-contains-clause-laid : goal.returns-else-contains-clause-laid

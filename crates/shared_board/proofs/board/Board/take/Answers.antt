@@ -144,7 +144,7 @@ returns c =
     filled_states states new_columns new_shows inside.nodes filled nodes (λ v lt.
     let within : v < length states = omega (arith, lt, nodes) in
     let moduli = (c.tell-2.ensures.current v within).depth
-    ∙ length-map-range_with_len _ 0 (length c.args.config.now.shape.moduli) in
+    ∙ length-map-range_with_len _ 0 c.args.config.now.shape.depth in
     omega (arith, moduli, same_depth, c.requires.deep)) in
     ap (λ ss. record {
       depth = length new_columns;

@@ -8,7 +8,7 @@ use Rattle.state_codec.proofs.packed.Packed.new.Goals as goal
 pub invariant_of-result : goal.invariant_of-result
 invariant_of-result c =
     let shape = c.args.shape in
-    let zero : State = zero_state (length shape.moduli) in
+    let zero : State = zero_state shape.depth in
     let first : c.in_ok-current.current.items ≡ zeros shape c.args.nodes = search rules in
     let second : c.in_ok-next.next.items ≡ zeros shape c.args.nodes = search rules in
     let one = ap (λ (xs : List State). length xs) first ∙ length-replicate c.args.nodes zero in

@@ -1,27 +1,28 @@
-use Rattle.std.proofs.Common.{◌+◌, ◌≤◌, ◌^◌, List, [], map, ap₂, ◌∙◌, subst, sym, ℕ}
+use Rattle.std.proofs.Common.{◌≡◌, ◌+◌, List, length, map, ap, ◌∙◌, ℕ, arith}
 use Rattle.std.specs.List.{range_with_len}
 use Rattle.construction.specs.Plans.{plan_depth}
-use Rattle.state_codec.specs.Shapes.{fields_from}
-use Rattle.state_codec.proofs.Plans.{shape_of_accepted}
-use Rattle.state_codec.proofs.Lows.{plan_kept}
+use Rattle.state_codec.specs.Shapes.{fields_from, all_over}
+use Rattle.state_codec.proofs.Plans.{all_of_accepted, over_accepted}
+use Rattle.state_codec.proofs.PlanShapes.{shape_is, plan_kept}
 use Rattle.state_codec.proofs.shapes.StateShape.over.Goals as goal
 
 pub invariant_of-result : goal.invariant_of-result
 invariant_of-result c =
-    let plans = shape_of_accepted c.args.plan.now c.tell.ensures.accepted in
-    plan_kept c.args.plan.now (record {
-      base = c.base_modulus-base.result;
-      moduli = c.args.moduli.items;
-      lows = c.in_ok-lows.lows.items;
-    })
-    c.in_ok-kinds.kinds.items
-    (record {
-      least = subst (λ b. 2 ≤ b) (sym c.base_modulus-base.ensures) plans.least;
-      most = subst (λ b. b ≤ 2 ^ 40) (sym c.base_modulus-base.ensures) plans.most;
-      moduli = c.requires.moduli;
-    })
-    c.requires.few c.in_ok-lows.ensures c.tell.ensures.sized.most
-    (c.in_ok-kinds.ensures ∙ ap₂ (λ (b : ℕ) (ms : List ℕ). map
-    (fields_from (record { base = b; moduli = ms; lows = [] }))
-    (range_with_len 0 (plan_depth c.args.plan.now + 1))) (sym c.base_modulus-base.ensures)
-    c.deref.ensures.value)
+    let plan = c.args.plan.now in
+    let own = all_of_accepted plan c.tell.ensures.accepted in
+    let made = c.in_ok-kinds.ensures ∙ ap (λ (ms : List ℕ). map (fields_from (all_over plan ms))
+    (range_with_len 0 (plan_depth plan + 1))) c.deref.ensures.value in
+    let deep : c.len-depth.result ≡ length c.args.moduli.items = omega (arith, c.len-depth.ensures) in
+    plan_kept plan c.args.moduli.items c.in_ok-kinds.kinds.items c.in_ok-which.which.items made
+    c.in_ok-which.ensures c.len-depth.result deep c.tell.ensures.sized.most
+    (over_accepted plan c.args.moduli.items c.tell.ensures.accepted
+    (record { least = own.least; most = own.most; moduli = c.requires.moduli }))
+
+pub returns : goal.returns
+returns c =
+    let plan = c.args.plan.now in
+    let made = c.in_ok-kinds.ensures ∙ ap (λ (ms : List ℕ). map (fields_from (all_over plan ms))
+    (range_with_len 0 (plan_depth plan + 1))) c.deref.ensures.value in
+    let deep : c.len-depth.result ≡ length c.args.moduli.items = omega (arith, c.len-depth.ensures) in
+    shape_is plan c.args.moduli.items c.in_ok-kinds.kinds.items c.in_ok-which.which.items made
+    c.in_ok-which.ensures c.len-depth.result deep

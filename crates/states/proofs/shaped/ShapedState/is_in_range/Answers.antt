@@ -1,13 +1,13 @@
 use Rattle.std.proofs.Common.{◌≡◌, length, sym, ◌∙◌, arith}
 use Rattle.state_codec.specs.Shapes.{fields_at}
-use Rattle.state_codec.proofs.Lows.{length-moduli_from}
+use Rattle.state_codec.proofs.Lows.{depth_at}
 use Rattle.states.proofs.shaped.ShapedState.is_in_range.Goals as goal
 
 pub returns : goal.returns
 returns c _ =
     let self = c.args.self.now in
-    let long : length (fields_at self.shape.now self.node).moduli ≡ length self.shape.now.moduli =
-    length-moduli_from _ self.shape.now.moduli in
+    let long : length (fields_at self.shape.now self.node).moduli ≡ self.shape.now.depth =
+    depth_at self.shape.now self.node in
     record {
       depth = self.depth ∙ sym long;
       x = omega (arith, c.if-x-base_of.false, c.x.ensures, c.base_of.ensures.value);

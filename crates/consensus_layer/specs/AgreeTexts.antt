@@ -1,0 +1,26 @@
+-- The text of an agree part, which is read back.
+use Rattle.std.specs.Prelude.{◌≡◌, ℕ, List, [], ◌∷◌, ◌++◌, map, Ok, codes, decimal}
+use Rattle.texts.specs.Lines.{lines_of}
+use Rattle.texts.specs.Words.{joined, text_of}
+use Rattle.construction.specs.Plans.{Plan}
+use Rattle.plan_numbers.specs.Premises.{IsAccepted}
+use Rattle.consensus_layer.specs.AgreeSaid.{AgreeSaid}
+use Rattle.consensus_layer.specs.AgreePart.{part_of, IsFor}
+
+abbrev pub values_line : AgreeSaid → List ℕ
+values_line said = joined (codes "values" ∷ decimal said.values ∷ [])
+
+abbrev pub inputs_line : AgreeSaid → List ℕ
+inputs_line said = joined (codes "inputs" ∷ map decimal said.inputs)
+
+-- the part that says values and inputs
+abbrev pub agree_text : AgreeSaid → List ℕ
+agree_text said =
+    text_of (codes "agree 1" ∷ values_line said ∷ inputs_line said ∷ codes "end" ∷ [])
+
+-- The text of what is said for an accepted plan is read as this, whatever text follows.
+abbrev pub AgreeTextIsRead : Type 0
+AgreeTextIsRead = (plan : Plan) → IsAccepted plan → (said : AgreeSaid) → IsFor plan said
+    → (number : ℕ) (rest : List ℕ)
+    → part_of plan number (lines_of (agree_text said ++ rest))
+    ≡ Ok (record { value = said; taken = 4; behind = lines_of rest })

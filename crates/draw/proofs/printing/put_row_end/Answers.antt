@@ -1,8 +1,0 @@
-use Rattle.std.proofs.Common.{◌+◌}
-use Rattle.draw.proofs.Parts.{wrote_unless_is}
-use Rattle.draw.proofs.printing.put_row_end.Goals as goal
-
-pub returns-else-from : goal.returns-else-from
-returns-else-from g c =
-    wrote_unless_is (c.args.cell.node + 1) c.args.nodes _ _
-    (rw (c.from.ensures, c.from-2.ensures) at c.if-from.false)

@@ -1,4 +1,0 @@
-use Rattle.draw.proofs.printing.put_word.Goals as goal
-
-pub returns-in-None : goal.returns-in-None
-returns-in-None g c = rw c.in-None.is c.put_all.ensures

@@ -1,4 +1,0 @@
-use Rattle.draw.proofs.squares.put_filling.Goals as goal
-
-pub returns-in-None : goal.returns-in-None
-returns-in-None g c = rw c.in-None.is c.put_all.ensures

@@ -1,4 +1,0 @@
-use Rattle.draw.proofs.trace_pictures.put_legend_below.Goals as goal
-
-pub returns : goal.returns
-returns g c = rw c.bottom.ensures.value at c.put_legend.ensures

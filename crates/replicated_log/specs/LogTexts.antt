@@ -1,0 +1,42 @@
+-- The text of a log part, which is read back.
+use Rattle.std.specs.Prelude.{◌≡◌, ℕ, ◌+◌, ◌≤◌, List, [], ◌∷◌, ◌++◌, length, map, All, Ok, codes}
+use Rattle.std.specs.Prelude.{decimal}
+use Rattle.texts.specs.Lines.{lines_of}
+use Rattle.texts.specs.Words.{joined, text_of}
+use Rattle.construction.specs.Plans.{Plan}
+use Rattle.plan_numbers.specs.Premises.{IsAccepted}
+use Rattle.replicated_log.specs.LogSaid.{LogSaid}
+use Rattle.replicated_log.specs.LogPart.{part_of, IsFor}
+
+abbrev pub values_line : LogSaid → List ℕ
+values_line said = joined (codes "values" ∷ decimal said.values ∷ [])
+
+abbrev pub keep_line : LogSaid → List ℕ
+keep_line said = joined (codes "keep" ∷ decimal said.keep ∷ [])
+
+-- what node v commands
+abbrev pub commands_line : (v : ℕ) → (own : List ℕ) → List ℕ
+commands_line v own = joined (codes "commands" ∷ decimal v ∷ map decimal own)
+
+-- what the nodes from v on command
+abbrev pub commands_lines : (v : ℕ) → (commands : List (List ℕ)) → List (List ℕ)
+commands_lines v [] = []
+commands_lines v (own ∷ commands) = commands_line v own ∷ commands_lines (v + 1) commands
+
+-- the part that says a log
+abbrev pub log_text : LogSaid → List ℕ
+log_text said =
+    text_of (codes "log 1" ∷ values_line said ∷ keep_line said
+    ∷ (commands_lines 0 said.commands ++ codes "end" ∷ []))
+
+-- The text of a log for an accepted plan, whose nodes have at most 16 commands each, is read as
+-- this log, whatever text follows.
+abbrev pub LogTextIsRead : Type 0
+LogTextIsRead = (plan : Plan) → IsAccepted plan → (said : LogSaid) → IsFor plan said
+    → All (λ own. length own ≤ 16) said.commands → (number : ℕ) (rest : List ℕ)
+    → part_of plan number (lines_of (log_text said ++ rest))
+    ≡ Ok (record {
+      value = said;
+      taken = 3 + (length said.commands + 1);
+      behind = lines_of rest;
+    })

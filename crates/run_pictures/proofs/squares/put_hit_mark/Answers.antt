@@ -1,0 +1,10 @@
+use Rattle.texts.proofs.Growth.{wrote_none}
+use Rattle.run_pictures.proofs.squares.put_hit_mark.Goals as goal
+
+pub returns-in-true : goal.returns-in-true
+returns-in-true g c =
+    rw c.in-true.is
+    (rw (c.left.ensures.value, c.spot_top.ensures.value) at c.put_pieces.ensures)
+
+pub returns-in-false : goal.returns-in-false
+returns-in-false g c = rw c.in-false.is (wrote_none _)

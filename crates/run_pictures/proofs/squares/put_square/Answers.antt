@@ -1,0 +1,19 @@
+use Rattle.texts.proofs.Growth.{cut_more, cut_then, puts_then}
+use Rattle.run_pictures.specs.Cells.{filling, rectangle_front}
+use Rattle.run_pictures.proofs.squares.put_square.Goals as goal
+
+pub returns-in-Err : goal.returns-in-Err
+returns-in-Err g c =
+    cut_more _ _ (rectangle_front c.args.spot) _ c.in-Err.ensures
+
+pub returns-in-Err-put_filling : goal.returns-in-Err-put_filling
+returns-in-Err-put_filling g c =
+    cut_then _ _ _ (rectangle_front c.args.spot) _ c.in-Ok.ensures
+    (cut_more _ _ (filling c.args.shown) _ c.in-Err-put_filling.ensures)
+
+pub returns : goal.returns
+returns g c =
+    puts_then _ _ _ _ (rectangle_front c.args.spot) _
+    c.in-Ok.ensures
+    (puts_then _ _ _ _ (filling c.args.shown) _ c.in-Ok-put_filling.ensures
+    c.put_inscription.ensures)

@@ -1,0 +1,38 @@
+-- What drawing a text does.
+use Rattle.std.specs.Prelude.{◌≡◌, ◌⊎◌, ℕ, List, Result, Ok, Err}
+use Rattle.texts.specs.Growth.{Told, Wrote, Cut}
+use Rattle.run_pictures.specs.declared.charts.Chart.{Chart}
+use Rattle.run_pictures.specs.declared.traces.Trace.{Trace}
+use Rattle.run_pictures.specs.declared.drawing.DrawError.{DrawError}
+use Rattle.run_pictures.specs.declared.drawing.DrawError.TheVariants as error
+use Rattle.run_pictures.specs.Charts.{chart_text}
+use Rattle.run_pictures.specs.Laid.{IsLaid}
+use Rattle.run_pictures.specs.Pictures.{picture_text}
+use Rattle.run_pictures.specs.Traces.{trace_text}
+use Rattle.run_pictures.specs.TraceLaid.{IsTraceLaid}
+use Rattle.run_pictures.specs.TracePictures.{trace_picture}
+
+-- the text is that of a chart, and the picture of that chart has this
+pub record DrawsRows (text : List ℕ) (holds : List ℕ → Type 0) : Type 0 where
+  pub chart : Chart
+  pub is : chart_text chart ≡ text
+  pub laid : IsLaid chart
+  pub drawn : holds (picture_text chart)
+
+-- the text is that of a trace, and the picture of that trace has this
+pub record DrawsTrace (text : List ℕ) (holds : List ℕ → Type 0) : Type 0 where
+  pub trace : Trace
+  pub is : trace_text trace.frame.first trace.notes.items ≡ text
+  pub laid : IsTraceLaid trace
+  pub drawn : holds (trace_picture trace)
+
+-- a text is drawn as one of the two
+abbrev pub Draws : (text : List ℕ) → (holds : List ℕ → Type 0) → Type 0
+Draws text holds = DrawsRows text holds ⊎ DrawsTrace text holds
+
+-- What was written of a text: its picture, or a front of it, or nothing.
+abbrev pub Does : {T : Type 0} → Result T DrawError
+    → (Shows : (List ℕ → Type 0) → Type 0) → (old new : Told) → Type 0
+Does (Ok value) Shows old new = Shows (λ picture. Wrote picture old new)
+Does (Err error.Write) Shows old new = Shows (λ picture. Cut picture old new)
+Does (Err other) Shows old new = new ≡ old

@@ -1,0 +1,11 @@
+pub mod Frames
+pub mod Charts
+pub mod Laid
+pub mod Cells
+pub mod Pictures
+pub mod Hits
+pub mod Traces
+pub mod Strips
+pub mod TracePictures
+pub mod TraceLaid
+pub mod Drawn

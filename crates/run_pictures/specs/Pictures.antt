@@ -1,0 +1,152 @@
+-- The picture of a chart, in SVG.
+use Rattle.std.specs.Prelude.{ℕ, ◌+◌, ◌-◌, ◌*◌, ◌&&◌, nat_le, nat_lt, max, length, List, [], ◌∷◌}
+use Rattle.std.specs.Prelude.{◌++◌, Bool, true, Option, Some, None, if◌then◌else◌, codes, decimal}
+use Rattle.std.specs.List.{concat, flat_map}
+use Rattle.run_pictures.specs.declared.charts.End.{End}
+use Rattle.run_pictures.specs.declared.charts.Chart.{Chart}
+use Rattle.run_pictures.specs.declared.frames.Frame.{Frame}
+use Rattle.run_pictures.specs.Frames.{band_top, bottom, column_left, line_top, right}
+use Rattle.run_pictures.specs.Charts.{end_words, frame_of}
+use Rattle.run_pictures.specs.Cells.{cell_picture}
+
+-- ---- marks
+
+-- a line down, with a word before its end
+abbrev pub mark : (x top end : ℕ) (colour word : List ℕ) → List ℕ
+mark x top end colour word = concat (
+    codes "<path d='M" ∷ decimal x
+    ∷ codes " " ∷ decimal top
+    ∷ codes "V" ∷ decimal end
+    ∷ codes "' stroke='" ∷ colour
+    ∷ codes "'/>\n<text x='" ∷ decimal x
+    ∷ codes "' y='" ∷ decimal end
+    ∷ codes "' dx='-3' text-anchor='end' fill='" ∷ colour
+    ∷ codes "'>" ∷ word
+    ∷ codes "</text>\n" ∷ [])
+
+-- whether a configuration has a column
+abbrev pub has_column : Frame → (t : ℕ) → Bool
+has_column frame t = nat_le frame.first t && nat_lt t (frame.first + frame.columns)
+
+-- a line down a column of cells, and as far below them
+abbrev pub mark_at : Frame → (column cells below : ℕ) (colour word : List ℕ) → List ℕ
+mark_at frame column cells below colour word =
+    mark (column_left frame.digits column) (band_top frame.height column + 30)
+    (band_top frame.height column + cells + below) colour word
+
+-- a mark at a configuration, if that has a row
+abbrev pub mark_row : Chart → (t below : ℕ) (colour word : List ℕ) → List ℕ
+mark_row chart t below colour word =
+    if has_column (frame_of chart) t
+    then mark_at (frame_of chart) (t - chart.first) (line_top chart.nodes) below colour word else []
+
+-- where an era begins; the one era of a script that names none begins at 0
+abbrev pub era_begin : Option ℕ → ℕ
+era_begin None = 0
+era_begin (Some begin) = begin
+
+abbrev pub era_mark : Chart → Option ℕ → List ℕ
+era_mark chart None = []
+era_mark chart (Some begin) = mark_row chart begin 12 (codes "black") (codes "era")
+
+-- whether a configuration is before the next era, if there is one
+abbrev pub is_before : (t : ℕ) → Option ℕ → Bool
+is_before t None = true
+is_before t (Some next) = nat_lt t next
+
+-- the bound at a configuration, if that is before the next era
+abbrev pub bound_at : Chart → (t : ℕ) → (next : Option ℕ) → List ℕ
+bound_at chart t next =
+    if is_before t next then mark_row chart t 24 (codes "firebrick") (codes "bound") else []
+
+-- the bound, counted from where the era begins, if the era is so long
+abbrev pub bound_mark : Chart → End → List ℕ
+bound_mark chart end = bound_at chart (era_begin end.era + chart.bound) end.next
+
+abbrev pub locked_mark : Chart → Option ℕ → List ℕ
+locked_mark chart None = []
+locked_mark chart (Some t) = mark_row chart t 36 (codes "darkgreen") (codes "locked")
+
+-- ---- below the bands
+
+-- the front of a line of the caption
+abbrev pub caption_front : (y : ℕ) → List ℕ
+caption_front y = concat (codes "<text text-anchor='start' x='4' y='" ∷ decimal y ∷ codes "'>" ∷ [])
+
+abbrev pub caption_at : (y : ℕ) → End → List ℕ
+caption_at y end = caption_front y ++ (end_words end ++ codes "</text>\n")
+
+-- a line behind the rows
+abbrev pub caption : Chart → End → List ℕ
+caption chart end = caption_at (bottom (frame_of chart) + 60 + 16 * end.place) end
+
+abbrev pub end_picture : Chart → End → List ℕ
+end_picture chart end =
+    era_mark chart end.era
+    ++ (bound_mark chart end ++ (locked_mark chart end.locked ++ caption chart end))
+
+-- the configuration of the last column
+abbrev pub last_of : Frame → ℕ
+last_of frame = frame.first + frame.columns - 1
+
+-- two configurations in a line of the caption
+abbrev pub span_at : (y first last : ℕ) → List ℕ
+span_at y first last = concat (
+    codes "<text text-anchor='start' x='4' y='" ∷ decimal y
+    ∷ codes "'>configurations " ∷ decimal first
+    ∷ codes " to " ∷ decimal last
+    ∷ codes "</text>\n" ∷ [])
+
+-- which configurations a picture shows
+abbrev pub span_caption : Frame → List ℕ
+span_caption frame = span_at (bottom frame + 12) frame.first (last_of frame)
+
+-- a word and a number in a line of the caption
+abbrev pub number_caption : (y : ℕ) (word : List ℕ) (n : ℕ) → List ℕ
+number_caption y word n = concat (
+    codes "<text text-anchor='start' x='4' y='" ∷ decimal y
+    ∷ codes "'>" ∷ word ∷ codes " " ∷ decimal n
+    ∷ codes "</text>\n" ∷ [])
+
+-- ---- the picture
+
+abbrev pub picture_front : (width height : ℕ) → List ℕ
+picture_front width height = concat (
+    codes "<svg xmlns='http://www.w3.org/2000/svg' width='" ∷ decimal width
+    ∷ codes "' height='" ∷ decimal height
+    ∷ codes "' font-family='monospace' font-size='11' text-anchor='middle'>\n" ∷ [])
+
+-- how faulty nodes are hatched, and the ground
+abbrev pub picture_ground : List ℕ
+picture_ground = concat (
+    codes "<defs><pattern id='faulty' width='6' height='6' patternUnits='userSpaceOnUse'>"
+    ∷ codes "<path d='M0 0H6V6H0Z' fill='white'/><path d='M0 6L6 0' stroke='black'/>"
+    ∷ codes "</pattern></defs>\n<rect width='100%' height='100%' fill='white'/>\n" ∷ [])
+
+-- how wide a picture is, with a line of the caption that has two configurations
+abbrev pub picture_width : Frame → ℕ
+picture_width frame = max (right frame) (141 + 14 * frame.digits)
+
+-- the front, with the picture's width and height
+abbrev pub sized_front : Chart → List ℕ
+sized_front chart =
+    picture_front (picture_width (frame_of chart))
+    (bottom (frame_of chart) + 50 + 16 * length chart.ends.items)
+
+-- what the picture is of: configurations, nodes and the bound
+abbrev pub facts_in : Frame → (nodes bound : ℕ) → List ℕ
+facts_in frame nodes bound =
+    span_caption frame
+    ++ (number_caption (bottom frame + 28) (codes "nodes") nodes
+    ++ number_caption (bottom frame + 44) (codes "bound") bound)
+
+abbrev pub facts : Chart → List ℕ
+facts chart = facts_in (frame_of chart) chart.nodes chart.bound
+
+abbrev pub picture_text : Chart → List ℕ
+picture_text chart =
+    sized_front chart
+    ++ (picture_ground
+    ++ (flat_map (cell_picture (frame_of chart)) chart.cells.items
+    ++ (facts chart
+    ++ (flat_map (end_picture chart) chart.ends.items ++ codes "</svg>\n"))))

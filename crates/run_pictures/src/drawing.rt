@@ -1,0 +1,157 @@
+//! Draws what `run` or `trace` writes.
+
+ghost use Rattle.std.specs.Prelude.{◌≡◌, true, IfOk};
+ghost use Rattle.run_pictures.specs.Charts.{chart_text};
+ghost use Rattle.run_pictures.specs.Traces.{trace_text};
+ghost use Rattle.run_pictures.specs.Drawn.{Does, Draws, DrawsRows, DrawsTrace};
+
+use crate::charts::Chart;
+use crate::hits::mark_trace;
+use crate::laid::is_laid;
+use crate::layouts::lay_out;
+use crate::pictures::put_picture;
+use crate::printing::put_chart;
+use crate::reading::{ChartError, read_chart};
+use crate::trace_laid::is_trace_laid;
+use crate::trace_pictures::put_trace_picture;
+use crate::trace_printing::put_trace;
+use crate::trace_reading::{is_trace, read_trace};
+use crate::traces::Trace;
+use edge_io::{MemSink, NoMemory, Sink, WriteFault};
+use std::alloc::Global;
+use thiserror::Error;
+
+/// Why nothing was drawn, or not all.
+#[derive(Clone, Copy, Debug, Error)]
+pub enum DrawError {
+    /// A line is not what should stand there.
+    #[error("{0}")]
+    Chart(ChartError),
+    /// The last newline is missing.
+    #[error("the last line should end in a newline")]
+    Open,
+    #[error("out of memory")]
+    NoMemory,
+    /// A write failed.
+    #[error("the picture could not be written")]
+    Write,
+}
+
+impl From<ChartError> for DrawError {
+    ghost use Rattle.run_pictures.specs.declared.drawing.DrawError.TheVariants as error;
+
+    ghost from_gives = { λ chart e. e ≡ error.Chart chart };
+
+    fn from(error: ChartError) -> Self {
+        DrawError::Chart(error)
+    }
+}
+
+impl From<NoMemory> for DrawError {
+    ghost use Rattle.run_pictures.specs.declared.drawing.DrawError.TheVariants as error;
+
+    ghost from_gives = { λ _ e. e ≡ error.NoMemory };
+
+    fn from(_: NoMemory) -> Self {
+        DrawError::NoMemory
+    }
+}
+
+/// Whether the text of a chart is this one.
+fn is_text_of(alloc: Global, chart: &Chart, text: &[u8]) -> Result<bool, NoMemory>
+    ensures { IfOk result (λ same. same ≡ true → chart_text chart.now ≡ text.now) }
+{
+    let mut written = MemSink::new(alloc, text.len(), Vec::new(alloc), Vec::new(alloc))?;
+    match put_chart(&mut written, chart) {
+        Ok(()) => Ok(written.taken() == text),
+        Err(WriteFault) => Ok(false),
+    }
+}
+
+/// Whether the text of a trace is this one.
+fn is_text_of_trace(alloc: Global, trace: &Trace, text: &[u8]) -> Result<bool, NoMemory>
+    ensures { IfOk result (λ same. same ≡ true
+        → trace_text trace.now.frame.first trace.now.notes.items ≡ text.now) }
+{
+    let mut sink = MemSink::new(alloc, text.len(), Vec::new(alloc), Vec::new(alloc))?;
+    match put_trace(&mut sink, trace.frame.first, trace.lines()) {
+        Ok(()) => Ok(sink.taken() == text),
+        Err(WriteFault) => Ok(false),
+    }
+}
+
+/// Draws a chart, if its text is this one.
+fn draw_chart<K: Sink>(
+    alloc: Global,
+    chart: &Chart,
+    text: &[u8],
+    sink: &mut K,
+) -> Result<(), DrawError>
+    ensures { Does result (DrawsRows text.now) (K.told sink.old) (K.told sink.new) }
+{
+    if !is_text_of(alloc, chart, text)? || !is_laid(chart) {
+        return Err(DrawError::Open);
+    }
+    match put_picture(sink, chart) {
+        Ok(()) => Ok(()),
+        Err(WriteFault) => Err(DrawError::Write),
+    }
+}
+
+/// Draws a text that `run` wrote.
+fn draw_rows<K: Sink>(alloc: Global, text: &[u8], sink: &mut K) -> Result<(), DrawError>
+    ensures { Does result (DrawsRows text.now) (K.told sink.old) (K.told sink.new) }
+{
+    let chart = read_chart(alloc, text)?;
+    draw_chart(alloc, &chart, text, sink)
+}
+
+/// Reads a trace, with all that is drawn of it.
+fn trace_of(alloc: Global, text: &[u8]) -> Result<Trace, ChartError> {
+    let mut trace = read_trace(alloc, text)?;
+    mark_trace(alloc, &mut trace)?;
+    lay_out(&mut trace)?;
+    Ok(trace)
+}
+
+/// Draws a trace, if its text is this one.
+fn draw_lines<K: Sink>(
+    alloc: Global,
+    trace: &Trace,
+    text: &[u8],
+    sink: &mut K,
+) -> Result<(), DrawError>
+    ensures { Does result (DrawsTrace text.now) (K.told sink.old) (K.told sink.new) }
+{
+    if !is_text_of_trace(alloc, trace, text)? || !is_trace_laid(trace) {
+        return Err(DrawError::Open);
+    }
+    match put_trace_picture(sink, trace) {
+        Ok(()) => Ok(()),
+        Err(WriteFault) => Err(DrawError::Write),
+    }
+}
+
+/// Draws a text that `trace` wrote.
+fn draw_trace<K: Sink>(alloc: Global, text: &[u8], sink: &mut K) -> Result<(), DrawError>
+    ensures { Does result (DrawsTrace text.now) (K.told sink.old) (K.told sink.new) }
+{
+    let trace = trace_of(alloc, text)?;
+    draw_lines(alloc, &trace, text, sink)
+}
+
+/// Draws a text that `run` or `trace` wrote. Where it answers Ok, the text is that of a chart or of
+/// a trace, letter for letter, and the picture of this was written.
+///
+/// `Chart` comes where a line is not what should stand there, `Open` where the last newline is
+/// missing, `NoMemory` where memory ran out; then nothing was written. `Write` comes where the sink
+/// counted a fault; a front of the picture was then taken.
+pub fn draw<K: Sink>(alloc: Global, text: &[u8], sink: &mut K) -> Result<(), DrawError>
+    ensures { Does result (Draws text.now) (K.told sink.old) (K.told sink.new) }
+{
+    if is_trace(alloc, text)? {
+        draw_trace(alloc, text, sink)
+    } else {
+        draw_rows(alloc, text, sink)
+    }
+}

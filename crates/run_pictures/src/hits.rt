@@ -1,0 +1,161 @@
+//! Finds the nodes that the start of an era put into another state, as far as counts show it.
+
+ghost use Rattle.std.specs.Prelude.{◌≡◌};
+ghost use Rattle.run_pictures.specs.Hits.{may_follow};
+
+use crate::charts::{Cell, Chart, End};
+use crate::reading::ChartError;
+use crate::traces::{Note, Seen, Trace};
+use std::alloc::{AllocFailed, Global};
+
+/// Whether a count that goes at least up to `most` may go on so: by one, or from its largest number
+/// to 0.
+fn may_follow(most: u64, before: u64, after: u64) -> bool
+    ensures { result ≡ may_follow most before after }
+{
+    after.checked_sub(1) == Some(before) || (after == 0 && most <= before)
+}
+
+/// Whether a count was broken off, of which the numbers are known where they are there.
+fn breaks(most: u64, before: Option<u64>, after: Option<u64>) -> bool {
+    match (before, after) {
+        (Some(before), Some(after)) => !may_follow(most, before, after),
+        _ => false,
+    }
+}
+
+/// The largest output of a chart.
+fn most_shown(cells: &[Cell]) -> u64 {
+    let mut most = 0;
+    for cell in cells {
+        most = cell.shown.unwrap_or(0).max(most);
+    }
+    most
+}
+
+/// Marks the nodes that the start of an era hits in a row, where that before it is locked: those
+/// which are correct in both rows and do not count on.
+fn mark_row(cells: &mut [Cell], nodes: usize, row: usize, most: u64) {
+    for node in 0..nodes {
+        let now = row.saturating_mul(nodes).saturating_add(node);
+        let before = now.saturating_sub(nodes);
+        if now < cells.len() {
+            let is_hit = breaks(most, cells[before].shown, cells[now].shown);
+            cells[now].is_hit = is_hit;
+        }
+    }
+}
+
+/// The row in which the next era begins, if its start is seen: the row before is shown, and locked.
+fn seen_start(first: u32, end: End) -> Option<u32> {
+    match (end.locked, end.next) {
+        (Some(locked), Some(next)) if locked < next && first < next => Some(next - first),
+        _ => None,
+    }
+}
+
+/// Marks the nodes that the starts of eras hit, as far as the rows show it.
+pub fn mark_hits(chart: &mut Chart) {
+    let most = most_shown(&chart.cells);
+    for end in chart.ends.iter() {
+        if let Some(row) = seen_start(chart.first, *end) {
+            mark_row(
+                &mut chart.cells,
+                usize::from(chart.nodes),
+                row as usize,
+                most,
+            );
+        }
+    }
+}
+
+/// The number that a line of a trace says.
+fn number_in(note: &Note) -> Option<u64> {
+    match &note.seen {
+        Seen::Shows(shown) => shown.number,
+        Seen::Holds(_) => None,
+    }
+}
+
+/// The largest number of a trace.
+fn most_numbered(notes: &[Note]) -> u64 {
+    let mut most = 0;
+    for note in notes {
+        most = number_in(note).unwrap_or(0).max(most);
+    }
+    most
+}
+
+/// What a node was in the configuration before.
+#[derive(Clone, Copy)]
+struct Past {
+    number: Option<u64>,
+    is_faulty: bool,
+}
+
+/// What a node is, by the line on its state.
+fn past_of(note: &Note) -> Past {
+    Past {
+        number: number_in(note),
+        is_faulty: note.is_faulty,
+    }
+}
+
+/// Compares a line on a node's state with what the node was before, and marks a hit. Answers
+/// whether an era must begin here: a node was hit, or has become faulty or correct.
+fn compare(note: &mut Note, past: Past, most: u64) -> bool {
+    note.is_hit = breaks(most, past.number, number_in(note));
+    note.is_hit || past.is_faulty != note.is_faulty
+}
+
+/// Adds a column where an era must begin, once.
+fn add_era(eras: &mut Vec<u32>, column: u32) -> Result<(), AllocFailed<u32>> {
+    if eras.last() == Some(&column) {
+        return Ok(());
+    }
+    eras.push(column)
+}
+
+/// Takes a line on the state of the node at a place: marks a hit, and adds the line's column where
+/// an era must begin.
+fn follow(
+    eras: &mut Vec<u32>,
+    pasts: &mut Vec<Past>,
+    place: usize,
+    note: &mut Note,
+    most: u64,
+) -> Result<(), ChartError> {
+    let now = past_of(note);
+    if place >= pasts.len() {
+        pasts.push(now)?;
+        return Ok(());
+    }
+    if compare(note, pasts[place], most) {
+        add_era(eras, note.column)?;
+    }
+    pasts[place] = now;
+    Ok(())
+}
+
+/// Does the same for all lines, and keeps what the nodes were.
+fn mark_notes(trace: &mut Trace, pasts: &mut Vec<Past>) -> Result<(), ChartError> {
+    let most = most_numbered(&trace.notes);
+    let mut place: usize = 0;
+    for note in trace.notes.iter_mut() {
+        if matches!(note.seen, Seen::Shows(_)) {
+            if note.is_first {
+                place = 0;
+            }
+            follow(&mut trace.eras, pasts, place, note, most)?;
+            place = place.saturating_add(1);
+        }
+    }
+    Ok(())
+}
+
+/// Marks the nodes that the starts of eras hit, as far as their numbers show it, and finds where an
+/// era must begin.
+pub fn mark_trace(alloc: Global, trace: &mut Trace) -> Result<(), ChartError> {
+    let mut pasts = Vec::new(alloc);
+    mark_notes(trace, &mut pasts)
+}

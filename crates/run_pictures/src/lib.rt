@@ -1,0 +1,43 @@
+//! Pictures, in SVG, of what `run` or `trace` writes: a column for each configuration and a line of
+//! cells for each node; of a trace also a strip for each level, with the kings' turns above it.
+//!
+//! That each picture is the defined one of a chart or a trace, whose own text is just what was
+//! read, is proved ([`draw`]), of a chart that its words stand row by row and node by node, and of
+//! a trace that its lines stand in their columns, lines and strips, and that the kings' turns are
+//! there which correct nodes hear. That all that `run` and `trace` write is read, how wide columns
+//! are, and who is found hit, is not.
+#![tactic(auto)]
+
+// As `?` behind a part of a text that is written, but with no call of its own.
+macro_rules! written {
+    ($part:expr) => {
+        match $part {
+            Ok(()) => {}
+            Err(WriteFault) => return Err(WriteFault),
+        }
+    };
+}
+
+mod charts;
+mod drawing;
+mod frames;
+mod hits;
+mod laid;
+mod layouts;
+mod lines;
+mod marks;
+mod pictures;
+mod printing;
+mod reading;
+mod squares;
+mod strips;
+mod trace_laid;
+mod trace_lines;
+mod trace_pictures;
+mod trace_printing;
+mod trace_reading;
+mod traces;
+mod turns;
+
+pub use drawing::{DrawError, draw};
+pub use reading::{ChartError, Wanted};

@@ -1,0 +1,239 @@
+//! Draws the marks of eras, and the lines below the cells.
+
+ghost use Rattle.std.specs.Prelude.{◌≡◌, ◌<◌, ◌^◌};
+ghost use Rattle.std.specs.List.{flat_map};
+ghost use Rattle.texts.specs.Growth.{Puts};
+ghost use Rattle.run_pictures.specs.Pictures.{bound_at, bound_mark, caption, caption_at};
+ghost use Rattle.run_pictures.specs.Pictures.{caption_front};
+ghost use Rattle.run_pictures.specs.Pictures.{end_picture, era_begin, era_mark, has_column};
+ghost use Rattle.run_pictures.specs.Pictures.{is_before};
+ghost use Rattle.run_pictures.specs.Pictures.{locked_mark, mark, mark_at, mark_row};
+
+use crate::charts::{Chart, End};
+use crate::frames::{Frame, band_top, bottom, column_left, line_top};
+use crate::printing::put_end;
+use edge_io::{Piece, Sink, WriteFault, put_all, put_pieces};
+
+/// Draws a line down, with a word before its end.
+fn put_mark<'a, K: Sink>(
+    sink: &mut K,
+    x: u64,
+    top: u64,
+    end: u64,
+    colour: &'a [u8],
+    word: &'a [u8],
+) -> Result<(), WriteFault>
+    ensures { Puts result (mark x top end colour.now word.now) (K.told sink.old) (K.told sink.new) }
+{
+    put_pieces(
+        sink,
+        &[
+            Piece::Text(b"<path d='M"),
+            Piece::Number(x),
+            Piece::Text(b" "),
+            Piece::Number(top),
+            Piece::Text(b"V"),
+            Piece::Number(end),
+            Piece::Text(b"' stroke='"),
+            Piece::Text(colour),
+            Piece::Text(b"'/>\n<text x='"),
+            Piece::Number(x),
+            Piece::Text(b"' y='"),
+            Piece::Number(end),
+            Piece::Text(b"' dx='-3' text-anchor='end' fill='"),
+            Piece::Text(colour),
+            Piece::Text(b"'>"),
+            Piece::Text(word),
+            Piece::Text(b"</text>\n"),
+        ],
+    )
+}
+
+/// Whether a configuration has a column.
+fn has_column(frame: Frame, t: u64) -> bool
+    ensures { result ≡ has_column frame t }
+{
+    u64::from(frame.first) <= t && t < u64::from(frame.first) + u64::from(frame.columns)
+}
+
+/// Draws a line down a column of cells, and as far below them.
+pub fn put_mark_at<'a, K: Sink>(
+    sink: &mut K,
+    frame: Frame,
+    column: u32,
+    cells: u32,
+    below: u16,
+    colour: &'a [u8],
+    word: &'a [u8],
+) -> Result<(), WriteFault>
+    ensures { Puts result (mark_at frame column cells below colour.now word.now)
+        (K.told sink.old) (K.told sink.new) }
+{
+    let top = band_top(frame.height, column);
+    put_mark(
+        sink,
+        column_left(frame.digits, column),
+        top + 30,
+        top + u64::from(cells) + u64::from(below),
+        colour,
+        word,
+    )
+}
+
+/// Draws a mark at a configuration, if that has a row.
+fn put_mark_row<'a, K: Sink>(
+    sink: &mut K,
+    chart: &Chart,
+    t: u64,
+    below: u16,
+    colour: &'a [u8],
+    word: &'a [u8],
+) -> Result<(), WriteFault>
+    ensures { Puts result (mark_row chart.now t below colour.now word.now)
+        (K.told sink.old) (K.told sink.new) }
+{
+    let frame = chart.frame();
+    if has_column(frame, t) {
+        let column = (t - u64::from(chart.first)) as u32;
+        put_mark_at(
+            sink,
+            frame,
+            column,
+            line_top(chart.nodes),
+            below,
+            colour,
+            word,
+        )
+    } else {
+        Ok(())
+    }
+}
+
+/// Where an era begins.
+fn era_begin(era: Option<u32>) -> u64
+    ensures value { result ≡ era_begin era }
+    ensures most { result < 2 ^ 32 }
+{
+    match era {
+        Some(begin) => u64::from(begin),
+        None => 0,
+    }
+}
+
+/// Draws where an era begins.
+fn put_era_mark<K: Sink>(sink: &mut K, chart: &Chart, era: Option<u32>) -> Result<(), WriteFault>
+    ensures { Puts result (era_mark chart.now era) (K.told sink.old) (K.told sink.new) }
+{
+    match era {
+        Some(begin) => put_mark_row(sink, chart, u64::from(begin), 12, b"black", b"era"),
+        None => Ok(()),
+    }
+}
+
+/// Whether a configuration is before the next era, if there is one.
+fn is_before(t: u64, next: Option<u32>) -> bool
+    ensures { result ≡ is_before t next }
+{
+    match next {
+        Some(next) => t < u64::from(next),
+        None => true,
+    }
+}
+
+/// Draws the bound at a configuration, if that is before the next era.
+fn put_bound_at<K: Sink>(
+    sink: &mut K,
+    chart: &Chart,
+    t: u64,
+    next: Option<u32>,
+) -> Result<(), WriteFault>
+    ensures { Puts result (bound_at chart.now t next) (K.told sink.old) (K.told sink.new) }
+{
+    if is_before(t, next) {
+        put_mark_row(sink, chart, t, 24, b"firebrick", b"bound")
+    } else {
+        Ok(())
+    }
+}
+
+/// Draws the bound, counted from where an era begins, if the era is so long. A bound behind all
+/// columns has none.
+fn put_bound_mark<K: Sink>(sink: &mut K, chart: &Chart, end: End) -> Result<(), WriteFault>
+    ensures { Puts result (bound_mark chart.now end) (K.told sink.old) (K.told sink.new) }
+{
+    let behind = u64::from(chart.first) + u64::from(chart.rows);
+    if chart.bound < behind {
+        put_bound_at(sink, chart, era_begin(end.era) + chart.bound, end.next)
+    } else {
+        Ok(())
+    }
+}
+
+/// Draws the first locked configuration.
+fn put_locked_mark<K: Sink>(
+    sink: &mut K,
+    chart: &Chart,
+    locked: Option<u32>,
+) -> Result<(), WriteFault>
+    ensures { Puts result (locked_mark chart.now locked) (K.told sink.old) (K.told sink.new) }
+{
+    match locked {
+        Some(t) => put_mark_row(sink, chart, u64::from(t), 36, b"darkgreen", b"locked"),
+        None => Ok(()),
+    }
+}
+
+/// Writes the front of a line of the caption.
+fn put_caption_front<K: Sink>(sink: &mut K, y: u64) -> Result<(), WriteFault>
+    ensures { Puts result (caption_front y) (K.told sink.old) (K.told sink.new) }
+{
+    put_pieces(
+        sink,
+        &[
+            Piece::Text(b"<text text-anchor='start' x='4' y='"),
+            Piece::Number(y),
+            Piece::Text(b"'>"),
+        ],
+    )
+}
+
+/// Writes an era's line at a height.
+fn put_caption_at<K: Sink>(sink: &mut K, y: u64, end: End) -> Result<(), WriteFault>
+    ensures { Puts result (caption_at y end) (K.told sink.old) (K.told sink.new) }
+{
+    written!(put_caption_front(sink, y));
+    written!(put_end(sink, end));
+    put_all(sink, b"</text>\n")
+}
+
+/// Writes an era's line below the cells.
+fn put_caption<K: Sink>(sink: &mut K, chart: &Chart, end: End) -> Result<(), WriteFault>
+    ensures { Puts result (caption chart.now end) (K.told sink.old) (K.told sink.new) }
+{
+    put_caption_at(
+        sink,
+        bottom(chart.frame()) + 60 + 16 * u64::from(end.place),
+        end,
+    )
+}
+
+/// Draws what a line behind the rows says.
+fn put_end_picture<K: Sink>(sink: &mut K, chart: &Chart, end: End) -> Result<(), WriteFault>
+    ensures { Puts result (end_picture chart.now end) (K.told sink.old) (K.told sink.new) }
+{
+    written!(put_era_mark(sink, chart, end.era));
+    written!(put_bound_mark(sink, chart, end));
+    written!(put_locked_mark(sink, chart, end.locked));
+    put_caption(sink, chart, end)
+}
+
+/// Draws what the lines behind the rows say.
+pub fn put_ends<K: Sink>(sink: &mut K, chart: &Chart, ends: &[End]) -> Result<(), WriteFault>
+    ensures { Puts result (flat_map (end_picture chart.now) ends.now)
+        (K.told sink.old) (K.told sink.new) }
+{
+    for i in 0..ends.len() {
+        written!(put_end_picture(sink, chart, ends[i]));
+    }
+    Ok(())
+}

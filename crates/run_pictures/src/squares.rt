@@ -1,0 +1,244 @@
+//! Draws cells, and the numbers and words beside them.
+
+ghost use Rattle.std.specs.Prelude.{◌≡◌, ◌<◌};
+ghost use Rattle.std.specs.List.{flat_map};
+ghost use Rattle.texts.specs.Growth.{Puts};
+ghost use Rattle.run_pictures.specs.Cells.{axes, axes_at, cell_at, cell_head, cell_picture};
+ghost use Rattle.run_pictures.specs.Cells.{cell_spot};
+ghost use Rattle.run_pictures.specs.Cells.{column_head, column_number, filling, hit_mark};
+ghost use Rattle.run_pictures.specs.Cells.{inscription};
+ghost use Rattle.run_pictures.specs.Cells.{node_label, number_text, rectangle_front, shade};
+ghost use Rattle.run_pictures.specs.Cells.{shown_at};
+ghost use Rattle.run_pictures.specs.Cells.{square};
+ghost use Rattle.run_pictures.specs.Frames.{band_top};
+
+use crate::charts::Cell;
+use crate::frames::{
+    Frame, MOST_COLUMNS, Spot, band_top, column_middle, left, line_top, middle, spot_top, width,
+};
+use edge_io::{Piece, Sink, WriteFault, put_all, put_pieces};
+
+/// One of three parts of an output's colour.
+fn shade(turn: u8, size: u8, output: u64) -> u64
+    requires { 0 < size }
+    ensures { result ≡ shade turn size output }
+{
+    128 + output % u64::from(size) * u64::from(turn) % u64::from(size)
+}
+
+/// Writes a number, in the middle of x.
+pub fn put_number_at<K: Sink>(sink: &mut K, x: u64, y: u64, n: u64) -> Result<(), WriteFault>
+    ensures { Puts result (number_text x y n) (K.told sink.old) (K.told sink.new) }
+{
+    put_pieces(
+        sink,
+        &[
+            Piece::Text(b"<text x='"),
+            Piece::Number(x),
+            Piece::Text(b"' y='"),
+            Piece::Number(y),
+            Piece::Text(b"'>"),
+            Piece::Number(n),
+            Piece::Text(b"</text>\n"),
+        ],
+    )
+}
+
+/// Writes what is counted to the right and down, at the top of a column's band.
+fn put_axes<K: Sink>(sink: &mut K, frame: Frame, column: u32) -> Result<(), WriteFault>
+    ensures { Puts result (axes (band_top frame.height column))
+        (K.told sink.old) (K.told sink.new) }
+{
+    let top = band_top(frame.height, column);
+    put_pieces(
+        sink,
+        &[
+            Piece::Text(b"<text x='52' y='"),
+            Piece::Number(top + 11),
+            Piece::Text(b"' text-anchor='start'>configuration</text>\n<text x='26' y='"),
+            Piece::Number(top + 25),
+            Piece::Text(b"'>node</text>\n"),
+        ],
+    )
+}
+
+/// Writes the same where a column is the first one of its band.
+fn put_axes_at<K: Sink>(sink: &mut K, frame: Frame, column: u32) -> Result<(), WriteFault>
+    ensures { Puts result (axes_at frame column) (K.told sink.old) (K.told sink.new) }
+{
+    if column % MOST_COLUMNS == 0 {
+        put_axes(sink, frame, column)
+    } else {
+        Ok(())
+    }
+}
+
+/// Writes the number of a configuration, above its column.
+fn put_column_number<K: Sink>(sink: &mut K, frame: Frame, column: u32) -> Result<(), WriteFault>
+    ensures { Puts result (column_number frame column) (K.told sink.old) (K.told sink.new) }
+{
+    put_number_at(
+        sink,
+        column_middle(frame.digits, column),
+        band_top(frame.height, column) + 25,
+        u64::from(frame.first) + u64::from(column),
+    )
+}
+
+/// Writes what stands above a column.
+pub fn put_column_head<K: Sink>(sink: &mut K, frame: Frame, column: u32) -> Result<(), WriteFault>
+    ensures { Puts result (column_head frame column) (K.told sink.old) (K.told sink.new) }
+{
+    written!(put_axes_at(sink, frame, column));
+    put_column_number(sink, frame, column)
+}
+
+/// Writes the id of a node, before its line in each band.
+pub fn put_node_label<K: Sink>(sink: &mut K, spot: Spot, node: u64) -> Result<(), WriteFault>
+    ensures { Puts result (node_label spot node) (K.told sink.old) (K.told sink.new) }
+{
+    if spot.column % MOST_COLUMNS == 0 {
+        put_number_at(sink, 26, spot_top(spot) + 13, node)
+    } else {
+        Ok(())
+    }
+}
+
+/// Writes the front of a rectangle, up to its filling.
+pub fn put_rectangle<K: Sink>(sink: &mut K, spot: Spot) -> Result<(), WriteFault>
+    ensures { Puts result (rectangle_front spot) (K.told sink.old) (K.told sink.new) }
+{
+    put_pieces(
+        sink,
+        &[
+            Piece::Text(b"<rect x='"),
+            Piece::Number(left(spot)),
+            Piece::Text(b"' y='"),
+            Piece::Number(spot_top(spot)),
+            Piece::Text(b"' width='"),
+            Piece::Number(width(spot)),
+            Piece::Text(b"' height='18' stroke='white' fill='"),
+        ],
+    )
+}
+
+/// Writes the rest of a rectangle: hatched for a faulty node, else in the output's colour.
+fn put_filling<K: Sink>(sink: &mut K, shown: Option<u64>) -> Result<(), WriteFault>
+    ensures { Puts result (filling shown) (K.told sink.old) (K.told sink.new) }
+{
+    match shown {
+        None => put_all(sink, b"url(#faulty)'/>\n"),
+        Some(output) => put_pieces(
+            sink,
+            &[
+                Piece::Text(b"rgb("),
+                Piece::Number(shade(41, 113, output)),
+                Piece::Text(b","),
+                Piece::Number(shade(67, 109, output)),
+                Piece::Text(b","),
+                Piece::Number(shade(89, 107, output)),
+                Piece::Text(b")'/>\n"),
+            ],
+        ),
+    }
+}
+
+/// Writes an output within its rectangle.
+fn put_inscription<K: Sink>(sink: &mut K, spot: Spot, shown: Option<u64>) -> Result<(), WriteFault>
+    ensures { Puts result (inscription spot shown) (K.told sink.old) (K.told sink.new) }
+{
+    match shown {
+        None => Ok(()),
+        Some(output) => put_number_at(sink, middle(spot), spot_top(spot) + 13, output),
+    }
+}
+
+/// Draws a rectangle with what a node shows.
+fn put_square<K: Sink>(sink: &mut K, spot: Spot, shown: Option<u64>) -> Result<(), WriteFault>
+    ensures { Puts result (square spot shown) (K.told sink.old) (K.told sink.new) }
+{
+    written!(put_rectangle(sink, spot));
+    written!(put_filling(sink, shown));
+    put_inscription(sink, spot, shown)
+}
+
+/// Draws a black corner where the start of an era put a node into another state.
+fn put_hit_mark<K: Sink>(sink: &mut K, spot: Spot, hit: bool) -> Result<(), WriteFault>
+    ensures { Puts result (hit_mark spot hit) (K.told sink.old) (K.told sink.new) }
+{
+    match hit {
+        true => put_pieces(
+            sink,
+            &[
+                Piece::Text(b"<path d='M"),
+                Piece::Number(left(spot)),
+                Piece::Text(b" "),
+                Piece::Number(spot_top(spot)),
+                Piece::Text(b"h8l-8 8z'/>\n"),
+            ],
+        ),
+        false => Ok(()),
+    }
+}
+
+/// Draws a rectangle with what a node shows, and the corner.
+pub fn put_shown<K: Sink>(
+    sink: &mut K,
+    spot: Spot,
+    shown: Option<u64>,
+    hit: bool,
+) -> Result<(), WriteFault>
+    ensures { Puts result (shown_at spot shown hit) (K.told sink.old) (K.told sink.new) }
+{
+    written!(put_square(sink, spot, shown));
+    put_hit_mark(sink, spot, hit)
+}
+
+/// Writes what stands above a column, with the first cell.
+fn put_cell_head<K: Sink>(sink: &mut K, frame: Frame, cell: Cell) -> Result<(), WriteFault>
+    ensures { Puts result (cell_head frame cell) (K.told sink.old) (K.told sink.new) }
+{
+    if cell.node == 0 {
+        put_column_head(sink, frame, cell.row)
+    } else {
+        Ok(())
+    }
+}
+
+/// Where a cell is drawn.
+fn cell_spot(frame: Frame, cell: Cell) -> Spot
+    ensures { result ≡ cell_spot frame cell }
+{
+    Spot {
+        frame,
+        column: cell.row,
+        top: line_top(cell.node),
+    }
+}
+
+/// Draws a cell in its spot, with the labels that stand beside it.
+fn put_cell_at<K: Sink>(sink: &mut K, spot: Spot, cell: Cell) -> Result<(), WriteFault>
+    ensures { Puts result (cell_at spot cell) (K.told sink.old) (K.told sink.new) }
+{
+    written!(put_cell_head(sink, spot.frame, cell));
+    written!(put_node_label(sink, spot, u64::from(cell.node)));
+    put_shown(sink, spot, cell.shown, cell.is_hit)
+}
+
+/// Draws a cell.
+fn put_cell<K: Sink>(sink: &mut K, frame: Frame, cell: Cell) -> Result<(), WriteFault>
+    ensures { Puts result (cell_picture frame cell) (K.told sink.old) (K.told sink.new) }
+{
+    put_cell_at(sink, cell_spot(frame, cell), cell)
+}
+
+/// Draws all cells.
+pub fn put_cells<K: Sink>(sink: &mut K, frame: Frame, cells: &[Cell]) -> Result<(), WriteFault>
+    ensures { Puts result (flat_map (cell_picture frame) cells.now)
+        (K.told sink.old) (K.told sink.new) }
+{
+    for i in 0..cells.len() {
+        written!(put_cell(sink, frame, cells[i]));
+    }
+    Ok(())
+}

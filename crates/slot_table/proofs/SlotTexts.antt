@@ -1,0 +1,268 @@
+-- The text of a slot table is read as this table.
+use Rattle.std.proofs.Common.{◌≡◌, ℕ, ◌+◌, ◌^◌, ◌<◌, ◌≤◌, inl, inr, Bool, true, false, List, []}
+use Rattle.std.proofs.Common.{◌∷◌}
+use Rattle.std.proofs.Common.{◌++◌, length, map, get_or, Option, Some, Result, Ok, refl}
+use Rattle.std.proofs.Common.{sym, ap, subst, ◌∙◌, append_assoc, arith}
+use Rattle.std.specs.Prelude.{codes, decimal, ◌&&◌, nat_le}
+use Rattle.std.specs.List.{list_any}
+use Rattle.std.proofs.lemmas.Bool.{and_parts, leb-true, le-leb, lt-leb, le-ltb, cases_lt}
+use Rattle.std.proofs.lemmas.List.{append-nil, length-append, get_or_append_left}
+use Rattle.std.proofs.lemmas.List.{get_or-append-add}
+use Rattle.std.proofs.lemmas.List.Folds.{list_any_none}
+use Rattle.std.proofs.lemmas.List.Elements.{All-get_or, All-from_get_or}
+use Rattle.std.proofs.lemmas.Fmt.{length-decimal-le}
+use Rattle.texts.specs.Numbers.{number_of}
+use Rattle.texts.specs.Words.{text_of}
+use Rattle.texts.specs.Lines.{lines_of, words_of}
+use Rattle.texts.specs.Shapes.{numbers_after}
+use Rattle.texts.specs.Parts.{goes, with_skips, Found, At, part_from}
+use Rattle.texts.proofs.NumberWords.{printed_is_read}
+use Rattle.texts.proofs.Printed.{IsPlain, ArePlain, spaced_length, decimal_is_plain, counts}
+use Rattle.texts.proofs.Printed.{words_joined, goes_behind, ends_there}
+use Rattle.sync_types.specs.declared.answers.Rule.{Rule}
+use Rattle.sync_types.specs.declared.answers.Rule.TheVariants.{Form}
+use Rattle.construction.specs.Plans.{Plan, plan_nodes, plan_modulus}
+use Rattle.plan_numbers.specs.Premises.{IsAccepted}
+use Rattle.plan_laws.proofs.PlanCounter.{plan_sizes}
+use Rattle.slot_table.specs.declared.lines.SlotLine.{SlotLine}
+use Rattle.slot_table.specs.Tables.{covers, meets}
+use Rattle.slot_table.specs.SlotPart.{SlotsSoFar, nothing_read, line_tested, goes_with}
+use Rattle.slot_table.specs.SlotPart.{slots_step, IsFor, AreFor}
+use Rattle.slot_table.specs.SlotTexts.{slot_text, SlotTextIsRead}
+
+-- a number of a line may be printed, in 15 digits at most, and is read
+small_plain : (n : ℕ) → n ≤ 2 ^ 40 → IsPlain (decimal n)
+small_plain n le = decimal_is_plain n (omega arith)
+
+small_short : (n : ℕ) → n ≤ 2 ^ 40 → length (decimal n) ≤ 15
+small_short n le = length-decimal-le 15 n (omega arith) (omega arith) (omega arith)
+
+small_read : (n : ℕ) → n ≤ 2 ^ 40 → number_of (decimal n) ≡ Some n
+small_read n le = printed_is_read n (omega arith)
+
+slots_plain : IsPlain (codes "slots")
+slots_plain = record { some = omega arith; above = refl }
+
+slot_plain : IsPlain (codes "slot")
+slot_plain = record { some = omega arith; above = refl }
+
+one_plain : IsPlain (codes "1")
+one_plain = record { some = omega arith; above = refl }
+
+end_plain : IsPlain (codes "end")
+end_plain = record { some = omega arith; above = refl }
+
+-- two lines that meet have an output in both
+both_cover : (output a b : ℕ) (line : SlotLine) → a ≤ output → output ≤ b → line.first ≤ output
+    → output ≤ line.last
+    → (covers output line ≡ true) × ((nat_le a output && nat_le output b) ≡ true)
+both_cover output a b line from to start end = (
+  ap (λ (x : Bool). x && nat_le output line.last) (le-leb line.first output start)
+      ∙ le-leb output line.last end,
+  ap (λ (x : Bool). x && nat_le output b) (le-leb a output from) ∙ le-leb output b to,
+)
+
+-- how the part is read on
+abbrev read_on : SlotsSoFar → (taken number : ℕ) → List ℕ → Result (Found (List SlotLine)) (At Rule)
+read_on s taken number text =
+    part_from (with_skips slots_step Form) Form s taken number (lines_of text)
+
+module _ (plan : Plan) (accepted : IsAccepted plan) where
+  -- a part of which these lines were read
+  abbrev with_lines : List SlotLine → SlotsSoFar
+  with_lines lines = record {
+    nodes = plan_nodes plan;
+    modulus = plan_modulus plan;
+    begun = true;
+    lines = lines;
+  }
+
+  module _ (done more : List SlotLine) (line : SlotLine)
+      (are : AreFor plan (done ++ line ∷ more)) where
+    abbrev all : List SlotLine
+    all = done ++ line ∷ more
+
+    long : length all ≡ length done + (length more + 1)
+    long = length-append done (line ∷ more) ∙ omega arith
+
+    -- the line at its place among all
+    at_place : (d : SlotLine) → get_or all (length done) d ≡ line
+    at_place d =
+        let zero_more : length done ≡ length done + 0 = omega arith in
+        ap (λ i. get_or all i d) zero_more ∙ get_or-append-add done (line ∷ more) 0 d
+
+    is_for : IsFor (plan_nodes plan) (plan_modulus plan) line
+    is_for = subst (IsFor (plan_nodes plan) (plan_modulus plan)) (at_place line)
+        (All-get_or (IsFor (plan_nodes plan) (plan_modulus plan)) all (length done) line
+        (omega (arith, long)) are.each)
+
+    node_small : line.node ≤ 2 ^ 40
+    node_small =
+        let few = (plan_sizes plan accepted).most in
+        let lt = is_for.node in
+        omega (arith, few, lt)
+
+    last_small : line.last ≤ 2 ^ 40
+    last_small =
+        let few = (plan_sizes plan accepted).modulus in
+        let lt = is_for.output in
+        omega (arith, few, lt)
+
+    first_small : line.first ≤ 2 ^ 40
+    first_small = let le = is_for.order in omega (arith, le, last_small)
+
+    abbrev numbers : List (List ℕ)
+    numbers = decimal line.node ∷ decimal line.first ∷ decimal line.last ∷ []
+
+    plain : ArePlain (codes "slot" ∷ numbers)
+    plain = (
+      slot_plain,
+      (
+        small_plain line.node node_small,
+        (
+          small_plain line.first first_small,
+          (small_plain line.last last_small, tt),
+        ),
+      ),
+    )
+
+    room : spaced_length (codes "slot" ∷ numbers) ≤ 4096
+    room = omega (
+      arith,
+      small_short line.node node_small,
+      small_short line.first first_small,
+      small_short line.last last_small,
+    )
+
+    numbers_are : numbers_after (codes "slot") 3 (words_of (slot_text line))
+        ≡ Some (line.node ∷ line.first ∷ line.last ∷ [])
+    numbers_are =
+        ap (numbers_after (codes "slot") 3) (words_joined (codes "slot") numbers plain)
+        ∙ rw (
+          small_read line.node node_small,
+          small_read line.first first_small,
+          small_read line.last last_small,
+        ) refl
+
+    -- an earlier line and this one have no output in common
+    never_both : (i output : ℕ) → i < length done → covers output (get_or done i line) ≡ true
+        → covers output line ≡ true → ⊥
+    never_both i output lt here there =
+        let old : get_or all i line ≡ get_or done i line =
+        get_or_append_left done (line ∷ more) line i lt in
+        let same = are.apart i (length done) output line (omega (arith, lt, long))
+        (omega (arith, long)) (ap (covers output) old ∙ here)
+        (ap (covers output) (at_place line) ∙ there) in
+        omega (arith, same, lt)
+
+    module _ (i : ℕ) (lt : i < length done) where
+      abbrev old : SlotLine
+      old = get_or done i line
+
+      old_for : IsFor (plan_nodes plan) (plan_modulus plan) old
+      old_for = subst (IsFor (plan_nodes plan) (plan_modulus plan))
+          (get_or_append_left done (line ∷ more) line i lt)
+          (All-get_or (IsFor (plan_nodes plan) (plan_modulus plan)) all i line
+          (omega (arith, lt, long)) are.each)
+
+      meet_at : (output : ℕ) → line.first ≤ output → output ≤ line.last → old.first ≤ output
+          → output ≤ old.last → ⊥
+      meet_at output from to start end =
+          let both = both_cover output line.first line.last old from to start end in
+          never_both i output lt both.0 both.1
+
+      apart_by : (b : Bool) → meets line.first line.last old ≡ b → b ≡ false
+      apart_by false is = refl
+      apart_by true is =
+          let parts = and_parts (nat_le old.first line.last) (nat_le line.first old.last) is in
+          let start = leb-true old.first line.last parts.0 in
+          let end = leb-true line.first old.last parts.1 in
+          let order = is_for.order in
+          let old_order = old_for.order in
+          elim (cases_lt line.first old.first) [
+            | inl lt ↦ absurd (meet_at old.first (omega arith) start (omega arith) old_order)
+            | inr le ↦ absurd (meet_at line.first (omega arith) order le end)
+          ]
+
+      no_meeting : meets line.first line.last (get_or done i line) ≡ false
+      no_meeting = apart_by (meets line.first line.last old) refl
+
+    none_meets : list_any (meets line.first line.last) done ≡ false
+    none_meets = list_any_none (meets line.first line.last) done
+        (All-from_get_or (λ old. meets line.first line.last old ≡ false) done line no_meeting)
+
+    tested : line_tested (with_lines done) (Some (line.node ∷ line.first ∷ line.last ∷ []))
+        ≡ Ok line
+    tested =
+        let many = are.many in rw (
+          lt-leb 256 (length done) (omega (arith, many, long)),
+          lt-leb (plan_nodes plan) line.node is_for.node,
+          le-ltb line.last line.first is_for.order,
+          lt-leb (plan_modulus plan) line.last is_for.output,
+          none_meets,
+        ) refl
+
+    steps : slots_step (with_lines done) (slot_text line)
+        ≡ goes (with_lines (done ++ line ∷ []))
+    steps =
+        ap (λ (ns : Option (List ℕ)). goes_with (with_lines done)
+        (line_tested (with_lines done) ns)) numbers_are
+        ∙ ap (goes_with (with_lines done)) tested
+
+    line_read : (taken number : ℕ) (rest : List ℕ)
+        → read_on (with_lines done) taken number (slot_text line ++ 10 ∷ rest)
+        ≡ read_on (with_lines (done ++ line ∷ [])) (taken + 1) (number + 1) rest
+    line_read taken number rest =
+        goes_behind slots_step Form (codes "slot") numbers rest plain room
+        (counts (slot_text line) (omega arith) refl) (with_lines done) taken number
+        (with_lines (done ++ line ∷ [])) steps
+
+  -- one line in front of more
+  text_more : (line : List ℕ) (lines : List (List ℕ)) (rest : List ℕ)
+      → text_of (line ∷ lines) ++ rest ≡ line ++ 10 ∷ (text_of lines ++ rest)
+  text_more line lines rest = simp append_assoc
+
+  end_read : (lines : List SlotLine) (taken number : ℕ) (rest : List ℕ)
+      → read_on (with_lines lines) taken number (text_of (codes "end" ∷ []) ++ rest)
+      ≡ Ok (record { value = lines; taken = taken + 1; behind = lines_of rest })
+  end_read lines taken number rest =
+      ap (read_on (with_lines lines) taken number) (text_more (codes "end") [] rest)
+      ∙ ends_there slots_step Form (codes "end") [] rest (end_plain, tt) (omega arith) refl
+      (with_lines lines) taken number lines refl
+
+  lines_read : (done more : List SlotLine) (taken number : ℕ) (rest : List ℕ)
+      → AreFor plan (done ++ more)
+      → read_on (with_lines done) taken number
+      (text_of (map slot_text more ++ codes "end" ∷ []) ++ rest)
+      ≡ Ok (record {
+        value = done ++ more;
+        taken = taken + (length more + 1);
+        behind = lines_of rest;
+      })
+  lines_read done [] taken number rest are =
+      let none : done ++ [] ≡ done = append-nil done in
+      end_read done taken number rest
+      ∙ rw none refl
+  lines_read done (line ∷ more) taken number rest are =
+      let ended = map slot_text more ++ codes "end" ∷ [] in
+      let same : (done ++ line ∷ []) ++ more ≡ done ++ line ∷ more =
+      append_assoc done (line ∷ []) more in
+      let count : taken + 1 + (length more + 1) ≡ taken + (length (line ∷ more) + 1) =
+      omega arith in
+      ap (read_on (with_lines done) taken number) (text_more (slot_text line) ended rest)
+      ∙ line_read done more line are taken number (text_of ended ++ rest)
+      ∙ lines_read (done ++ line ∷ []) more (taken + 1) (number + 1) rest
+      (subst (AreFor plan) (sym same) are)
+      ∙ rw (same, count) refl
+
+pub slot_text_is_read : SlotTextIsRead
+slot_text_is_read plan accepted lines are number rest =
+    let behind = map slot_text lines ++ codes "end" ∷ [] in
+    let count : 0 + 1 + (length lines + 1) ≡ length lines + 2 = omega arith in
+    ap (read_on (nothing_read plan) 0 number)
+    (text_more plan accepted (codes "slots 1") behind rest)
+    ∙ goes_behind slots_step Form (codes "slots") (codes "1" ∷ []) (text_of behind ++ rest)
+    (slots_plain, (one_plain, tt)) (omega arith) refl (nothing_read plan) 0 number
+    (with_lines plan accepted []) refl
+    ∙ lines_read plan accepted [] lines (0 + 1) (number + 1) rest are
+    ∙ rw count refl
