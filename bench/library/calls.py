@@ -1,4 +1,5 @@
-"""What the calls of the library answer, by the plain step of bench/tools/counter.py.
+"""What the calls of the library answer, by the plain steps of bench/tools: counter.py for plans of
+the boosting construction, pulse_counter.py for pulse plans.
 
 The library is tried against it. It shares nothing with the proved code.
 """
@@ -9,6 +10,7 @@ import sys
 sys.path.insert(0, str(pathlib.Path(__file__).resolve().parent.parent / "tools"))
 
 import counter
+import pulse_counter
 
 MOST_PACKETS = 1000000
 
@@ -17,6 +19,15 @@ def plan_of(base, rows):
     """The plan of a base modulus and rows `blocks faults modulus spares`, the lowest first."""
     lines = ["level {} {} {} spare {}".format(*row) for row in rows]
     return counter.Plan(["plan 2", f"base {base}", *lines, "end"])
+
+
+def pulse_plan_of(nodes, faults, modulus):
+    """The pulse plan of these numbers."""
+    return pulse_counter.Plan(["pulses 1", f"group {nodes} {faults} {modulus}", "end"])
+
+
+def is_pulses(plan):
+    return isinstance(plan, pulse_counter.Plan)
 
 
 def text_of(plan):
@@ -30,7 +41,14 @@ def state_of(number, registers):
 
 def output(plan, node, state):
     """What `counterlab_output` answers of the bytes of a state."""
+    if is_pulses(plan):
+        return plan.shown(plan.read(node, state))
     return counter.shown(plan.depth, plan.read(node, state))
+
+
+def stepped(plan, node, heard):
+    """The new state of a node from those that it hears."""
+    return plan.step(node, heard) if is_pulses(plan) else counter.step(plan, node, heard)
 
 
 def cells(plan, packets):
@@ -62,5 +80,5 @@ def answer(plan, node, state, packets):
     own = plan.read(node, state)
     for packet in found:
         heard = [own if u == node else plan.read(u, data) for u, data in enumerate(packet)]
-        own = counter.step(plan, node, heard)
+        own = stepped(plan, node, heard)
     return 0, 0, len(found), plan.write(node, own)
