@@ -1,5 +1,5 @@
-"""What the calls of the library answer, by the plain steps of bench/tools: counter.py for plans of
-the boosting construction, pulse_counter.py for pulse plans.
+"""What the calls of the library answer, by the plain steps of bench/tools/: counter.py, and of pulse
+plans pulse_counter.py.
 
 The library is tried against it. It shares nothing with the proved code.
 """
@@ -26,10 +26,6 @@ def pulse_plan_of(nodes, faults, modulus):
     return pulse_counter.Plan(["pulses 1", f"group {nodes} {faults} {modulus}", "end"])
 
 
-def is_pulses(plan):
-    return isinstance(plan, pulse_counter.Plan)
-
-
 def text_of(plan):
     return "".join(line + "\n" for line in plan.lines).encode()
 
@@ -41,14 +37,7 @@ def state_of(number, registers):
 
 def output(plan, node, state):
     """What `counterlab_output` answers of the bytes of a state."""
-    if is_pulses(plan):
-        return plan.shown(plan.read(node, state))
-    return counter.shown(plan.depth, plan.read(node, state))
-
-
-def stepped(plan, node, heard):
-    """The new state of a node from those that it hears."""
-    return plan.step(node, heard) if is_pulses(plan) else counter.step(plan, node, heard)
+    return plan.shown(plan.read(node, state))
 
 
 def cells(plan, packets):
@@ -80,5 +69,5 @@ def answer(plan, node, state, packets):
     own = plan.read(node, state)
     for packet in found:
         heard = [own if u == node else plan.read(u, data) for u, data in enumerate(packet)]
-        own = stepped(plan, node, heard)
+        own = plan.step(node, heard)
     return 0, 0, len(found), plan.write(node, own)

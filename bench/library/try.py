@@ -6,9 +6,9 @@
     python3 bench/library/try.py ARCHIVE      take this archive
 
 Random steps of nine plans of both constructions, and calls that are refused, have to give what the
-plain steps of calls.py give, and of boosting plans what the program's word `node` writes where the
-program is built; the numbers of the example plans have to be those of their stored tables, and of
-pulse plans those of bench/tools/pulse_counter.py; each allocation is refused in turn. A line says what was not tried, and why. The status is 1 where an answer is not
+plain step of calls.py gives, and of boosting plans what `counterlab node` writes where the program
+is built; the numbers of the example plans have to be those of their stored tables; each allocation
+is refused in turn. A line says what was not tried, and why. The status is 1 where an answer is not
 what it has to be, or what was proved is not compiled or linked. A tool that is missing or does not
 work is no failure, nor is a machine that has too little memory, or takes more than ten minutes.
 """
@@ -24,6 +24,9 @@ import tempfile
 import time
 
 import calls
+import pulse_counter
+import pulse_vectors
+import vectors
 
 HERE = pathlib.Path(__file__).resolve().parent
 TOP = HERE.parent.parent
@@ -44,21 +47,20 @@ PLANS = [
     calls.plan_of(576, [(3, 1, 960, 1), (3, 3, 10, 0)]),
     calls.plan_of(93312, [(5, 2, 10, 2)]),
     calls.plan_of(576, [(3, 1, 768, 1), (3, 2, 1152, 0), (3, 4, 10, 0)]),
-    calls.pulse_plan_of(1, 0, 5),
     calls.pulse_plan_of(4, 1, 10),
-    calls.pulse_plan_of(14, 4, 1000),
+    calls.pulse_plan_of(7, 2, 1000),
+    calls.pulse_plan_of(14, 4, 10),
 ]
 
-# What an arena of 4 KB serves.
-SMALL = [plan for plan in PLANS if plan.nodes <= 14]
-
-# Pulse plans that are refused, with the premise that each fails in line 2.
+# Texts of pulse plans that are refused, with the line and the premise that fail.
 REFUSED_PULSES = [
-    ("group 4 1", "form"),
-    ("group 257 1 10", "limit"),
-    ("group 4 1 1", "modulus"),
-    ("group 3 1 10", "quorum"),
-    ("group 2 0 10", "single"),
+    ("pulses 2\n", 1, "form"),
+    ("pulses 1\nend\n", 2, "form"),
+    ("pulses 1\ngroup 13 4 10\n", 3, "form"),
+    ("pulses 1\ngroup 257 4 10\nend\n", 2, "limit"),
+    ("pulses 1\ngroup 13 4 1\nend\n", 2, "modulus"),
+    ("pulses 1\ngroup 12 4 10\nend\n", 2, "quorum"),
+    ("pulses 1\ngroup 2 0 10\nend\n", 2, "single"),
 ]
 
 
@@ -218,22 +220,18 @@ def some_fields(source, plan):
 
 
 def some_common(source, plan):
-    """What nodes have in common: two states, and how many of them have the second one."""
-    if calls.is_pulses(plan):
-        most = max(map(plan.bytes, range(plan.nodes)))
-        first, second = some_bytes(source, most), some_bytes(source, most)
-    else:
-        first, second = some_fields(source, plan), some_fields(source, plan)
-    return first, second, source.choice([0.05, 0.3, 0.5])
+    """What nodes have in common: two states, and how many of them have the second one. Of a pulse
+    plan a state of each node."""
+    if isinstance(plan, pulse_counter.Plan):
+        return pulse_vectors.drawn_states(vectors.Draws(source.random()), plan)
+    return some_fields(source, plan), some_fields(source, plan), source.choice([0.05, 0.3, 0.5])
 
 
 def some_state(source, plan, node, common):
     """The bytes of a state in range; nine fields of ten are those of one of the common states."""
+    if isinstance(plan, pulse_counter.Plan):
+        return common[node]
     first, second, share = common
-    if calls.is_pulses(plan):
-        front = (second if source.random() < share else first)[: plan.bytes(node)]
-        data = front if source.random() < 0.8 else some_bytes(source, len(front))
-        return plan.write(node, plan.read(node, data))
     fields = some_fields(source, plan)
     for i in range(len(fields)):
         if source.random() < 0.9:
@@ -289,8 +287,8 @@ def refused_plans():
         words = file.read_text().split()
         text = file.with_name(file.name[: -len(".plan.out")] + ".txt").read_bytes()
         yield text, int(words[3]), 1 + PREMISES.index(words[5])
-    for line, premise in REFUSED_PULSES:
-        yield f"pulses 1\n{line}\nend\n".encode(), 2, 1 + PREMISES.index(premise)
+    for text, line, premise in REFUSED_PULSES:
+        yield text.encode(), line, 1 + PREMISES.index(premise)
 
 
 def plan_numbers():
@@ -301,10 +299,10 @@ def plan_numbers():
         text = file.with_name(file.name[: -len(".plan.out")] + ".txt").read_bytes()
         names = ["nodes", "faults", "modulus", "bound", "bytes"]
         yield " ".join([hexed(text), *(numbers[name] for name in names)]) + "\n"
-    for faults in [*range(1, 11), 39, 85]:
-        plan = calls.pulse_plan_of(3 * faults + 1, faults, 2**40)
-        numbers = plan.nodes, plan.faults, plan.modulus, plan.bound, plan.bytes(0)
-        yield " ".join([hexed(calls.text_of(plan)), *map(str, numbers)]) + "\n"
+    for plan in PLANS:
+        if isinstance(plan, pulse_counter.Plan):
+            numbers = [plan.nodes, plan.faults, plan.modulus, plan.bound, plan.bytes(0)]
+            yield " ".join([hexed(calls.text_of(plan)), *map(str, numbers)]) + "\n"
 
 
 def hexed(data):
@@ -391,11 +389,12 @@ class Tried:
         return "the rows of four_nodes.c are those of the plain step"
 
     def arena(self):
-        """Nodes without malloc: an arena of 16 KB for all plans, and 4 KB for the small ones."""
-        flags = ["-DARENA=16384"]
+        """Nodes without malloc: an arena of 64 KB for all plans, and 4 KB for all but the largest
+        one of each construction."""
+        flags = ["-DARENA=65536"]
         whole = self.cases_by(self.link("gcc", "steps", HERE / "arena.c", heap="-lc", flags=flags))
-        texts = set(map(calls.text_of, PLANS)) - set(map(calls.text_of, SMALL))
-        small = [case for case in self.cases if case[0] not in texts]
+        large = [calls.text_of(plan) for plan in (PLANS[5], PLANS[-1])]
+        small = [case for case in self.cases if case[0] not in large]
         text = "".join(written(*case) + "\n" for case in small).encode()
         program = self.link("gcc", "steps", HERE / "arena.c", heap="-lc")
         said = run([program], input=text).decode().strip()
@@ -465,17 +464,15 @@ class Tried:
         """The word `node` of the program, run once for each step."""
         if not PROGRAM.is_file():
             raise Skipped("the program is not built")
-        tried = 0
         for (plan, node, state, packets), answer in zip(self.steps, self.answers):
-            if calls.is_pulses(plan):
+            if isinstance(plan, pulse_counter.Plan):
                 continue
-            tried += 1
             text, digits = calls.text_of(plan), state.hex()
             header = text + f"node 1\nid {node}\nstate {digits}\nend\n".encode()
             said = run([PROGRAM, "node"], input=header + packets)
             if not said.endswith(cell(answer[3])):
                 raise Failed(f"node {node} of {text}, state {digits}: {said.hex()}")
-        return f"{tried} steps are the same"
+        return f"{STEPS} steps are the same"
 
 
 def main():

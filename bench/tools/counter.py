@@ -115,6 +115,12 @@ class Plan:
         size = self.bytes(v)
         return int(bits.ljust(8 * size, "0"), 2).to_bytes(size, "big")
 
+    def shown(self, state):
+        return shown(self.depth, state)
+
+    def step(self, v, heard):
+        return step(self, v, heard)
+
 
 def shown(depth, state):
     """What a state shows over so many levels."""

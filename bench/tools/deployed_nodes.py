@@ -23,8 +23,7 @@ import random
 import subprocess
 import sys
 
-import counter
-import pulse_counter
+from pulse_counter import plan_of
 
 LONGEST = 600  # bytes of a cell that is made up
 MARGIN = 100  # packets after a bound
@@ -39,9 +38,7 @@ class Deployed:
         with open(path) as file:
             text = file.read()
         self.text = text[: text.index("end\n") + 4]
-        lines = self.text.splitlines()
-        is_pulses = lines[0].startswith("pulses")
-        self.plan = pulse_counter.Plan(lines) if is_pulses else counter.Plan(lines)
+        self.plan = plan_of(self.text.splitlines())
         self.nodes, self.bound, self.modulus = self.plan.nodes, self.plan.bound, self.plan.modulus
         self.faults = self.plan.faults
 
@@ -50,10 +47,7 @@ class Deployed:
 
     def shown(self, v, cell):
         """What node v shows in the state of a cell that it wrote, 0 for an infinite value."""
-        state = self.plan.read(v, cell)
-        if isinstance(self.plan, pulse_counter.Plan):
-            return self.plan.shown(state)
-        return counter.shown(self.plan.depth, state)
+        return self.plan.shown(self.plan.read(v, cell))
 
 
 def cell_of(data):

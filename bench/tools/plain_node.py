@@ -13,19 +13,7 @@ import random
 import subprocess
 import sys
 
-import counter
-import pulse_counter
-
-
-def plan_of(lines):
-    is_pulses = lines[0].split()[0] == "pulses"
-    return pulse_counter.Plan(lines) if is_pulses else counter.Plan(lines)
-
-
-def stepped(plan, v, heard):
-    if isinstance(plan, pulse_counter.Plan):
-        return plan.step(v, heard)
-    return counter.step(plan, v, heard)
+from pulse_counter import plan_of
 
 
 def cell_of(data):
@@ -39,7 +27,7 @@ def answer(plan, v, own, packets):
     for packet in packets:
         heard = [plan.read(u, cell) for u, cell in enumerate(packet)]
         heard[v] = state
-        state = stepped(plan, v, heard)
+        state = plan.step(v, heard)
         cells.append(cell_of(plan.write(v, state)))
     return b"".join(cells)
 

@@ -9,6 +9,7 @@ A register is a pair of a value and a mark, and the value None is infinite.
 
 from collections import namedtuple
 
+import counter
 from counter import ZERO, State, width
 
 REGISTERS = 4  # of a level: the king's value, the instruction, the age, and one that has only a mark
@@ -215,3 +216,8 @@ class Plan:
                 return self.filled((heard[v].number % group.modulus + 1) % group.modulus, new)
             new += registers(group, level_after(group, v, heard))
         return self.filled(0, new)
+
+
+def plan_of(lines):
+    """The plan of a text, of either construction."""
+    return Plan(lines) if lines[0].split()[0] == "pulses" else counter.Plan(lines)

@@ -80,9 +80,15 @@ def pulselab_cases():
     ]
 
 
+FRONT_OF_BOTH = b"nodes 10 bound 124 bytes 7 levels 2 pulses 1;group 10 3 1000;end\n"
+
+
 def choose_cases():
     return [
         own_run("choose"),
+        (0, ["3", "1000", "14"], b"", FRONT_OF_BOTH, b""),
+        (0, ["3", "1000", "14", "plan"], b"", b"pulses 1\ngroup 10 3 1000\nend\n", b""),
+        (0, ["3", "1000", "9"], b"", b"none\n", b""),
         told(2, [], b"", b"usage: choose "),
         told(2, ["1", "ten"], b"", b"usage: choose "),
     ]

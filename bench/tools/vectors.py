@@ -21,7 +21,7 @@ import sys
 
 import pulse_counter
 import pulse_vectors
-from counter import Plan, nodes_of, shown, step
+from counter import Plan, nodes_of, shown
 from scripts import lines_of
 
 
@@ -42,9 +42,7 @@ class Vector:
     def stepped(self):
         heard = [self.plan.read(u, cell) for u, cell in enumerate(self.cells)]
         heard[self.v] = self.plan.read(self.v, self.own)
-        if isinstance(self.plan, pulse_counter.Plan):
-            return self.plan.write(self.v, self.plan.step(self.v, heard))
-        return self.plan.write(self.v, step(self.plan, self.v, heard))
+        return self.plan.write(self.v, self.plan.step(self.v, heard))
 
     def lines(self):
         yield f"node {self.v} state {digits(self.own)}"
@@ -157,8 +155,7 @@ def read_vectors(lines):
         if key in ("plan", "base", "level", "pulses", "group", "end"):
             front = [line] if key in ("plan", "pulses") else front + [line]
             if key == "end":
-                is_pulses = front[0].startswith("pulses")
-                plan = pulse_counter.Plan(front) if is_pulses else Plan(front)
+                plan = pulse_counter.plan_of(front)
         elif key == "node":
             vectors.append(Vector(plan, int(words[0]), data_of(words[2]), []))
         elif key == "cells":

@@ -102,6 +102,7 @@ lone_front c most some least_c most_c =
         faults = least.member.faults;
       };
       modulus = refl;
+      form = (refl, refl);
     }) (λ other tolerates. (omega (arith, more_nodes most 0 other tolerates), omega arith))
 
 -- ---- some faults
@@ -139,6 +140,7 @@ module _ (f c most : ℕ) (some : 1 ≤ f) (few : f ≤ 85) (least_c : 2 ≤ c) 
       faults = omega arith;
     };
     modulus = refl;
+    form = some;
   }) (λ other tolerates. (
     omega (arith, more_nodes most f other tolerates),
     no_slower other tolerates,

@@ -35,10 +35,17 @@ pub record Tolerates (n f : ℕ) (plan : AnyPlan) : Type 0 where
   pub nodes : nodes_of plan ≤ n
   pub faults : f ≤ faults_of plan
 
+-- A plan of the boosting construction, of version 2, where no fault is to be tolerated, and else a
+-- pulse plan.
+abbrev pub IsOfForm : (f : ℕ) → AnyPlan → Type 0
+IsOfForm f (Boosting plan) = (plan.version ≡ 2) × (f ≡ 0)
+IsOfForm f (Pulses plan) = 1 ≤ f
+
 -- such a plan that counts by c
 pub record Suits (f c most : ℕ) (plan : AnyPlan) : Type 0 where
   pub tolerates : Tolerates most f plan
   pub modulus : modulus_of plan ≡ c
+  pub form : IsOfForm f plan
 
 -- a plan, and another with more nodes and a lesser bound
 abbrev pub IsTraded : AnyPlan → AnyPlan → Type 0

@@ -48,6 +48,10 @@ impl ChooseError {
 }
 
 impl From<AllocError> for ChooseError {
+    ghost use Rattle.choose.specs.declared.choosing.ChooseError.TheVariants as error;
+
+    ghost from_gives = { λ _ e. e ≡ error.NoMemory };
+
     fn from(_: AllocError) -> Self {
         ChooseError::NoMemory
     }
@@ -130,7 +134,7 @@ fn write_plan_alone<K: Sink>(
 /// FAULTS is at most 85, MODULUS from 2 to 2^40, MOST_NODES from 1 to 256, and 256 where it is left
 /// out. `Usage` comes exactly where the words ask for nothing; nothing was written then. `NoMemory`
 /// comes only where a front is asked for, and nothing was written. `WriteFault` comes only where
-/// the sink counted a fault; a front of the answer was then taken.
+/// the sink counted a fault; a prefix of the answer was then taken.
 pub fn choose<K: Sink>(alloc: Global, words: &[String], sink: &mut K) -> Result<(), ChooseError>
     // Which bytes were written: of a front, whose plans no accepted plan is better than, its lines
     // or the text of its last plan.

@@ -1,6 +1,6 @@
--- What holds of a sound machine: a step gives a state of its node and does not hang on further
--- registers; it settles, locks at its bound, and stays locked.
-use Rattle.std.specs.Prelude.{◌≡◌, ℕ, ◌*◌, ◌<◌, ◌≤◌, List, length, map}
+-- What holds of a sound machine: what a state shows is below the modulus; a step gives a state of
+-- its node and does not hang on further registers; it settles, locks at its bound, and stays locked.
+use Rattle.std.specs.Prelude.{◌≡◌, ℕ, ◌*◌, ◌^◌, ◌<◌, ◌≤◌, List, length, map}
 use Rattle.sync_types.specs.States.{State}
 use Rattle.construction.specs.Runs.{configuration}
 use Rattle.counter_core.specs.Meanings.{cut}
@@ -42,8 +42,12 @@ module _ (machine : Machine) where
 pub record IsSound (machine : Machine) : Type 0 where
   pub quorum : 3 * machine.faults < machine.nodes
   pub few : machine.nodes ≤ 256
+  pub least_modulus : 2 ≤ machine.modulus
+  pub most_modulus : machine.modulus ≤ 2 ^ 40
   pub fields : (v : ℕ) → v < machine.nodes → IsFields (machine.fields v)
   pub depth : (v : ℕ) → v < machine.nodes → length (machine.fields v).moduli ≡ machine.depth
+  pub shown : (v : ℕ) → v < machine.nodes → (state : State) → IsState machine v state
+      → machine.shows v state < machine.modulus
   pub next : (v : ℕ) → v < machine.nodes → (heard : List State)
       → IsState machine v (machine.step v heard)
   pub further : IgnoresFurther machine

@@ -2,7 +2,8 @@
 use Rattle.std.proofs.Common.{◌∙◌}
 use Rattle.construction.proofs.Ranges.{step_is_state}
 use Rattle.plan_numbers.proofs.Accepted.{accepted_sized}
-use Rattle.plan_laws.proofs.PlanCounter.{positive, plan_ignores}
+use Rattle.plan_laws.proofs.PlanCounter.{positive, plan_ignores, plan_sizes}
+use Rattle.plan_laws.proofs.Ranges.{range_of_state}
 use Rattle.plan_laws.proofs.RunLaws.{every_plan_settles, locks_at_bound, locked_runs_count}
 use Rattle.state_codec.specs.Shapes.{shape_of}
 use Rattle.state_codec.proofs.Lows.{fields_limited, depth_at}
@@ -18,8 +19,13 @@ accepted_are_sound plan accepted =
     let shape_is = shape_of_accepted plan accepted in record {
       quorum = sized.quorum;
       few = sized.most;
+      least_modulus = sized.least_modulus;
+      most_modulus = sized.most_modulus;
       fields = λ v lt. fields_limited (shape_of plan) v shape_is;
       depth = λ v lt. depth_at (shape_of plan) v ∙ depth_of_shape plan;
+      shown = λ v lt state is.
+          (plan_sizes plan accepted).shown v state lt
+          (range_of_state plan some.0 some.1 v state ((alike.states v state lt).1 is));
       next = λ v lt heard.
           (alike.states v _ lt).0 (step_is_state plan some.0 some.1 v heard);
       further = record {

@@ -4,4 +4,5 @@
 mod making;
 mod pulse_machines;
 
+pub use making::all_nodes_fields;
 pub use pulse_machines::PulseMachine;

@@ -35,7 +35,7 @@ fn node_fields(alloc: Global, plan: &PulsePlan, node: u32) -> Result<Fields, NoM
 
 /// The fields of each node.
 #[tactic(auto, using(state_codec::proofs::Lows::made_more))]
-pub(crate) fn all_nodes_fields(alloc: Global, plan: &PulsePlan) -> Result<Vec<Fields>, NoMemory>
+pub fn all_nodes_fields(alloc: Global, plan: &PulsePlan) -> Result<Vec<Fields>, NoMemory>
     ensures { IfOk result (λ fields. fields.items
         ≡ map (all_fields (tree_of plan.now) plan.now.modulus) (range_with_len 0 plan.now.nodes)) }
 {

@@ -54,7 +54,7 @@ value_shown modulus None some below = some
 value_shown modulus (Some n) some below = below
 
 -- what is shown is below the modulus
-shown_below : (tree : Halving) (modulus v : ℕ) (state : State) → 0 < modulus
+pub shown_below : (tree : Halving) (modulus v : ℕ) (state : State) → 0 < modulus
     → HasFields (fields_in tree modulus v) state → shown_in tree state < modulus
 shown_below One modulus v state some has = has.x
 shown_below (Split left right spares) modulus v state some has =

@@ -17,7 +17,8 @@ use Rattle.pulse_construction.specs.Runs.{Fields, fields_in, lock_of, IsLocked}
 use Rattle.pulse_construction.proofs.Numbers.{three_faults}
 use Rattle.pulse_construction.proofs.Ranges.{positive_fields, step_is_state}
 use Rattle.pulse_plan_laws.specs.Laws.{MachinesAreSound}
-use Rattle.pulse_plan_laws.proofs.States.{fields_most, long, range_of_state}
+use Rattle.pulse_plan_laws.proofs.States.{fields_most, long, range_of_state, state_of_range}
+use Rattle.pulse_plan_laws.proofs.Counting.{shown_below}
 use Rattle.pulse_plan_laws.proofs.Further.{ignores_further}
 use Rattle.pulse_plan_laws.proofs.RunLaws as laws
 
@@ -79,6 +80,8 @@ machines_are_sound tree modulus two most few =
     let fit : (v : ℕ) → length (fields v).moduli ≤ d = fields_most tree modulus in record {
       quorum = three_faults tree;
       few = few;
+      least_modulus = two;
+      most_modulus = most;
       fields = λ v lt.
           let limits = few_fields tree modulus v most few in
           let base : 0 < (fields v).base = (positive_fields tree modulus v (omega arith)).0 in
@@ -91,6 +94,9 @@ machines_are_sound tree modulus two most few =
                 (omega arith));
           };
       depth = λ v lt. long (fields v) d (some v) (fit v);
+      shown = λ v lt state is.
+          shown_below tree modulus v state (omega (arith, two))
+          (state_of_range tree modulus (omega (arith, two)) v state is).fields;
       next = λ v lt heard.
           range_of_state tree modulus (omega arith) v (step_of tree modulus v heard)
           (step_is_state tree modulus v heard (omega arith));

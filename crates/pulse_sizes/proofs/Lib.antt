@@ -1,3 +1,4 @@
 pub mod Groups
 pub mod Most
+pub mod Written
 pub mod Examples

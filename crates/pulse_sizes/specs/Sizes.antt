@@ -2,11 +2,13 @@
 use Rattle.std.specs.Prelude.{◌≡◌, ℕ, ◌+◌, ◌<◌, ◌≤◌, max, List, [], ◌∷◌, sum_by}
 use Rattle.std.specs.Int.{div_ceil}
 use Rattle.construction.specs.Widths.{width}
+use Rattle.state_codec.specs.Shapes.{bits_in}
 use Rattle.pulse_laws.specs.Halves.{faults_of, instructions, left_period, right_period}
 use Rattle.pulse_construction.specs.Halvings.{Halving, One, Split, halving_height, halves_of}
 use Rattle.pulse_construction.specs.Runs.{Fields}
 use Rattle.pulse_plan.specs.Plans.{PulseNumbers, IsAccepted, tree_of}
 use Rattle.pulse_plan.specs.Fields.{fields_of}
+use Rattle.pulse_plan.specs.Laws.{machine_in}
 
 -- bits of a register: those of a value below the modulus, or infinite, and that of the mark
 abbrev pub register_bits : (modulus : ℕ) → ℕ
@@ -55,3 +57,8 @@ pub record IsMost (number : ℕ → ℕ) (n most : ℕ) : Type 0 where
 abbrev pub BitsAreMost : Type 0
 BitsAreMost = (plan : PulseNumbers) → IsAccepted plan
     → IsMost (node_bits plan) plan.nodes (state_bits plan)
+
+-- so many bits the states have that the plan's machine reads and writes
+abbrev pub BitsAreWritten : Type 0
+BitsAreWritten = (plan : PulseNumbers) → IsAccepted plan → (v : ℕ)
+    → bits_in ((machine_in plan).fields v) ≡ node_bits plan v

@@ -1,8 +1,13 @@
-//! The law of sizes. The function is empty: its clause is the law.
+//! The laws of sizes. The functions are empty: their clauses are the laws.
 
-ghost use Rattle.pulse_sizes.specs.Sizes.{BitsAreMost};
+ghost use Rattle.pulse_sizes.specs.Sizes.{BitsAreMost, BitsAreWritten};
 
 /// No node of an accepted plan has states of more bits, and one has states of so many.
 pub fn bits_are_most()
     ensures { BitsAreMost }
+{}
+
+/// They are the bits of the states that the plan's machine reads and writes.
+pub fn bits_are_written()
+    ensures { BitsAreWritten }
 {}

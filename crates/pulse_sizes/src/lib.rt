@@ -6,4 +6,4 @@ mod bits;
 mod laws;
 
 pub use bits::{levels, state_bits, state_bytes};
-pub use laws::bits_are_most;
+pub use laws::{bits_are_most, bits_are_written};

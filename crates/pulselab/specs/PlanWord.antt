@@ -72,7 +72,8 @@ PlanFails left left' before now old new error.ReadFault =
     LosesWithin (2 ^ 20) left left' × Counted before now × (new ≡ old)
 PlanFails left left' before now old new error.TooLong =
     LosesMore (2 ^ 20) left left' × (now ≡ before) × (new ≡ old)
-PlanFails left left' before now old new error.NoMemory = (now ≡ before) × (new ≡ old)
+PlanFails left left' before now old new error.NoMemory =
+    LosesWithin (2 ^ 20) left left' × (now ≡ before) × (new ≡ old)
 PlanFails left left' before now old new error.WriteFault =
     FailsAfter left left' before now old new error.WriteFault
 PlanFails left left' before now old new (error.Refused refusal) =

@@ -56,6 +56,10 @@ impl LabError {
 }
 
 impl From<AllocError> for LabError {
+    ghost use Rattle.pulselab.specs.declared.faults.LabError.TheVariants as error;
+
+    ghost from_gives = { λ _ e. e ≡ error.NoMemory };
+
     fn from(_: AllocError) -> Self {
         LabError::NoMemory
     }

@@ -29,21 +29,21 @@ pub record IsStripOf (levels : List Level) (level : ℕ) (strip : Level) : Type 
   pub place : ℕ
   pub inside : place < length levels
   pub is : (d : Level) → slice_index_or levels place d ≡ strip
-  pub level : strip.level ≡ level
+  pub of_level : strip.level ≡ level
 
 -- a register of the node of that place stands in the strip of its level
 pub record StandsInStrip (levels : List Level) (place top level : ℕ) : Type 0 where
   pub strip : Level
   pub is : IsStripOf levels level strip
-  pub top : top ≡ strip.cells + 18 * place
+  pub height : top ≡ strip.cells + 18 * place
 
 -- an output stands in the line of its node above all strips
 abbrev pub IsAtHeight : List Level → (place top : ℕ) → Seen → Type 0
 IsAtHeight levels place top (Shows output) = top ≡ line_top place
 IsAtHeight levels place top (Holds register) = StandsInStrip levels place top register.level
 
--- A line of a node, where so many nodes and configurations stand before it, `before` of them in all:
--- it stands in the column of its configuration, and in the line of its node.
+-- A line of a node, where so many outputs, `before`, were shown before that of its node: it stands
+-- in the column of its configuration, and in the line of its node.
 pub record IsNoteLaid (levels : List Level) (nodes before : ℕ) (note : Note) : Type 0 where
   pub column : note.column ≡ before / nodes
   pub first : note.is_first ≡ (shows note && before % nodes == 0)
@@ -56,14 +56,18 @@ pub record IsLaidAt (levels : List Level) (nodes : ℕ) (notes : List Note) (k :
   pub laid : IsNoteLaid levels nodes (count_by shows (take (k + 1) notes) - 1)
       (slice_index_or notes k d)
 
+abbrev pub AreLinesLaid : List Level → (nodes : ℕ) → List Note → Type 0
+AreLinesLaid levels nodes notes =
+    (k : ℕ) (d : Note) → k < length notes → IsLaidAt levels nodes notes k d
+
 -- ---- kings' turns
 
 -- the turn that is heard at a level, in the column of its configuration
 pub record IsTurnOf (column level : ℕ) (heard : Heard) (reign : Reign) : Type 0 where
-  pub column : reign.column ≡ column
-  pub level : reign.level ≡ level
-  pub king : reign.king ≡ heard.king
-  pub turn : reign.turn ≡ heard.turn
+  pub at_column : reign.column ≡ column
+  pub at_level : reign.level ≡ level
+  pub same_king : reign.king ≡ heard.king
+  pub same_turn : reign.turn ≡ heard.turn
 
 -- one of the turns is the one that is heard
 pub record HasTurnOf (reigns : List Reign) (column level : ℕ) (heard : Heard) : Type 0 where
@@ -117,8 +121,7 @@ pub record IsTitleLaid (levels : List Level) (title : Title) : Type 0 where
 pub record IsTraceLaid (trace : Trace) : Type 0 where
   pub some : 1 ≤ trace.nodes
   pub whole : count_by shows trace.notes.items ≡ trace.frame.columns * trace.nodes
-  pub lines : (k : ℕ) (d : Note) → k < length trace.notes.items
-      → IsLaidAt trace.levels.items trace.nodes trace.notes.items k d
+  pub lines : AreLinesLaid trace.levels.items trace.nodes trace.notes.items
   pub heard : All (HasTurn trace.reigns.items) trace.notes.items
   pub turns : All (IsTurnLaid trace.levels.items) trace.reigns.items
   pub titles : All (IsTitleLaid trace.levels.items) trace.titles.items

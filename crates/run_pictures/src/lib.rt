@@ -2,8 +2,8 @@
 //! cells for each node; of a trace also a strip for each level, with the kings' turns above it.
 //!
 //! That each picture is the defined one of a chart or a trace, whose own text is just what was
-//! read, is proved ([`draw`]), of a chart that its words stand row by row and node by node, and of a
-//! trace that its lines stand in their columns, lines and strips, and that the kings' turns are
+//! read, is proved ([`draw`]), of a chart that its words stand row by row and node by node, and of
+//! a trace that its lines stand in their columns, lines and strips, and that the kings' turns are
 //! there which correct nodes hear. That all that `run` and `trace` write is read, how wide columns
 //! are, and who is found hit, is not.
 #![tactic(auto)]

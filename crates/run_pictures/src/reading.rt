@@ -60,10 +60,6 @@ pub enum ChartError {
 }
 
 impl From<AllocError> for ChartError {
-    ghost use Rattle.run_pictures.specs.declared.reading.ChartError.TheVariants as error;
-
-    ghost from_gives = { λ _ e. e ≡ error.NoMemory };
-
     fn from(_: AllocError) -> Self {
         ChartError::NoMemory
     }

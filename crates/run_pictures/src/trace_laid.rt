@@ -1,11 +1,10 @@
 //! Whether the lines, the kings' turns and the levels of a trace stand where they belong.
 
-ghost use Rattle.std.specs.Prelude.{◌≡◌, ◌+◌, ◌*◌, ◌<◌, ◌≤◌, ◌^◌, length, All, true, IfSome};
+ghost use Rattle.std.specs.Prelude.{◌≡◌, ◌≤◌, ◌<◌, ◌^◌, All, true, IfSome};
 ghost use Rattle.std.specs.List.{count_by};
-ghost use Rattle.run_pictures.specs.TraceLaid.{AreStacked, HasTurn, HasTurnOf, IsAtHeight};
-ghost use Rattle.run_pictures.specs.TraceLaid.{IsLaidAt};
-ghost use Rattle.run_pictures.specs.TraceLaid.{IsNoteLaid, IsStripOf, IsTitleLaid, IsTraceLaid};
-ghost use Rattle.run_pictures.specs.TraceLaid.{IsTurnLaid, IsTurnOf, shows};
+ghost use Rattle.run_pictures.specs.TraceLaid.{AreLinesLaid, AreStacked, HasTurn, HasTurnOf};
+ghost use Rattle.run_pictures.specs.TraceLaid.{IsAtHeight, IsNoteLaid, IsStripOf, IsTitleLaid};
+ghost use Rattle.run_pictures.specs.TraceLaid.{IsTraceLaid, IsTurnLaid, IsTurnOf, shows};
 
 use crate::frames::{MOST_COLUMNS, line_top};
 use crate::traces::{Heard, Level, Note, Reign, Seen, Title, Trace};
@@ -48,7 +47,8 @@ fn is_at_height(levels: &[Level], place: u64, note: &Note) -> bool
     }
 }
 
-/// Whether a line stands in its column and line, where so many outputs were shown before its node's.
+/// Whether a line stands in its column and line, where so many outputs were shown before that of
+/// its node.
 fn is_note_laid(levels: &[Level], nodes: u16, before: u64, note: &Note) -> bool
     requires { 1 ≤ nodes }
     ensures { result ≡ true → IsNoteLaid levels.now nodes before note.now }
@@ -63,8 +63,7 @@ fn is_note_laid(levels: &[Level], nodes: u16, before: u64, note: &Note) -> bool
 fn outputs_laid(levels: &[Level], nodes: u16, notes: &[Note]) -> Option<u64>
     requires { 1 ≤ nodes }
     ensures shown { IfSome result (λ shown. shown ≡ count_by shows notes.now) }
-    ensures laid { IfSome result (λ _. (k : ℕ) (d : Note) → k < length notes.now
-        → IsLaidAt levels.now nodes notes.now k d) }
+    ensures laid { IfSome result (λ _. AreLinesLaid levels.now nodes notes.now) }
 {
     let mut shown: u64 = 0;
     for k in 0..notes.len() {
@@ -227,15 +226,16 @@ pub fn is_trace_laid(trace: &Trace) -> bool
     let Some(shown) = outputs_laid(&trace.levels, trace.nodes, &trace.notes) else {
         return false;
     };
-    shown == u64::from(trace.frame.columns) * u64::from(trace.nodes)
-        && have_turns(&trace.reigns, &trace.notes)
-        && are_turns_laid(&trace.levels, &trace.reigns)
-        && are_titles_laid(&trace.levels, &trace.titles)
-        && are_stacked(
-            trace.nodes,
-            0,
-            u64::from(line_top(trace.nodes)),
-            &trace.levels,
-            trace.cells,
-        )
+    let whole = u64::from(trace.frame.columns) * u64::from(trace.nodes);
+    if shown != whole || !have_turns(&trace.reigns, &trace.notes) {
+        return false;
+    }
+    if !are_turns_laid(&trace.levels, &trace.reigns) {
+        return false;
+    }
+    if !are_titles_laid(&trace.levels, &trace.titles) {
+        return false;
+    }
+    let from = u64::from(line_top(trace.nodes));
+    are_stacked(trace.nodes, 0, from, &trace.levels, trace.cells)
 }

@@ -91,12 +91,12 @@ module _ (want : Want) (words : List (List ℕ)) (input : List ℕ) (plan : Plan
   pub to_trace : IsToTrace r
   to_trace = record { at = is.plays.at; plays = is.records.plays }
 
-  pub deep : length r.script.shape.moduli ≡ plan_depth plan
-  deep = ap (λ (s : Shape). length s.moduli) is.records.shape
+  pub deep : r.script.shape.depth ≡ plan_depth plan
+  deep = ap (λ (s : Shape). s.depth) is.records.shape
       ∙ (depth_of_shape r.plan ∙ ap plan_depth is.plan_is)
 
-  pub fits : (depth : ℕ) (desk : Desk) → depth ≡ length r.script.shape.moduli
+  pub fits : (depth : ℕ) (desk : Desk) → depth ≡ r.script.shape.depth
       → IsMade plan depth desk → IsFitFor r desk
   fits depth desk e made =
-      subst (λ (p : Plan). IsMade p (length r.script.shape.moduli) desk) (sym is.plan_is)
+      subst (λ (p : Plan). IsMade p r.script.shape.depth desk) (sym is.plan_is)
       (subst (λ (d : ℕ). IsMade plan d desk) e made)

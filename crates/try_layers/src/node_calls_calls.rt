@@ -28,7 +28,7 @@ fn a_plan_is_read(rt: HostRuntime) {
     assert!(rt; state_bytes(rt.alloc(), FOUR, 2) == Ok(2));
     assert!(rt; state_bytes(rt.alloc(), FOUR, 3) == Ok(1));
     assert!(rt; is_four(counter_in(rt.alloc(), PULSES), 41));
-    assert!(rt; state_bytes(rt.alloc(), PULSES, 0) == Ok(4));
+    assert!(rt; state_bytes(rt.alloc(), PULSES, 0) == Ok(3));
 }
 
 #[test]

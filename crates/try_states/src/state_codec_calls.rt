@@ -188,8 +188,8 @@ fn further_registers_stand_behind(rt: HostRuntime) -> Result<(), Fail> {
     for row in &TWO_MORE {
         assert!(rt; has_last(rt.alloc(), &two, row)?, "node {}", row.0);
     }
-    assert!(rt; two.depth() == 3 && two.modulus(2) == 16);
-    assert!(rt; two.bits() == 27 && two.bytes() == 4);
+    assert!(rt; two.nodes() == 4 && two.depth() == 3 && two.modulus_of(0, 2) == 16);
+    assert!(rt; two.nodes() == 4 && two.bits_of(0) == 27 && two.bytes_of(0) == 4);
     Ok(())
 }
 
@@ -199,7 +199,7 @@ fn one_node_has_a_number_alone(rt: HostRuntime) -> Result<(), Fail> {
     let mut state = NodeState::zero(rt.alloc(), shape.depth())?;
     shape.read_state(0, b"\x80", &mut state);
     assert!(rt; state.x() == 4 && state.depth() == 0);
-    assert!(rt; shape.base_of(0) == 5 && shape.bits() == 3 && shape.bytes() == 1);
+    assert!(rt; shape.base_of(0) == 5 && shape.bits_of(0) == 3 && shape.bytes_of(0) == 1);
     Ok(())
 }
 
@@ -292,7 +292,7 @@ const LONG: [Long; 3] = [
 /// Zero states, of which that of node 1 is put as the bytes of a row say.
 fn with_one(alloc: Global, row: &Long) -> Result<Packed, Fail> {
     let shape = StateShape::of(alloc, &with_long_states(alloc, row.0)?)?;
-    if shape.nodes() != 28 || shape.bits() != row.1 {
+    if shape.nodes() != 28 || shape.bits_of(0) != row.1 {
         return Err(Fail::new("another shape"));
     }
     let mut packed = Packed::new(alloc, shape, 28)?;

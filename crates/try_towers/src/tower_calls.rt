@@ -237,7 +237,7 @@ fn each_level_has_its_own_spares(rt: HostRuntime) -> Result<(), Fail> {
 /// Zero states of all nodes of a plan.
 fn zero_states(alloc: Global, plan: &Plan) -> Result<Packed, NoMemory>
     ensures size { IfOk result (λ config. length config.current ≡ plan_nodes plan.now) }
-    ensures deep { IfOk result (λ config. length config.shape.moduli ≡ plan_depth plan.now) }
+    ensures deep { IfOk result (λ config. config.shape.depth ≡ plan_depth plan.now) }
     ensures range { IfOk result (λ config. All (IsInRange plan.now) config.current) }
 {
     plan.tell();
@@ -286,7 +286,7 @@ struct Shown<'a> {
     liars: &'a FaultSet,
     node: u32,
     ghost size: { length config.now.current ≡ plan_nodes tower.now },
-    ghost deep: { plan_depth tower.now ≤ length config.now.shape.moduli },
+    ghost deep: { plan_depth tower.now ≤ config.now.shape.depth },
     ghost ids: { All (λ id. id < plan_nodes tower.now) liars.now.ids },
     ghost one: { length liars.now.ids ≡ 1 },
     ghost among: { node < plan_nodes tower.now },

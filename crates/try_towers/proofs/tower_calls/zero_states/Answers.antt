@@ -11,7 +11,7 @@ pub returns-clause-range : goal.returns-clause-range
 returns-clause-range c =
     let plan : Plan = c.args.plan.now in
     let n : ℕ = c.nodes.result in
-    let d : ℕ = length c.in_ok-shape.shape.moduli in
+    let d : ℕ = c.in_ok-shape.shape.depth in
     let zero : IsInRange plan (zero_state d) =
     subst (λ d. IsInRange plan (zero_state d)) (sym c.in_ok-shape.ensures.depth)
     (plan_zero plan c.tell.ensures.accepted) in

@@ -1,0 +1,8 @@
+//! The header of a node of a pulse plan: the plan's part, and then the node's id and state.
+#![tactic(auto)]
+
+mod readers;
+mod shapes;
+
+pub use readers::{PulsesHeader, read_pulses_header};
+pub use shapes::shape_of;
