@@ -10,8 +10,8 @@
 //! `--help` and `--version` write what they say. Other words are answered by one line of usage on
 //! standard error. The exit codes are those of `counterlab`.
 //!
-//! What is written is proved, of [`choosing::choose`]. That `main` hands on the words, ends with the
-//! code of the status and writes the line on standard error is tried, and not proved.
+//! What is written is proved, of [`choosing::choose`]. That `main` hands on the words, ends with
+//! the code of the status and writes the line on standard error is tried, and not proved.
 #![tactic(auto)]
 
 mod any_plans;

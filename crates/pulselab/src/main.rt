@@ -5,8 +5,9 @@
 //! A plan that is refused is answered by one line, `refused pulses line L premise P`. What else
 //! fails is said in one line on standard error. The exit codes are those of `counterlab`.
 //!
-//! What is written is proved, of [`calling::pulselab`]. That `main` hands on the words and streams, ends
-//! with the code of the status and writes the line on standard error is tried, and not proved.
+//! What is written is proved, of [`calling::pulselab`]. That `main` hands on words and streams,
+//! ends with the code of the status and writes the line on standard error is tried, and not
+//! proved.
 #![tactic(auto)]
 
 mod asking;
