@@ -432,6 +432,7 @@ class Tried:
         said = run([sys.executable, HERE / "four_nodes.py"], **how).decode().splitlines()
         if said[-1:] != ["4 0112 0112 0112 48"]:
             raise Failed(f"four_nodes.py ended with {said[-1:]}")
+        run([sys.executable, HERE / "thirteen_nodes.py"], **how)
         return run([sys.executable, HERE / "by_ctypes.py", cases], **how).decode().strip()
 
     def rust(self):

@@ -12,7 +12,7 @@ use Rattle.plan_reader.specs.Skipped.{first_unskipped}
 use Rattle.plan_reader.proofs.AcceptedPlans.{whole_plan_accepted}
 use Rattle.plan_machine.proofs.Sound.{accepted_are_sound}
 use Rattle.machines.specs.Laws.{IsSound}
-use Rattle.pulse_machine.proofs.Kept.{sound as pulses_sound}
+use Rattle.pulse_plan.proofs.Sound.{accepted_are_sound as pulses_sound}
 use Rattle.pulse_plan.specs.Plans.{PulseNumbers, IsAccepted as IsAcceptedPulses}
 use Rattle.pulse_texts.specs.declared.premises.LinePremise.{LinePremise}
 use Rattle.pulse_texts.proofs.Rewritten.{texts_are_rewritten}

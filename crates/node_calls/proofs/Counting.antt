@@ -64,9 +64,9 @@ module _ (text : List ℕ) (counter : AnyMachine) (is : counter_answer text ≡ 
   abbrev fields : Fields
   fields = m.fields v
 
-  step_in_plan : (state packets : List ℕ)
+  step_in_counter : (state packets : List ℕ)
       → step_answer text v state packets ≡ step_in v state packets m
-  step_in_plan state packets = rw (is, lt-ltb v (m.nodes) node) refl
+  step_in_counter state packets = rw (is, lt-ltb v (m.nodes) node) refl
 
   output_is : (state : List ℕ) → length state ≡ bytes_in fields
       → output_answer text v state ≡ Ok (m.shows v (read fields state))
@@ -80,7 +80,7 @@ module _ (text : List ℕ) (counter : AnyMachine) (is : counter_answer text ≡ 
   new_bytes state packets new answers =
       let all : Packets = packets_for m packets in
       let held = behind_test (length state == bytes_in fields) (steps_over v state m all)
-      error.Length (1, new) (sym (step_in_plan state packets) ∙ answers) in
+      error.Length (1, new) (sym (step_in_counter state packets) ∙ answers) in
       let done = ended (bytes_behind m v state all.cells) new 1 all.ending held.1 in
       let one : length all.cells ≡ 1 =
       omega (arith, as_many (m.nodes) 1000000 0 1 packets done.0) in
@@ -231,8 +231,8 @@ module _ (text : List ℕ) (counter : AnyMachine) (is : counter_answer text ≡ 
 -- ---- the laws
 
 module _ (text : List ℕ) (counter : AnyMachine) (is : counter_answer text ≡ Ok counter)
-    (faulty : List ℕ)
-    (borne : IsBorne (machine_of counter) faulty) (count : ℕ) (bytes packets : ℕ → ℕ → List ℕ)
+    (faulty : List ℕ) (borne : IsBorne (machine_of counter) faulty) (count : ℕ)
+    (bytes packets : ℕ → ℕ → List ℕ)
     (rounds : InRounds text (machine_of counter) faulty count bytes packets) where
   stepping : Stepping text (machine_of counter) faulty count bytes packets
   stepping = record { long = rounds.long; steps = rounds.steps }
@@ -275,8 +275,8 @@ nodes_count text counter is faulty borne count bytes packets rounds =
     count_by_bytes text counter is faulty borne count bytes packets rounds
 
 module _ (text : List ℕ) (counter : AnyMachine) (is : counter_answer text ≡ Ok counter)
-    (faulty : List ℕ)
-    (borne : IsBorne (machine_of counter) faulty) (count : ℕ) (bytes packets : ℕ → ℕ → List ℕ)
+    (faulty : List ℕ) (borne : IsBorne (machine_of counter) faulty) (count : ℕ)
+    (bytes packets : ℕ → ℕ → List ℕ)
     (rounds : InLossyRounds text (machine_of counter) faulty count bytes packets) where
   lossy_stepping : Stepping text (machine_of counter) faulty count bytes packets
   lossy_stepping = record { long = rounds.long; steps = rounds.steps }
