@@ -1,4 +1,4 @@
-"""Cases of a file as steps.c and plans.c read them, by ctypes; then what ctypes alone would get wrong.
+"""Cases of a file as steps.c and plans.c read them, by ctypes; then what ctypes alone gets wrong.
 
 It is run by try.py, and fails where an answer is another one.
 """
@@ -25,11 +25,19 @@ def data(word):
     return b"" if word == "-" else bytes.fromhex(word)
 
 
+def plan_numbers(text):
+    """The numbers of a plan, and the bytes of a state of its node 0; none if it is refused."""
+    try:
+        numbers = counterlab.plan(text)
+        found = [numbers.nodes, numbers.faults, numbers.modulus, numbers.bound]
+        return [*found, counterlab.state_bytes(text, 0)]
+    except counterlab.CallError:
+        return []
+
+
 def is_same(words):
     if len(words) == 6:
-        text, numbers = data(words[0]), counterlab.plan(data(words[0]))
-        found = [numbers.nodes, numbers.faults, numbers.modulus, numbers.bound]
-        return [*found, counterlab.state_bytes(text, 0)] == [int(it) for it in words[1:]]
+        return plan_numbers(data(words[0])) == [int(it) for it in words[1:]]
     plan, node, state, packets, code, detail, value, new = words
     found = answer(data(plan), int(node), data(state), data(packets))
     return found == (int(code), int(detail), int(value), data(new))
@@ -47,7 +55,7 @@ def is_laid_out():
 
 
 def refuses_ids():
-    """Whether ids that 32 bits don't hold are refused, in place of the node that is left of them."""
+    """Whether ids that 32 bits don't hold are refused: not the node that is left of them."""
     calls = [
         lambda node: counterlab.state_bytes(ALONE, node),
         lambda node: counterlab.output(ALONE, node, b"\0"),

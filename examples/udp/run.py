@@ -3,10 +3,10 @@
 
     python3 examples/udp/run.py [STORY [MS [PLAN [CERTIFICATE]]]]
 
-A round takes MS milliseconds, or 20. PLAN is a plan's file, or that of twelve nodes beside this
-script. Each node is a process of node.c, which is built here with the library's archive
-(crates/counterlab_c/out/, by `rt lib`) and the kit's; this script gives them their ticks. As many
-of them lie as the plan tolerates. The stories:
+A round takes MS milliseconds, or 20. PLAN is a plan's file, or that of thirteen nodes beside this
+script; that of twelve there is of the boosting construction. Each node is a process of node.c,
+which is built here with the library's archive (crates/counterlab_c/out/, by `rt lib`) and the
+kit's; this script gives them their ticks. As many of them lie as the plan tolerates. The stories:
 
     all      all start; a liar is repaired; one is killed, and begins again from nothing; a third of
              what is sent is lost for two seconds; the tick of one is half a round late for a second
@@ -20,7 +20,7 @@ all correct nodes show one number that grows by one, and how many rounds later t
 count. A round is *clean* where each correct node has heard the true state of each other one. The
 last line is `as promised` where all counted in each round that had T clean ones before it: the
 machine may be late, and rounds unclean, but none of these may fail. The longest stretch of clean
-rounds is written to CERTIFICATE, for `counterlab check`.
+rounds of a boosting plan is written to CERTIFICATE, for `counterlab check`.
 
 The status is 1 where something is not as promised, or a certificate is not true. A tool that is
 missing is told in a line, and is no failure. Where it may, it runs in real time, before all other
@@ -444,6 +444,8 @@ def real_time():
 
 def play(name, milliseconds, path, certificate, room):
     plan = Plan(path, room)
+    if certificate and not any(it.startswith("base ") for it in plan.lines):
+        raise Skipped("there is a certificate of a boosting plan alone")
     nodes = Nodes(plan, milliseconds / 1000)
     correct, liars = nodes.correct(), " ".join(map(str, nodes.lying))
     story = STORIES[name](nodes)
@@ -478,7 +480,7 @@ def main():
     with tempfile.TemporaryDirectory(prefix="counterlab-udp-") as at:
         room = pathlib.Path(at)
         (room / "four_nodes.txt").write_text(FOUR_NODES)
-        own = room / "four_nodes.txt" if name == "told" else HERE / "twelve_nodes.txt"
+        own = room / "four_nodes.txt" if name == "told" else HERE / "thirteen_nodes.txt"
         path = os.path.abspath(words[2]) if len(words) > 2 else own
         try:
             build(room)
