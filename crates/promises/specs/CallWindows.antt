@@ -78,7 +78,7 @@ ConnectedCallsCount = (plan : Plan) (faulty : List ℕ) → IsBorne plan faulty
     → NodesKeepPromise plan faulty calls begins rounds
 
 -- From any locked configuration on, calls stay locked and count where cells are lost, as long as
--- each correct node is given in each round the cells of N - F nodes, its own among them.
+-- each correct node is given in each round the cells of N - F correct nodes, its own among them.
 abbrev pub HeardCallsStayLocked : Type 0
 HeardCallsStayLocked = (plan : Plan) (faulty : List ℕ) → IsBorne plan faulty
     → SomeIsCorrect plan faulty → (calls : ℕ → Call) (begins : ℕ → ℕ) (rounds : ℕ)

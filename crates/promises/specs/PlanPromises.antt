@@ -1,5 +1,5 @@
--- What the texts of plans and of tables that are written promise, whatever the input; and that each
--- such text is read.
+-- What the texts of plans and of tables that are written promise, whatever the input; and that
+-- values have texts that are read as them.
 use Rattle.std.specs.Prelude.{◌≡◌, ℕ, ◌≤◌, List, Result, Ok, IfOk}
 use Rattle.construction.specs.Plans.{Plan}
 use Rattle.plan_numbers.specs.Premises.{IsAccepted}
@@ -41,10 +41,10 @@ pub record TextsAreKept : Type 0 where
       (AreTextsOf (answer_of batch.Plan input) (answer_of batch.Upgrade input))
   pub tables : (input : List ℕ) → IfOk (tabled_of input) (IsTableOf input)
 
--- Every text that says a value is read as this value: none is refused. An accepted plan has a text
--- in its own version and in each later one, and a table; wants, slot tables, inputs to agree on,
--- requests to fire, logs and headers of nodes have one. All but tables and wants are read so at the
--- front of any text.
+-- Each of these values has a text that is read as it. An accepted plan has one in its own version
+-- and in each later one, and a table; wants, slot tables, inputs to agree on, requests to fire,
+-- logs and headers of nodes have one. All but those of tables and of wants are read so at the front
+-- of any text, too.
 pub record TextsAreRead : Type 0 where
   pub plans : (plan : Plan) (version : ℕ) → IsAccepted plan → plan.version ≤ version → version ≤ 2
       → plan_alone (plan_text version plan) ≡ Ok (in_version version plan)

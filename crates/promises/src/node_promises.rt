@@ -16,9 +16,10 @@ use plan_node_runs::laws::{
 /// cells are the states of a run, whatever came before: T rounds later they show one number, which
 /// grows by one modulo C with each packet, and so they do from any locked configuration on. From
 /// there on they do so where cells are lost too, as long as each is given in each round those of
-/// N - F nodes, its own among them. A process that is started anew is a faulty node of the whole
-/// window and a correct one of its rest. A call's text is what it writes with the statuses `Ok`,
-/// `Cut`, `TooLong` and `ReadFault`; with the last one it is that of the packets that were read.
+/// N - F correct nodes, its own among them. A process that is started anew is a faulty node of the
+/// whole window and a correct one of its rest. A call's text is what it writes with the statuses
+/// `Ok`, `Cut`, `TooLong` and `ReadFault`; with the last one it is that of the packets that were
+/// read.
 pub fn node_promise_is_kept()
     ensures { NodePromiseIsKept }
 {

@@ -1,5 +1,5 @@
-//! What the texts of plans and of tables promise, whatever the input, and that each text that says
-//! a value is read. The functions do nothing: their clauses are the laws.
+//! What the texts of plans and of tables promise, whatever the input, and that values have texts
+//! that are read as them. The functions do nothing: their clauses are the laws.
 
 ghost use Rattle.promises.specs.PlanPromises.{TextsAreKept, TextsAreRead};
 
@@ -23,8 +23,9 @@ pub fn texts_are_kept()
     versions_agree();
 }
 
-/// Each text that says an accepted plan, its table, wants, a slot table, inputs to agree on,
-/// requests to fire, a log or a header of a node is read as that.
+/// Each of these values has a text that is read as it: an accepted plan, in its own version and in
+/// each later one, and its table; wants, a slot table, inputs to agree on, requests to fire, a log
+/// and a header of a node.
 pub fn texts_are_read()
     ensures { TextsAreRead }
 {

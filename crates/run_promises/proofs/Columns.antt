@@ -110,7 +110,8 @@ module _ (plan : Plan) (s : Script) (is : IsReadFor plan s) where
     heard_same : (t : ℕ) → heard t ≡ heard_in plan v (state_at t) (round_packet plan s v t)
     heard_same t = fill_by_all (heard_of plan v (state_at t) (round_packet plan s v t)) (heard t)
         (plan_nodes plan) (zero_state 0)
-        (heard_long s is.whole sound t (played_at plan s t) (played_in_range t) v own ∙ is.right.nodes)
+        (heard_long s is.whole sound t (played_at plan s t) (played_in_range t) v own
+        ∙ is.right.nodes)
         (one_heard t)
 
     module _ (j : ℕ) (among : j ≤ length s.eras) where

@@ -9,12 +9,13 @@ use Rattle.std.proofs.lemmas.List.FromFn.{length-map-range_with_len, get_or-map-
 use Rattle.sync_types.specs.States.{State, zero_state}
 use Rattle.construction.specs.Plans.{Plan, plan_nodes}
 use Rattle.construction.specs.Steps.{state_of}
-use Rattle.construction.specs.Runs.{is_in, heard_by, IsBorne}
+use Rattle.construction.specs.Runs.{heard_by, IsBorne}
 use Rattle.plan_laws.specs.PlanMeaning.{plan_meaning}
 use Rattle.counter_core.specs.Overlays.{Layer, KeepsRange}
 use Rattle.adversary_script.specs.Scripts.{Script, Era, faulty_sets}
 use Rattle.adversary_script.specs.Eras.{first_of_era, end_of_era, faulty_of_era, faulty_at}
 use Rattle.adversary_script.specs.Lookup.{hit_at}
+use Rattle.adversary_script.specs.Lies.{lie_of}
 use Rattle.layer_laws.specs.Scenes.{Scene, kept_of, layer_step, new_state}
 use Rattle.layer_laws.specs.LayerRuns.{IsLayerConfiguration, IsNextScene, LayerRound, LayerRun}
 use Rattle.layer_laws.specs.LayerRuns.{IsLayerTable, StepsAs, scene}
@@ -25,7 +26,8 @@ use Rattle.round_runner.specs.Scenes.{begun_kept, kept_at, state_behind, scene_a
 use Rattle.round_runner.specs.Scenes as played
 use Rattle.round_runner.proofs.Firsts.{in_era, none_inside, none_hit, era_some}
 use Rattle.run_promises.specs.LayeredEras.{IsReadFor, played_scene, lies_played, era_scenes}
-use Rattle.run_promises.specs.LayeredEras.{EraIsLayerRun, PlaysScript, ScriptsArePlayed}
+use Rattle.run_promises.specs.LayeredEras.{PlaysScript, ScriptsArePlayed}
+use Rattle.run_promises.proofs.Told.{told_is}
 use Rattle.run_promises.proofs.States.{table_is, in_range_at, configuration_is}
 
 module _ {Kept : Type 0} (plan : Plan) (script : Script) (layer : Layer Kept) (began : List Kept)
@@ -50,7 +52,8 @@ module _ {Kept : Type 0} (plan : Plan) (script : Script) (layer : Layer Kept) (b
   begun_is (inl one) t v lt = one _ _
   begun_is (inr many) t v lt =
       let long = kept_long t in
-      get_or-map (layer.begun t) (scenes t).kept v layer.first layer.first (omega (arith, lt, many, long))
+      get_or-map (layer.begun t) (scenes t).kept v layer.first layer.first
+      (omega (arith, lt, many, long))
 
   -- the step from what nodes keep then is the layer's
   module _ (t v : ℕ) (lt : v < plan_nodes plan) (heard : List State) where
@@ -59,7 +62,8 @@ module _ {Kept : Type 0} (plan : Plan) (script : Script) (layer : Layer Kept) (b
 
     step_is : played.layer_step (plan_meaning plan) layer kept v heard
         ≡ layer_step (plan_meaning plan) layer t (kept_of layer (scenes t) v) v heard
-    step_is = ap (λ k. layer.next v k ((plan_meaning plan).shows v (state_of heard v)) heard) (begun_is enough t v lt)
+    step_is = ap (λ k. layer.next v k ((plan_meaning plan).shows v (state_of heard v)) heard)
+        (begun_is enough t v lt)
 
     state_is : played.new_state (plan_meaning plan) layer kept v heard
         ≡ new_state (plan_meaning plan) layer t (kept_of layer (scenes t) v) v heard
@@ -68,7 +72,7 @@ module _ {Kept : Type 0} (plan : Plan) (script : Script) (layer : Layer Kept) (b
       registers = ((plan_meaning plan).next v heard).registers ++ step.registers;
     } in s) step_is
 
-  -- a node that a start line puts into a state behind a round is in it
+  -- a node that a start line puts into a state after a round is in it
   put_is : (t v : ℕ) (state : State) → v < plan_nodes plan → hit_at script (t + 1) v ≡ Some state
       → state_of (scenes (t + 1)).states v ≡ state
   put_is t v state lt hit =
@@ -134,6 +138,13 @@ module _ {Kept : Type 0} (layer : Layer Kept) (plan : Plan) (script : Script)
   table_in t = table_is plan script layer keeps is t (at t).states
       (in_range_at plan script layer keeps is began t)
 
+  told_in : (t u v : ℕ) → u < plan_nodes plan → v < plan_nodes plan
+      → state_of (get_or (lies_played plan script layer began t) u []) v
+      ≡ lie_of script t u v (at t).states
+  told_in t u v ult vlt =
+      let same = is.right.nodes in
+      told_is script t (at t).states u v (omega (arith, ult, same)) (omega (arith, vlt, same))
+
   module _ (j : ℕ) (among : j ≤ length script.eras) where
     abbrev first : ℕ
     first = first_of_era script j
@@ -192,7 +203,9 @@ module _ {Kept : Type 0} (layer : Layer Kept) (plan : Plan) (script : Script)
     puts = λ t v state inside lt hit.
         put_is plan script layer began enough is.right.nodes t v state lt hit;
     steps = λ t v inside lt correct none.
-        steps_as plan script layer began enough is.right.nodes t v (faulty_at script t) refl lt none;
+        steps_as plan script layer began enough is.right.nodes t v (faulty_at script t) refl lt
+        none;
+    told = λ t u v inside. told_in t u v;
     borne = borne_in;
     eras = λ j among. record { run = era_is_run j among; rounds = round_is j among };
   }

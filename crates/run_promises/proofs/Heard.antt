@@ -1,7 +1,6 @@
 -- What each node tells and hears in a round of a script is in range, where the configuration is.
-use Rattle.std.proofs.Common.{◌≡◌, ℕ, ◌<◌, eqb, not, ◌||◌, List, [], length, map, get_or, sym, ap}
-use Rattle.std.proofs.Common.{◌∙◌, subst, arith}
-use Rattle.std.specs.List.{range_with_len}
+use Rattle.std.proofs.Common.{◌≡◌, ℕ, ◌<◌, eqb, not, ◌||◌, List, [], length, get_or, sym}
+use Rattle.std.proofs.Common.{subst, arith}
 use Rattle.std.proofs.lemmas.List.FromFn.{length-map-range_with_len, get_or-map-range_with_len}
 use Rattle.sync_types.specs.States.{State, zero_state}
 use Rattle.construction.specs.Steps.{state_of}
@@ -14,22 +13,13 @@ use Rattle.adversary_script.specs.Lies.{AreStates, lie_of}
 use Rattle.adversary_script.proofs.LiesInRange.{lies_in_range}
 use Rattle.layer_laws.proofs.NodesSteps.{choice_is}
 use Rattle.round_runner.specs.Played.{lies_at, heard_at}
+use Rattle.run_promises.proofs.Told.{told_is}
 
 module _ (script : Script) (whole : IsScript script) (sound : IsShape script.shape) (t : ℕ)
     (config : List State) (range : AreStates script.nodes script.shape config) where
   pub lie_is : (u v : ℕ) → u < script.nodes
       → InRange (fields_at script.shape u) (lie_of script t u v config)
   lie_is u v ult = lies_in_range script whole sound t u v config range ult
-
-  told_is : (u v : ℕ) → u < script.nodes → v < script.nodes
-      → state_of (get_or (lies_at script t config) u []) v ≡ lie_of script t u v config
-  told_is u v ult vlt =
-      ap (λ (row : List State). state_of row v)
-      (get_or-map-range_with_len
-      (λ w. map (λ x. lie_of script t w x config) (range_with_len 0 script.nodes)) 0
-      script.nodes u u [] ult (omega arith))
-      ∙ get_or-map-range_with_len (λ x. lie_of script t u x config) 0 script.nodes v v
-      (zero_state 0) vlt (omega arith)
 
   -- what node v hears
   module _ (v : ℕ) (vlt : v < script.nodes) where
@@ -47,4 +37,5 @@ module _ (script : Script) (whole : IsScript script) (sound : IsShape script.sha
         (zero_state 0) ult (omega arith)))
         (choice_is (InRange (fields_at script.shape u)) (eqb u v || not (is_in faulty u))
         (state_of config u) (state_of (get_or lies u []) v) (range u ult)
-        (subst (InRange (fields_at script.shape u)) (sym (told_is u v ult vlt)) (lie_is u v ult)))
+        (subst (InRange (fields_at script.shape u)) (sym (told_is script t config u v ult vlt))
+        (lie_is u v ult)))

@@ -63,7 +63,8 @@ module _ {Kept : Type 0} (plan : Plan) (script : Script) (layer : Layer Kept)
       → shown (plan_depth plan) s < plan_modulus plan
   shows_below v s lt state =
       let some = positive plan.base plan.levels is.accepted.levels in
-      subst (λ y. y < plan_modulus plan) (shown_of_cut (plan_depth plan) (plan_depth plan) (omega arith) s)
+      subst (λ y. y < plan_modulus plan)
+      (shown_of_cut (plan_depth plan) (plan_depth plan) (omega arith) s)
       ((plan_sizes plan is.accepted).shown v (cut (plan_depth plan) s) lt
       (range_of_state plan some.0 some.1 v (cut (plan_depth plan) s) state.front))
 
@@ -76,9 +77,11 @@ module _ {Kept : Type 0} (plan : Plan) (script : Script) (layer : Layer Kept)
         let told : (u : ℕ) → u < script.nodes → IsLayerTold plan layer u (row u) = λ u ult. record {
           size = length-map-range_with_len (λ v. lie_of script t u v config) 0 script.nodes
               ∙ is.right.nodes;
-          states = each_below (IsLayerState plan layer u) (λ v. lie_of script t u v config) script.nodes
+          states = each_below (IsLayerState plan layer u) (λ v. lie_of script t u v config)
+              script.nodes
               (λ v vlt. layer_state u (let n = is.right.nodes in omega arith)
-              (lie_of script t u v config) (lie_is script is.whole is.sound t config range u v ult));
+              (lie_of script t u v config)
+              (lie_is script is.whole is.sound t config range u v ult));
         } in
         record {
           size = length-map-range_with_len row 0 script.nodes ∙ is.right.nodes;
@@ -95,7 +98,8 @@ module _ {Kept : Type 0} (plan : Plan) (script : Script) (layer : Layer Kept)
       heard = heard_at script t config v
 
       hears : (u : ℕ) → u < script.nodes → IsLayerState plan layer u (state_of heard u)
-      hears u ult = layer_state u (let n = is.right.nodes in omega arith) (state_of heard u) (heard_is script is.whole is.sound t config range v vlt u ult)
+      hears u ult = layer_state u (let n = is.right.nodes in omega arith) (state_of heard u)
+          (heard_is script is.whole is.sound t config range v vlt u ult)
 
       may_hear : SameNumbers layer (plan_meaning plan)
           → MayHear layer v (shown (plan_depth plan) (state_of heard v)) heard
@@ -108,7 +112,8 @@ module _ {Kept : Type 0} (plan : Plan) (script : Script) (layer : Layer Kept)
           record {
             node = omega (arith, vlt, nodes, n);
             output =
-                let below = shows_below v (state_of heard v) (omega (arith, vlt, n)) (hears v vlt) in
+                let below = shows_below v (state_of heard v) (omega (arith, vlt, n))
+                (hears v vlt) in
                 omega (arith, below, modulus);
             size = long ∙ (is.right.nodes ∙ sym same.nodes);
             deep = all_by_place (HasRegisters layer) heard script.nodes long

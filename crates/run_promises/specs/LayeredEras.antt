@@ -1,5 +1,6 @@
 -- What is played of a script with a layer is the script's: its starts, its faulty sets, its lies.
 use Rattle.std.specs.Prelude.{◌≡◌, ℕ, ◌+◌, ◌-◌, ◌<◌, ◌≤◌, List, length, map, false, Some, None}
+use Rattle.std.specs.Prelude.{[], slice_index_or}
 use Rattle.std.specs.List.{range_with_len}
 use Rattle.sync_types.specs.States.{State}
 use Rattle.construction.specs.Plans.{Plan, plan_nodes}
@@ -12,6 +13,7 @@ use Rattle.counter_core.specs.Overlays.{Layer, KeepsRange}
 use Rattle.adversary_script.specs.Scripts.{Script, IsScript}
 use Rattle.adversary_script.specs.Eras.{first_of_era, end_of_era, faulty_of_era, faulty_at}
 use Rattle.adversary_script.specs.Lookup.{hit_at}
+use Rattle.adversary_script.specs.Lies.{lie_of}
 use Rattle.layer_laws.specs.Scenes.{Scene}
 use Rattle.layer_laws.specs.LayerRuns.{LayerRun, LayerRound, StepsAs}
 use Rattle.layer_laws.specs.Played.{IsKeptFor}
@@ -51,9 +53,11 @@ module _ {Kept : Type 0} (plan : Plan) (script : Script) (layer : Layer Kept)
         → LayerRound plan layer (faulty_of_era script j) t (played_scene t) (lies_played t)
         (played_scene (t + 1))
 
-  -- The first scene has the script's starts. Behind a round, also where an era begins there, a node
+  -- The first scene has the script's starts. After a round, also where an era begins there, a node
   -- that has a start line there is in its state, and each other one that was correct steps from
-  -- what it hears, with the script's lies. Each era is a run, with few faulty nodes.
+  -- what it hears. There the lies are the script's: what a faulty node tells another is what the
+  -- first lie of the script that says this gives, or else its puppet's state. Each era is a run,
+  -- with few faulty nodes.
   pub record PlaysScript : Type 0 where
     pub starts : played_scene 0 ≡ record { states = starts script; kept = began }
     pub puts : (t v : ℕ) (state : State) → t < script.rounds → v < plan_nodes plan
@@ -64,6 +68,9 @@ module _ {Kept : Type 0} (plan : Plan) (script : Script) (layer : Layer Kept)
         → StepsAs plan layer t (played_scene t)
         (heard_by (plan_nodes plan) (faulty_at script t) (played_scene t).states (lies_played t) v)
         v (played_scene (t + 1))
+    pub told : (t u v : ℕ) → t < script.rounds → u < plan_nodes plan → v < plan_nodes plan
+        → state_of (slice_index_or (lies_played t) u []) v
+        ≡ lie_of script t u v (played_scene t).states
     pub borne : (j : ℕ) → j ≤ length script.eras → IsBorne plan (faulty_of_era script j)
     pub eras : (j : ℕ) → j ≤ length script.eras → EraIsLayerRun j
 

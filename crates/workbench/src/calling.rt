@@ -133,8 +133,8 @@ pub fn counterlab<S: Source, K: Sink>(
     // table.
     ensures texts { TextsAreKept }
 
-    // Each text that says a plan, a table, wants, a slot table, inputs, requests, a log or a header
-    // is read as that.
+    // Each of these values has a text that is read as it: a plan, its table, wants, a slot table,
+    // inputs, requests, a log and a header.
     ensures accepts { TextsAreRead }
 
     // Where it is a plan and a script, what is played is a run of the plan, what is written of it
