@@ -5,8 +5,9 @@
 //! to link, and what a caller owes.
 #![tactic(auto)]
 
+ghost use Rattle.std.specs.Prelude.{◌≡◌, ◌≤◌};
 ghost use Rattle.node_calls.specs.Answers.{bytes_answer, output_answer, step_answer};
-ghost use Rattle.node_calls.specs.Counters.{counter_answer};
+ghost use Rattle.node_calls.specs.Counters.{counter_answer, TextsHaveCounters};
 ghost use Rattle.node_calls.specs.Counting.{NodesCount, LossyNodesCount};
 ghost use Rattle.counterlab_c.specs.Codes.{numbers_of};
 ghost use Rattle.counterlab_c.specs.Exports.{Gives, GivesNumber};
@@ -15,7 +16,8 @@ mod answers;
 
 use answers::{answer_of, numbers_of};
 pub use answers::{Answer, PlanNumbers};
-use node_calls::laws::{lossy_nodes_count, nodes_count};
+use machines::Machine;
+use node_calls::laws::{lossy_nodes_count, nodes_count, texts_have_counters};
 use node_calls::{counter_in, output, state_bytes, step};
 use std::alloc::Global;
 
@@ -23,10 +25,17 @@ use std::alloc::Global;
 /// it was.
 #[unsafe(no_mangle)]
 pub extern "C" fn counterlab_plan(alloc: Global, plan: &[u8], numbers: &mut PlanNumbers) -> Answer
-    ensures { Gives (λ _. 0) numbers_of (counter_answer plan.now) numbers.old numbers.new result }
+    ensures gives { Gives (λ _. 0) numbers_of (counter_answer plan.now)
+        numbers.old numbers.new result }
+    ensures nodes { result.code ≡ 0 → (1 ≤ numbers.new.nodes) × (numbers.new.nodes ≤ 256) }
+
+    // Each text of an accepted plan, of either construction, has the counter of that plan.
+    ensures counters { TextsHaveCounters }
 {
+    texts_have_counters();
     match counter_in(alloc, plan) {
         Ok(read) => {
+            read.tell();
             *numbers = numbers_of(&read);
             answer_of(Ok(0))
         }
@@ -34,10 +43,11 @@ pub extern "C" fn counterlab_plan(alloc: Global, plan: &[u8], numbers: &mut Plan
     }
 }
 
-/// The value is how many bytes a state of node `id` has.
+/// The value is how many bytes a state of node `id` has, at most 128.
 #[unsafe(no_mangle)]
 pub extern "C" fn counterlab_state_bytes(alloc: Global, plan: &[u8], id: u32) -> Answer
-    ensures { GivesNumber (bytes_answer plan.now id) result }
+    ensures gives { GivesNumber (bytes_answer plan.now id) result }
+    ensures most { result.code ≡ 0 → result.value ≤ 128 }
 {
     match state_bytes(alloc, plan, id) {
         Ok(bytes) => answer_of(Ok(bytes as u64)),
@@ -72,7 +82,7 @@ pub extern "C" fn counterlab_step(
     ensures count { NodesCount }
 
     // From there on they do so where states are lost too, as long as each is told in each round
-    // those of N - F nodes, its own among them.
+    // those of N - F correct nodes, its own among them, whichever these are.
     ensures losses { LossyNodesCount }
 {
     nodes_count();

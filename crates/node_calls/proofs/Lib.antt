@@ -2,3 +2,4 @@ pub mod Served
 pub mod Packets
 pub mod Counting
 pub mod Counters
+pub mod FirstLines

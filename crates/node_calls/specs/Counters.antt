@@ -1,5 +1,5 @@
 -- The counter of a text: that of a pulse plan, or that of a plan of levels over blocks.
-use Rattle.std.specs.Prelude.{ℕ, ◌==◌, if◌then◌else◌, Bool, true, List, Option, Some, None}
+use Rattle.std.specs.Prelude.{◌≡◌, ℕ, ◌==◌, if◌then◌else◌, Bool, true, List, Option, Some, None}
 use Rattle.std.specs.Prelude.{Result, Ok, Err}
 use Rattle.texts.specs.Lines.{lines_of}
 use Rattle.texts.specs.Parts.{At}
@@ -48,3 +48,10 @@ counter_by first text (Err at) =
 
 abbrev pub counter_answer : (text : List ℕ) → Result AnyMachine CallError
 counter_answer text = counter_by (first_unskipped 1 (lines_of text)) text (whole_pulses_of text)
+
+-- Each text of a plan has the counter of that plan, of either construction.
+pub record TextsHaveCounters : Type 0 where
+  pub boosting : (text : List ℕ) (plan : Plan) → whole_plan_of text ≡ Ok plan
+      → counter_answer text ≡ Ok (Boosting plan)
+  pub pulses : (text : List ℕ) (plan : PulseNumbers) → whole_pulses_of text ≡ Ok plan
+      → counter_answer text ≡ Ok (Pulses plan)

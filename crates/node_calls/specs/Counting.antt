@@ -80,7 +80,7 @@ pub record InLossyRounds (text : List ℕ) (m : Machine) (faulty : List ℕ) (co
       → step_answer text v (bytes t v) (packets t v) ≡ Ok (1, bytes (t + 1) v)
 
 -- From any locked round on they stay locked and count, as long as each correct node is told in each
--- round the states of N - F nodes, its own among them, whichever these are.
+-- round the states of N - F correct nodes, its own among them, whichever these are.
 abbrev pub LossyNodesCount : Type 0
 LossyNodesCount = (text : List ℕ) (counter : AnyMachine) → counter_answer text ≡ Ok counter
     → (faulty : List ℕ) → IsBorne (machine_of counter) faulty

@@ -1,4 +1,4 @@
-ghost use Rattle.std.specs.Prelude.{◌≡◌, ◌<◌, IfOk};
+ghost use Rattle.std.specs.Prelude.{◌≡◌, ◌<◌, ◌≤◌, IfOk};
 ghost use Rattle.state_codec.specs.Reading.{read};
 ghost use Rattle.any_machine.specs.Machines.{machine_of};
 ghost use Rattle.node_calls.specs.Errors.{Answers};
@@ -84,7 +84,8 @@ pub(crate) fn counter_with_node(
 ///
 /// `PulsesRefused` and `Refused` come as in [`counter_in`], then `Node`.
 pub fn state_bytes(alloc: Global, text: &[u8], id: u32) -> Result<usize, CallError>
-    ensures { Answers result (bytes_answer text.now id) }
+    ensures exact { Answers result (bytes_answer text.now id) }
+    ensures most { IfOk result (λ bytes. bytes ≤ 128) }
 {
     let machine = counter_with_node(alloc, text, id)?;
     Ok(machine.bytes_of(id))
