@@ -8,7 +8,10 @@
 # counterlab-NAME, since other packages have programs of those names too.
 set -eu
 [ $# -eq 1 ] || { echo "usage: ./install.sh PREFIX" >&2; exit 2; }
-prefix=$1
+case $1 in
+/*) prefix=$1 ;;
+*) prefix=$PWD/$1 ;;
+esac
 cd "$(dirname "$0")"
 
 build() { # a program, by its crate
@@ -33,7 +36,17 @@ if [ ! -f "$archive" ]; then
     echo "building the library: it is proved first" >&2
     (cd crates/counterlab_c && rt lib > /dev/null)
 fi
-install -D -m 644 "$archive" "$prefix/lib/libcounterlab_c.a"
+# one archive of both: the library, and the kit's three functions over malloc, realloc and free
+kit=$(dirname "$(rt doc)")
+mkdir -p "$prefix/lib"
+rm -f "$prefix/lib/libcounterlab.a"
+ar -M <<AR
+CREATE $prefix/lib/libcounterlab.a
+ADDLIB $archive
+ADDLIB $kit/c/liblibc_c.a
+SAVE
+END
+AR
 install -D -m 644 bench/library/counterlab.h "$prefix/include/counterlab.h"
 version=$(crates/choose/out/choose --version | cut -d ' ' -f 2)
 mkdir -p "$prefix/lib/pkgconfig"
@@ -45,7 +58,7 @@ includedir=\${prefix}/include
 Name: counterlab
 Description: the step of a node of a self-stabilising Byzantine synchronous counter
 Version: $version
-Libs: -L\${libdir} -lcounterlab_c
+Libs: -L\${libdir} -lcounterlab
 Cflags: -I\${includedir}
 PC
 echo "installed in $prefix"
