@@ -73,7 +73,8 @@ module _ (s : Script) (h : HasEras s) where
   seed_keeps (Some word) = key_keeps (key_of_digits word)
 
   -- without further eras a start is one of era 0
-  started_keeps : (found : Option Era) (start : Start) → (s.version ≡ 1 → found ≡ None) → HasEras (started s found start)
+  started_keeps : (found : Option Era) (start : Start) → (s.version ≡ 1 → found ≡ None)
+      → HasEras (started s found start)
   started_keeps None start none = h
   started_keeps (Some era) start none = λ e. absurd (some_none (none e)) where
     some_none : Some era ≡ None → ⊥
@@ -106,20 +107,24 @@ module _ (s : Script) (h : HasEras s) where
       guarded HasEras (nat_lt f (length said.1)) rule.Faults _ (λ _.
       λ e. absurd (true≢false (sym (eq-eqb s.version 1 e) ∙ other)))))))
 
-  group_tested_keeps : (name : List ℕ) (ids : Option (List ℕ)) → IfOk (group_tested s name ids) HasEras
+  group_tested_keeps : (name : List ℕ) (ids : Option (List ℕ))
+      → IfOk (group_tested s name ids) HasEras
   group_tested_keeps name None = tt
   group_tested_keeps name (Some []) = tt
   group_tested_keeps name (Some (id ∷ ids)) =
       guarded HasEras (nat_le 256 (length s.groups)) rule.Limit _ (λ _.
       guarded HasEras (not (are_below s.nodes (id ∷ ids))) rule.Node _ (λ _.
       guarded HasEras (not (is_rising (id ∷ ids))) rule.Order _ (λ _.
-      guarded HasEras (not (is_name name) || bytes_eq name (codes "all") || is_some (group_at s.groups name)) rule.Name _ (λ _. h))))
+      guarded HasEras
+          (not (is_name name) || bytes_eq name (codes "all") || is_some (group_at s.groups name))
+          rule.Name _ (λ _. h))))
 
   group_keeps : (words : List (List ℕ)) → IfOk (group_step s words) HasEras
   group_keeps [] = tt
   group_keeps (name ∷ words) = group_tested_keeps name (numbers_in words)
 
-  with_lie_keeps : (l : LieSaid) (what : Option What) (who : Option Who) → IfOk (with_lie s l what who) HasEras
+  with_lie_keeps : (l : LieSaid) (what : Option What) (who : Option Who)
+      → IfOk (with_lie s l what who) HasEras
   with_lie_keeps l None who = tt
   with_lie_keeps l (Some what) None = tt
   with_lie_keeps l (Some what) (Some who) = h
@@ -153,7 +158,8 @@ behind None s none = λ e. none
 behind (Some k) s h = h
 
 -- the first line stands first
-first_line : (last : Option Kind) (s : Script) → may_follow last kind.Script ≡ true → HasErasBehind last s → s.eras ≡ []
+first_line : (last : Option Kind) (s : Script) → may_follow last kind.Script ≡ true
+    → HasErasBehind last s → s.eras ≡ []
 first_line None s may none = none
 first_line (Some kind.Script) s may h = absurd (true≢false (sym may))
 first_line (Some kind.Faulty) s may h = absurd (true≢false (sym may))
@@ -168,13 +174,16 @@ first_line (Some kind.Rounds) s may h = absurd (true≢false (sym may))
 first_line (Some kind.Show) s may h = absurd (true≢false (sym may))
 first_line (Some kind.End) s may h = absurd (true≢false (sym may))
 
-line_keeps : (f : ℕ) (last : Option Kind) (k : Kind) (s : Script) (words : List (List ℕ)) → may_follow last k ≡ true
+line_keeps : (f : ℕ) (last : Option Kind) (k : Kind) (s : Script) (words : List (List ℕ))
+    → may_follow last k ≡ true
     → HasErasBehind last s → IfOk (line_step f k s words) HasEras
 line_keeps f last kind.Script s words may h = head_keeps s (only words) (first_line last s may h)
 line_keeps f last kind.Faulty s words may h = faulty_keeps s (behind last s h) f (numbers_in words)
 line_keeps f last kind.Seed s words may h = seed_keeps s (behind last s h) (only words)
-line_keeps f last kind.StartZero s words may h = done_keeps (record s { common = common.Zero }) words (behind last s h)
-line_keeps f last kind.StartNoise s words may h = done_keeps (record s { common = common.Noise }) words (behind last s h)
+line_keeps f last kind.StartZero s words may h =
+    done_keeps (record s { common = common.Zero }) words (behind last s h)
+line_keeps f last kind.StartNoise s words may h =
+    done_keeps (record s { common = common.Noise }) words (behind last s h)
 line_keeps f last kind.StartNode s words may h = start_keeps s (behind last s h) (both words)
 line_keeps f last kind.Era s words may h = era_keeps s (behind last s h) f (era_words words)
 line_keeps f last kind.Group s words may h = group_keeps s (behind last s h) words
@@ -184,7 +193,8 @@ line_keeps f last kind.Show s words may h = show_keeps s (behind last s h) (numb
 line_keeps f last kind.End s words may h = done_keeps s words (behind last s h)
 
 -- a reading that is exact gives a script of which this holds
-pub read_has_eras : (plan : Plan) (shape : Shape) (number : ℕ) (lines : List (List ℕ)) (r : Result Script ScriptError)
+pub read_has_eras : (plan : Plan) (shape : Shape) (number : ℕ) (lines : List (List ℕ))
+    (r : Result Script ScriptError)
     → IsAnswer plan shape number lines r → IfOk r (λ script. script.version ≡ 1 → script.eras ≡ [])
 read_has_eras plan shape number lines (Ok script) is =
     rw is at (script_has plan shape HasErasBehind

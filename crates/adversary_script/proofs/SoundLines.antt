@@ -240,7 +240,8 @@ module _ (plan : Plan) (shape : Shape) (sound : IsShape shape) (s : Script)
           nodes = h.right.nodes;
           states = h.right.states;
           borne = sets_pushed s h.formed
-              (IsBorne plan) (record { first = first; faulty = ids; starts = [] }) h.right.borne borne;
+              (IsBorne plan) (record { first = first; faulty = ids; starts = [] }) h.right.borne
+                  borne;
         };
   }
 

@@ -28,7 +28,8 @@ abbrev Plays : Running NoOverlay → Type 0
 Plays r = IsPlaying (λ o. no_layer) (λ o. []) [] r
 
 -- the lock lines of the plan, at the end of all lines
-pub puts_after_why : {T E : Type 0} (result : Result T E) (plan : Plan) (old new : Running NoOverlay)
+pub puts_after_why : {T E : Type 0} (result : Result T E) (plan : Plan)
+    (old new : Running NoOverlay)
     (s t : Told) → old.plan ≡ plan → HasPlayedAlone old new.at new
     → Puts result (lock_lines new.plan new.script (configuration_of (λ o. no_layer) [] new)) s t
     → Puts result (lock_lines plan old.script (played_at plan old.script) ++ []) s t
@@ -72,7 +73,8 @@ pub puts_base : {T E : Type 0} (result : Result T E) (plan : Plan) (script : Scr
     → Puts result (why_lines plan script) s t
 puts_base result plan script s t none puts =
     let is : why_lines plan script ≡ codes "explain base\n" =
-    ap (λ (levels : List Level). lines_over levels plan script) (nil_from_length plan.levels none) in
+    ap (λ (levels : List Level). lines_over levels plan script)
+        (nil_from_length plan.levels none) in
     subst (λ (x : List ℕ). Puts result x s t) (sym is) puts
 
 -- and of one with levels

@@ -39,7 +39,8 @@ module _ (input : List ℕ) (plan : Plan) (bytes lines : ℕ) (shape : Shape) (s
   scripted_is = ap behind_plan read ∙ ap (with_script plan) script_is
 
   read_for : IsRead (record { plan = plan; script = script })
-  read_for = subst (λ (r : Result Scripted Refusal). IfOk r IsRead) scripted_is (scripted_read input)
+  read_for =
+      subst (λ (r : Result Scripted Refusal). IfOk r IsRead) scripted_is (scripted_read input)
 
   -- the runner that was begun with them
   pub scripted_run : (overlay : NoOverlay) (r : Running NoOverlay)
@@ -47,7 +48,9 @@ module _ (input : List ℕ) (plan : Plan) (bytes lines : ℕ) (shape : Shape) (s
   scripted_run overlay r begun =
       let for = read_for.for in
       record {
-        read = scripted_is ∙ ap (λ (s : Script). Ok (record { plan = plan; script = s })) (sym begun.script_is);
+        read =
+            scripted_is
+            ∙ ap (λ (s : Script). Ok (record { plan = plan; script = s })) (sym begun.script_is);
         plan_is = begun.plan_is;
         plays = begun.plays;
         records = record {

@@ -23,7 +23,8 @@ use Rattle.firing.specs.Firings.{requests_in, bit, fire_layer, fires, EveryRunFi
 abbrev input : List Request → ℕ → Fire → ℕ
 input requests v fire = bit (requests_in requests v fire.round)
 
-agreeing : (plan : Plan) (requests : List Request) → IsAgreeing (fire_layer plan requests) (plan_faults plan) (input requests)
+agreeing : (plan : Plan) (requests : List Request)
+    → IsAgreeing (fire_layer plan requests) (plan_faults plan) (input requests)
 agreeing plan requests = record { extra = refl; step = λ v output kept heard. refl }
 
 one_is : (b : Bool) → option_eq nat_eq (Some (bit b)) (Some 1) ≡ b
@@ -31,11 +32,13 @@ one_is true = refl
 one_is false = refl
 
 -- a turn that is not the last one decides nothing
-undecided : (n f i v input output x : ℕ) (heard : List State) → output % slot_length f ≡ x → x + 1 < slot_length f → (agree_step n f i v input output heard).decided ≡ None
+undecided : (n f i v input output x : ℕ) (heard : List State) → output % slot_length f ≡ x
+    → x + 1 < slot_length f → (agree_step n f i v input output heard).decided ≡ None
 undecided n f i v input output x heard rest lt =
     let turn : ℕ = output % slot_length f in
     let r : Reg = agreed_in_turn n f i v turn heard in
-    ap (λ (b : Bool). (turned b input r).decided) (ne_eqb (turn + 1) (slot_length f) (λ e. omega (arith, e, rest, lt)))
+    ap (λ (b : Bool). (turned b input r).decided)
+        (ne_eqb (turn + 1) (slot_length f) (λ e. omega (arith, e, rest, lt)))
 
 pub fires_together : EveryRunFiresTogether
 fires_together plan accepted whole requests faulty borne first run is t lo hi begins =
@@ -43,7 +46,9 @@ fires_together plan accepted whole requests faulty borne first run is t lo hi be
     let e : t ≡ t - 1 + 1 = omega arith in
     let q : ℕ = slot_length (plan_faults plan) in
     let here : t - 1 + q + 1 ≡ t + q = omega arith in
-    let slot = slot_decides plan accepted layer (record { nodes = refl; modulus = refl; depth = refl }) (input requests) (agreeing plan requests) whole faulty borne first run is (t - 1) (omega arith) (omega arith)
+    let slot = slot_decides plan accepted layer
+        (record { nodes = refl; modulus = refl; depth = refl }) (input requests)
+        (agreeing plan requests) whole faulty borne first run is (t - 1) (omega arith) (omega arith)
     (subst (λ y. AllAre plan faulty (scene run y).states q 0) e begins) in
     let fired_by : Option ℕ → Bool = λ decided. option_eq nat_eq decided (Some 1) in
     record {
@@ -52,18 +57,27 @@ fires_together plan accepted whole requests faulty borne first run is t lo hi be
           let d = slot.decides v vlt ok in
           ap (λ y. fires (scene run y) v) (sym here)
           ∙ (ap (λ (k : Fire). k.fired) d.steps.kept ∙ ap fired_by d.decided);
-      valid = λ common all. ap (λ x. fired_by (Some x)) (slot.valid (bit common) (λ v vlt ok. ap bit (all v vlt ok))) ∙ one_is common;
+      valid =
+          λ common all. ap (λ x. fired_by (Some x))
+            (slot.valid (bit common) (λ v vlt ok. ap bit (all v vlt ok)))
+          ∙ one_is common;
       quiet = λ x v some xlt vlt ok.
           let r : ℕ = t + (x - 1) in
           let there : r + 1 ≡ t + x = omega arith in
           let few = few_of plan faulty borne in
           let quorum = quorum_of plan accepted in
           let counts = counts_of plan layer accepted faulty borne first run is in
-          let zero = common_rest plan layer faulty first run is counts q t 0 (omega arith) (omega arith) (omega arith) begins in
+          let zero = common_rest plan layer faulty first run is counts q t 0 (omega arith)
+              (omega arith) (omega arith) begins in
           let steps = node_steps plan layer faulty first run is r v (omega arith) vlt ok in
           let kept : Fire = layer.begun (first + r) (kept_of layer (scene run r) v) in
-          let rest = ap (λ st. shown (plan_depth plan) st % q) (steps.honest v vlt ok) ∙ shows_rest plan layer faulty first run is counts q t (x - 1) v whole (omega arith) zero (omega arith) (omega arith) vlt ok in
+          let rest = ap (λ st. shown (plan_depth plan) st % q) (steps.honest v vlt ok)
+              ∙ shows_rest plan layer faulty first run is counts q t (x - 1) v whole (omega arith)
+                zero (omega arith) (omega arith) vlt ok in
           ap (λ y. fires (scene run y) v) (sym there)
           ∙ (ap (λ (k : Fire). k.fired) steps.steps.kept
-          ∙ ap fired_by (undecided (plan_nodes plan) (plan_faults plan) (plan_depth plan) v (input requests v kept) (shown (plan_depth plan) (state_of steps.heard v)) (x - 1) steps.heard rest (omega arith)));
+          ∙ ap fired_by
+              (undecided (plan_nodes plan) (plan_faults plan) (plan_depth plan) v
+                (input requests v kept) (shown (plan_depth plan) (state_of steps.heard v)) (x - 1)
+                steps.heard rest (omega arith)));
     }

@@ -36,7 +36,8 @@ module _ (q : ℕ → Bool) (f : ℕ → Option ℕ) (z : Option ℕ) where
         arith,
         h,
         count_of-cons (f first) (map f (filter q (range_with_len (first + 1) count))) z,
-        ap {B = ℕ} (λ b. cond b 1 0) (ap (option_eq nat_eq z) (same first (omega arith) (omega arith) e)
+        ap {B = ℕ} (λ b. cond b 1 0)
+            (ap (option_eq nat_eq z) (same first (omega arith) (omega arith) e)
             ∙ value_itself z),
       )
 

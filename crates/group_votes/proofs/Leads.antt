@@ -34,7 +34,8 @@ module _ (votes : List (Option ℕ)) (vote : ℕ → ℕ)
   long = length-map-range_with_len (λ i. Some (vote i)) 0 (length votes)
 
   at : (i : ℕ) → i < length votes → get_or all_votes i None ≡ Some (vote i)
-  at i lt = get_or-map-range_with_len (λ i. Some (vote i)) 0 (length votes) i i None lt (omega arith)
+  at i lt =
+      get_or-map-range_with_len (λ i. Some (vote i)) 0 (length votes) i i None lt (omega arith)
 
   -- a vote has the places at which it is known, and no more than with those that are not known
   has_known : (z : ℕ) → count_of votes (Some z) ≤ count_of all_votes (Some z)

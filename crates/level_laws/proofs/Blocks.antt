@@ -18,11 +18,13 @@ unsound_step true f m e = omega arith
 unsound_step false f m e = omega (arith, leb-false m f e)
 
 -- each block that is not sound has f + 1 faulty nodes
-unsound_blocks : (n f : ℕ) (faulty : ℕ → Bool) (k : ℕ) → (f + 1) * places (λ i. not (sound n f faulty i)) k ≤ places faulty (k * n)
+unsound_blocks : (n f : ℕ) (faulty : ℕ → Bool) (k : ℕ)
+    → (f + 1) * places (λ i. not (sound n f faulty i)) k ≤ places faulty (k * n)
 unsound_blocks n f faulty zero = omega arith
 unsound_blocks n f faulty (suc k) =
     let m = faults_in n faulty k in
-    rw (suc-mul, stretches faulty (k * n) n) (omega (arith, unsound_blocks n f faulty k, unsound_step (nat_le m f) f m refl))
+    rw (suc-mul, stretches faulty (k * n) n)
+        (omega (arith, unsound_blocks n f faulty k, unsound_step (nat_le m f) f m refl))
 
 module _ (level : Level) (n f modulus : ℕ) (faulty : ℕ → Bool)
     (stands : StandsOver level n f modulus)
@@ -38,5 +40,9 @@ module _ (level : Level) (n f modulus : ℕ) (faulty : ℕ → Bool)
   pub sound_leader : (b : ℕ) × (b < leaders_of level) × (sound n f faulty b ≡ true)
   sound_leader =
       let h = stands.blocks in
-      let x = one_fails (λ i. not (sound n f faulty i)) (leaders_of level) (omega (arith, few_unsound, shorter (λ i. not (sound n f faulty i)) (leaders_of level) level.blocks (omega arith))) in
+      let x = one_fails (λ i. not (sound n f faulty i)) (leaders_of level)
+          (omega
+            (arith, few_unsound,
+              shorter (λ i. not (sound n f faulty i)) (leaders_of level) level.blocks
+                (omega arith))) in
       (x.0, x.1, not-false (sound n f faulty x.0) x.2)

@@ -36,14 +36,18 @@ whole_by : (s m : ℕ) → m % s ≡ 0 → 0 < m → (m < s) ⊎ (s ≤ m) → s
 whole_by s m e some (inl lt) = absurd (let same : m % s ≡ m = mod-eq_of_lt lt in omega arith)
 whole_by s m e some (inr le) = le
 
-pub map_over : {X Y : Type 0} (g h : X → Y) (f : X → X) → ((x : X) → g (f x) ≡ h x) → (xs : List X) → map g (map f xs) ≡ map h xs
+pub map_over : {X Y : Type 0} (g h : X → Y) (f : X → X) → ((x : X) → g (f x) ≡ h x) → (xs : List X)
+    → map g (map f xs) ≡ map h xs
 map_over g h f same [] = refl
-map_over g h f same (x ∷ xs) = ap (λ y. y ∷ map g (map f xs)) (same x) ∙ ap (λ ys. h x ∷ ys) (map_over g h f same xs)
+map_over g h f same (x ∷ xs) =
+    ap (λ y. y ∷ map g (map f xs)) (same x) ∙ ap (λ ys. h x ∷ ys) (map_over g h f same xs)
 
-pub cut_with : (d : ℕ) (s : State) (r : Reg) → length s.registers ≡ d → cut d (with_register s r) ≡ s
+pub cut_with : (d : ℕ) (s : State) (r : Reg) → length s.registers ≡ d
+    → cut d (with_register s r) ≡ s
 cut_with d s r e = ap (λ rs. record { x = s.x; registers = rs }) (take_at s.registers (r ∷ []) d e)
 
-pub register_with : (d : ℕ) (s : State) (r : Reg) → length s.registers ≡ d → register_at d (with_register s r) ≡ r
+pub register_with : (d : ℕ) (s : State) (r : Reg) → length s.registers ≡ d
+    → register_at d (with_register s r) ≡ r
 register_with d s r e = get_or_at s.registers r [] zero_register d e
 
 -- to cut a state twice is to cut it to the lesser depth
@@ -62,8 +66,10 @@ inner_is_next a level v heard lt =
     (lt-ltb v (level.blocks * a.nodes) lt)
 
 module _ (a : Meaning) (in_range : State → Type 0) (level : Level) (sizes : Sizes a in_range) where
-  pub place_in_block : (v : ℕ) → v < level.blocks * a.nodes → (v / a.nodes < level.blocks) × (v % a.nodes < a.nodes)
-  place_in_block v lt = let some = sizes.some in (div_below v a.nodes level.blocks some lt, mod-lt v some)
+  pub place_in_block : (v : ℕ) → v < level.blocks * a.nodes
+      → (v / a.nodes < level.blocks) × (v % a.nodes < a.nodes)
+  place_in_block v lt =
+      let some = sizes.some in (div_below v a.nodes level.blocks some lt, mod-lt v some)
 
   -- what holds of the step in the block, and of zero, holds of the inner state
   pub by_inner : (P : State → Type 0) (v : ℕ) (heard : List State)
@@ -83,14 +89,17 @@ module _ (a : Meaning) (in_range : State → Type 0) (level : Level) (sizes : Si
       (length-block level.blocks a.nodes (v / a.nodes) heard (omega arith) p.0))
       (length-replicate a.depth zero_register)
 
-  pub boosted_sizes : StandsOn a level → Sizes (boosted a level) (BoostedRange in_range a.depth level.modulus)
+  pub boosted_sizes : StandsOn a level
+      → Sizes (boosted a level) (BoostedRange in_range a.depth level.modulus)
   boosted_sizes on =
       let three = on.stands.blocks in
       let some = sizes.some in
-      let n : 3 * a.nodes ≤ level.blocks * a.nodes = mul-le 3 a.nodes level.blocks a.nodes three (omega arith) in
+      let n : 3 * a.nodes
+          ≤ level.blocks * a.nodes = mul-le 3 a.nodes level.blocks a.nodes three (omega arith) in
       let two = sizes.two in
       let most = sizes.modulus in
-      let whole = whole_by (span_of level) a.modulus on.stands.multiple (omega arith) (cases_lt a.modulus (span_of level)) in
+      let whole = whole_by (span_of level) a.modulus on.stands.multiple (omega arith)
+          (cases_lt a.modulus (span_of level)) in
       record {
         some = omega arith;
         most = on.most_nodes;
@@ -126,12 +135,22 @@ module _ (a : Meaning) (in_range : State → Type 0) (level : Level) (sizes : Si
       zero_in in (
         ignores.from_cut (with_register inner r)
             (subst in_range (sym (cut_with a.depth inner r deep)) lower),
-        subst (λ (r : Reg). IfSome r.a (λ a. a < level.modulus)) (sym (register_with a.depth inner r deep)) (up_below _ level.modulus two),
+        subst (λ (r : Reg). IfSome r.a (λ a. a < level.modulus))
+            (sym (register_with a.depth inner r deep)) (up_below _ level.modulus two),
       )
 
-  pub boosted_zero_in_range : 2 ≤ level.modulus → IgnoresFurther a in_range → in_range (zero_state a.depth) → BoostedRange in_range a.depth level.modulus (zero_state (a.depth + 1))
+  pub boosted_zero_in_range : 2 ≤ level.modulus → IgnoresFurther a in_range
+      → in_range (zero_state a.depth)
+      → BoostedRange in_range a.depth level.modulus (zero_state (a.depth + 1))
   boosted_zero_in_range two ignores zero =
       let d = a.depth in (
-        ignores.from_cut (zero_state (d + 1)) (subst in_range (sym (ap (λ rs. record { x = 0; registers = rs }) (take-replicate d (d + 1) zero_register (omega arith)))) zero),
-        subst (λ (r : Reg). IfSome r.a (λ a. a < level.modulus)) (sym (get_or-replicate (d + 1) d zero_register zero_register (omega arith))) (omega arith),
+        ignores.from_cut (zero_state (d + 1))
+            (subst in_range
+              (sym
+                (ap (λ rs. record { x = 0; registers = rs })
+                  (take-replicate d (d + 1) zero_register (omega arith))))
+              zero),
+        subst (λ (r : Reg). IfSome r.a (λ a. a < level.modulus))
+            (sym (get_or-replicate (d + 1) d zero_register zero_register (omega arith)))
+            (omega arith),
       )

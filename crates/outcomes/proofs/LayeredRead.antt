@@ -153,7 +153,8 @@ slots_read input =
 abbrev pub agreed_layer : Plan → AgreeSaid → Layer ℕ
 agreed_layer plan said = agree_layer plan said.values said.inputs
 
-pub decisions_to_play : (input : List ℕ) → IfOk (agreed_of input) (IsToPlay agree.IsFor agreed_layer)
+pub decisions_to_play : (input : List ℕ)
+    → IfOk (agreed_of input) (IsToPlay agree.IsFor agreed_layer)
 decisions_to_play input =
     so _ (input_read part.Agree agree.part_of agree_shape agree.IsFor inputs_fit
     (λ plan said accepted fits. further_sound plan said.values 1 accepted fits.two fits.few) input)
@@ -163,7 +164,8 @@ decisions_to_play input =
 pub fires_to_play : (input : List ℕ) → IfOk (firing_of input) (IsToPlay fire.AreFor fire_layer)
 fires_to_play input =
     so _ (input_read part.Fire fire.part_of fire_shape fire.AreFor requests_fit
-    (λ plan requests accepted fits. further_sound plan 2 1 accepted (omega arith) (omega arith)) input)
+    (λ plan requests accepted fits. further_sound plan 2 1 accepted (omega arith) (omega arith))
+        input)
     (λ l. to_play fire_shape fire.AreFor fire_layer l
     (λ lt. record { nodes = refl; modulus = refl; depth = refl }) refl)
 

@@ -12,7 +12,8 @@ use Rattle.plan_numbers.specs.declared.numbers.LevelNums.{LevelNums}
 use Rattle.plan_numbers.specs.Numbers.{numbers_of, numbers_over, below_of, level_numbers}
 use Rattle.plan_certificate.specs.Tables.{level_line, indexed_levels, level_lines}
 
-length-numbers_of : (base : ℕ) (levels : List Level) → length (numbers_of base levels) ≡ length levels
+length-numbers_of : (base : ℕ) (levels : List Level)
+    → length (numbers_of base levels) ≡ length levels
 length-numbers_of base [] = refl
 length-numbers_of base (level ∷ below) =
     let top = numbers_over (below_of base below) level in
@@ -37,7 +38,8 @@ module _ (plan : Plan) (i : ℕ) (nums : LevelNums)
   here : get_or (indexed_levels plan) i (0, nums) ≡ (1 + i, nums)
   here =
       get_or-enumerate_from 1 (level_numbers plan) i (0, nums) inside
-      ∙ ap (λ (x : LevelNums). (1 + i, x)) (get_or_from_slice_get (level_numbers plan) i nums nums at)
+      ∙ ap (λ (x : LevelNums). (1 + i, x))
+          (get_or_from_slice_get (level_numbers plan) i nums nums at)
 
   -- one more line is written
   pub wrote_level : (s t u : Told) → Wrote (first_lines plan i) s t

@@ -1,4 +1,5 @@
--- The texts of the levels of a plan, one after the other, the lowest first. What the text of one level
+-- The texts of the levels of a plan, one after the other, the lowest first. What the text of one
+-- level
 -- is does not matter.
 use Rattle.std.proofs.Common.{◌≡◌, ℕ, ◌+◌, ◌<◌, ◌≤◌, List, [], ◌∷◌, ◌++◌, length, take, map}
 use Rattle.std.proofs.Common.{reverse, get_or, Some, refl, sym, ap, ◌∙◌, arith}
@@ -13,7 +14,8 @@ use Rattle.plan_numbers.specs.declared.numbers.LevelNums.{LevelNums}
 use Rattle.plan_numbers.specs.Numbers.{level_of, numbers_of, numbers_over, below_of, level_numbers}
 
 -- the levels that have the numbers of these, the lowest first
-levels_are : (base : ℕ) (levels : List Level) → map level_of (numbers_of base levels) ≡ reverse levels
+levels_are : (base : ℕ) (levels : List Level)
+    → map level_of (numbers_of base levels) ≡ reverse levels
 levels_are base [] = refl
 levels_are base (level ∷ below) =
     let top = numbers_over (below_of base below) level in

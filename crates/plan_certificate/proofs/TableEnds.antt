@@ -35,7 +35,8 @@ module _ (text : List ℕ) (s : TableStage) (number : ℕ) (rest : List ℕ)
   answer = rw (is.so_far, is.behind) refl
 
   -- no line is left
-  pub none_left : HasNoLine rest → table_of text ≡ Err (record { line = number; rule = Premise Form })
+  pub none_left : HasNoLine rest
+      → table_of text ≡ Err (record { line = number; rule = Premise Form })
   none_left none = answer ∙ rw none.lines refl
 
   module _ (line behind : List ℕ) (first : HasFirstLine rest line behind) where
@@ -48,7 +49,8 @@ module _ (text : List ℕ) (s : TableStage) (number : ℕ) (rest : List ℕ)
         ≡ part_from table_step (Premise Form) t (number - 1 + 1) (number + 1) (whole_lines behind)
     onward t at = rw (first.lines, part_from, at) refl
 
-    pub goes_on : (t : TableStage) → table_step s line ≡ goes t → IsReadTo text t (number + 1) behind
+    pub goes_on : (t : TableStage) → table_step s line ≡ goes t
+        → IsReadTo text t (number + 1) behind
     goes_on t at =
         let some = is.some in
         let taken : number - 1 + 1 ≡ number + 1 - 1 = omega (arith, some) in
@@ -69,8 +71,10 @@ module _ (text : List ℕ) (s : TableStage) (number : ℕ) (rest : List ℕ)
         → table_of text ≡ Ok plan
     ends_there plan at none = ended plan at ∙ rw none refl
 
-    followed : (lines : List (List ℕ)) (more : List ℕ) (plan : Plan) → 0 < length (text_of lines ++ more)
-        → unless_followed lines more plan number ≡ Err (record { line = number + 1; rule = Premise Form })
+    followed : (lines : List (List ℕ)) (more : List ℕ) (plan : Plan)
+        → 0 < length (text_of lines ++ more)
+        → unless_followed lines more plan number
+            ≡ Err (record { line = number + 1; rule = Premise Form })
     followed [] [] plan lt = absurd (omega arith)
     followed [] (b ∷ more) plan lt = refl
     followed (l ∷ lines) more plan lt = refl
@@ -104,7 +108,8 @@ takes_none (refuses r) new cause h = ap refuses (sym h)
 -- what a test for bytes says
 pub no_bytes : (bytes : List ℕ) → (length bytes == 0) ≡ true → bytes ≡ []
 no_bytes [] e = refl
-no_bytes (b ∷ bytes) e = let n : length (b ∷ bytes) ≡ 0 = eqb-true _ _ e in absurd (omega (arith, n))
+no_bytes (b ∷ bytes) e =
+    let n : length (b ∷ bytes) ≡ 0 = eqb-true _ _ e in absurd (omega (arith, n))
 
 pub some_bytes : (bytes : List ℕ) → (length bytes == 0) ≡ false → 0 < length bytes
 some_bytes [] e = absurd cc

@@ -20,7 +20,9 @@ costs_none most = record {
   rising = tt;
   costs = All-nil (IsLeastCost most);
   before = All-nil (λ pot. IsPairBefore 0 0 pot.nodes pot.faults);
-  complete = λ levels path before. elim before [ inl lt ↦ absurd (omega (arith, lt)) | inr at ↦ absurd (omega (arith, at.1)) ];
+  complete =
+      λ levels path before. elim before
+      [ inl lt ↦ absurd (omega (arith, lt)) | inr at ↦ absurd (omega (arith, at.1)) ];
 }
 
 later : (n f m g : ℕ) → IsPairBefore n f m g → IsPairBefore n (f + 1) m g
@@ -44,12 +46,17 @@ same_pot n n' f f' value en ef =
     ap (λ x. pot_of x f value) en ∙ ap (λ y. pot_of n' y value) ef
 
 module _ (most n f : ℕ) (pots : List Pot) (are : AreCostsBefore most n f pots) where
-  pub costs_skip : ((levels : List Level) → ¬ Reaches most n f levels) → AreCostsBefore most n (f + 1) pots
+  pub costs_skip : ((levels : List Level) → ¬ Reaches most n f levels)
+      → AreCostsBefore most n (f + 1) pots
   costs_skip none = record {
     rising = are.rising;
     costs = are.costs;
-    before = All-weaker (λ pot. IsPairBefore n f pot.nodes pot.faults) (λ pot. IsPairBefore n (f + 1) pot.nodes pot.faults) (λ pot before. later n f pot.nodes pot.faults before) pots are.before;
-    complete = λ levels path before. elim (at_pair n f (nodes_of levels) (faults_of levels) before) [
+    before =
+        All-weaker (λ pot. IsPairBefore n f pot.nodes pot.faults)
+        (λ pot. IsPairBefore n (f + 1) pot.nodes pot.faults)
+        (λ pot before. later n f pot.nodes pot.faults before) pots are.before;
+    complete =
+        λ levels path before. elim (at_pair n f (nodes_of levels) (faults_of levels) before) [
       | inl old ↦ are.complete levels path old
       | inr at ↦ absurd (none levels (record { path = path; nodes = at.0; faults = at.1 }))
     ];
@@ -71,14 +78,24 @@ module _ (most n f : ℕ) (pots : List Pot) (are : AreCostsBefore most n f pots)
       least = at_least;
     }
 
-    pot_complete : (levels : List Level) → IsPath most levels → IsPairBefore n (f + 1) (nodes_of levels) (faults_of levels)
-        → (value : ℕ) × Contains (pots ++ pot_at ∷ []) (record { nodes = nodes_of levels; faults = faults_of levels; value = value })
-    pot_complete levels path before = elim (at_pair n f (nodes_of levels) (faults_of levels) before) [
+    pot_complete : (levels : List Level) → IsPath most levels
+        → IsPairBefore n (f + 1) (nodes_of levels) (faults_of levels)
+        → (value : ℕ)
+            × Contains (pots ++ pot_at ∷ [])
+              (record { nodes = nodes_of levels; faults = faults_of levels; value = value })
+    pot_complete levels path before =
+        elim (at_pair n f (nodes_of levels) (faults_of levels) before) [
       | inl old ↦
           let there = are.complete levels path old in
-          (there.0, Contains-append_left pots (pot_at ∷ []) (record { nodes = nodes_of levels; faults = faults_of levels; value = there.0 }) there.1)
+          (there.0,
+              Contains-append_left pots (pot_at ∷ [])
+                (record { nodes = nodes_of levels; faults = faults_of levels; value = there.0 })
+                there.1)
       | inr at ↦
-          let same : pot_at ≡ record { nodes = nodes_of levels; faults = faults_of levels; value = best.value } = same_pot n (nodes_of levels) f (faults_of levels) best.value (sym at.0) (sym at.1) in
+          let same : pot_at
+              ≡ record { nodes = nodes_of levels; faults = faults_of levels; value = best.value } =
+                same_pot n (nodes_of levels) f (faults_of levels) best.value (sym at.0)
+                (sym at.1) in
           (best.value, subst (Contains (pots ++ pot_at ∷ [])) same (Contains-push pots pot_at))
     ]
 
@@ -87,7 +104,9 @@ module _ (most n f : ℕ) (pots : List Pot) (are : AreCostsBefore most n f pots)
       rising = rising_push pots pot_at are.rising are.before;
       costs = All-push (IsLeastCost most) pots pot_at are.costs pot_least;
       before = All-push (λ pot. IsPairBefore n (f + 1) pot.nodes pot.faults) pots pot_at
-          (All-weaker (λ pot. IsPairBefore n f pot.nodes pot.faults) (λ pot. IsPairBefore n (f + 1) pot.nodes pot.faults) (λ pot before. later n f pot.nodes pot.faults before) pots are.before)
+          (All-weaker (λ pot. IsPairBefore n f pot.nodes pot.faults)
+              (λ pot. IsPairBefore n (f + 1) pot.nodes pot.faults)
+              (λ pot before. later n f pot.nodes pot.faults before) pots are.before)
           (inr (refl, omega arith));
       complete = pot_complete;
     }
@@ -103,9 +122,14 @@ pub costs_row : (most n width : ℕ) (pots : List Pot) → 1 ≤ most → most <
 costs_row most n width pots some wide are = record {
   rising = are.rising;
   costs = are.costs;
-  before = All-weaker (λ pot. IsPairBefore n width pot.nodes pot.faults) (λ pot. IsPairBefore (n + 1) 0 pot.nodes pot.faults) (λ pot before. next_row n width pot.nodes pot.faults before) pots are.before;
+  before =
+      All-weaker (λ pot. IsPairBefore n width pot.nodes pot.faults)
+      (λ pot. IsPairBefore (n + 1) 0 pot.nodes pot.faults)
+      (λ pot before. next_row n width pot.nodes pot.faults before) pots are.before;
   complete = λ levels path before.
-      let narrow : faults_of levels < width = omega (arith, path_sized most levels path, path_few most levels some path, wide) in
+      let narrow : faults_of levels
+          < width = omega
+            (arith, path_sized most levels path, path_few most levels some path, wide) in
       elim before [
         | inl lt ↦ elim (cases_lt (nodes_of levels) n) [
           | inl less ↦ are.complete levels path (inl less)
@@ -115,9 +139,11 @@ costs_row most n width pots some wide are = record {
       ];
 }
 
-pub costs_end : (most : ℕ) (pots : List Pot) → 1 ≤ most → AreCostsBefore most (most + 1) 0 pots → AreLeastCosts most pots
+pub costs_end : (most : ℕ) (pots : List Pot) → 1 ≤ most → AreCostsBefore most (most + 1) 0 pots
+    → AreLeastCosts most pots
 costs_end most pots some are = record {
   rising = are.rising;
   costs = are.costs;
-  complete = λ levels path. are.complete levels path (inl (omega (arith, path_few most levels some path)));
+  complete =
+      λ levels path. are.complete levels path (inl (omega (arith, path_few most levels some path)));
 }

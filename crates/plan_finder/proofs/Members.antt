@@ -22,12 +22,14 @@ module _ {X : Type 0} where
   in_parts : (x : X) (xs ys : List X) → IsIn x (xs ++ ys) → IsIn x xs ⊎ IsIn x ys
   in_parts x [] ys is = inr is
   in_parts x (z ∷ xs) ys (inl same) = inl (inl same)
-  in_parts x (z ∷ xs) ys (inr is) = elim (in_parts x xs ys is) [ inl left ↦ inl (inr left) | inr right ↦ inr right ]
+  in_parts x (z ∷ xs) ys (inr is) =
+      elim (in_parts x xs ys is) [ inl left ↦ inl (inr left) | inr right ↦ inr right ]
 
   -- ---- what passes a test
 
   module _ (p : X → Bool) where
-    kept_behind : (x z : X) (rest : List X) (b : Bool) → IsIn x rest → IsIn x (cond b (z ∷ rest) rest)
+    kept_behind : (x z : X) (rest : List X) (b : Bool) → IsIn x rest
+        → IsIn x (cond b (z ∷ rest) rest)
     kept_behind x z rest true is = inr is
     kept_behind x z rest false is = is
 
@@ -36,7 +38,8 @@ module _ {X : Type 0} where
     in_filter x (z ∷ xs) holds (inl same) =
         let passes : p z ≡ true = ap p same ∙ holds in
         subst (λ b. IsIn x (cond b (z ∷ filter p xs) (filter p xs))) (sym passes) (inl same)
-    in_filter x (z ∷ xs) holds (inr is) = kept_behind x z (filter p xs) (p z) (in_filter x xs holds is)
+    in_filter x (z ∷ xs) holds (inr is) =
+        kept_behind x z (filter p xs) (p z) (in_filter x xs holds is)
 
     from_kept : (x z : X) (rest : List X) (b : Bool) → p z ≡ b → IsIn x (cond b (z ∷ rest) rest)
         → ((p x ≡ true) × (z ≡ x)) ⊎ IsIn x rest
@@ -54,12 +57,16 @@ module _ {X : Type 0} where
 -- ---- from each element
 
 module _ {X Y : Type 0} where
-  pub in_flat_map : (f : X → List Y) (x : X) (y : Y) (xs : List X) → IsIn x xs → IsIn y (f x) → IsIn y (flat_map f xs)
+  pub in_flat_map : (f : X → List Y) (x : X) (y : Y) (xs : List X) → IsIn x xs → IsIn y (f x)
+      → IsIn y (flat_map f xs)
   in_flat_map f x y [] is in_f = absurd is
-  in_flat_map f x y (z ∷ xs) (inl same) in_f = in_front y (f z) (flat_map f xs) (subst (λ w. IsIn y (f w)) (sym same) in_f)
-  in_flat_map f x y (z ∷ xs) (inr is) in_f = in_back y (f z) (flat_map f xs) (in_flat_map f x y xs is in_f)
+  in_flat_map f x y (z ∷ xs) (inl same) in_f =
+      in_front y (f z) (flat_map f xs) (subst (λ w. IsIn y (f w)) (sym same) in_f)
+  in_flat_map f x y (z ∷ xs) (inr is) in_f =
+      in_back y (f z) (flat_map f xs) (in_flat_map f x y xs is in_f)
 
-  pub from_flat_map : (f : X → List Y) (y : Y) (xs : List X) → IsIn y (flat_map f xs) → (x : X) × IsIn x xs × IsIn y (f x)
+  pub from_flat_map : (f : X → List Y) (y : Y) (xs : List X) → IsIn y (flat_map f xs)
+      → (x : X) × IsIn x xs × IsIn y (f x)
   from_flat_map f y [] is = absurd is
   from_flat_map f y (z ∷ xs) is = elim (in_parts y (f z) (flat_map f xs) is) [
     | inl here ↦ (z, inl refl, here)
@@ -71,7 +78,8 @@ module _ {X Y : Type 0} where
   in_map f x (z ∷ xs) (inl same) = inl (ap f same)
   in_map f x (z ∷ xs) (inr is) = inr (in_map f x xs is)
 
-  pub from_map : (f : X → Y) (y : Y) (xs : List X) → IsIn y (map f xs) → (x : X) × IsIn x xs × (f x ≡ y)
+  pub from_map : (f : X → Y) (y : Y) (xs : List X) → IsIn y (map f xs)
+      → (x : X) × IsIn x xs × (f x ≡ y)
   from_map f y [] is = absurd is
   from_map f y (z ∷ xs) (inl same) = (z, inl refl, same)
   from_map f y (z ∷ xs) (inr is) = let rest = from_map f y xs is in (rest.0, inr rest.1, rest.2)

@@ -17,7 +17,8 @@ less_then [] (y ∷ ys) (z ∷ zs) first second = tt
 less_then (x ∷ xs) (y ∷ ys) (z ∷ zs) (inl lt) (inl lt') = inl (omega (arith, lt, lt'))
 less_then (x ∷ xs) (y ∷ ys) (z ∷ zs) (inl lt) (inr (e, less)) = inl (omega (arith, lt, e))
 less_then (x ∷ xs) (y ∷ ys) (z ∷ zs) (inr (e, less)) (inl lt) = inl (omega (arith, lt, e))
-less_then (x ∷ xs) (y ∷ ys) (z ∷ zs) (inr (e, less)) (inr (e', less')) = inr (e ∙ e', less_then xs ys zs less less')
+less_then (x ∷ xs) (y ∷ ys) (z ∷ zs) (inr (e, less)) (inr (e', less')) =
+    inr (e ∙ e', less_then xs ys zs less less')
 
 -- one of two lists is less, or they are one
 pub less_or_not : (xs ys : List ℕ) → IsLess xs ys ⊎ ((xs ≡ ys) ⊎ IsLess ys xs)

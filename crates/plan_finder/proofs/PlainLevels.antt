@@ -62,10 +62,13 @@ rank_plain most levels path =
     (bound_plain levels)
     ∙ (ap (λ x. bound_of levels ∷ x ∷ length (plain_of levels) ∷ steps_of (plain_of levels))
     (nodes_plain most levels path)
-    ∙ (ap (λ x. bound_of levels ∷ nodes_of levels ∷ x ∷ steps_of (plain_of levels)) (length_plain levels)
+    ∙
+        (ap (λ x. bound_of levels ∷ nodes_of levels ∷ x ∷ steps_of (plain_of levels))
+          (length_plain levels)
     ∙ ap (λ xs. bound_of levels ∷ nodes_of levels ∷ length levels ∷ xs) (steps_plain levels)))
 
-pub path_plain : (most : ℕ) (levels : List Level) → IsPath most levels → IsPath most (plain_of levels)
+pub path_plain : (most : ℕ) (levels : List Level) → IsPath most levels
+    → IsPath most (plain_of levels)
 path_plain most [] path = tt
 path_plain most (level ∷ below) (path, spares, step) = (
   path_plain most below path,
@@ -110,7 +113,8 @@ levels_from levels plain =
     ∙ (ap levels_by (take-append_seam (steps_from levels) (padding levels))
     ∙ (ap (map level_by) (reverse-reverse (map step_by levels)) ∙ levels_again levels plain))
 
-pub kept_from : (levels : List Level) → IsPlain levels → length levels ≤ 5 → IsKept (best_from levels)
+pub kept_from : (levels : List Level) → IsPlain levels → length levels ≤ 5
+    → IsKept (best_from levels)
 kept_from levels plain few = record {
   value = ap bound_of (sym (levels_from levels plain));
   nodes = ap nodes_of (sym (levels_from levels plain));
@@ -136,7 +140,8 @@ module _ (most : ℕ) (limit : most ≤ 256) where
       let some : 6 * 1 ≤ 3 * (level.faults + 2) * (2 * div_ceil level.blocks 2) ^ level.blocks =
       mul-le 6 1 (3 * (level.faults + 2)) ((2 * div_ceil level.blocks 2) ^ level.blocks)
       (omega arith) (turns_some level.blocks step.least_blocks) in
-      let lower = below_of (base_under (span_of level) below) (counting_by (span_of level) below) in (
+      let lower = below_of (base_under (span_of level) below) (counting_by (span_of level) below) in
+          (
         levels_accepted (span_of level) below (omega (arith, some)) step.most_cost path,
         ap (λ s. first_premise lower (line level.blocks level.faults c s)) spares
             ∙ accepts most limit c least_c most_c level below (path, spares, step),

@@ -24,10 +24,12 @@ path_sized most [] path = (omega arith, omega arith)
 path_sized most (level ∷ below) (path, spares, step) =
     let lower = path_sized most below path in
     let one : 1 ≤ level.blocks = omega (arith, step.least_blocks) in
-    let more : 1 * nodes_of below ≤ level.blocks * nodes_of below = mul-le-mul_right (nodes_of below) one in
+    let more : 1 * nodes_of below
+        ≤ level.blocks * nodes_of below = mul-le-mul_right (nodes_of below) one in
     (omega (arith, lower.0, more), omega (arith, step.quorum))
 
-pub path_few : (most : ℕ) (levels : List Level) → 1 ≤ most → IsPath most levels → nodes_of levels ≤ most
+pub path_few : (most : ℕ) (levels : List Level) → 1 ≤ most → IsPath most levels
+    → nodes_of levels ≤ most
 path_few most [] some path = some
 path_few most (level ∷ below) some (path, spares, step) = omega (arith, step.most_nodes, spares)
 
@@ -38,26 +40,33 @@ module _ (most f n : ℕ) where
       → HasFaults most f n levels ⊎ Reaches most n f levels
   faults_parts levels has = elim (cases_lt (nodes_of levels) n) [
     | inl lt ↦ inl (record { path = has.path; faults = has.faults; nodes = lt })
-    | inr le ↦ inr (record { path = has.path; nodes = omega (arith, le, has.nodes); faults = has.faults })
+    | inr le ↦ inr
+        (record { path = has.path; nodes = omega (arith, le, has.nodes); faults = has.faults })
   ]
 
   faults_left : (levels : List Level) → HasFaults most f n levels → HasFaults most f (n + 1) levels
-  faults_left levels has = record { path = has.path; faults = has.faults; nodes = omega (arith, has.nodes) }
+  faults_left levels has =
+      record { path = has.path; faults = has.faults; nodes = omega (arith, has.nodes) }
 
   faults_right : (levels : List Level) → Reaches most n f levels → HasFaults most f (n + 1) levels
-  faults_right levels has = record { path = has.path; faults = has.faults; nodes = omega (arith, has.nodes) }
+  faults_right levels has =
+      record { path = has.path; faults = has.faults; nodes = omega (arith, has.nodes) }
 
   pub faults_more : (known other result : Option Best) → IsBestOf (HasFaults most f n) known
       → IsBestOf (Reaches most n f) other → IsLesser known other result
       → IsBestOf (HasFaults most f (n + 1)) result
-  faults_more = together (HasFaults most f n) (Reaches most n f) (HasFaults most f (n + 1)) faults_left faults_right faults_parts
+  faults_more =
+      together (HasFaults most f n) (Reaches most n f) (HasFaults most f (n + 1)) faults_left
+      faults_right faults_parts
 
-pub kept_if : (set : List Level → Type 0) (cell : Option Best) → IsBestOf set cell → IfSome cell IsKept
+pub kept_if : (set : List Level → Type 0) (cell : Option Best) → IsBestOf set cell
+    → IfSome cell IsKept
 kept_if set None is = tt
 kept_if set (Some best) is = is.kept
 
 -- a cell
-pub cell_is : (most width n f : ℕ) (cells : List (Option Best)) → AreBest most width cells → f < width
+pub cell_is : (most width n f : ℕ) (cells : List (Option Best)) → AreBest most width cells
+    → f < width
     → n * width + f < length cells → IsBestOf (Reaches most n f) (get_or cells (n * width + f) None)
 cell_is most width n f cells are narrow inside = are.best n f narrow inside
 
@@ -70,29 +79,36 @@ in_rows n f width rows narrow lt =
 
 -- ---- by the top level
 
-pub path_deep : (most : ℕ) (levels : List Level) → IsPath most levels → 3 ^ length levels ≤ nodes_of levels
+pub path_deep : (most : ℕ) (levels : List Level) → IsPath most levels
+    → 3 ^ length levels ≤ nodes_of levels
 path_deep most [] path = omega arith
 path_deep most (level ∷ below) (path, spares, step) =
-    let three : 3 * nodes_of below ≤ level.blocks * nodes_of below = mul-le-mul_right (nodes_of below) step.least_blocks in
+    let three : 3 * nodes_of below
+        ≤ level.blocks * nodes_of below = mul-le-mul_right (nodes_of below) step.least_blocks in
     rw (pow-succ' 3 (length below)) (omega (arith, path_deep most below path, three))
 
-pub path_cost : (most : ℕ) (levels : List Level) → IsPath most levels → bound_of levels ≤ nodes_of levels * 2 ^ 40
+pub path_cost : (most : ℕ) (levels : List Level) → IsPath most levels
+    → bound_of levels ≤ nodes_of levels * 2 ^ 40
 path_cost most [] path = omega arith
 path_cost most (level ∷ below) (path, spares, step) =
-    let three : 3 * nodes_of below ≤ level.blocks * nodes_of below = mul-le-mul_right (nodes_of below) step.least_blocks in
+    let three : 3 * nodes_of below
+        ≤ level.blocks * nodes_of below = mul-le-mul_right (nodes_of below) step.least_blocks in
     omega (arith, path_cost most below path, three, step.most_cost, path_sized most below path)
 
-pub over_step : (most n f k g : ℕ) (levels : List Level) → AreOver most n f k g levels → IsStep most n f k g
+pub over_step : (most n f k g : ℕ) (levels : List Level) → AreOver most n f k g levels
+    → IsStep most n f k g
 over_step most n f k g [] are = absurd are
 over_step most n f k g (level ∷ below) (reaches, blocks, faults, spares, step) = step
 
 pub over_none : (most n f k g : ℕ) → ((levels : List Level) → ¬ Reaches most n f levels)
     → (levels : List Level) → ¬ AreOver most n f k g levels
 over_none most n f k g none [] are = are
-over_none most n f k g none (level ∷ below) (reaches, blocks, faults, spares, step) = none below reaches
+over_none most n f k g none (level ∷ below) (reaches, blocks, faults, spares, step) =
+    none below reaches
 
 mul_same : (k a b : ℕ) → 0 < k → k * a ≡ k * b → a ≡ b
-mul_same k a b some e = sym (mul-div_cancel_left a some) ∙ (ap (λ x. x / k) e ∙ mul-div_cancel_left b some)
+mul_same k a b some e =
+    sym (mul-div_cancel_left a some) ∙ (ap (λ x. x / k) e ∙ mul-div_cancel_left b some)
 
 -- a step, with other names of its numbers
 moved : (most n f k g n' f' k' g' : ℕ) → n ≡ n' → f ≡ f' → k ≡ k' → g ≡ g' → IsStep most n f k g
@@ -105,7 +121,8 @@ moved most n f k g n' f' k' g' en ef ek eg step =
 
 module _ (most n k g : ℕ) (some : 3 ≤ k) where
   -- what lies below a top level of k blocks
-  below_is : (level : Level) (below : List Level) → Reaches most (k * n) g (level ∷ below) → level.blocks ≡ k
+  below_is : (level : Level) (below : List Level) → Reaches most (k * n) g (level ∷ below)
+      → level.blocks ≡ k
       → nodes_of below ≡ n
   below_is level below reaches blocks =
       let spares = reaches.path.1 in
@@ -113,23 +130,27 @@ module _ (most n k g : ℕ) (some : 3 ≤ k) where
       omega (arith, ap (λ b. b * nodes_of below) (sym blocks), reaches.nodes, spares) in
       mul_same k (nodes_of below) n (omega (arith, some)) e
 
-  tried_left : (f : ℕ) (levels : List Level) → IsTried most (k * n) g k f levels → IsTried most (k * n) g k (f + 1) levels
+  tried_left : (f : ℕ) (levels : List Level) → IsTried most (k * n) g k f levels
+      → IsTried most (k * n) g k (f + 1) levels
   tried_left f [] is = absurd is.tried
   tried_left f (level ∷ below) is = record {
     reaches = is.reaches;
     tried = elim is.tried [ inl lt ↦ inl lt | inr at ↦ inr (at.0, omega (arith, at.1)) ];
   }
 
-  tried_right : (f : ℕ) (levels : List Level) → AreOver most n f k g levels → IsTried most (k * n) g k (f + 1) levels
+  tried_right : (f : ℕ) (levels : List Level) → AreOver most n f k g levels
+      → IsTried most (k * n) g k (f + 1) levels
   tried_right f [] are = absurd are
   tried_right f (level ∷ below) (reaches, blocks, faults, spares, step) = record {
     reaches = record {
       path = (
         reaches.path,
         spares,
-        moved most n f k g (nodes_of below) (faults_of below) level.blocks level.faults (sym reaches.nodes) (sym reaches.faults) (sym blocks) (sym faults) step,
+        moved most n f k g (nodes_of below) (faults_of below) level.blocks level.faults
+            (sym reaches.nodes) (sym reaches.faults) (sym blocks) (sym faults) step,
       );
-      nodes = omega (arith, spares, ap (λ b. b * nodes_of below) blocks, ap (λ m. k * m) reaches.nodes);
+      nodes =
+          omega (arith, spares, ap (λ b. b * nodes_of below) blocks, ap (λ m. k * m) reaches.nodes);
       faults = faults;
     };
     tried = inr (blocks, omega (arith, reaches.faults));
@@ -143,7 +164,8 @@ module _ (most n k g : ℕ) (some : 3 ≤ k) where
         blocks,
         reaches.faults,
         reaches.path.1,
-        moved most (nodes_of below) (faults_of below) level.blocks level.faults n f k g nodes faults blocks reaches.faults reaches.path.2,
+        moved most (nodes_of below) (faults_of below) level.blocks level.faults n f k g nodes faults
+            blocks reaches.faults reaches.path.2,
       )
 
   tried_parts : (f : ℕ) (levels : List Level) → IsTried most (k * n) g k (f + 1) levels
@@ -157,21 +179,29 @@ module _ (most n k g : ℕ) (some : 3 ≤ k) where
     ]
   ]
 
-  pub tried_more : (f : ℕ) (known other result : Option Best) → IsBestOf (IsTried most (k * n) g k f) known
+  pub tried_more : (f : ℕ) (known other result : Option Best)
+      → IsBestOf (IsTried most (k * n) g k f) known
       → IsBestOf (AreOver most n f k g) other → IsLesser known other result
       → IsBestOf (IsTried most (k * n) g k (f + 1)) result
-  tried_more f = together (IsTried most (k * n) g k f) (AreOver most n f k g) (IsTried most (k * n) g k (f + 1)) (tried_left f) (tried_right f) (tried_parts f)
+  tried_more f =
+      together (IsTried most (k * n) g k f) (AreOver most n f k g)
+      (IsTried most (k * n) g k (f + 1)) (tried_left f) (tried_right f) (tried_parts f)
 
 module _ (most n k g : ℕ) where
-  next_left : (f : ℕ) (levels : List Level) → IsTried most n g k f levels → IsTried most n g (k + 1) 0 levels
+  next_left : (f : ℕ) (levels : List Level) → IsTried most n g k f levels
+      → IsTried most n g (k + 1) 0 levels
   next_left f [] is = absurd is.tried
   next_left f (level ∷ below) is = record {
     reaches = is.reaches;
     tried = elim is.tried [ inl lt ↦ inl (omega (arith, lt)) | inr at ↦ inl (omega (arith, at.0)) ];
   }
 
-  module _ (f : ℕ) (fewer : (level : Level) (below : List Level) → Reaches most n g (level ∷ below) → level.blocks ≡ k → faults_of below < f) where
-    next_back : (levels : List Level) → IsTried most n g (k + 1) 0 levels → IsTried most n g k f levels
+  module _ (f : ℕ)
+      (fewer : (level : Level) (below : List Level) → Reaches most n g (level ∷ below)
+        → level.blocks ≡ k → faults_of below < f)
+      where
+    next_back : (levels : List Level) → IsTried most n g (k + 1) 0 levels
+        → IsTried most n g k f levels
     next_back [] is = absurd is.tried
     next_back (level ∷ below) is = elim is.tried [
       | inl lt ↦ elim (cases_lt level.blocks k) [
@@ -186,26 +216,33 @@ module _ (most n k g : ℕ) where
     -- where levels of k blocks are over fewer than f faults, all by k blocks are tried
     pub next_known : (known : Option Best) → IsBestOf (IsTried most n g k f) known
         → IsBestOf (IsTried most n g (k + 1) 0) known
-    next_known = same_set (IsTried most n g k f) (IsTried most n g (k + 1) 0) (next_left f) next_back
+    next_known =
+        same_set (IsTried most n g k f) (IsTried most n g (k + 1) 0) (next_left f) next_back
 
 -- a step costs too much
 pub too_dear : (most n k g : ℕ) → 2 ^ 40 < cost_of k g → (level : Level) (below : List Level)
     → Reaches most n g (level ∷ below) → level.blocks ≡ k → faults_of below < 0
 too_dear most n k g dear level below reaches blocks =
-    let step = moved most (nodes_of below) (faults_of below) level.blocks level.faults (nodes_of below) (faults_of below) k g refl refl blocks reaches.faults reaches.path.2 in
+    let step = moved most (nodes_of below) (faults_of below) level.blocks level.faults
+        (nodes_of below) (faults_of below) k g refl refl blocks reaches.faults reaches.path.2 in
     absurd (omega (arith, dear, step.most_cost))
 
 -- all faults below are fewer than the width
-pub all_narrow : (most n k g width : ℕ) → most < 3 * width → 1 ≤ most → (level : Level) (below : List Level)
+pub all_narrow : (most n k g width : ℕ) → most < 3 * width → 1 ≤ most
+    → (level : Level) (below : List Level)
     → Reaches most n g (level ∷ below) → level.blocks ≡ k → faults_of below < width
 all_narrow most n k g width wide some level below reaches blocks =
-    omega (arith, path_sized most below reaches.path.0, path_few most below some reaches.path.0, wide)
+    omega
+        (arith, path_sized most below reaches.path.0, path_few most below some reaches.path.0, wide)
 
 -- the blocks do not part the nodes
 pub not_parted : (most n k g : ℕ) → 3 ≤ k → ¬ (n % k ≡ 0) → (level : Level) (below : List Level)
     → Reaches most n g (level ∷ below) → level.blocks ≡ k → faults_of below < 0
 not_parted most n k g some not_zero level below reaches blocks =
-    let e : n ≡ k * nodes_of below = omega (arith, sym reaches.nodes, reaches.path.1, ap (λ b. b * nodes_of below) blocks) in
+    let e : n
+        ≡ k
+          * nodes_of below = omega
+            (arith, sym reaches.nodes, reaches.path.1, ap (λ b. b * nodes_of below) blocks) in
     absurd (not_zero (ap (λ m. m % k) e ∙ mul-mod_right k (nodes_of below)))
 
 -- no levels have a top one of fewer than three blocks
@@ -223,9 +260,11 @@ module _ (most n g : ℕ) (two : 2 ≤ n) where
 
   tried_reached : (levels : List Level) → Reaches most n g levels → IsTried most n g 17 0 levels
   tried_reached [] reaches = absurd (omega (arith, reaches.nodes, two))
-  tried_reached (level ∷ below) reaches = record { reaches = reaches; tried = inl (omega (arith, reaches.path.2.most_blocks)) }
+  tried_reached (level ∷ below) reaches =
+      record { reaches = reaches; tried = inl (omega (arith, reaches.path.2.most_blocks)) }
 
-  pub all_tried : (known : Option Best) → IsBestOf (IsTried most n g 17 0) known → IsBestOf (Reaches most n g) known
+  pub all_tried : (known : Option Best) → IsBestOf (IsTried most n g 17 0) known
+      → IsBestOf (Reaches most n g) known
   all_tried = same_set (IsTried most n g 17 0) (Reaches most n g) reached_tried tried_reached
 
 -- ---- one more step fits
@@ -233,56 +272,75 @@ module _ (most n g : ℕ) (two : 2 ≤ n) where
 depth_is : (best : Best) → IsKept best → length (levels_in best) ≡ best.depth
 depth_is best kept = let e = ap (λ ranks. get_or ranks 2 0) (rank_is best kept) in sym e
 
-module _ (most n f k : ℕ) (best : Best) (is : IsBest (Reaches most n f) best) (some : 3 ≤ k) (few : k * n ≤ most)
+module _ (most n f k : ℕ) (best : Best) (is : IsBest (Reaches most n f) best) (some : 3 ≤ k)
+    (few : k * n ≤ most)
     (limit : most ≤ 256) where
   pub front_nodes : best.nodes ≡ n
   front_nodes = is.kept.nodes ∙ is.member.nodes
 
   pub front_room : best.depth < 5
   front_room =
-      let deep : 3 ^ length (levels_in best) ≤ nodes_of (levels_in best) = path_deep most (levels_in best) is.member.path in
-      let deep' : 3 ^ best.depth ≤ n = subst (λ d. 3 ^ d ≤ n) (depth_is best is.kept) (subst (λ m. 3 ^ length (levels_in best) ≤ m) is.member.nodes deep) in
+      let deep : 3 ^ length (levels_in best)
+          ≤ nodes_of (levels_in best) = path_deep most (levels_in best) is.member.path in
+      let deep' : 3 ^ best.depth
+          ≤ n = subst (λ d. 3 ^ d ≤ n) (depth_is best is.kept)
+            (subst (λ m. 3 ^ length (levels_in best) ≤ m) is.member.nodes deep) in
       let three : 3 * n ≤ k * n = mul-le-mul_right n some in
       room_left best.depth n (k * n) deep' three (omega (arith, few, limit))
 
   pub front_value : best.value ≤ n * 2 ^ 40
   front_value =
-      let cost : bound_of (levels_in best) ≤ nodes_of (levels_in best) * 2 ^ 40 = path_cost most (levels_in best) is.member.path in
-      let cost' : bound_of (levels_in best) ≤ n * 2 ^ 40 = subst (λ m. bound_of (levels_in best) ≤ m * 2 ^ 40) is.member.nodes cost in
+      let cost : bound_of (levels_in best)
+          ≤ nodes_of (levels_in best) * 2 ^ 40 = path_cost most (levels_in best) is.member.path in
+      let cost' : bound_of (levels_in best)
+          ≤ n * 2 ^ 40 = subst (λ m. bound_of (levels_in best) ≤ m * 2 ^ 40) is.member.nodes cost in
       omega (arith, is.kept.value, cost')
 
 -- ---- the cells, with one more
 
 module _ (most width n g : ℕ) (cells : List (Option Best)) (best : Option Best) (narrow : g < width)
-    (size : length cells ≡ n * width + g) (are : AreBest most width cells) (is : IsBestOf (Reaches most n g) best) where
+    (size : length cells ≡ n * width + g) (are : AreBest most width cells)
+        (is : IsBestOf (Reaches most n g) best) where
   pub cells_more : AreBest most width (cells ++ best ∷ [])
   cells_more = record {
     best = λ m f lt inside. elim (cases_lt (m * width + f) (length cells)) [
       | inl old ↦
-          subst (IsBestOf (Reaches most m f)) (sym (get_or_append_left cells (best ∷ []) None (m * width + f) old)) (are.best m f lt old)
+          subst (IsBestOf (Reaches most m f))
+              (sym (get_or_append_left cells (best ∷ []) None (m * width + f) old))
+              (are.best m f lt old)
       | inr le ↦
-          let at : m * width + f ≡ n * width + g = omega (arith, le, inside, size, length_push cells best) in
-          let row : m ≡ n = sym (div-mul-add m width f lt) ∙ (ap (λ x. x / width) at ∙ div-mul-add n width g narrow) in
-          let place : f ≡ g = sym (mod-mul-add m width f lt) ∙ (ap (λ x. x % width) at ∙ mod-mul-add n width g narrow) in
+          let at : m * width + f
+              ≡ n * width + g = omega (arith, le, inside, size, length_push cells best) in
+          let row : m ≡ n = sym (div-mul-add m width f lt)
+              ∙ (ap (λ x. x / width) at ∙ div-mul-add n width g narrow) in
+          let place : f ≡ g = sym (mod-mul-add m width f lt)
+              ∙ (ap (λ x. x % width) at ∙ mod-mul-add n width g narrow) in
           let last : get_or (cells ++ best ∷ []) (m * width + f) None ≡ best =
           get_or_at cells best [] None (m * width + f) (size ∙ sym at) in
           subst (IsBestOf (Reaches most m f)) (sym last)
-          (subst (λ x. IsBestOf (Reaches most x f) best) (sym row) (subst (λ x. IsBestOf (Reaches most n x) best) (sym place) is))
+          (subst (λ x. IsBestOf (Reaches most x f) best) (sym row)
+              (subst (λ x. IsBestOf (Reaches most n x) best) (sym place) is))
     ];
   }
 
-not_before_start : (most : ℕ) (levels : List Level) → IsPath most levels → ¬ IsLess (rank_of levels) (0 ∷ 1 ∷ 0 ∷ [])
+not_before_start : (most : ℕ) (levels : List Level) → IsPath most levels
+    → ¬ IsLess (rank_of levels) (0 ∷ 1 ∷ 0 ∷ [])
 not_before_start most levels path (inl lt) = absurd (omega (arith, lt))
-not_before_start most levels path (inr (e, inl lt)) = absurd (omega (arith, lt, path_sized most levels path))
+not_before_start most levels path (inr (e, inl lt)) =
+    absurd (omega (arith, lt, path_sized most levels path))
 not_before_start most levels path (inr (e, inr (e', inl lt))) = absurd (omega (arith, lt))
 not_before_start most levels path (inr (e, inr (e', inr (e'', less)))) = less
 
 -- without levels one node is reached, and nothing is before that
-pub start_best : (most : ℕ) (best : Best) → IsKept best → steps_in best ≡ [] → IsBest (Reaches most 1 0) best
+pub start_best : (most : ℕ) (best : Best) → IsKept best → steps_in best ≡ []
+    → IsBest (Reaches most 1 0) best
 start_best most best kept none =
     let empty : levels_in best ≡ [] = ap levels_by none in
     record {
       kept = kept;
-      member = subst (Reaches most 1 0) (sym empty) (record { path = tt; nodes = refl; faults = refl });
-      least = λ other reaches less. not_before_start most other reaches.path (subst (λ ls. IsLess (rank_of other) (rank_of ls)) empty less);
+      member =
+          subst (Reaches most 1 0) (sym empty) (record { path = tt; nodes = refl; faults = refl });
+      least =
+          λ other reaches less. not_before_start most other reaches.path
+          (subst (λ ls. IsLess (rank_of other) (rank_of ls)) empty less);
     }

@@ -18,7 +18,8 @@ use Rattle.plan_finder.specs.declared.want_lines.FindStage.TheVariants.{Unread, 
 use Rattle.plan_finder.specs.FindPart.{want_by, goes_with, find_step, want_of, alone, IsFit}
 use Rattle.plan_finder.specs.WantTexts.{want_text, WantTextIsRead}
 
-word_plain : IsPlain (codes "find") × (IsPlain (codes "want") × (IsPlain (codes "1") × IsPlain (codes "end")))
+word_plain : IsPlain (codes "find")
+    × (IsPlain (codes "want") × (IsPlain (codes "1") × IsPlain (codes "end")))
 word_plain = (
   record { some = omega arith; above = refl },
   (

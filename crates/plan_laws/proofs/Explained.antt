@@ -51,7 +51,8 @@ module _ (m : Meaning) (base : ℕ) (level : Level) (below : List Level) (e : Ex
 
     -- the register of the top level
     top_register : (v : ℕ) (heard : List State) → length heard ≡ group_size level (nodes_of below)
-        → level_register m level v heard ≡ new_register (length below) (nodes_of below) level v heard
+        → level_register m level v heard
+            ≡ new_register (length below) (nodes_of below) level v heard
     top_register v heard size =
         let by : ℕ → ℕ → List ℕ → Reg =
         λ n d outputs.
@@ -97,7 +98,8 @@ module _ (m : Meaning) (base : ℕ) (level : Level) (below : List Level) (e : Ex
       depth = omega (arith, e.depth);
       low = more_low;
       shows = λ v s. ap (λ d. unwrap_or (register_at d s).a 0) e.depth;
-      next = λ v heard size. ap₂ with_register (inner_step v heard size) (top_register v heard size);
+      next =
+          λ v heard size. ap₂ with_register (inner_step v heard size) (top_register v heard size);
     }
 
 pub explains : (base : ℕ) (levels : List Level) → Explains (meaning_of base levels) base levels

@@ -10,7 +10,8 @@ use Rattle.run_checker.specs.TrueTexts.{ShortTextsAreChecked}
 use Rattle.outcomes.specs.CheckAnswers.{checked_outcome}
 use Rattle.promises.specs.CheckLaws.{Says, CheckIsExact}
 
-module _ (limits : LimitsMatterBeyond) (texts : TextsAreChecked) (certificates : ShortTextsAreChecked)
+module _ (limits : LimitsMatterBeyond) (texts : TextsAreChecked)
+    (certificates : ShortTextsAreChecked)
     (runs : StretchesAreRuns) (counts : TrueRowsCount) (locks : TrueLocksAreFirst) where
   says_by : (input : List ℕ) (answer : Result Verdict ℕ) → IsAnswer input answer → Says input answer
   says_by input (Ok (verdict.True rows locked)) h = record {

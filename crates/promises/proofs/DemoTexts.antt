@@ -64,7 +64,8 @@ key_below seed = behind (to_be_bytes w64 seed) (high_first_below 8 seed) where
   behind (b ∷ bytes) h zero = h 0
   behind (b ∷ bytes) h (suc i) = behind bytes (λ j. h (suc j)) i
 
-encoded_behind : (t xs ys : List ℕ) → encode_with t (xs ++ ys) ≡ encode_with t xs ++ encode_with t ys
+encoded_behind : (t xs ys : List ℕ)
+    → encode_with t (xs ++ ys) ≡ encode_with t xs ++ encode_with t ys
 unfolding encode_with
 encoded_behind t [] ys = refl
 encoded_behind t (x ∷ xs) ys =
@@ -242,12 +243,14 @@ demo_is_accepted seed =
 
 answered_by : (liars : Liars) (scripted : Result Scripted Refusal)
     → MatchResult scripted (IsDemo liars) (λ refusal. ⊥)
-    → (outcome_of (text_by (λ (s : Scripted). run_text s.plan s.script) scripted)).status ≡ status.Ok
+    → (outcome_of (text_by (λ (s : Scripted). run_text s.plan s.script) scripted)).status
+        ≡ status.Ok
 answered_by liars (Ok scripted) h = refl
 answered_by liars (Err refusal) h = absurd h
 
 -- so its answer is no refusal
-pub demo_ends_well : (seed : ℕ) → (outcome_of (answer_of batch.Run (demo_text seed))).status ≡ status.Ok
+pub demo_ends_well : (seed : ℕ)
+    → (outcome_of (answer_of batch.Run (demo_text seed))).status ≡ status.Ok
 demo_ends_well seed =
     answered_by (liars_of seed) (scripted_of (demo_text seed)) (demo_is_accepted seed)
 

@@ -33,8 +33,10 @@ use Rattle.promises.specs.LayerPromises.{HoldsAreKept, DecisionsAreKept, FiresAr
 use Rattle.promises.specs.LayerPromises.{EntriesAreKept}
 
 -- the script was read for the plan and the layer
-pub played : {Said Kept : Type 0} {Fits : Plan → Said → Type 0} {layer_of : Plan → Said → Layer Kept}
-    (l : Layered Said) → IsToPlay Fits layer_of l → IsReadFor l.plan (layer_of l.plan l.said) l.script
+pub played : {Said Kept : Type 0} {Fits : Plan → Said → Type 0}
+    {layer_of : Plan → Said → Layer Kept}
+    (l : Layered Said) → IsToPlay Fits layer_of l
+        → IsReadFor l.plan (layer_of l.plan l.said) l.script
 played l is = record {
   accepted = is.accepted;
   right = is.right;

@@ -20,13 +20,16 @@ module _ (check : CheckIsExact) (records : RecordsAreTrue) (runs : RecordsAreOfR
   recorded (Ok s) read =
       let true_one = records s.plan s.script read.for read.eras in
       let last = length s.script.eras in
-      let same = first_listed (era_locked s.plan s.script (played_at s.plan s.script) last) s.script.rounds in
+      let same = first_listed (era_locked s.plan s.script (played_at s.plan s.script) last)
+          s.script.rounds in
       let comes = true_one.verdict ∙ ap (verdict.True (s.script.rounds + 1)) same in
       record {
         is = true_one.is;
         of_run = runs s.plan s.script read.for;
         comes_to = comes;
-        checks = check.certificates (certificate_of s.plan s.script) true_one.is ∙ ap verdict_outcome comes;
+        checks =
+            check.certificates (certificate_of s.plan s.script) true_one.is
+            ∙ ap verdict_outcome comes;
       }
 
   pub records_are_checked : RecordsAreChecked

@@ -27,8 +27,10 @@ module _ (n f depth v output : ℕ) (heard : List State) where
 
   pub begins : output % entry_length f ≡ 0
       → agreement_after n f depth v output heard ≡ command
-  begins is = first (output % entry_length f == 0) command turn (eq-eqb (output % entry_length f) 0 is)
+  begins is =
+      first (output % entry_length f == 0) command turn (eq-eqb (output % entry_length f) 0 is)
 
   pub goes_on : output % entry_length f ≢ 0
       → agreement_after n f depth v output heard ≡ turn
-  goes_on is = second (output % entry_length f == 0) command turn (ne_eqb (output % entry_length f) 0 is)
+  goes_on is =
+      second (output % entry_length f == 0) command turn (ne_eqb (output % entry_length f) 0 is)

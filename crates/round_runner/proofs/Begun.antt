@@ -65,5 +65,6 @@ zeros_of_nodes script n depth states sound deep many is = λ k d lt.
     record {
       node = k;
       inside = omega (arith, inside, many);
-      range = subst (InRange (fields_at script.shape k)) (sym at) (zero_of_node script.shape k sound);
+      range =
+          subst (InRange (fields_at script.shape k)) (sym at) (zero_of_node script.shape k sound);
     }

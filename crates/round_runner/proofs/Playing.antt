@@ -55,7 +55,8 @@ module _ (plan : Plan) (script : Script) (config_at : ℕ → List State) where
   known_at t j lt = get_or-map-range_with_len (known t) 0 (length script.eras + 1) j j None lt
       (omega arith)
 
-  pub other_era : (t j : ℕ) (same : Bool) → eqb (era_of script t) j ≡ same → (j ≡ era_of script t → ⊥)
+  pub other_era : (t j : ℕ) (same : Bool) → eqb (era_of script t) j ≡ same
+      → (j ≡ era_of script t → ⊥)
       → era_locked plan script config_at j t ≡ false
   other_era t j true is other = absurd (other (sym (eqb-true _ _ is)))
   other_era t j false is other = rw is refl

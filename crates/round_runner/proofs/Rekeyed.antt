@@ -69,7 +69,8 @@ module _ (script : Script) (key : List ℕ) where
       → length now.current ≡ script.nodes → length begun ≡ length locks
       → IsKept plan (rekeyed script key) layer (record room { noise = noise; out = out }) now begun
       0 0
-  kept_at_first plan layer room noise out states now locks begun at era kept is deep shape size long =
+  kept_at_first plan layer room noise out states now locks begun at era kept is deep shape size
+      long =
       record {
         accepted = kept.accepted;
         right = right_still plan layer kept.right;
@@ -93,7 +94,8 @@ module _ (script : Script) (key : List ℕ) where
       → IsKept plan other layer (record room { noise = noise; out = out }) now begun 0 0
   kept_anew plan layer room noise out states now locks begun at era other same kept is deep shape
       size long =
-      subst (λ (s : Script). IsKept plan s layer (record room { noise = noise; out = out }) now begun
+      subst
+          (λ (s : Script). IsKept plan s layer (record room { noise = noise; out = out }) now begun
       0 0) (sym same)
       (kept_at_first plan layer room noise out states now locks begun at era kept is deep shape size
       long)

@@ -24,7 +24,8 @@ following next items = elim next [
 ]
 
 -- a test that holds is passed
-pub passes : (b : Bool) (s : Stage) (items : List Item) → b ≡ true → following (cond b (goes s) refused) items ≡ accepts s items
+pub passes : (b : Bool) (s : Stage) (items : List Item) → b ≡ true
+    → following (cond b (goes s) refused) items ≡ accepts s items
 passes true s items e = refl
 passes false s items e = absurd cc
 
@@ -37,14 +38,18 @@ put_all k (put ∷ puts) = put_all (put_state k put.node put.digits) puts
 -- states are put from a place on, and then a row stands
 abbrev pub PutsPass : Known → (unknown : List ℕ) → (from : ℕ) → List Put → List (Option ℕ) → Type 0
 PutsPass k unknown from [] row = first_row_fits k unknown from k.at row ≡ true
-PutsPass k unknown from (put ∷ puts) row = (start_fits k unknown from put.node put.digits ≡ true) × PutsPass (put_state k put.node put.digits) unknown (put.node + 1) puts row
+PutsPass k unknown from (put ∷ puts) row =
+    (start_fits k unknown from put.node put.digits ≡ true)
+    × PutsPass (put_state k put.node put.digits) unknown (put.node + 1) puts row
 
 abbrev pub lie_state : Known → Lie → State
 lie_state k lie = read_text (fields_of k.plan lie.sender) lie.digits
 
 abbrev pub LiesPass : Known → (told : List State) → List Lie → Type 0
 LiesPass k told [] = ⊤
-LiesPass k told (lie ∷ lies) = (lie_fits k told lie.sender lie.receiver lie.digits ≡ true) × LiesPass k (told ++ lie_state k lie ∷ []) lies
+LiesPass k told (lie ∷ lies) =
+    (lie_fits k told lie.sender lie.receiver lie.digits ≡ true)
+    × LiesPass k (told ++ lie_state k lie ∷ []) lies
 
 abbrev pub all_lies : Known → List State → List Lie → List State
 all_lies k told [] = told
@@ -53,7 +58,9 @@ all_lies k told (lie ∷ lies) = all_lies k (told ++ lie_state k lie ∷ []) lie
 -- what stands behind the lies of a round
 abbrev pub BehindPass : Known → (told : List State) → Option Era → List (Option ℕ) → Type 0
 BehindPass k told None row = next_row_fits k told (k.at + 1) row ≡ true
-BehindPass k told (Some era) row = (era_fits k told (k.at + 1) era.faulty ≡ true) × PutsPass (renewed k era.faulty told) k.stand.faulty 0 era.starts row
+BehindPass k told (Some era) row =
+    (era_fits k told (k.at + 1) era.faulty ≡ true)
+    × PutsPass (renewed k era.faulty told) k.stand.faulty 0 era.starts row
 
 abbrev pub behind : Known → (told : List State) → Option Era → List (Option ℕ) → Known
 behind k told None row = compared (moved k k.stand.faulty told) row
@@ -64,7 +71,9 @@ turned k turn = behind k (all_lies k [] turn.lies) turn.era turn.row
 
 abbrev pub TurnsPass : Known → List Turn → Type 0
 TurnsPass k [] = ⊤
-TurnsPass k (turn ∷ turns) = LiesPass k [] turn.lies × BehindPass k (all_lies k [] turn.lies) turn.era turn.row × TurnsPass (turned k turn) turns
+TurnsPass k (turn ∷ turns) =
+    LiesPass k [] turn.lies × BehindPass k (all_lies k [] turn.lies) turn.era turn.row
+    × TurnsPass (turned k turn) turns
 
 abbrev pub followed : Known → List Turn → Verdict
 followed k [] = verdict_now k
@@ -76,37 +85,54 @@ pub at_put_all : (k : Known) (puts : List Put) → (put_all k puts).at ≡ k.at
 at_put_all k [] = refl
 at_put_all k (put ∷ puts) = at_put_all (put_state k put.node put.digits) puts
 
-pub at_behind : (k : Known) (told : List State) (era : Option Era) (row : List (Option ℕ)) → (behind k told era row).at ≡ k.at + 1
+pub at_behind : (k : Known) (told : List State) (era : Option Era) (row : List (Option ℕ))
+    → (behind k told era row).at ≡ k.at + 1
 at_behind k told None row = refl
 at_behind k told (Some era) row = at_put_all (renewed k era.faulty told) era.starts
 
 -- ---- each section is passed
 
-pub puts_read : (k : Known) (unknown : List ℕ) (from : ℕ) (puts : List Put) (row : List (Option ℕ)) (rest : List Item) → PutsPass k unknown from puts row
-    → accepts (putting k unknown from) (map start_of puts ++ (row_item k.at row ∷ rest)) ≡ accepts (telling (compared (put_all k puts) row) []) rest
-puts_read k unknown from [] row rest p = passes (first_row_fits k unknown from k.at row) (telling (compared k row) []) rest p
+pub puts_read : (k : Known) (unknown : List ℕ) (from : ℕ) (puts : List Put) (row : List (Option ℕ))
+      (rest : List Item)
+    → PutsPass k unknown from puts row
+    → accepts (putting k unknown from) (map start_of puts ++ (row_item k.at row ∷ rest))
+        ≡ accepts (telling (compared (put_all k puts) row) []) rest
+puts_read k unknown from [] row rest p =
+    passes (first_row_fits k unknown from k.at row) (telling (compared k row) []) rest p
 puts_read k unknown from (put ∷ puts) row rest p =
-    passes (start_fits k unknown from put.node put.digits) (putting (put_state k put.node put.digits) unknown (put.node + 1)) _ p.0
+    passes (start_fits k unknown from put.node put.digits)
+        (putting (put_state k put.node put.digits) unknown (put.node + 1)) _ p.0
     ∙ puts_read (put_state k put.node put.digits) unknown (put.node + 1) puts row rest p.1
 
-pub lies_read : (k : Known) (told : List State) (lies : List Lie) (rest : List Item) → LiesPass k told lies
-    → accepts (telling k told) (map lie_of lies ++ rest) ≡ accepts (telling k (all_lies k told lies)) rest
+pub lies_read : (k : Known) (told : List State) (lies : List Lie) (rest : List Item)
+    → LiesPass k told lies
+    → accepts (telling k told) (map lie_of lies ++ rest)
+        ≡ accepts (telling k (all_lies k told lies)) rest
 lies_read k told [] rest p = refl
 lies_read k told (lie ∷ lies) rest p =
-    passes (lie_fits k told lie.sender lie.receiver lie.digits) (telling k (told ++ lie_state k lie ∷ [])) _ p.0
+    passes (lie_fits k told lie.sender lie.receiver lie.digits)
+        (telling k (told ++ lie_state k lie ∷ [])) _ p.0
     ∙ lies_read k (told ++ lie_state k lie ∷ []) lies rest p.1
 
-pub behind_read : (k : Known) (told : List State) (era : Option Era) (row : List (Option ℕ)) (rest : List Item) → BehindPass k told era row
-    → accepts (telling k told) (era_items (k.at + 1) era ++ (row_item (k.at + 1) row ∷ rest)) ≡ accepts (telling (behind k told era row) []) rest
-behind_read k told None row rest p = passes (next_row_fits k told (k.at + 1) row) (telling (compared (moved k k.stand.faulty told) row) []) rest p
+pub behind_read : (k : Known) (told : List State) (era : Option Era) (row : List (Option ℕ))
+      (rest : List Item)
+    → BehindPass k told era row
+    → accepts (telling k told) (era_items (k.at + 1) era ++ (row_item (k.at + 1) row ∷ rest))
+        ≡ accepts (telling (behind k told era row) []) rest
+behind_read k told None row rest p =
+    passes (next_row_fits k told (k.at + 1) row)
+    (telling (compared (moved k k.stand.faulty told) row) []) rest p
 behind_read k told (Some era) row rest p =
-    passes (era_fits k told (k.at + 1) era.faulty) (putting (renewed k era.faulty told) k.stand.faulty 0) _ p.0
+    passes (era_fits k told (k.at + 1) era.faulty)
+        (putting (renewed k era.faulty told) k.stand.faulty 0) _ p.0
     ∙ puts_read (renewed k era.faulty told) k.stand.faulty 0 era.starts row rest p.1
 
-pub turns_pass : (k : Known) (turns : List Turn) → TurnsPass k turns → accepts (telling k []) (turns_items (k.at + 1) turns) ≡ Some (followed k turns)
+pub turns_pass : (k : Known) (turns : List Turn) → TurnsPass k turns
+    → accepts (telling k []) (turns_items (k.at + 1) turns) ≡ Some (followed k turns)
 turns_pass k [] p = refl
 turns_pass k (turn ∷ turns) p =
     lies_read k [] turn.lies _ p.0
     ∙ behind_read k (all_lies k [] turn.lies) turn.era turn.row _ p.1
-    ∙ ap (λ t. accepts (telling (turned k turn) []) (turns_items (t + 1) turns)) (sym (at_behind k (all_lies k [] turn.lies) turn.era turn.row))
+    ∙ ap (λ t. accepts (telling (turned k turn) []) (turns_items (t + 1) turns))
+        (sym (at_behind k (all_lies k [] turn.lies) turn.era turn.row))
     ∙ turns_pass (turned k turn) turns p.2

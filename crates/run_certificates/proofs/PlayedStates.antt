@@ -30,13 +30,15 @@ module _ (plan : Plan) (s : Script) (is : IsReadFor plan s) where
   sound : IsShape s.shape
   sound = subst IsShape (sym is.right.states) (shape_of_accepted plan is.accepted)
 
-  state_is : (v : ℕ) → v < s.nodes → (x : State) → InRange (fields_at s.shape v) x → IsState plan v x
+  state_is : (v : ℕ) → v < s.nodes → (x : State) → InRange (fields_at s.shape v) x
+      → IsState plan v x
   state_is v lt x range =
       let n = is.right.nodes in
       state_of_node plan is.accepted v (omega (arith, n, lt)) x
       (subst (λ (shape : Shape). InRange (fields_at shape v) x) is.right.states range)
 
-  in_range : (v : ℕ) → v < s.nodes → (x : State) → IsState plan v x → InRange (fields_at s.shape v) x
+  in_range : (v : ℕ) → v < s.nodes → (x : State) → IsState plan v x
+      → InRange (fields_at s.shape v) x
   in_range v lt x state =
       let n = is.right.nodes in
       subst (λ (shape : Shape). InRange (fields_at shape v) x) (sym is.right.states)

@@ -46,13 +46,21 @@ short_id n lt = length-decimal-le 3 n (omega arith) (omega arith) (omega arith)
 pub run_line : (version : ℕ) → version ≤ 3 → HasLine (run_item version)
 run_line version le = record {
   words = omega arith;
-  short = omega (arith, length-append (codes "run") (32 ∷ decimal version), short_number version (omega arith));
+  short =
+      omega
+      (arith, length-append (codes "run") (32 ∷ decimal version),
+        short_number version (omega arith));
 }
 
 pub base_line : (base : ℕ) → IsSmall base → HasLine (base_item base)
-base_line base le = record { words = omega arith; short = omega (arith, length-append (codes "base") (32 ∷ decimal base), short_number base le) }
+base_line base le =
+    record
+    { words = omega arith;
+      short = omega (arith, length-append (codes "base") (32 ∷ decimal base), short_number base le)
+        }
 
-level_line_by : (k f c : ℕ) (spares : Option ℕ) → IsSmall k → IsSmall f → IsSmall c → IfSome spares IsSmall
+level_line_by : (k f c : ℕ) (spares : Option ℕ) → IsSmall k → IsSmall f → IsSmall c
+    → IfSome spares IsSmall
     → HasLine (level_item k f c spares)
 level_line_by k f c None a b d e = record {
   words = (omega arith, omega arith, omega arith, tt);
@@ -70,8 +78,12 @@ level_line_by k f c (Some s) a b d e = record {
   words = (omega arith, omega arith, omega arith, omega (arith, e));
   short = omega (
     arith,
-    length-append (codes "level") (32 ∷ (decimal k ++ 32 ∷ (decimal f ++ 32 ∷ (decimal c ++ 32 ∷ (codes "spare" ++ 32 ∷ decimal s))))),
-    length-append (decimal k) (32 ∷ (decimal f ++ 32 ∷ (decimal c ++ 32 ∷ (codes "spare" ++ 32 ∷ decimal s)))),
+    length-append (codes "level")
+        (32
+          ∷ (decimal k ++ 32
+            ∷ (decimal f ++ 32 ∷ (decimal c ++ 32 ∷ (codes "spare" ++ 32 ∷ decimal s))))),
+    length-append (decimal k)
+        (32 ∷ (decimal f ++ 32 ∷ (decimal c ++ 32 ∷ (codes "spare" ++ 32 ∷ decimal s)))),
     length-append (decimal f) (32 ∷ (decimal c ++ 32 ∷ (codes "spare" ++ 32 ∷ decimal s))),
     length-append (decimal c) (32 ∷ (codes "spare" ++ 32 ∷ decimal s)),
     short_number k a,
@@ -123,18 +135,25 @@ module _ (plan : Plan) (accepted : IsAccepted plan) where
       omega (arith, borne.few, s.quorum, s.most)
 
   ids_below : (faulty : List ℕ) → IsBorne plan faulty → All (λ id. id < 256) faulty
-  ids_below faulty borne = All-weaker (λ id. id < plan_nodes plan) (λ id. id < 256) (λ id lt. omega (arith, lt, nodes)) faulty borne.ids
+  ids_below faulty borne =
+      All-weaker (λ id. id < plan_nodes plan) (λ id. id < 256) (λ id lt. omega (arith, lt, nodes))
+      faulty borne.ids
 
   ids_short : (faulty : List ℕ) → IsBorne plan faulty → All IsShort faulty
-  ids_short faulty borne = All-weaker (λ id. id < plan_nodes plan) IsShort (λ id lt. omega (arith, lt, nodes)) faulty borne.ids
+  ids_short faulty borne =
+      All-weaker (λ id. id < plan_nodes plan) IsShort (λ id lt. omega (arith, lt, nodes)) faulty
+      borne.ids
 
   pub faulty_line : (faulty : List ℕ) → IsBorne plan faulty → HasLine (faulty_item faulty)
   faulty_line faulty borne = record {
     words = ids_short faulty borne;
-    short = omega (arith, ids_length (codes "faulty") faulty (ids_below faulty borne), few faulty borne);
+    short =
+        omega
+        (arith, ids_length (codes "faulty") faulty (ids_below faulty borne), few faulty borne);
   }
 
-  pub era_line : (t : ℕ) (faulty : List ℕ) → t ≤ 1000000 → IsBorne plan faulty → HasLine (era_item t faulty)
+  pub era_line : (t : ℕ) (faulty : List ℕ) → t ≤ 1000000 → IsBorne plan faulty
+      → HasLine (era_item t faulty)
   era_line t faulty le borne = record {
     words = (omega arith, ids_short faulty borne);
     short = omega (
@@ -153,7 +172,8 @@ module _ (plan : Plan) (accepted : IsAccepted plan) where
   digits_few v digits text =
       let parts = and_parts _ _ text in
       let size : length digits ≡ 2 * bytes_in (fields_of plan v) = eqb-true _ _ parts.0 in
-      let bytes : bytes_in (fields_of plan v) ≤ 32 = eighth (bits_in (fields_of plan v)) (few_bits plan v accepted) in
+      let bytes : bytes_in (fields_of plan v)
+          ≤ 32 = eighth (bits_in (fields_of plan v)) (few_bits plan v accepted) in
       (omega (arith, size, bytes), parts.1) where
         eighth : (n : ℕ) → n ≤ 251 → div_ceil n 8 ≤ 32
         eighth n le = omega arith
@@ -165,7 +185,10 @@ module _ (plan : Plan) (accepted : IsAccepted plan) where
       let n = short_number v (omega (arith, lt, nodes)) in
       record {
         words = (omega (arith, lt, nodes), d.1);
-        short = omega (arith, length-append (codes "start") (32 ∷ (decimal v ++ 32 ∷ digits)), length-append (decimal v) (32 ∷ digits), n, d.0);
+        short =
+            omega
+            (arith, length-append (codes "start") (32 ∷ (decimal v ++ 32 ∷ digits)),
+              length-append (decimal v) (32 ∷ digits), n, d.0);
       }
 
   pub lie_line : (u v : ℕ) (digits : List ℕ) → u < plan_nodes plan → v < plan_nodes plan
@@ -191,24 +214,29 @@ module _ (plan : Plan) (accepted : IsAccepted plan) where
   small_value None m le h = omega arith
   small_value (Some a) m le h = omega (arith, le, h)
 
-  small_register : (has : Bool) (m : ℕ) (r : Reg) → IsSmall m → IsRegister has m r → IsSmall (unwrap_or r.a 0)
+  small_register : (has : Bool) (m : ℕ) (r : Reg) → IsSmall m → IsRegister has m r
+      → IsSmall (unwrap_or r.a 0)
   small_register true m r le h = small_value r.a m le h
-  small_register false m r le h = let none : unwrap_or r.a 0 ≡ 0 = ap (λ (r : Reg). unwrap_or r.a 0) h in omega (arith, none)
+  small_register false m r le h =
+      let none : unwrap_or r.a 0 ≡ 0 = ap (λ (r : Reg). unwrap_or r.a 0) h in omega (arith, none)
 
   small_number : (has : Bool) (base x : ℕ) → IsSmall base → IsNumber has base x → IsSmall x
   small_number true base x le h = omega (arith, le, h)
   small_number false base x le h = omega (arith, h)
 
   small_by : (base : ℕ) (levels : List Level) (v : ℕ) (state : State) → LevelsAccepted base levels
-      → IsNumber (nat_le (low_of levels v) 0) base state.x → HasRegisters (low_of levels v) levels state
+      → IsNumber (nat_le (low_of levels v) 0) base state.x
+          → HasRegisters (low_of levels v) levels state
       → IsSmall (shown (length levels) state)
   small_by base [] v state accepted x registers =
       small_number (nat_le 0 0) base state.x (let most : base ≤ 2 ^ 40 = grind arith in most) x
   small_by base (level ∷ below) v state accepted x registers =
       let met = meets (below_of base below) level accepted.1 in
-      small_register (nat_le (low_of (level ∷ below) v) (length below + 1)) level.modulus (register_at (length below) state) met.most_modulus registers.1
+      small_register (nat_le (low_of (level ∷ below) v) (length below + 1)) level.modulus
+          (register_at (length below) state) met.most_modulus registers.1
 
-  shown_small : (v : ℕ) (state : State) → IsState plan v state → IsSmall (shown (plan_depth plan) state)
+  shown_small : (v : ℕ) (state : State) → IsState plan v state
+      → IsSmall (shown (plan_depth plan) state)
   shown_small v state is = small_by plan.base plan.levels v state accepted.levels is.x is.registers
 
   word_few : (o : Option ℕ) → IfSome o IsSmall → length (row_word o) ≤ 13
@@ -233,7 +261,9 @@ module _ (plan : Plan) (accepted : IsAccepted plan) where
   pub row_line : (t : ℕ) (row : List (Option ℕ)) → t ≤ 1000000 → length row ≤ 256
       → All (λ o. IfSome o IsSmall) row → HasLine (row_item t row)
   row_line t row le few small = record {
-    words = (omega arith, All-weaker (λ o. IfSome o IsSmall) (λ o. IfSome o IsShort) short_value row small);
+    words =
+        (omega arith,
+        All-weaker (λ o. IfSome o IsSmall) (λ o. IfSome o IsShort) short_value row small);
     short = omega (
       arith,
       length-append (codes "row") (32 ∷ join_with_byte 32 (decimal t ∷ map row_word row)),
@@ -252,9 +282,12 @@ module _ (plan : Plan) (accepted : IsAccepted plan) where
   pub shown_row_line : (t : ℕ) (x : Stand) → t ≤ 1000000 → IsConfiguration plan x.config
       → HasLine (row_item t (shown_row plan x))
   shown_row_line t x le is =
-      let word : ℕ → Option ℕ = λ v. cond (is_in x.faulty v) None (Some (shown (plan_depth plan) (state_of x.config v))) in
+      let word : ℕ
+          → Option ℕ = λ v. cond (is_in x.faulty v) None
+            (Some (shown (plan_depth plan) (state_of x.config v))) in
       let size = length-map (range_with_len 0 (plan_nodes plan)) word in
       let count = length-range_with_len 0 (plan_nodes plan) in
       row_line t (shown_row plan x) le (omega (arith, size, count, nodes))
       (each (λ o. IfSome o IsSmall) word (plan_nodes plan)
-      (λ v lt. shown_word (is_in x.faulty v) _ (shown_small v (state_of x.config v) (is.states v lt))))
+      (λ v lt. shown_word (is_in x.faulty v) _
+          (shown_small v (state_of x.config v) (is.states v lt))))

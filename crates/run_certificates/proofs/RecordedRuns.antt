@@ -35,7 +35,8 @@ module _ (plan : Plan) (s : Script) (is : IsReadFor plan s) where
       → Agrees plan (get_or (stated (certificate_of plan s)) t d) (stand_at plan s t)
   agrees_at t d le =
       let same : 0 + t ≡ t = omega arith in
-      subst (λ u. Agrees plan (get_or (stated (certificate_of plan s)) t d) (stand_at plan s u)) same
+      subst (λ u. Agrees plan (get_or (stated (certificate_of plan s)) t d) (stand_at plan s u))
+          same
       (agrees_on s.rounds 0 t (first_stand (certificate_of plan s)) d (agree_first plan s is) le)
 
 pub records_are_of_runs : RecordsAreOfRuns

@@ -45,7 +45,8 @@ use Rattle.std.specs.Option.{option_and_then}
 use Rattle.std.proofs.Common.{add-one}
 use Rattle.construction.specs.Shown.{shown}
 
-map_map : {X Y Z : Type 0} (f : Y → Z) (g : X → Y) (xs : List X) → map f (map g xs) ≡ map (λ x. f (g x)) xs
+map_map : {X Y Z : Type 0} (f : Y → Z) (g : X → Y) (xs : List X)
+    → map f (map g xs) ≡ map (λ x. f (g x)) xs
 map_map f g [] = refl
 map_map f g (x ∷ xs) = ap (λ l. f (g x) ∷ l) (map_map f g xs)
 
@@ -68,13 +69,18 @@ module _ (plan : Plan) (state : ℕ → State) where
   abbrev back : ℕ → State
   back v = read_text (fields_of plan v) (written_text (fields_of plan v) (state v))
 
-  with_one : (config : List State) (u v : ℕ) → v < length config → state_of (set config u (back u)) v ≡ cond (eqb v u) (back v) (state_of config v)
+  with_one : (config : List State) (u v : ℕ) → v < length config
+      → state_of (set config u (back u)) v ≡ cond (eqb v u) (back v) (state_of config v)
   with_one config u v lt = by (eqb v u) refl where
-    by : (b : Bool) → eqb v u ≡ b → state_of (set config u (back u)) v ≡ cond b (back v) (state_of config v)
+    by : (b : Bool) → eqb v u ≡ b
+        → state_of (set config u (back u)) v ≡ cond b (back v) (state_of config v)
     by true e =
         let same : v ≡ u = eqb-true v u e in
-        ap (λ w. state_of (set config w (back w)) v) (sym same) ∙ get_or-set_same config v (back v) (zero_state 0) lt
-    by false e = get_or-set_other config u v (back u) (zero_state 0) (λ same. true≢false (sym (eq-eqb v u same) ∙ e))
+        ap (λ w. state_of (set config w (back w)) v) (sym same)
+            ∙ get_or-set_same config v (back v) (zero_state 0) lt
+    by false e =
+        get_or-set_other config u v (back u) (zero_state 0)
+        (λ same. true≢false (sym (eq-eqb v u same) ∙ e))
 
   merged : (b more : Bool) (x y : State) → cond more x (cond b x y) ≡ cond (b || more) x y
   merged true true x y = refl
@@ -83,7 +89,9 @@ module _ (plan : Plan) (state : ℕ → State) where
   merged false false x y = refl
 
   -- a node that is put is in its state, another one stays
-  pub put_states : (vs : List ℕ) (config : List State) (v : ℕ) → v < length config → state_of (with_starts plan config (map put_of vs)) v ≡ cond (is_in vs v) (back v) (state_of config v)
+  pub put_states : (vs : List ℕ) (config : List State) (v : ℕ) → v < length config
+      → state_of (with_starts plan config (map put_of vs)) v
+        ≡ cond (is_in vs v) (back v) (state_of config v)
   put_states [] config v lt = refl
   put_states (u ∷ vs) config v lt =
       put_states vs (set config u (back u)) v (omega (arith, length-set config u (back u)))
@@ -99,31 +107,58 @@ module _ (plan : Plan) (state : ℕ → ℕ → State) where
   abbrev is_pair : (u v : ℕ) → ℕ × ℕ → Bool
   is_pair u v p = eqb p.0 u && eqb p.1 v
 
-  pub told_state : (ps : List (ℕ × ℕ)) (u v : ℕ) → list_any (is_pair u v) ps ≡ true → told_of plan (map told_at ps) u v ≡ state u v
+  pub told_state : (ps : List (ℕ × ℕ)) (u v : ℕ) → list_any (is_pair u v) ps ≡ true
+      → told_of plan (map told_at ps) u v ≡ state u v
   told_state [] u v e = absurd (true≢false (sym e))
   told_state (p ∷ ps) u v e = by (is_pair u v p) refl e (told_state ps u v) where
-    by : (here : Bool) → is_pair u v p ≡ here → (here || list_any (is_pair u v) ps) ≡ true → (list_any (is_pair u v) ps ≡ true → told_of plan (map told_at ps) u v ≡ state u v)
-        → unwrap_or (option_map (λ (t : Told). t.state) (cond here (Some (told_at p)) (find (λ (t : Told). eqb t.sender u && eqb t.receiver v) (map told_at ps)))) (zero_state (plan_depth plan)) ≡ state u v
-    by true is e more = let q = and_parts _ _ is in ap (λ a. state a p.1) (eqb-true p.0 u q.0) ∙ ap (λ b. state u b) (eqb-true p.1 v q.1)
+    by : (here : Bool) → is_pair u v p ≡ here → (here || list_any (is_pair u v) ps) ≡ true
+        → (list_any (is_pair u v) ps ≡ true → told_of plan (map told_at ps) u v ≡ state u v)
+        → unwrap_or
+              (option_map (λ (t : Told). t.state)
+                (cond here (Some (told_at p))
+                  (find (λ (t : Told). eqb t.sender u && eqb t.receiver v) (map told_at ps))))
+              (zero_state (plan_depth plan))
+            ≡ state u v
+    by true is e more =
+        let q = and_parts _ _ is in
+        ap (λ a. state a p.1) (eqb-true p.0 u q.0) ∙ ap (λ b. state u b) (eqb-true p.1 v q.1)
     by false is e more = more e
 
-any_append : (p : ℕ × ℕ → Bool) (xs ys : List (ℕ × ℕ)) → (list_any p xs ≡ true) ⊎ (list_any p ys ≡ true) → list_any p (xs ++ ys) ≡ true
+any_append : (p : ℕ × ℕ → Bool) (xs ys : List (ℕ × ℕ))
+    → (list_any p xs ≡ true) ⊎ (list_any p ys ≡ true) → list_any p (xs ++ ys) ≡ true
 any_append p [] ys (inl e) = absurd (true≢false (sym e))
 any_append p [] ys (inr e) = e
-any_append p (x ∷ xs) ys (inl e) = ⊎_elim (λ here. in_map_range_by (p x) (list_any p (xs ++ ys)) true here) (λ more. or_right (p x) _ (any_append p xs ys (inl more))) (or_cases _ _ e)
+any_append p (x ∷ xs) ys (inl e) =
+    ⊎_elim (λ here. in_map_range_by (p x) (list_any p (xs ++ ys)) true here)
+    (λ more. or_right (p x) _ (any_append p xs ys (inl more))) (or_cases _ _ e)
 any_append p (x ∷ xs) ys (inr e) = or_right (p x) _ (any_append p xs ys (inr e))
 
-any_of_row : (u v : ℕ) (vs : List ℕ) → is_in vs v ≡ true → list_any (λ (p : ℕ × ℕ). eqb p.0 u && eqb p.1 v) (map (λ w. (u, w)) vs) ≡ true
+any_of_row : (u v : ℕ) (vs : List ℕ) → is_in vs v ≡ true
+    → list_any (λ (p : ℕ × ℕ). eqb p.0 u && eqb p.1 v) (map (λ w. (u, w)) vs) ≡ true
 any_of_row u v [] e = absurd (true≢false (sym e))
-any_of_row u v (w ∷ vs) e = ⊎_elim (λ here. in_map_range_by (eqb u u && eqb w v) _ true (and_from _ _ (eq-eqb u u refl) (eq-eqb w v (sym (eqb-true v w here))))) (λ more. or_right (eqb u u && eqb w v) _ (any_of_row u v vs more)) (or_cases _ _ e)
+any_of_row u v (w ∷ vs) e =
+    ⊎_elim
+    (λ here. in_map_range_by (eqb u u && eqb w v) _ true
+      (and_from _ _ (eq-eqb u u refl) (eq-eqb w v (sym (eqb-true v w here)))))
+    (λ more. or_right (eqb u u && eqb w v) _ (any_of_row u v vs more)) (or_cases _ _ e)
 
 -- each faulty node is paired with each correct one
-pub paired : (n : ℕ) (faulty us : List ℕ) (u v : ℕ) → is_in us u ≡ true → is_in (correct_nodes n faulty) v ≡ true
-    → list_any (λ (p : ℕ × ℕ). eqb p.0 u && eqb p.1 v) (flat_map (λ w. map (λ x. (w, x)) (correct_nodes n faulty)) us) ≡ true
+pub paired : (n : ℕ) (faulty us : List ℕ) (u v : ℕ) → is_in us u ≡ true
+    → is_in (correct_nodes n faulty) v ≡ true
+    → list_any (λ (p : ℕ × ℕ). eqb p.0 u && eqb p.1 v)
+          (flat_map (λ w. map (λ x. (w, x)) (correct_nodes n faulty)) us)
+        ≡ true
 paired n faulty [] u v e correct = absurd (true≢false (sym e))
 paired n faulty (w ∷ us) u v e correct =
-    any_append (λ p. eqb p.0 u && eqb p.1 v) (map (λ x. (w, x)) (correct_nodes n faulty)) (flat_map (λ w. map (λ x. (w, x)) (correct_nodes n faulty)) us)
-    (⊎_elim (λ here. inl (subst (λ z. list_any (λ (p : ℕ × ℕ). eqb p.0 u && eqb p.1 v) (map (λ x. (z, x)) (correct_nodes n faulty)) ≡ true) (eqb-true u w here) (any_of_row u v (correct_nodes n faulty) correct)))
+    any_append (λ p. eqb p.0 u && eqb p.1 v) (map (λ x. (w, x)) (correct_nodes n faulty))
+        (flat_map (λ w. map (λ x. (w, x)) (correct_nodes n faulty)) us)
+    (⊎_elim
+        (λ here. inl
+          (subst
+            (λ z. list_any (λ (p : ℕ × ℕ). eqb p.0 u && eqb p.1 v)
+                (map (λ x. (z, x)) (correct_nodes n faulty))
+              ≡ true)
+            (eqb-true u w here) (any_of_row u v (correct_nodes n faulty) correct)))
     (λ more. inr (paired n faulty us u v more correct)) (or_cases _ _ e))
 
 -- ---- one round more
@@ -132,16 +167,21 @@ paired n faulty (w ∷ us) u v e correct =
 pub record Agrees (plan : Plan) (a b : Stand) : Type 0 where
   pub faulty : a.faulty ≡ b.faulty
   pub size : length a.config ≡ plan_nodes plan
-  pub same : (v : ℕ) → v < plan_nodes plan → is_in b.faulty v ≡ false → state_of a.config v ≡ state_of b.config v
+  pub same : (v : ℕ) → v < plan_nodes plan → is_in b.faulty v ≡ false
+      → state_of a.config v ≡ state_of b.config v
 
-pub is_in_filter : (p : ℕ → Bool) (xs : List ℕ) (v : ℕ) → is_in (filter p xs) v ≡ (p v && is_in xs v)
+pub is_in_filter : (p : ℕ → Bool) (xs : List ℕ) (v : ℕ)
+    → is_in (filter p xs) v ≡ (p v && is_in xs v)
 is_in_filter p [] v = none (p v) where
   none : (b : Bool) → false ≡ (b && false)
   none true = refl
   none false = refl
 is_in_filter p (x ∷ xs) v = by (p x) (eqb v x) refl refl (is_in_filter p xs v) where
-  by : (keep here : Bool) → p x ≡ keep → eqb v x ≡ here → is_in (filter p xs) v ≡ (p v && is_in xs v) → is_in (cond keep (x ∷ filter p xs) (filter p xs)) v ≡ (p v && (here || is_in xs v))
-  by true true k h more = ap (λ b. b || is_in (filter p xs) v) h ∙ sym (ap (λ b. b && true) (ap p (eqb-true v x h) ∙ k))
+  by : (keep here : Bool) → p x ≡ keep → eqb v x ≡ here
+      → is_in (filter p xs) v ≡ (p v && is_in xs v)
+      → is_in (cond keep (x ∷ filter p xs) (filter p xs)) v ≡ (p v && (here || is_in xs v))
+  by true true k h more =
+      ap (λ b. b || is_in (filter p xs) v) h ∙ sym (ap (λ b. b && true) (ap p (eqb-true v x h) ∙ k))
   by true false k h more = ap (λ b. b || is_in (filter p xs) v) h ∙ more
   by false true k h more =
       let not_here : p v ≡ false = ap p (eqb-true v x h) ∙ k in
@@ -149,10 +189,15 @@ is_in_filter p (x ∷ xs) v = by (p x) (eqb v x) refl refl (is_in_filter p xs v)
   by false false k h more = more
 
 pub is_in_range : (n v : ℕ) → v < n → is_in (range_with_len 0 n) v ≡ true
-is_in_range n v lt = list_any_at (λ id. eqb v id) (range_with_len 0 n) v 0 (omega (arith, length-range_with_len 0 n)) (eq-eqb _ _ (sym (get_or-range_with_len 0 n v 0 lt ∙ (omega arith))))
+is_in_range n v lt =
+    list_any_at (λ id. eqb v id) (range_with_len 0 n) v 0 (omega (arith, length-range_with_len 0 n))
+    (eq-eqb _ _ (sym (get_or-range_with_len 0 n v 0 lt ∙ (omega arith))))
 
-pub is_correct : (n : ℕ) (faulty : List ℕ) (v : ℕ) → v < n → is_in faulty v ≡ false → is_in (correct_nodes n faulty) v ≡ true
-is_correct n faulty v lt free = is_in_filter (λ u. not (is_in faulty u)) (range_with_len 0 n) v ∙ and_from _ _ (ap not free) (is_in_range n v lt)
+pub is_correct : (n : ℕ) (faulty : List ℕ) (v : ℕ) → v < n → is_in faulty v ≡ false
+    → is_in (correct_nodes n faulty) v ≡ true
+is_correct n faulty v lt free =
+    is_in_filter (λ u. not (is_in faulty u)) (range_with_len 0 n) v
+    ∙ and_from _ _ (ap not free) (is_in_range n v lt)
 
 module _ (plan : Plan) (s : Script) (is : IsReadFor plan s) where
   limited : (v : ℕ) → IsFields (fields_of plan v)
@@ -161,15 +206,22 @@ module _ (plan : Plan) (s : Script) (is : IsReadFor plan s) where
 
   -- what is written of a played state is read back
   reads_back : (t v : ℕ) → v < plan_nodes plan
-      → read_text (fields_of plan v) (written_text (fields_of plan v) (state_of (played_at plan s t) v)) ≡ state_of (played_at plan s t) v
-  reads_back t v lt = text_reads_back (fields_of plan v) _ (limited v) (played_in_range plan s is t v lt)
+      → read_text (fields_of plan v)
+            (written_text (fields_of plan v) (state_of (played_at plan s t) v))
+          ≡ state_of (played_at plan s t) v
+  reads_back t v lt =
+      text_reads_back (fields_of plan v) _ (limited v) (played_in_range plan s is t v lt)
 
   lie_reads_back : (t u v : ℕ) → u < plan_nodes plan
-      → read_text (fields_of plan u) (written_text (fields_of plan u) (lie_of s t u v (played_at plan s t))) ≡ lie_of s t u v (played_at plan s t)
-  lie_reads_back t u v lt = text_reads_back (fields_of plan u) _ (limited u) (told_in_range plan s is t u v lt)
+      → read_text (fields_of plan u)
+            (written_text (fields_of plan u) (lie_of s t u v (played_at plan s t)))
+          ≡ lie_of s t u v (played_at plan s t)
+  lie_reads_back t u v lt =
+      text_reads_back (fields_of plan u) _ (limited u) (told_in_range plan s is t u v lt)
 
   ids_below : (t u : ℕ) → is_in (faulty_at s t) u ≡ true → u < plan_nodes plan
-  ids_below t u e = id_below (plan_nodes plan) u (faulty_at s t) (λ k d l. (borne_at plan s is t).ids k d l) e
+  ids_below t u e =
+      id_below (plan_nodes plan) u (faulty_at s t) (λ k d l. (borne_at plan s is t).ids k d l) e
 
   -- what is told is what the script lets a faulty node tell
   pub told_is : (t u v : ℕ) → v < plan_nodes plan → is_in (faulty_at s t) u ≡ true
@@ -187,50 +239,117 @@ module _ (plan : Plan) (s : Script) (is : IsReadFor plan s) where
       ∙ lie_reads_back t u v (ids_below t u f)
 
   -- what v hears is the same
-  heard_same : (t v : ℕ) (x : Stand) → v < plan_nodes plan → Agrees plan x (stand_at plan s t) → is_in (faulty_at s t) v ≡ false
-      → heard_by (plan_nodes plan) x.faulty x.config (lies_table plan (map (told_by plan) (turn_at plan s t).lies)) v ≡ heard_at s t (played_at plan s t) v
+  heard_same : (t v : ℕ) (x : Stand) → v < plan_nodes plan → Agrees plan x (stand_at plan s t)
+      → is_in (faulty_at s t) v ≡ false
+      → heard_by (plan_nodes plan) x.faulty x.config
+            (lies_table plan (map (told_by plan) (turn_at plan s t).lies)) v
+          ≡ heard_at s t (played_at plan s t) v
   heard_same t v x vlt agree free =
       let n : ℕ = plan_nodes plan in
       let told : List Told = map (told_by plan) (turn_at plan s t).lies in
-      same_lists _ _ (length-map-range_with_len (heard_of x.faulty x.config (lies_table plan told) v) 0 n ∙ sym (length-map-range_with_len (heard_of (faulty_at s t) (played_at plan s t) (lies_at s t (played_at plan s t)) v) 0 s.nodes ∙ is.right.nodes))
+      same_lists _ _
+          (length-map-range_with_len (heard_of x.faulty x.config (lies_table plan told) v) 0 n
+            ∙ sym
+              (length-map-range_with_len
+                  (heard_of (faulty_at s t) (played_at plan s t) (lies_at s t (played_at plan s t))
+                    v)
+                  0 s.nodes
+                ∙ is.right.nodes))
       (λ u d l.
-      let lt : u < n = omega (arith, length-map-range_with_len (heard_of x.faulty x.config (lies_table plan told) v) 0 n) in
-      get_or-map-range_with_len (heard_of x.faulty x.config (lies_table plan told) v) 0 n u u d lt (omega arith)
+      let lt : u
+          < n = omega
+            (arith,
+              length-map-range_with_len (heard_of x.faulty x.config (lies_table plan told) v) 0
+                n) in
+      get_or-map-range_with_len (heard_of x.faulty x.config (lies_table plan told) v) 0 n u u d lt
+          (omega arith)
       ∙ ap (λ f. heard_of f x.config (lies_table plan told) v u) agree.faulty
       ∙ each_heard u lt
-      ∙ sym (get_or-map-range_with_len (heard_of (faulty_at s t) (played_at plan s t) (lies_at s t (played_at plan s t)) v) 0 s.nodes u u d (omega (arith, is.right.nodes)) (omega arith))) where
-        each_heard : (u : ℕ) → u < plan_nodes plan → heard_of (faulty_at s t) x.config (lies_table plan (map (told_by plan) (turn_at plan s t).lies)) v u ≡ heard_of (faulty_at s t) (played_at plan s t) (lies_at s t (played_at plan s t)) v u
+      ∙ sym
+            (get_or-map-range_with_len
+              (heard_of (faulty_at s t) (played_at plan s t) (lies_at s t (played_at plan s t)) v) 0
+              s.nodes u u d (omega (arith, is.right.nodes)) (omega arith)))
+          where
+        each_heard : (u : ℕ) → u < plan_nodes plan
+            → heard_of (faulty_at s t) x.config
+                (lies_table plan (map (told_by plan) (turn_at plan s t).lies)) v u
+              ≡ heard_of (faulty_at s t) (played_at plan s t) (lies_at s t (played_at plan s t)) v u
         each_heard u lt = by (eqb u v) (is_in (faulty_at s t) u) refl refl where
           by : (own liar : Bool) → eqb u v ≡ own → is_in (faulty_at s t) u ≡ liar
-              → cond (own || not liar) (state_of x.config u) (state_of (slice_index_or (lies_table plan (map (told_by plan) (turn_at plan s t).lies)) u []) v)
-              ≡ cond (own || not liar) (state_of (played_at plan s t) u) (state_of (slice_index_or (lies_at s t (played_at plan s t)) u []) v)
-          by true liar o f = let here : u ≡ v = eqb-true u v o in agree.same u lt (ap (is_in (faulty_at s t)) here ∙ free)
+              → cond (own || not liar) (state_of x.config u)
+                  (state_of
+                    (slice_index_or (lies_table plan (map (told_by plan) (turn_at plan s t).lies)) u
+                      [])
+                    v)
+              ≡ cond (own || not liar) (state_of (played_at plan s t) u)
+                  (state_of (slice_index_or (lies_at s t (played_at plan s t)) u []) v)
+          by true liar o f =
+              let here : u ≡ v = eqb-true u v o in
+              agree.same u lt (ap (is_in (faulty_at s t)) here ∙ free)
           by false false o f = agree.same u lt f
           by false true o f =
-              ap (λ row. state_of row v) (get_or-map-range_with_len (λ u. map (λ v. told_of plan (map (told_by plan) (turn_at plan s t).lies) u v) (range_with_len 0 (plan_nodes plan))) 0 (plan_nodes plan) u u [] lt (omega arith))
-              ∙ get_or-map-range_with_len (λ v. told_of plan (map (told_by plan) (turn_at plan s t).lies) u v) 0 (plan_nodes plan) v v (zero_state 0) vlt (omega arith)
+              ap (λ row. state_of row v)
+                  (get_or-map-range_with_len
+                    (λ u. map (λ v. told_of plan (map (told_by plan) (turn_at plan s t).lies) u v)
+                      (range_with_len 0 (plan_nodes plan)))
+                    0 (plan_nodes plan) u u [] lt (omega arith))
+              ∙ get_or-map-range_with_len
+                  (λ v. told_of plan (map (told_by plan) (turn_at plan s t).lies) u v) 0
+                  (plan_nodes plan) v v (zero_state 0) vlt (omega arith)
               ∙ told_is t u v vlt f free
-              ∙ sym (ap (λ row. state_of row v) (get_or-map-range_with_len (λ u. map (λ v. lie_of s t u v (played_at plan s t)) (range_with_len 0 s.nodes)) 0 s.nodes u u [] (omega (arith, is.right.nodes)) (omega arith))
-              ∙ get_or-map-range_with_len (λ v. lie_of s t u v (played_at plan s t)) 0 s.nodes v v (zero_state 0) (omega (arith, is.right.nodes)) (omega arith))
+              ∙ sym
+                  (ap (λ row. state_of row v)
+                    (get_or-map-range_with_len
+                      (λ u. map (λ v. lie_of s t u v (played_at plan s t))
+                        (range_with_len 0 s.nodes))
+                      0 s.nodes u u [] (omega (arith, is.right.nodes)) (omega arith))
+              ∙ get_or-map-range_with_len (λ v. lie_of s t u v (played_at plan s t)) 0 s.nodes v v
+                  (zero_state 0) (omega (arith, is.right.nodes)) (omega arith))
 
   -- ---- the configuration behind a round
 
-  played_next : (t v : ℕ) → v < plan_nodes plan → state_of (played_at plan s (t + 1)) v ≡ unwrap_or (hit_at s (t + 1) v) (step_of plan v (heard_at s t (played_at plan s t) v))
-  played_next t v lt = ap (λ k. state_of (played_at plan s k) v) (add-one t) ∙ (get_or-map-range_with_len (λ u. unwrap_or (hit_at s (t + 1) u) (step_of plan u (heard_at s t (played_at plan s t) u))) 0 s.nodes v v (zero_state 0) (omega (arith, is.right.nodes)) (omega arith))
+  played_next : (t v : ℕ) → v < plan_nodes plan
+      → state_of (played_at plan s (t + 1)) v
+        ≡ unwrap_or (hit_at s (t + 1) v) (step_of plan v (heard_at s t (played_at plan s t) v))
+  played_next t v lt =
+      ap (λ k. state_of (played_at plan s k) v) (add-one t)
+      ∙ (get_or-map-range_with_len
+        (λ u. unwrap_or (hit_at s (t + 1) u) (step_of plan u (heard_at s t (played_at plan s t) u)))
+        0 s.nodes v v (zero_state 0) (omega (arith, is.right.nodes)) (omega arith))
 
-  stepped_at : (t v : ℕ) (new : List ℕ) (x : Stand) → v < plan_nodes plan → Agrees plan x (stand_at plan s t) → is_in new v ≡ false → is_in (faulty_at s t) v ≡ false
-      → state_of (stepped plan new x (map (told_by plan) (turn_at plan s t).lies)) v ≡ step_of plan v (heard_at s t (played_at plan s t) v)
+  stepped_at : (t v : ℕ) (new : List ℕ) (x : Stand) → v < plan_nodes plan
+      → Agrees plan x (stand_at plan s t) → is_in new v ≡ false → is_in (faulty_at s t) v ≡ false
+      → state_of (stepped plan new x (map (told_by plan) (turn_at plan s t).lies)) v
+          ≡ step_of plan v (heard_at s t (played_at plan s t) v)
   stepped_at t v new x lt agree free before =
-      get_or-map-range_with_len (λ u. cond (is_in new u) (zero_state (plan_depth plan)) (step_of plan u (heard_by (plan_nodes plan) x.faulty x.config (lies_table plan (map (told_by plan) (turn_at plan s t).lies)) u))) 0 (plan_nodes plan) v v (zero_state 0) lt (omega arith)
-      ∙ ap (λ b. cond b (zero_state (plan_depth plan)) (step_of plan v (heard_by (plan_nodes plan) x.faulty x.config (lies_table plan (map (told_by plan) (turn_at plan s t).lies)) v))) free
+      get_or-map-range_with_len
+          (λ u. cond (is_in new u) (zero_state (plan_depth plan))
+            (step_of plan u
+              (heard_by (plan_nodes plan) x.faulty x.config
+                (lies_table plan (map (told_by plan) (turn_at plan s t).lies)) u)))
+          0 (plan_nodes plan) v v (zero_state 0) lt (omega arith)
+      ∙ ap
+          (λ b. cond b (zero_state (plan_depth plan))
+            (step_of plan v
+              (heard_by (plan_nodes plan) x.faulty x.config
+                (lies_table plan (map (told_by plan) (turn_at plan s t).lies)) v)))
+          free
       ∙ ap (step_of plan v) (heard_same t v x lt agree before)
 
-  length-stepped : (new : List ℕ) (x : Stand) (told : List Told) → length (stepped plan new x told) ≡ plan_nodes plan
-  length-stepped new x told = length-map-range_with_len (λ v. cond (is_in new v) (zero_state (plan_depth plan)) (step_of plan v (heard_by (plan_nodes plan) x.faulty x.config (lies_table plan told) v))) 0 (plan_nodes plan)
+  length-stepped : (new : List ℕ) (x : Stand) (told : List Told)
+      → length (stepped plan new x told) ≡ plan_nodes plan
+  length-stepped new x told =
+      length-map-range_with_len
+      (λ v. cond (is_in new v) (zero_state (plan_depth plan))
+        (step_of plan v (heard_by (plan_nodes plan) x.faulty x.config (lies_table plan told) v)))
+      0 (plan_nodes plan)
 
-  length-with_starts : (puts : List Put) (config : List State) → length (with_starts plan config puts) ≡ length config
+  length-with_starts : (puts : List Put) (config : List State)
+      → length (with_starts plan config puts) ≡ length config
   length-with_starts [] config = refl
-  length-with_starts (put ∷ puts) config = length-with_starts puts (set config put.node (read_text (fields_of plan put.node) put.digits)) ∙ length-set config put.node (read_text (fields_of plan put.node) put.digits)
+  length-with_starts (put ∷ puts) config =
+      length-with_starts puts (set config put.node (read_text (fields_of plan put.node) put.digits))
+      ∙ length-set config put.node (read_text (fields_of plan put.node) put.digits)
 
   put_false : (b c : Bool) → (not false && (b || c)) ≡ false → (b ≡ false) × (c ≡ false)
   put_false false false e = (refl, refl)
@@ -241,44 +360,86 @@ module _ (plan : Plan) (s : Script) (is : IsReadFor plan s) where
   no_state None x e = refl
   no_state (Some y) x e = absurd cc
 
-  agree_by : (t : ℕ) (x : Stand) (found : Option scripts.Era) → find (λ era. eqb era.first (t + 1)) s.eras ≡ found → Agrees plan x (stand_at plan s t)
-      → Agrees plan (record { faulty = faulty_behind x.faulty (era_with plan s t found); config = with_starts plan (stepped plan (faulty_behind x.faulty (era_with plan s t found)) x (map (told_by plan) (turn_at plan s t).lies)) (starts_of (era_with plan s t found)) }) (stand_at plan s (t + 1))
+  agree_by : (t : ℕ) (x : Stand) (found : Option scripts.Era)
+      → find (λ era. eqb era.first (t + 1)) s.eras ≡ found → Agrees plan x (stand_at plan s t)
+      → Agrees plan
+          (record
+            { faulty = faulty_behind x.faulty (era_with plan s t found);
+              config = with_starts plan
+                (stepped plan (faulty_behind x.faulty (era_with plan s t found)) x
+                  (map (told_by plan) (turn_at plan s t).lies))
+                (starts_of (era_with plan s t found)) })
+          (stand_at plan s (t + 1))
   agree_by t x None e agree =
-      let same_faulty : faulty_at s (t + 1) ≡ faulty_at s t = ap (faulty_of_era s) (same_begun t s.eras e) in
-      let no_hit : (v : ℕ) (y : State) → unwrap_or (hit_at s (t + 1) v) y ≡ y = λ v y. ap (λ o. unwrap_or (option_and_then (λ (era : scripts.Era). start_in era.starts v) o) y) e in
+      let same_faulty : faulty_at s (t + 1)
+          ≡ faulty_at s t = ap (faulty_of_era s) (same_begun t s.eras e) in
+      let no_hit : (v : ℕ) (y : State)
+          → unwrap_or (hit_at s (t + 1) v) y
+            ≡ y = λ v y. ap
+              (λ o. unwrap_or (option_and_then (λ (era : scripts.Era). start_in era.starts v) o) y)
+              e in
       record {
         faulty = agree.faulty ∙ sym same_faulty;
         size = length-stepped x.faulty x (map (told_by plan) (turn_at plan s t).lies);
         same = λ v lt free.
-            let before : is_in (faulty_at s t) v ≡ false = ap (λ f. is_in f v) (sym same_faulty) ∙ free in
+            let before : is_in (faulty_at s t) v ≡ false = ap (λ f. is_in f v) (sym same_faulty)
+                ∙ free in
             stepped_at t v x.faulty x lt agree (ap (λ f. is_in f v) agree.faulty ∙ before) before
-            ∙ sym (played_next t v lt ∙ no_hit v (step_of plan v (heard_at s t (played_at plan s t) v)));
+            ∙ sym
+                (played_next t v lt
+                  ∙ no_hit v (step_of plan v (heard_at s t (played_at plan s t) v)));
       }
   agree_by t x (Some era) e agree =
-      let same_faulty : faulty_at s (t + 1) ≡ era.faulty = found_faulty 0 (t + 1) s.faulty s.eras era is.whole.formed.rising e in
-      let base : List State = stepped plan era.faulty x (map (told_by plan) (turn_at plan s t).lies) in
-      let size : length base ≡ plan_nodes plan = length-stepped era.faulty x (map (told_by plan) (turn_at plan s t).lies) in
+      let same_faulty : faulty_at s (t + 1)
+          ≡ era.faulty = found_faulty 0 (t + 1) s.faulty s.eras era is.whole.formed.rising e in
+      let base : List State = stepped plan era.faulty x
+          (map (told_by plan) (turn_at plan s t).lies) in
+      let size : length base
+          ≡ plan_nodes plan = length-stepped era.faulty x
+            (map (told_by plan) (turn_at plan s t).lies) in
       let vs : List ℕ = filter (is_put plan s t) (range_with_len 0 (plan_nodes plan)) in
       record {
         faulty = sym same_faulty;
         size = length-with_starts (map (put_at plan s (t + 1)) vs) base ∙ size;
         same = λ v lt free.
-            let in_list : is_in vs v ≡ is_put plan s t v = is_in_filter (is_put plan s t) (range_with_len 0 (plan_nodes plan)) v ∙ ap (λ b. is_put plan s t v && b) (is_in_range (plan_nodes plan) v lt) ∙ and_true (is_put plan s t v) in
-            put_states plan (λ v. state_of (played_at plan s (t + 1)) v) vs base v (omega (arith, size))
-            ∙ put_or_not t x v lt agree era.faulty free (ap (λ f. is_in f v) (sym same_faulty) ∙ free) (is_in vs v) (is_put plan s t v) in_list refl;
+            let in_list : is_in vs v
+                  ≡ is_put plan s t v = is_in_filter (is_put plan s t)
+                    (range_with_len 0 (plan_nodes plan)) v
+                ∙ ap (λ b. is_put plan s t v && b) (is_in_range (plan_nodes plan) v lt)
+                ∙ and_true (is_put plan s t v) in
+            put_states plan (λ v. state_of (played_at plan s (t + 1)) v) vs base v
+                (omega (arith, size))
+            ∙ put_or_not t x v lt agree era.faulty free
+                (ap (λ f. is_in f v) (sym same_faulty) ∙ free) (is_in vs v) (is_put plan s t v)
+                in_list refl;
       } where
         and_true : (b : Bool) → (b && true) ≡ b
         and_true true = refl
         and_true false = refl
 
-        put_or_not : (t : ℕ) (x : Stand) (v : ℕ) → v < plan_nodes plan → Agrees plan x (stand_at plan s t) → (new : List ℕ) → is_in (faulty_at s (t + 1)) v ≡ false → is_in new v ≡ false → (listed put : Bool) → listed ≡ put → is_put plan s t v ≡ put
-            → cond listed (read_text (fields_of plan v) (written_text (fields_of plan v) (state_of (played_at plan s (t + 1)) v))) (state_of (stepped plan new x (map (told_by plan) (turn_at plan s t).lies)) v) ≡ state_of (played_at plan s (t + 1)) v
+        put_or_not : (t : ℕ) (x : Stand) (v : ℕ) → v < plan_nodes plan
+            → Agrees plan x (stand_at plan s t) → (new : List ℕ)
+            → is_in (faulty_at s (t + 1)) v ≡ false → is_in new v ≡ false → (listed put : Bool)
+            → listed ≡ put → is_put plan s t v ≡ put
+            → cond listed
+                  (read_text (fields_of plan v)
+                    (written_text (fields_of plan v) (state_of (played_at plan s (t + 1)) v)))
+                  (state_of (stepped plan new x (map (told_by plan) (turn_at plan s t).lies)) v)
+                ≡ state_of (played_at plan s (t + 1)) v
         put_or_not t x v lt agree new free here true put l p = reads_back (t + 1) v lt
         put_or_not t x v lt agree new free here false put l p =
-            let none = put_false (is_in (faulty_at s t) v) (is_some (hit_at s (t + 1) v)) (ap (λ b. not b && (is_in (faulty_at s t) v || is_some (hit_at s (t + 1) v))) (sym free) ∙ p ∙ sym l) in
-            stepped_at t v new x lt agree here none.0 ∙ sym (played_next t v lt ∙ no_state (hit_at s (t + 1) v) (step_of plan v (heard_at s t (played_at plan s t) v)) none.1)
+            let none = put_false (is_in (faulty_at s t) v) (is_some (hit_at s (t + 1) v))
+                (ap (λ b. not b && (is_in (faulty_at s t) v || is_some (hit_at s (t + 1) v)))
+                    (sym free)
+                  ∙ p ∙ sym l) in
+            stepped_at t v new x lt agree here none.0
+                ∙ sym
+                  (played_next t v lt
+                    ∙ no_state (hit_at s (t + 1) v)
+                      (step_of plan v (heard_at s t (played_at plan s t) v)) none.1)
 
-  pub agree_next : (t : ℕ) (x : Stand) → Agrees plan x (stand_at plan s t) → Agrees plan (stand_behind plan x (turn_at plan s t)) (stand_at plan s (t + 1))
+  pub agree_next : (t : ℕ) (x : Stand) → Agrees plan x (stand_at plan s t)
+      → Agrees plan (stand_behind plan x (turn_at plan s t)) (stand_at plan s (t + 1))
   agree_next t x agree = agree_by t x (find (λ era. eqb era.first (t + 1)) s.eras) refl agree
 
   -- ---- the whole run
@@ -286,33 +447,55 @@ module _ (plan : Plan) (s : Script) (is : IsReadFor plan s) where
   pub agree_first : Agrees plan (first_stand (certificate_of plan s)) (stand_at plan s 0)
   agree_first =
       let vs : List ℕ = correct_nodes (plan_nodes plan) (faulty_at s 0) in
-      let base : List State = unless_faulty plan (faulty_at s 0) (λ v. zero_state (plan_depth plan)) in
-      let size : length base ≡ plan_nodes plan = length-map-range_with_len (λ v. cond (is_in (faulty_at s 0) v) (zero_state (plan_depth plan)) (zero_state (plan_depth plan))) 0 (plan_nodes plan) in
+      let base : List State = unless_faulty plan (faulty_at s 0)
+          (λ v. zero_state (plan_depth plan)) in
+      let size : length base
+          ≡ plan_nodes plan = length-map-range_with_len
+            (λ v. cond (is_in (faulty_at s 0) v) (zero_state (plan_depth plan))
+              (zero_state (plan_depth plan)))
+            0 (plan_nodes plan) in
       record {
         faulty = refl;
         size = length-with_starts (map (put_at plan s 0) vs) base ∙ size;
         same = λ v lt free.
             put_states plan (λ v. state_of (played_at plan s 0) v) vs base v (omega (arith, size))
-            ∙ ap (λ b. cond b (read_text (fields_of plan v) (written_text (fields_of plan v) (state_of (played_at plan s 0) v))) (state_of base v)) (is_correct (plan_nodes plan) (faulty_at s 0) v lt free)
+            ∙ ap
+                (λ b. cond b
+                  (read_text (fields_of plan v)
+                    (written_text (fields_of plan v) (state_of (played_at plan s 0) v)))
+                  (state_of base v))
+                (is_correct (plan_nodes plan) (faulty_at s 0) v lt free)
             ∙ reads_back 0 v lt;
       }
 
-  same_word : (faulty : List ℕ) (a b : List State) (v : ℕ) → (is_in faulty v ≡ false → state_of a v ≡ state_of b v)
-      → cond (is_in faulty v) None (Some (shown (plan_depth plan) (state_of a v))) ≡ cond (is_in faulty v) None (Some (shown (plan_depth plan) (state_of b v)))
+  same_word : (faulty : List ℕ) (a b : List State) (v : ℕ)
+      → (is_in faulty v ≡ false → state_of a v ≡ state_of b v)
+      → cond (is_in faulty v) None (Some (shown (plan_depth plan) (state_of a v)))
+          ≡ cond (is_in faulty v) None (Some (shown (plan_depth plan) (state_of b v)))
   same_word faulty a b v h = by (is_in faulty v) h where
-    by : (liar : Bool) → (liar ≡ false → state_of a v ≡ state_of b v) → cond liar None (Some (shown (plan_depth plan) (state_of a v))) ≡ cond liar None (Some (shown (plan_depth plan) (state_of b v)))
+    by : (liar : Bool) → (liar ≡ false → state_of a v ≡ state_of b v)
+        → cond liar None (Some (shown (plan_depth plan) (state_of a v)))
+          ≡ cond liar None (Some (shown (plan_depth plan) (state_of b v)))
     by true h = refl
     by false h = ap (λ x. Some (shown (plan_depth plan) x)) (h refl)
 
   -- configurations that agree show one row
   row_same : (a b : Stand) → Agrees plan a b → shown_row plan b ≡ shown_row plan a
   row_same a b agree =
-      let word : Stand → ℕ → Option ℕ = λ x v. cond (is_in x.faulty v) None (Some (shown (plan_depth plan) (state_of x.config v))) in
-      sym (same_lists _ _ (length-map-range_with_len (word a) 0 (plan_nodes plan) ∙ sym (length-map-range_with_len (word b) 0 (plan_nodes plan)))
+      let word : Stand → ℕ
+          → Option ℕ = λ x v. cond (is_in x.faulty v) None
+            (Some (shown (plan_depth plan) (state_of x.config v))) in
+      sym
+          (same_lists _ _
+            (length-map-range_with_len (word a) 0 (plan_nodes plan)
+              ∙ sym (length-map-range_with_len (word b) 0 (plan_nodes plan)))
       (λ v d l.
-      let lt : v < plan_nodes plan = omega (arith, length-map-range_with_len (word a) 0 (plan_nodes plan)) in
+      let lt : v
+          < plan_nodes plan = omega
+            (arith, length-map-range_with_len (word a) 0 (plan_nodes plan)) in
       get_or-map-range_with_len (word a) 0 (plan_nodes plan) v v d lt (omega arith)
-      ∙ ap (λ f. cond (is_in f v) None (Some (shown (plan_depth plan) (state_of a.config v)))) agree.faulty
+      ∙ ap (λ f. cond (is_in f v) None (Some (shown (plan_depth plan) (state_of a.config v))))
+          agree.faulty
       ∙ same_word b.faulty a.config b.config v (agree.same v lt)
       ∙ sym (get_or-map-range_with_len (word b) 0 (plan_nodes plan) v v d lt (omega arith))))
 
@@ -321,20 +504,40 @@ module _ (plan : Plan) (s : Script) (is : IsReadFor plan s) where
   same_rows_self (None ∷ row) = same_rows_self row
   same_rows_self (Some a ∷ row) = and_from _ _ (eq-eqb a a refl) (same_rows_self row)
 
-  same_here : (a b : Stand) → Agrees plan a b → not (same_rows (shown_row plan b) (shown_row plan a)) ≡ false
-  same_here a b agree = ap not (ap (λ r. same_rows r (shown_row plan a)) (row_same a b agree) ∙ same_rows_self (shown_row plan a))
+  same_here : (a b : Stand) → Agrees plan a b
+      → not (same_rows (shown_row plan b) (shown_row plan a)) ≡ false
+  same_here a b agree =
+      ap not
+      (ap (λ r. same_rows r (shown_row plan a)) (row_same a b agree)
+        ∙ same_rows_self (shown_row plan a))
 
   -- no row differs
-  none_differ : (k t n : ℕ) (x : Stand) → Agrees plan x (stand_at plan s t) → first_from (λ b. b) n (differences plan (map (λ turn. turn.row) (map (turn_at plan s) (range_with_len t k))) (stands_behind plan x (map (turn_at plan s) (range_with_len t k)))) ≡ None
+  none_differ : (k t n : ℕ) (x : Stand) → Agrees plan x (stand_at plan s t)
+      → first_from (λ b. b) n
+          (differences plan (map (λ turn. turn.row) (map (turn_at plan s) (range_with_len t k)))
+            (stands_behind plan x (map (turn_at plan s) (range_with_len t k))))
+        ≡ None
   none_differ zero t n x agree = refl
   none_differ (suc k) t n x agree =
       let next = agree_next t x agree in
-      ap (λ b. cond b (Some n) (first_from (λ b. b) (n + 1) (differences plan (map (λ turn. turn.row) (map (turn_at plan s) (range_with_len (t + 1) k))) (stands_behind plan (stand_behind plan x (turn_at plan s t)) (map (turn_at plan s) (range_with_len (t + 1) k))))))
+      ap
+          (λ b. cond b (Some n)
+            (first_from (λ b. b) (n + 1)
+              (differences plan
+                (map (λ turn. turn.row) (map (turn_at plan s) (range_with_len (t + 1) k)))
+                (stands_behind plan (stand_behind plan x (turn_at plan s t))
+                  (map (turn_at plan s) (range_with_len (t + 1) k))))))
       (same_here (stand_behind plan x (turn_at plan s t)) (stand_at plan s (t + 1)) next)
       ∙ none_differ k (t + 1) (n + 1) (stand_behind plan x (turn_at plan s t)) next
 
   pub no_difference : first_difference (certificate_of plan s) ≡ None
   no_difference =
-      ap (λ b. cond b (Some 0) (first_from (λ b. b) 1 (differences plan (map (λ turn. turn.row) (map (turn_at plan s) (range_with_len 0 s.rounds))) (stands_behind plan (first_stand (certificate_of plan s)) (map (turn_at plan s) (range_with_len 0 s.rounds))))))
+      ap
+          (λ b. cond b (Some 0)
+            (first_from (λ b. b) 1
+              (differences plan
+                (map (λ turn. turn.row) (map (turn_at plan s) (range_with_len 0 s.rounds)))
+                (stands_behind plan (first_stand (certificate_of plan s))
+                  (map (turn_at plan s) (range_with_len 0 s.rounds))))))
       (same_here (first_stand (certificate_of plan s)) (stand_at plan s 0) agree_first)
       ∙ none_differ s.rounds 0 1 (first_stand (certificate_of plan s)) agree_first

@@ -43,7 +43,8 @@ turned_round : (P : Level → Type 0) (levels : List Level) → All P levels →
 turned_round P [] h = All-nil P
 turned_round P (level ∷ below) h =
     subst (All P) (sym (reverse-cons level below))
-    (All-push P (reverse below) level (turned_round P below (All-tail P level below h)) (All-head P level below h))
+    (All-push P (reverse below) level (turned_round P below (All-tail P level below h))
+        (All-head P level below h))
 
 module _ (plan : Plan) (s : Script) (is : IsReadFor plan s) where
   accepted : IsAccepted plan
@@ -56,7 +57,8 @@ module _ (plan : Plan) (s : Script) (is : IsReadFor plan s) where
   counted t None e = omega (arith, same_begun t s.eras e)
   counted t (Some era) e = omega (arith, begins_more t s.eras era e)
 
-  count_most : (k t : ℕ) → era_count (map (turn_at plan s) (range_with_len t k)) + era_of s t ≤ era_of s (t + k)
+  count_most : (k t : ℕ)
+      → era_count (map (turn_at plan s) (range_with_len t k)) + era_of s t ≤ era_of s (t + k)
   count_most zero t = let same : t + 0 ≡ t = omega arith in rw same (omega arith)
   count_most (suc k) t =
       let same : t + suc k ≡ t + 1 + k = omega arith in
@@ -75,7 +77,8 @@ module _ (plan : Plan) (s : Script) (is : IsReadFor plan s) where
   starts_lines t [] below = All-nil HasLine
   starts_lines t (v ∷ vs) below =
       All-cons HasLine (start_of (put_at plan s t v)) (map start_of (map (put_at plan s t) vs))
-      (start_line plan accepted v _ (All-head (λ v. v < plan_nodes plan) v vs below) (text_is_taken (fields_of plan v) _))
+      (start_line plan accepted v _ (All-head (λ v. v < plan_nodes plan) v vs below)
+          (text_is_taken (fields_of plan v) _))
       (starts_lines t vs (All-tail (λ v. v < plan_nodes plan) v vs below))
 
   lies_lines : (t : ℕ) (ps : List (ℕ × ℕ)) → All (AreIds plan) ps
@@ -87,17 +90,23 @@ module _ (plan : Plan) (s : Script) (is : IsReadFor plan s) where
       (lie_line plan accepted p.0 p.1 _ here.0 here.1 (text_is_taken (fields_of plan p.0) _))
       (lies_lines t ps (All-tail (AreIds plan) p ps ids))
 
-  chosen : (p : ℕ → Bool) → All (λ v. v < plan_nodes plan) (filter p (range_with_len 0 (plan_nodes plan)))
-  chosen p = All-filter p (λ v. v < plan_nodes plan) (range_with_len 0 (plan_nodes plan)) (below_range (plan_nodes plan))
+  chosen : (p : ℕ → Bool)
+      → All (λ v. v < plan_nodes plan) (filter p (range_with_len 0 (plan_nodes plan)))
+  chosen p =
+      All-filter p (λ v. v < plan_nodes plan) (range_with_len 0 (plan_nodes plan))
+      (below_range (plan_nodes plan))
 
   era_lines : (t : ℕ) (found : Option scripts.Era) → t + 1 ≤ 1000000 → era_at plan s (t + 1) ≡ found
       → All HasLine (era_items (t + 1) (era_with plan s t found))
   era_lines t None le e = All-nil HasLine
   era_lines t (Some era) le e =
-      let same : faulty_at s (t + 1) ≡ era.faulty = found_faulty 0 (t + 1) s.faulty s.eras era is.whole.formed.rising e in
+      let same : faulty_at s (t + 1)
+          ≡ era.faulty = found_faulty 0 (t + 1) s.faulty s.eras era is.whole.formed.rising e in
       All-cons HasLine (era_item (t + 1) era.faulty) (map start_of (puts_at plan s t))
-      (era_line plan accepted (t + 1) era.faulty le (subst (IsBorne plan) same (borne_at plan s is (t + 1))))
-      (starts_lines (t + 1) (filter (is_put plan s t) (range_with_len 0 (plan_nodes plan))) (chosen (is_put plan s t)))
+      (era_line plan accepted (t + 1) era.faulty le
+          (subst (IsBorne plan) same (borne_at plan s is (t + 1))))
+      (starts_lines (t + 1) (filter (is_put plan s t) (range_with_len 0 (plan_nodes plan)))
+          (chosen (is_put plan s t)))
 
   end_line : HasLine end_item
   end_line = record { words = tt; short = omega arith }
@@ -110,11 +119,13 @@ module _ (plan : Plan) (s : Script) (is : IsReadFor plan s) where
       let rest = turns_items (t + 1 + 1) (map (turn_at plan s) (range_with_len (t + 1) k)) in
       let row = row_item (t + 1) turn.row in
       All-append HasLine (map lie_of turn.lies) (era_items (t + 1) turn.era ++ (row ∷ rest))
-      (lies_lines t (pairs_of (plan_nodes plan) (faulty_at s t)) (pairs_are_ids plan (faulty_at s t) (borne_at plan s is t).ids))
+      (lies_lines t (pairs_of (plan_nodes plan) (faulty_at s t))
+          (pairs_are_ids plan (faulty_at s t) (borne_at plan s is t).ids))
       (All-append HasLine (era_items (t + 1) turn.era) (row ∷ rest)
       (era_lines t (era_at plan s (t + 1)) (omega arith) refl)
       (All-cons HasLine row rest
-      (shown_row_line plan accepted (t + 1) (stand_at plan s (t + 1)) (omega arith) (played_is plan s is (t + 1)))
+      (shown_row_line plan accepted (t + 1) (stand_at plan s (t + 1)) (omega arith)
+          (played_is plan s is (t + 1)))
       (turns_lines k (t + 1) (omega arith))))
 
   version_most : (two one : Bool) → cond {A = ℕ} two 3 (cond one 1 2) ≤ 3
@@ -140,14 +151,19 @@ module _ (plan : Plan) (s : Script) (is : IsReadFor plan s) where
       let levels = map (level_of c.version) (reverse plan.levels) in
       let behind = levels ++ (faulty_item c.faulty ∷ states) in
       let rounds = is.whole.formed.few in
-      All-cons HasLine (run_item c.version) (base_item plan.base ∷ behind) (run_line c.version (version_most (plan.version == 2) (s.version == 1)))
-      (All-cons HasLine (base_item plan.base) behind (base_line plan.base (base_small plan.base plan.levels accepted.levels))
+      All-cons HasLine (run_item c.version) (base_item plan.base ∷ behind)
+          (run_line c.version (version_most (plan.version == 2) (s.version == 1)))
+      (All-cons HasLine (base_item plan.base) behind
+          (base_line plan.base (base_small plan.base plan.levels accepted.levels))
       (All-append HasLine levels (faulty_item c.faulty ∷ states)
       (All-map HasLine (level_of c.version) (reverse plan.levels)
-      (turned_round (λ level. HasLine (level_of c.version level)) plan.levels (levels_lines c.version plan.base plan.levels accepted.levels)))
-      (All-cons HasLine (faulty_item c.faulty) states (faulty_line plan accepted c.faulty (borne_at plan s is 0))
+      (turned_round (λ level. HasLine (level_of c.version level)) plan.levels
+          (levels_lines c.version plan.base plan.levels accepted.levels)))
+      (All-cons HasLine (faulty_item c.faulty) states
+          (faulty_line plan accepted c.faulty (borne_at plan s is 0))
       (All-append HasLine first rows
-      (starts_lines 0 (correct_nodes (plan_nodes plan) (faulty_at s 0)) (chosen (λ v. not (is_in (faulty_at s 0) v))))
+      (starts_lines 0 (correct_nodes (plan_nodes plan) (faulty_at s 0))
+          (chosen (λ v. not (is_in (faulty_at s 0) v))))
       (All-cons HasLine (row_item 0 c.row) (turns_items 1 c.turns)
       (shown_row_line plan accepted 0 (stand_at plan s 0) (omega arith) (played_is plan s is 0))
       (turns_lines s.rounds 0 (omega (arith, rounds))))))))
@@ -163,13 +179,19 @@ module _ (plan : Plan) (s : Script) (is : IsReadFor plan s) where
   plan_by : (two one : Bool) → (plan.version == 2) ≡ two
       → plan.version ≡ plan_version (cond {A = ℕ} two 3 (cond one 1 2))
   plan_by true one e = eqb-true _ _ e
-  plan_by false true e = let not_two = eqb-false plan.version 2 e in only_one plan.version accepted.oldest accepted.newest not_two
-  plan_by false false e = let not_two = eqb-false plan.version 2 e in only_one plan.version accepted.oldest accepted.newest not_two
+  plan_by false true e =
+      let not_two = eqb-false plan.version 2 e in
+      only_one plan.version accepted.oldest accepted.newest not_two
+  plan_by false false e =
+      let not_two = eqb-false plan.version 2 e in
+      only_one plan.version accepted.oldest accepted.newest not_two
 
   eras_by : (two one : Bool) → HasItsEras s → (s.version == 1) ≡ one
       → era_of s s.rounds ≤ most_eras (cond {A = ℕ} two 3 (cond one 1 2))
-  eras_by true one has e = let most = is.whole.formed.many in omega (arith, era_within s s.rounds, most)
-  eras_by false false has e = let most = is.whole.formed.many in omega (arith, era_within s s.rounds, most)
+  eras_by true one has e =
+      let most = is.whole.formed.many in omega (arith, era_within s s.rounds, most)
+  eras_by false false has e =
+      let most = is.whole.formed.many in omega (arith, era_within s s.rounds, most)
   eras_by false true has e =
       let none : length s.eras ≡ 0 = ap length (has (eqb-true _ _ e)) in
       omega (arith, era_within s s.rounds, none)
@@ -178,11 +200,16 @@ module _ (plan : Plan) (s : Script) (is : IsReadFor plan s) where
   is_certificate has =
       let c = certificate_of plan s in
       let rounds = is.whole.formed.few in
-      let size : length c.turns ≡ s.rounds = length-map (range_with_len 0 s.rounds) (turn_at plan s) ∙ length-range_with_len 0 s.rounds in
+      let size : length c.turns ≡ s.rounds = length-map (range_with_len 0 s.rounds) (turn_at plan s)
+          ∙ length-range_with_len 0 s.rounds in
       let zero_plus : 0 + s.rounds ≡ s.rounds = omega arith in
-      let most : era_of s (0 + s.rounds) ≤ most_eras c.version = rw zero_plus (eras_by (plan.version == 2) (s.version == 1) has refl) in
+      let most : era_of s (0 + s.rounds)
+          ≤ most_eras c.version = rw zero_plus
+            (eras_by (plan.version == 2) (s.version == 1) has refl) in
       record {
-        version = (version_least (plan.version == 2) (s.version == 1), version_most (plan.version == 2) (s.version == 1));
+        version =
+            (version_least (plan.version == 2) (s.version == 1),
+            version_most (plan.version == 2) (s.version == 1));
         plan_is = plan_by (plan.version == 2) (s.version == 1) refl;
         accepted = accepted;
         borne = borne_at plan s is 0;

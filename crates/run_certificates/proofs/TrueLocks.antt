@@ -1,7 +1,8 @@
 -- In a certificate that is true, the locked configuration of its verdict is the first locked one of
 -- the last era.
 use Rattle.std.proofs.Common.{◌≡◌, ℕ, zero, suc, ◌+◌, ◌-◌, ◌<◌, ◌≤◌, Bool, true, false, cond, leb}
-use Rattle.std.proofs.Common.{List, [], ◌∷◌, ◌++◌, length, drop, get_or, Option, Some, None, refl, sym, ap}
+use Rattle.std.proofs.Common.{List, [], ◌∷◌, ◌++◌, length, drop, get_or, Option, Some, None, refl}
+use Rattle.std.proofs.Common.{sym, ap}
 use Rattle.std.proofs.Common.{subst, ◌∙◌, arith}
 use Rattle.std.specs.Prelude.{IsSome}
 use Rattle.std.proofs.lemmas.Bool.{true≢false, leb-true, leb-false}
@@ -21,7 +22,8 @@ use Rattle.run_certificates.specs.Stated.{last_start_from, last_start, locks_at,
 use Rattle.run_certificates.specs.Stated.{verdict_of, first_difference}
 use Rattle.run_certificates.specs.Laws.{AreQuiet, EndWithEra, LockedAt, NoneLocked, IsFirstLocked}
 use Rattle.run_certificates.specs.Laws.{StretchCountsFrom, LastEraLocks, TrueLocksAreFirst}
-use Rattle.run_certificates.proofs.TrueRows.{count_stands, quiet_faulty, stand, stands, configs, run}
+use Rattle.run_certificates.proofs.TrueRows.{count_stands, quiet_faulty, stand, stands, configs}
+use Rattle.run_certificates.proofs.TrueRows.{run}
 use Rattle.run_certificates.proofs.TrueRows.{borne, size, stand_is, config_is, rows_count}
 
 -- ---- where the last era begins
@@ -263,7 +265,8 @@ module _ (test : LockTestIsExact) (locks : LocksAtBound) (locked_count : LockedR
       stand_at =
           stand_is c is rows locked true_is begin.before begin.stretch [] whole begin.quiet i high
 
-      to_run : LockedAt c (from + i) → IsLocked c.plan last_stand.faulty (configuration last_configs i)
+      to_run : LockedAt c (from + i)
+          → IsLocked c.plan last_stand.faulty (configuration last_configs i)
       to_run h =
           subst (λ config. IsLocked c.plan last_stand.faulty config) (sym config_at)
           (subst (λ f. IsLocked c.plan f (get_or last_stands i first).config) faulty_at

@@ -39,47 +39,58 @@ rows_same (x ∷ xs) (y ∷ ys) e =
     let p = and_parts _ _ e in
     ap (λ z. z ∷ xs) (some_same x y p.0) ∙ ap (λ zs. y ∷ zs) (rows_same xs ys p.1)
 
-head_none : (same : Bool) (n : ℕ) (more : Option ℕ) → cond (not same) (Some n) more ≡ None → (same ≡ true) × (more ≡ None)
+head_none : (same : Bool) (n : ℕ) (more : Option ℕ) → cond (not same) (Some n) more ≡ None
+    → (same ≡ true) × (more ≡ None)
 head_none true n more e = (refl, e)
 head_none false n more e = absurd cc
 
-none_differs : (plan : Plan) (rows : List (List (Option ℕ))) (stands : List Stand) (n : ℕ) → length rows ≡ length stands
-    → first_from (λ b. b) n (differences plan rows stands) ≡ None → rows ≡ map (shown_row plan) stands
+none_differs : (plan : Plan) (rows : List (List (Option ℕ))) (stands : List Stand) (n : ℕ)
+    → length rows ≡ length stands
+    → first_from (λ b. b) n (differences plan rows stands) ≡ None
+        → rows ≡ map (shown_row plan) stands
 none_differs plan [] [] n size e = refl
 none_differs plan [] (s ∷ ss) n size e = absurd (omega (arith, size))
 none_differs plan (r ∷ rs) [] n size e = absurd (omega (arith, size))
 none_differs plan (r ∷ rs) (s ∷ ss) n size e =
-    let p = head_none (same_rows r (shown_row plan s)) n (first_from (λ b. b) (n + 1) (differences plan rs ss)) e in
+    let p = head_none (same_rows r (shown_row plan s)) n
+        (first_from (λ b. b) (n + 1) (differences plan rs ss)) e in
     ap (λ x. x ∷ rs) (rows_same r (shown_row plan s) p.0)
     ∙ ap (λ xs. shown_row plan s ∷ xs) (none_differs plan rs ss (n + 1) (omega (arith, size)) p.1)
 
-true_none : (d : Option ℕ) (rows : ℕ) (l : Option ℕ) (n : ℕ) (m : Option ℕ) → verdict_by d rows l ≡ verdict.True n m → d ≡ None
+true_none : (d : Option ℕ) (rows : ℕ) (l : Option ℕ) (n : ℕ) (m : Option ℕ)
+    → verdict_by d rows l ≡ verdict.True n m → d ≡ None
 true_none None rows l n m e = refl
 true_none (Some t) rows l n m e = absurd cc
 
 pub count_stands : (plan : Plan) (stand : Stand) (turns : List Turn)
     → length (stands_behind plan stand turns) ≡ length turns
 count_stands plan stand [] = refl
-count_stands plan stand (turn ∷ turns) = ap suc (count_stands plan (stand_behind plan stand turn) turns)
+count_stands plan stand (turn ∷ turns) =
+    ap suc (count_stands plan (stand_behind plan stand turn) turns)
 
 all_shown : (c : Certificate) (n : ℕ) (m : Option ℕ) → verdict_of c ≡ verdict.True n m
     → rows_of c ≡ map (shown_row c.plan) (stated c)
 all_shown c n m e =
     none_differs c.plan (rows_of c) (stated c) 0
-    (ap suc (length-map c.turns (λ (turn : Turn). turn.row) ∙ sym (count_stands c.plan (first_stand c) c.turns)))
+    (ap suc
+        (length-map c.turns (λ (turn : Turn). turn.row)
+          ∙ sym (count_stands c.plan (first_stand c) c.turns)))
     (true_none (first_difference c) _ _ n m e)
 
 -- ---- the configurations of a stretch
 
 after_at : (plan : Plan) (stand : Stand) (before rest : List Turn) (i : ℕ) (d : Stand)
     → get_or (stand ∷ stands_behind plan stand (before ++ rest)) (length before + i) d
-    ≡ get_or (stand_after plan stand before ∷ stands_behind plan (stand_after plan stand before) rest) i d
+    ≡ get_or
+        (stand_after plan stand before ∷ stands_behind plan (stand_after plan stand before) rest) i
+        d
 after_at plan stand [] rest i d = let same : 0 + i ≡ i = omega arith in rw same refl
 after_at plan stand (turn ∷ before) rest i d =
     let same : length (turn ∷ before) + i ≡ suc (length before + i) = omega arith in
     rw same (after_at plan (stand_behind plan stand turn) before rest i d)
 
-within_at : (plan : Plan) (stand : Stand) (stretch after : List Turn) (i : ℕ) (d : Stand) → i ≤ length stretch
+within_at : (plan : Plan) (stand : Stand) (stretch after : List Turn) (i : ℕ) (d : Stand)
+    → i ≤ length stretch
     → get_or (stand ∷ stands_behind plan stand (stretch ++ after)) i d
     ≡ get_or (stand ∷ stands_behind plan stand stretch) i d
 within_at plan stand stretch after zero d le = refl
@@ -95,35 +106,45 @@ quiet_faulty plan stand stretch zero d quiet le = refl
 quiet_faulty plan stand [] (suc i) d quiet le = absurd (omega arith)
 quiet_faulty plan stand (turn ∷ stretch) (suc i) d quiet le =
     let none : turn.era ≡ None = quiet 0 turn (omega arith) in
-    quiet_faulty plan (stand_behind plan stand turn) stretch i d (λ k e lt. let up = quiet (suc k) e (omega arith) in up) (omega arith)
+    quiet_faulty plan (stand_behind plan stand turn) stretch i d
+        (λ k e lt. let up = quiet (suc k) e (omega arith) in up) (omega arith)
     ∙ ap (faulty_behind stand.faulty) none
 
-borne_behind : (plan : Plan) (faulty : List ℕ) (era : Option Era) → IsBorne plan faulty → IfSome era (IsEra plan faulty)
+borne_behind : (plan : Plan) (faulty : List ℕ) (era : Option Era) → IsBorne plan faulty
+    → IfSome era (IsEra plan faulty)
     → IsBorne plan (faulty_behind faulty era)
 borne_behind plan faulty None borne is = borne
 borne_behind plan faulty (Some era) borne is = is.borne
 
 borne_after : (plan : Plan) (before rest : List Turn) (stand : Stand) → IsBorne plan stand.faulty
-    → AreTurns plan stand.faulty (before ++ rest) → IsBorne plan (stand_after plan stand before).faulty
+    → AreTurns plan stand.faulty (before ++ rest)
+        → IsBorne plan (stand_after plan stand before).faulty
 borne_after plan [] rest stand borne are = borne
 borne_after plan (turn ∷ before) rest stand borne are =
-    borne_after plan before rest (stand_behind plan stand turn) (borne_behind plan stand.faulty turn.era borne are.0.era) are.1
+    borne_after plan before rest (stand_behind plan stand turn)
+        (borne_behind plan stand.faulty turn.era borne are.0.era) are.1
 
-same_word : (liar : Bool) (o p : ℕ) → (liar ≡ false → o ≡ p) → cond liar None (Some o) ≡ cond liar None (Some p)
+same_word : (liar : Bool) (o p : ℕ) → (liar ≡ false → o ≡ p)
+    → cond liar None (Some o) ≡ cond liar None (Some p)
 same_word true o p h = refl
 same_word false o p h = ap Some (h refl)
 
 row_of_one : (plan : Plan) (faulty : List ℕ) (stand : Stand) (o : ℕ) → stand.faulty ≡ faulty
     → AllShow plan faulty stand.config o
-    → shown_row plan stand ≡ map (λ v. cond (is_in faulty v) None (Some o)) (range_with_len 0 (plan_nodes plan))
+    → shown_row plan stand
+        ≡ map (λ v. cond (is_in faulty v) None (Some o)) (range_with_len 0 (plan_nodes plan))
 row_of_one plan faulty stand o same all =
-    let word : ℕ → Option ℕ = λ v. cond (is_in stand.faulty v) None (Some (shown (plan_depth plan) (state_of stand.config v))) in
+    let word : ℕ
+        → Option ℕ = λ v. cond (is_in stand.faulty v) None
+          (Some (shown (plan_depth plan) (state_of stand.config v))) in
     let one : ℕ → Option ℕ = λ v. cond (is_in faulty v) None (Some o) in
     let n = plan_nodes plan in
-    same_lists _ _ (length-map-range_with_len word 0 n ∙ sym (length-map-range_with_len one 0 n)) (λ v d l.
+    same_lists _ _ (length-map-range_with_len word 0 n ∙ sym (length-map-range_with_len one 0 n))
+        (λ v d l.
     let lt : v < n = omega (arith, length-map-range_with_len word 0 n) in
     get_or-map-range_with_len word 0 n v v d lt (omega arith)
-    ∙ ap (λ f. cond (is_in f v) None (Some (shown (plan_depth plan) (state_of stand.config v)))) same
+    ∙ ap (λ f. cond (is_in f v) None (Some (shown (plan_depth plan) (state_of stand.config v))))
+        same
     ∙ same_word (is_in faulty v) _ o (λ free. all v lt free)
     ∙ sym (get_or-map-range_with_len one 0 n v v d lt (omega arith)))
 

@@ -30,13 +30,15 @@ use Rattle.run_checker.specs.Rounds.{AreStates, IsTold}
 
 module _ (plan : Plan) (accepted : IsAccepted plan) where
   -- a state of a node's fields is one of the counter
-  pub node_range : (v : ℕ) → v < plan_nodes plan → (s : State) → InRange (fields_at (shape_of plan) v) s
+  pub node_range : (v : ℕ) → v < plan_nodes plan → (s : State)
+      → InRange (fields_at (shape_of plan) v) s
       → IsInRange plan s
   node_range v lt s range =
       let some = positive plan.base plan.levels accepted.levels in
       range_of_state plan some.0 some.1 v s (state_of_node plan accepted v lt s range)
 
-  pub node_deep : (v : ℕ) → v < plan_nodes plan → (s : State) → InRange (fields_at (shape_of plan) v) s
+  pub node_deep : (v : ℕ) → v < plan_nodes plan → (s : State)
+      → InRange (fields_at (shape_of plan) v) s
       → length s.registers ≡ plan_depth plan
   node_deep v lt s range = (state_of_node plan accepted v lt s range).depth
 
@@ -47,8 +49,11 @@ module _ (plan : Plan) (accepted : IsAccepted plan) where
 
   pub zeros_are : (n : ℕ) → AreStates plan (replicate n (zero_state (plan_depth plan)))
   zeros_are n = record {
-    deep = all_replicate (λ s. length s.registers ≡ plan_depth plan) n (zero_state (plan_depth plan)) (length-replicate (plan_depth plan) zero_register);
-    range = all_replicate (IsInRange plan) n (zero_state (plan_depth plan)) (plan_zero plan accepted);
+    deep =
+        all_replicate (λ s. length s.registers ≡ plan_depth plan) n (zero_state (plan_depth plan))
+        (length-replicate (plan_depth plan) zero_register);
+    range =
+        all_replicate (IsInRange plan) n (zero_state (plan_depth plan)) (plan_zero plan accepted);
   }
 
   -- a state that is told
@@ -92,25 +97,31 @@ module _ (plan : Plan) (accepted : IsAccepted plan) where
         kept = ap (λ (t : Telling). t.shape) h.1;
         room = ap (λ (t : Telling). t.room) h.1;
         states = subst (λ (t : Telling). AreStates plan t.states) (sym h.1)
-            (subst (λ (f : Shape). AreStates plan (old.states ++ read_text (fields_at f v) digits ∷ []))
+            (subst
+                (λ (f : Shape). AreStates plan
+                  (old.states ++ read_text (fields_at f v) digits ∷ []))
             (sym is) more);
       }
 
   pub no_states : AreStates plan []
-  no_states = record { deep = λ k d lt. absurd (omega arith); range = λ k d lt. absurd (omega arith) }
+  no_states =
+      record { deep = λ k d lt. absurd (omega arith); range = λ k d lt. absurd (omega arith) }
 
 -- where no state is known, all are zero
 same_both : (b : Bool) (s : State) → s ≡ cond b s s
 same_both true s = refl
 same_both false s = refl
 
-zeros_from : (faulty : List ℕ) (s : State) (a n : ℕ) → replicate n s ≡ map (λ v. cond (is_in faulty v) s s) (range_with_len a n)
+zeros_from : (faulty : List ℕ) (s : State) (a n : ℕ)
+    → replicate n s ≡ map (λ v. cond (is_in faulty v) s s) (range_with_len a n)
 zeros_from faulty s a zero = refl
 zeros_from faulty s a (suc n) =
     ap (λ rest. s ∷ rest) (zeros_from faulty s (a + 1) n)
-    ∙ ap (λ t. t ∷ map (λ v. cond (is_in faulty v) s s) (range_with_len (a + 1) n)) (same_both (is_in faulty a) s)
+    ∙ ap (λ t. t ∷ map (λ v. cond (is_in faulty v) s s) (range_with_len (a + 1) n))
+        (same_both (is_in faulty a) s)
 
-pub zeros_known : (plan : Plan) (faulty : List ℕ) → replicate (plan_nodes plan) (zero_state (plan_depth plan))
+pub zeros_known : (plan : Plan) (faulty : List ℕ)
+    → replicate (plan_nodes plan) (zero_state (plan_depth plan))
     ≡ unless_faulty plan faulty (λ v. zero_state (plan_depth plan))
 zeros_known plan faulty = zeros_from faulty (zero_state (plan_depth plan)) 0 (plan_nodes plan)
 
@@ -160,12 +171,15 @@ Below n pair = pair.0 < n
 
 row_below : (n u : ℕ) (vs : List ℕ) → u < n → All (Below n) (map (λ v. (u, v)) vs)
 row_below n u [] lt = All-nil (Below n)
-row_below n u (v ∷ vs) lt = All-cons (Below n) (u, v) (map (λ v. (u, v)) vs) lt (row_below n u vs lt)
+row_below n u (v ∷ vs) lt =
+    All-cons (Below n) (u, v) (map (λ v. (u, v)) vs) lt (row_below n u vs lt)
 
-both_below : (n : ℕ) (xs ys : List (ℕ × ℕ)) → All (Below n) xs → All (Below n) ys → All (Below n) (xs ++ ys)
+both_below : (n : ℕ) (xs ys : List (ℕ × ℕ)) → All (Below n) xs → All (Below n) ys
+    → All (Below n) (xs ++ ys)
 both_below n [] ys h k = k
 both_below n (x ∷ xs) ys h k =
-    All-cons (Below n) x (xs ++ ys) (All-head (Below n) x xs h) (both_below n xs ys (All-tail (Below n) x xs h) k)
+    All-cons (Below n) x (xs ++ ys) (All-head (Below n) x xs h)
+        (both_below n xs ys (All-tail (Below n) x xs h) k)
 
 -- the senders of pairs are nodes
 pub senders_below : (n : ℕ) (vs us : List ℕ) → All (λ id. id < n) us
@@ -173,10 +187,12 @@ pub senders_below : (n : ℕ) (vs us : List ℕ) → All (λ id. id < n) us
 senders_below n vs [] h = All-nil (Below n)
 senders_below n vs (u ∷ us) h =
     both_below n (map (λ v. (u, v)) vs) (flat_map (λ u. map (λ v. (u, v)) vs) us)
-    (row_below n u vs (All-head (λ id. id < n) u us h)) (senders_below n vs us (All-tail (λ id. id < n) u us h))
+    (row_below n u vs (All-head (λ id. id < n) u us h))
+        (senders_below n vs us (All-tail (λ id. id < n) u us h))
 
 -- and so is that of the next pair, which is one of those that are left
-pub next_below : (n u v k : ℕ) (pairs : List (ℕ × ℕ)) → All (Below n) pairs → is_next u v (drop k pairs) ≡ true
+pub next_below : (n u v k : ℕ) (pairs : List (ℕ × ℕ)) → All (Below n) pairs
+    → is_next u v (drop k pairs) ≡ true
     → (u < n) × (k < length pairs) × ((get_or pairs k (0, 0)).0 ≡ u)
 next_below n u v zero [] h e = absurd cc
 next_below n u v zero (p ∷ pairs) h e =

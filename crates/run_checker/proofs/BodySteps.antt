@@ -20,7 +20,8 @@ use Rattle.run_checker.specs.Changes.{may_row, at_row}
 
 -- ---- what an answer says
 
-pub takes_no : (next : Onward) (new : Stage) → next ≡ refused → Takes next new (Err (take.Refused tt))
+pub takes_no : (next : Onward) (new : Stage) → next ≡ refused
+    → Takes next new (Err (take.Refused tt))
 takes_no next new e = rw e refl
 
 pub takes_on : (next : Onward) (new t : Stage) → next ≡ goes t → new ≡ t → Takes next new (Ok None)
@@ -50,36 +51,58 @@ and_right false b e = refl
 
 module _ (b : BodySeen) (t : ℕ) where
   era_telling : (ids : List ℕ) → b.is_putting ≡ false → step (stage_of b) (era_item t ids)
-      ≡ cond (era_fits b.known b.told t ids) (goes (putting (renewed b.known ids b.told) b.known.stand.faulty 0)) refused
-  era_telling ids e = ap (λ (p : Bool). step (cond p (putting b.known b.unknown b.from) (telling b.known b.told)) (era_item t ids)) e
+      ≡ cond (era_fits b.known b.told t ids)
+          (goes (putting (renewed b.known ids b.told) b.known.stand.faulty 0)) refused
+  era_telling ids e =
+      ap
+      (λ (p : Bool). step (cond p (putting b.known b.unknown b.from) (telling b.known b.told))
+        (era_item t ids))
+      e
 
-  era_parts : (ids : List ℕ) → era_fits b.known b.told t ids ≡ (may_begin b t && is_borne b.known.plan ids)
+  era_parts : (ids : List ℕ)
+      → era_fits b.known b.told t ids ≡ (may_begin b t && is_borne b.known.plan ids)
   era_parts ids = refl
 
-  pub era_elsewhere : (said : Option (List ℕ)) → b.is_putting ≡ true → step_by (stage_of b) (era_by (Some t) said) ≡ refused
+  pub era_elsewhere : (said : Option (List ℕ)) → b.is_putting ≡ true
+      → step_by (stage_of b) (era_by (Some t) said) ≡ refused
   era_elsewhere None e = refl
-  era_elsewhere (Some ids) e = ap (λ (p : Bool). step (cond p (putting b.known b.unknown b.from) (telling b.known b.told)) (era_item t ids)) e
+  era_elsewhere (Some ids) e =
+      ap
+      (λ (p : Bool). step (cond p (putting b.known b.unknown b.from) (telling b.known b.told))
+        (era_item t ids))
+      e
 
-  pub era_not_there : (said : Option (List ℕ)) → b.is_putting ≡ false → may_begin b t ≡ false → step_by (stage_of b) (era_by (Some t) said) ≡ refused
+  pub era_not_there : (said : Option (List ℕ)) → b.is_putting ≡ false → may_begin b t ≡ false
+      → step_by (stage_of b) (era_by (Some t) said) ≡ refused
   era_not_there None e may = refl
-  era_not_there (Some ids) e may = era_telling ids e ∙ not_chosen _ _ (era_parts ids ∙ and_left (may_begin b t) (is_borne b.known.plan ids) may)
+  era_not_there (Some ids) e may =
+      era_telling ids e
+      ∙ not_chosen _ _ (era_parts ids ∙ and_left (may_begin b t) (is_borne b.known.plan ids) may)
 
   not_borne : (c : Bool) (ids : List ℕ) → cond c (Some ids) None ≡ None → c ≡ false
   not_borne true ids e = absurd cc
   not_borne false ids e = refl
 
-  pub era_not_borne : (said : Option (List ℕ)) → b.is_putting ≡ false → borne_ids (plan_nodes b.known.plan) (plan_faults b.known.plan) said ≡ None
+  pub era_not_borne : (said : Option (List ℕ)) → b.is_putting ≡ false
+      → borne_ids (plan_nodes b.known.plan) (plan_faults b.known.plan) said ≡ None
       → step_by (stage_of b) (era_by (Some t) said) ≡ refused
   era_not_borne None e none = refl
   era_not_borne (Some ids) e none =
-      era_telling ids e ∙ not_chosen _ _ (era_parts ids ∙ and_right (may_begin b t) (is_borne b.known.plan ids) (not_borne (is_borne b.known.plan ids) ids none))
+      era_telling ids e
+          ∙ not_chosen _ _
+            (era_parts ids
+              ∙ and_right (may_begin b t) (is_borne b.known.plan ids)
+                (not_borne (is_borne b.known.plan ids) ids none))
 
-  is_borne_one : (c : Bool) (ids found : List ℕ) → cond c (Some ids) None ≡ Some found → (c ≡ true) × (ids ≡ found)
+  is_borne_one : (c : Bool) (ids found : List ℕ) → cond c (Some ids) None ≡ Some found
+      → (c ≡ true) × (ids ≡ found)
   is_borne_one true ids found e = (refl, same_Some _ _ e)
   is_borne_one false ids found e = absurd cc
 
-  pub era_taken : (said : Option (List ℕ)) (ids : List ℕ) (new : BodySeen) → b.is_putting ≡ false → may_begin b t ≡ true
-      → borne_ids (plan_nodes b.known.plan) (plan_faults b.known.plan) said ≡ Some ids → new ≡ played_into (era_more b) ids
+  pub era_taken : (said : Option (List ℕ)) (ids : List ℕ) (new : BodySeen) → b.is_putting ≡ false
+      → may_begin b t ≡ true
+      → borne_ids (plan_nodes b.known.plan) (plan_faults b.known.plan) said ≡ Some ids
+          → new ≡ played_into (era_more b) ids
       → Takes (step_by (stage_of b) (era_by (Some t) said)) (stage_of new) (Ok None)
   era_taken None ids new e may borne is = absurd cc
   era_taken (Some said) ids new e may borne is =
@@ -103,40 +126,50 @@ module _ (b : BodySeen) (t : ℕ) where
     by true e = rw e refl
     by false e = rw e refl
 
-  pub row_not_there : (said : Option (List (Option ℕ))) → may_row b ≡ false → step_by (stage_of b) (row_by (Some t) said) ≡ refused
+  pub row_not_there : (said : Option (List (Option ℕ))) → may_row b ≡ false
+      → step_by (stage_of b) (row_by (Some t) said) ≡ refused
   row_not_there None may = refl
-  row_not_there (Some row) may = row_step row ∙ not_chosen _ _ (and_left (may_row b) (row_fits (at_row b).known t row) may)
+  row_not_there (Some row) may =
+      row_step row ∙ not_chosen _ _ (and_left (may_row b) (row_fits (at_row b).known t row) may)
 
-  pub row_other : (said : Option (List (Option ℕ))) (mid : BodySeen) → mid ≡ at_row b → eqb t mid.known.at ≡ false
+  pub row_other : (said : Option (List (Option ℕ))) (mid : BodySeen) → mid ≡ at_row b
+      → eqb t mid.known.at ≡ false
       → step_by (stage_of b) (row_by (Some t) said) ≡ refused
   row_other None mid is e = refl
   row_other (Some row) mid is e =
       row_step row ∙ not_chosen _ _ (and_right (may_row b) (row_fits (at_row b).known t row)
-      (and_left (eqb t (at_row b).known.at) (is_row (at_row b).known.plan (at_row b).known.stand.faulty row)
+      (and_left (eqb t (at_row b).known.at)
+          (is_row (at_row b).known.plan (at_row b).known.stand.faulty row)
       (ap (λ (m : BodySeen). eqb t m.known.at) (sym is) ∙ e)))
 
-  pub row_no_row : (said : Option (List (Option ℕ))) (mid new : BodySeen) → mid ≡ at_row b → Marks said mid new false
+  pub row_no_row : (said : Option (List (Option ℕ))) (mid new : BodySeen) → mid ≡ at_row b
+      → Marks said mid new false
       → step_by (stage_of b) (row_by (Some t) said) ≡ refused
   row_no_row None mid new is h = refl
   row_no_row (Some row) mid new is h =
       row_step row ∙ not_chosen _ _ (and_right (may_row b) (row_fits (at_row b).known t row)
-      (and_right (eqb t (at_row b).known.at) (is_row (at_row b).known.plan (at_row b).known.stand.faulty row)
+      (and_right (eqb t (at_row b).known.at)
+          (is_row (at_row b).known.plan (at_row b).known.stand.faulty row)
       (ap (λ (m : BodySeen). is_row m.known.plan m.known.stand.faulty row) (sym is) ∙ h)))
 
-  pub row_taken : (said : Option (List (Option ℕ))) (mid new : BodySeen) → may_row b ≡ true → mid ≡ at_row b
+  pub row_taken : (said : Option (List (Option ℕ))) (mid new : BodySeen) → may_row b ≡ true
+      → mid ≡ at_row b
       → eqb t mid.known.at ≡ true → Marks said mid new true
       → Takes (step_by (stage_of b) (row_by (Some t) said)) (stage_of new) (Ok None)
   row_taken None mid new may is e h = absurd h
   row_taken (Some row) mid new may is e h =
       takes_on _ (stage_of new) (telling (compared (at_row b).known row) [])
-      (row_step row ∙ chosen _ _ (and_of _ _ may (and_of _ _ (ap (λ (m : BodySeen). eqb t m.known.at) (sym is) ∙ e)
+      (row_step row
+          ∙ chosen _ _
+            (and_of _ _ may (and_of _ _ (ap (λ (m : BodySeen). eqb t m.known.at) (sym is) ∙ e)
       (ap (λ (m : BodySeen). is_row m.known.plan m.known.stand.faulty row) (sym is) ∙ h.is_row))))
       (ap stage_of h.marked ∙ ap (λ (m : BodySeen). telling (compared m.known row) []) is)
 
 -- ---- a row that was compared
 
 -- what a row is compared to
-row_marks_by : (b : BodySeen) (row : List (Option ℕ)) (same : Bool) (m : Bool) → is_row b.known.plan b.known.stand.faulty row ≡ m
+row_marks_by : (b : BodySeen) (row : List (Option ℕ)) (same : Bool) (m : Bool)
+    → is_row b.known.plan b.known.stand.faulty row ≡ m
     → Some same ≡ cond m (Some (same_rows row (shown_row b.known.plan b.known.stand))) None
     → IsMarked row b (marked_by b same)
 row_marks_by b row same true e is = record {
@@ -146,14 +179,18 @@ row_marks_by b row same true e is = record {
 row_marks_by b row same false e is = absurd cc
 
 pub row_marks : (b : BodySeen) (said : Option (List (Option ℕ))) (same : Bool)
-    → Some same ≡ row_compared (plan_depth b.known.plan) b.known.stand.faulty b.known.stand.config (plan_nodes b.known.plan) said
+    → Some same
+        ≡ row_compared (plan_depth b.known.plan) b.known.stand.faulty b.known.stand.config
+          (plan_nodes b.known.plan) said
     → Marks said b (marked_by b same) true
 row_marks b None same is = absurd cc
-row_marks b (Some row) same is = row_marks_by b row same (is_row b.known.plan b.known.stand.faulty row) refl is
+row_marks b (Some row) same is =
+    row_marks_by b row same (is_row b.known.plan b.known.stand.faulty row) refl is
 
 -- ---- a line of the head
 
-pub entered : (next : Onward) (new : Phase) → Enters next (Ok new) → Takes next (phase_seen new) (Ok None)
+pub entered : (next : Onward) (new : Phase) → Enters next (Ok new)
+    → Takes next (phase_seen new) (Ok None)
 entered (goes stage) new h = h
 entered (ends v) new h = absurd h
 entered (refuses r) new h = absurd h

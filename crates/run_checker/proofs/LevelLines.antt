@@ -13,7 +13,8 @@ use Rattle.plan_numbers.specs.Numbers.{level_of, numbers_of, numbers_over, below
 use Rattle.run_checker.specs.RunLines.{level_line, level_lines}
 
 -- the levels that have the numbers of these, the lowest first
-levels_are : (base : ℕ) (levels : List Level) → map level_of (numbers_of base levels) ≡ reverse levels
+levels_are : (base : ℕ) (levels : List Level)
+    → map level_of (numbers_of base levels) ≡ reverse levels
 levels_are base [] = refl
 levels_are base (level ∷ below) =
     let top = numbers_over (below_of base below) level in
@@ -43,7 +44,8 @@ module _ (plan : Plan) (version i : ℕ) (nums : LevelNums)
 
   -- one more line is written
   pub wrote_level : (s t u : Told) → Wrote (first_texts version plan i) s t
-      → Wrote (level_line version (level_of nums)) t u → Wrote (first_texts version plan (i + 1)) s u
+      → Wrote (level_line version (level_of nums)) t u
+          → Wrote (first_texts version plan (i + 1)) s u
   wrote_level s t u before line =
       wrote_at (level_line version) (reverse plan.levels) i (level_of nums) s t u within before
       (rw here line)

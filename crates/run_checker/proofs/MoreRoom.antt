@@ -50,7 +50,8 @@ not_both r hidden shown = true≢false (sym (ap is_rule shown) ∙ ap is_rule hi
 module _ (line : List ℕ) (lines : List (List ℕ)) (taken number : ℕ) where
   abbrev after : LimitedNext → Part
   after next = elim next [
-    | goes t ↦ part_from (with_limit (with_length line_step tt)) (by tt) t (taken + 1) (number + 1) lines
+    | goes t ↦ part_from (with_limit (with_length line_step tt)) (by tt) t (taken + 1) (number + 1)
+        lines
     | ends v ↦ Ok (record { value = v; taken = taken + 1; behind = lines })
     | refuses r ↦ Err (record { line = number; rule = r })
   ]
@@ -58,12 +59,14 @@ module _ (line : List ℕ) (lines : List (List ℕ)) (taken number : ℕ) where
   -- the lines behind grow
   abbrev Behind : (m l : ℕ) → Type 0
   Behind m l = (t : Stage)
-      → Grows (part_within m t (taken + 1) (number + 1) lines) (part_within l t (taken + 1) (number + 1) lines)
+      → Grows (part_within m t (taken + 1) (number + 1) lines)
+          (part_within l t (taken + 1) (number + 1) lines)
 
   next_grows : (next : Onward) (m l : ℕ) → m ≤ l → Behind m l
       → Grows (after (with_rest (Some m) next)) (after (with_rest (Some l) next))
   next_grows (goes t) m l le behind = behind t
-  next_grows (ends v) m l le behind = record { less = m; more = l; room = refl; within = le; same = refl }
+  next_grows (ends v) m l le behind =
+      record { less = m; more = l; room = refl; within = le; same = refl }
   next_grows (refuses r) m l le behind = λ e. refl
 
   line_grows : (next : Onward) (a b : Bool) (m l : ℕ) → nat_le (line_cost line) m ≡ a
@@ -83,7 +86,8 @@ part_grows [] s taken number m l le = λ e. refl
 part_grows (line ∷ lines) s taken number m l le =
     line_grows line lines taken number (with_length line_step tt s line)
     (nat_le (line_cost line) m) (nat_le (line_cost line) l) m l refl refl le
-    (λ t. part_grows lines t (taken + 1) (number + 1) (m - line_cost line) (l - line_cost line) (omega (arith, le)))
+    (λ t. part_grows lines t (taken + 1) (number + 1) (m - line_cost line) (l - line_cost line)
+        (omega (arith, le)))
 
 -- ---- behind the last line
 
@@ -110,7 +114,8 @@ alone_grows : (lines : List (List ℕ)) (v : Verdict) (number at m l : ℕ) → 
     → texts.alone tt at (Some l) v lines ≡ refused_at number
 alone_grows [] v number at m l le e = absurd cc
 alone_grows (line ∷ lines) v number at m l le e =
-    shown_grows line number at (nat_le (line_cost line) m) (nat_le (line_cost line) l) m l refl refl le e
+    shown_grows line number at (nat_le (line_cost line) m) (nat_le (line_cost line) l) m l refl refl
+        le e
 
 module _ (text : List ℕ) (number : ℕ) where
   text_grows : (part other : Part) → Grows part other
@@ -118,16 +123,24 @@ module _ (text : List ℕ) (number : ℕ) where
       → then_alone line_step tt text other ≡ refused_at number
   text_grows (Ok found) other grows e =
       ap (then_alone line_step tt text) grows.same
-      ∙ alone_grows (lines_of (behind_lines found.taken text)) found.value.1 number (found.taken + 1)
+      ∙ alone_grows (lines_of (behind_lines found.taken text)) found.value.1 number
+          (found.taken + 1)
       grows.less grows.more grows.within
-      (sym (ap (λ (room : Option ℕ). texts.alone tt (found.taken + 1) room found.value.1 (lines_of (behind_lines found.taken text))) grows.room) ∙ e)
+      (sym
+            (ap
+              (λ (room : Option ℕ). texts.alone tt (found.taken + 1) room found.value.1
+                (lines_of (behind_lines found.taken text)))
+              grows.room)
+          ∙ e)
   text_grows (Err at) other grows e =
       let is : at ≡ record { line = number; rule = by tt } = cc in
-      ap (then_alone line_step tt text) (grows (ap (λ (a : At (Limited (Unit {0}))). a.rule) is)) ∙ e
+      ap (then_alone line_step tt text) (grows (ap (λ (a : At (Limited (Unit {0}))). a.rule) is))
+          ∙ e
 
   pub more_room : (longer : Bool) (m l : ℕ) → m ≤ l → checked_by m longer text ≡ refused_at number
       → checked_by l longer text ≡ refused_at number
   more_room false m l le e = e
   more_room true m l le e =
-      text_grows (part_within m unread 0 1 (lines_of text)) (part_within l unread 0 1 (lines_of text))
+      text_grows (part_within m unread 0 1 (lines_of text))
+          (part_within l unread 0 1 (lines_of text))
       (part_grows (lines_of text) unread 0 1 m l le) e

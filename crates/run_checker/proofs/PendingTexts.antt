@@ -1,4 +1,5 @@
--- Bytes that do not show what decides a text are the lines that begin a certificate, and a line that
+-- Bytes that do not show what decides a text are the lines that begin a certificate, and a line
+-- that
 -- is open.
 use Rattle.std.proofs.Common.{◌≡◌, ℕ, ◌+◌, ◌^◌, ◌≤◌, Bool, false, List, [], ◌∷◌, length, Result, Ok}
 use Rattle.std.proofs.Common.{Err, refl, sym, ap, ◌∙◌, subst, length-append, arith}
@@ -44,7 +45,9 @@ module _ (text : List ℕ) where
       → RefusedOnlyAt (1 + length (whole_lines text)) tt (unlimited answer)
       → length (text_of (whole_lines text)) ≤ 2 ^ 44
   answered_short (Ok verdict) of only =
-      omega (arith, text_parts text, ap length of.text_is, certificates_are_short of.certificate of.is)
+      omega
+          (arith, text_parts text, ap length of.text_is,
+            certificates_are_short of.certificate of.is)
   answered_short (Err number) at only =
       let last : number ≡ 1 + length (whole_lines text) =
       ap (λ (a : At (Limited (Unit {0}))). a.line) only in
@@ -61,7 +64,8 @@ module _ (text : List ℕ) where
       )
 
   -- bytes that do not show what decides are no more than a certificate has, and a line behind it
-  pub pending_short : TextsAreChecked → (limit : ℕ) → Pending limit text → length text ≤ 2 ^ 44 + 4096
+  pub pending_short : TextsAreChecked → (limit : ℕ) → Pending limit text
+      → length text ≤ 2 ^ 44 + 4096
   pending_short checks limit pending =
       let fits = pending.room.within in
       let within : length text ≤ limit = omega (arith, fits) in

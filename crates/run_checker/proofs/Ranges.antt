@@ -54,11 +54,13 @@ module _ (faulty : List ℕ) where
       ap (filter (λ u. not (is_in faulty u))) (range_more 0 v v (omega arith))
       ∙ filter-append (λ u. not (is_in faulty u)) (range_with_len 0 v) (v ∷ [])
 
-  pub one_correct : (v : ℕ) → is_in faulty v ≡ false → correct_nodes (v + 1) faulty ≡ correct_nodes v faulty ++ v ∷ []
+  pub one_correct : (v : ℕ) → is_in faulty v ≡ false
+      → correct_nodes (v + 1) faulty ≡ correct_nodes v faulty ++ v ∷ []
   one_correct v is =
       correct_more v ∙ ap (λ (b : Bool). correct_nodes v faulty ++ cond (not b) (v ∷ []) []) is
 
-  pub one_faulty : (v : ℕ) → is_in faulty v ≡ true → correct_nodes (v + 1) faulty ≡ correct_nodes v faulty
+  pub one_faulty : (v : ℕ) → is_in faulty v ≡ true
+      → correct_nodes (v + 1) faulty ≡ correct_nodes v faulty
   one_faulty v is =
       correct_more v ∙ ap (λ (b : Bool). correct_nodes v faulty ++ cond (not b) (v ∷ []) []) is
       ∙ append-nil (correct_nodes v faulty)
@@ -90,8 +92,10 @@ module _ (faulty : List ℕ) where
       omega (arith, both, length-range_with_len 0 v)
 
   -- the pairs of one more node
-  pub pairs_more : (u v : ℕ) (old now : List (ℕ × ℕ)) → now ≡ old ++ map (λ w. (u, w)) (correct_nodes v faulty)
-      → now ++ cond (is_in faulty v) [] ((u, v) ∷ []) ≡ old ++ map (λ w. (u, w)) (correct_nodes (v + 1) faulty)
+  pub pairs_more : (u v : ℕ) (old now : List (ℕ × ℕ))
+      → now ≡ old ++ map (λ w. (u, w)) (correct_nodes v faulty)
+      → now ++ cond (is_in faulty v) [] ((u, v) ∷ [])
+          ≡ old ++ map (λ w. (u, w)) (correct_nodes (v + 1) faulty)
   pairs_more u v old now is = by (is_in faulty v) refl where
     by : (b : Bool) → is_in faulty v ≡ b
         → now ++ cond b [] ((u, v) ∷ []) ≡ old ++ map (λ w. (u, w)) (correct_nodes (v + 1) faulty)
@@ -105,7 +109,8 @@ module _ (faulty : List ℕ) where
 -- ---- lists of lists
 
 -- what comes of one more of a list
-pub flat_more : (f : ℕ → List (ℕ × ℕ)) (ids : List ℕ) (i u : ℕ) (now : List (ℕ × ℕ)) → i < length ids → u ≡ slice_index ids i
+pub flat_more : (f : ℕ → List (ℕ × ℕ)) (ids : List ℕ) (i u : ℕ) (now : List (ℕ × ℕ))
+    → i < length ids → u ≡ slice_index ids i
     → now ≡ flat_map f (take i ids) → now ++ f u ≡ flat_map f (take (i + 1) ids)
 flat_more f ids i u now lt at is =
     ap₂ (λ a b. a ++ b) is (sym (append-nil (f u)) ∙ ap (λ w. flat_map f (w ∷ [])) at)

@@ -18,7 +18,8 @@ use Rattle.run_checker.specs.Playing.{IsToRecord, StillPlays, HasPlayedOne, HasP
 use Rattle.run_checker.proofs.WordsBefore.{words_before, words_more, words_cut, words_all}
 
 -- a runner that has played a round more still plays a script that was read for its plan
-pub still_records : (old new : Running NoOverlay) → IsToRecord old → HasPlayedOne old new → IsToRecord new
+pub still_records : (old new : Running NoOverlay) → IsToRecord old → HasPlayedOne old new
+    → IsToRecord new
 still_records old new h p = record {
   plays = p.plays;
   script = subst (λ (s : Script). IsScript s) (sym p.script) h.script;
@@ -57,17 +58,21 @@ pub stops_behind : (old new now : Running NoOverlay) → old.at < old.script.rou
 stops_behind old new now lt one same =
     let at = one.at in
     subst (StillPlays old) (sym same)
-    (record { plan = one.plan; script = one.script; within = omega (arith, lt, at); plays = one.plays })
+    (record
+        { plan = one.plan; script = one.script; within = omega (arith, lt, at); plays = one.plays })
 
 -- one that is where another was stops where that does
-pub stops_as : (old mid new : Running NoOverlay) → mid ≡ old → StillPlays mid new → StillPlays old new
+pub stops_as : (old mid new : Running NoOverlay) → mid ≡ old → StillPlays mid new
+    → StillPlays old new
 stops_as old mid new same stops = subst (λ (r : Running NoOverlay). StillPlays r new) same stops
 
-pub ends_as : (old mid new : Running NoOverlay) → mid ≡ old → HasPlayedAll mid new → HasPlayedAll old new
+pub ends_as : (old mid new : Running NoOverlay) → mid ≡ old → HasPlayedAll mid new
+    → HasPlayedAll old new
 ends_as old mid new same ends = subst (λ (r : Running NoOverlay). HasPlayedAll r new) same ends
 
 -- the rounds before this one are written, by a runner of this plan and script that is at it
-pub record TurnsSoFar (plan : Plan) (script : Script) (t : ℕ) (r : Running NoOverlay) (old now : Told) : Type 0 where
+pub record TurnsSoFar (plan : Plan) (script : Script) (t : ℕ) (r : Running NoOverlay)
+    (old now : Told) : Type 0 where
   pub plan_is : r.plan ≡ plan
   pub script_is : r.script ≡ script
   pub at : r.at ≡ t
@@ -75,9 +80,12 @@ pub record TurnsSoFar (plan : Plan) (script : Script) (t : ℕ) (r : Running NoO
   pub records : IsToRecord r
   pub wrote : Wrote (words_before (turn_text plan script) script.rounds t) old now
 
-pub turns_begin : (r : Running NoOverlay) (sink : Told) → r.at ≡ 0 → IsToRecord r → TurnsSoFar r.plan r.script 0 r sink sink
+pub turns_begin : (r : Running NoOverlay) (sink : Told) → r.at ≡ 0 → IsToRecord r
+    → TurnsSoFar r.plan r.script 0 r sink sink
 turns_begin r sink at h =
-    record { plan_is = refl; script_is = refl; at = at; within = omega arith; records = h; wrote = wrote_none sink }
+    record
+        { plan_is = refl; script_is = refl; at = at; within = omega arith; records = h;
+          wrote = wrote_none sink }
 
 module _ (plan : Plan) (script : Script) (t : ℕ) (r : Running NoOverlay) (old mid : Told)
     (so_far : TurnsSoFar plan script t r old mid) where
@@ -91,7 +99,8 @@ module _ (plan : Plan) (script : Script) (t : ℕ) (r : Running NoOverlay) (old 
   has_round lt = omega (arith, lt, so_far.at, ap (λ (s : Script). s.rounds) so_far.script_is)
 
   pub turns_go_on : (new : Running NoOverlay) (now : Told) → t < script.rounds
-      → Wrote (turn_text r.plan r.script r.at) mid now → HasPlayedOne r new → TurnsSoFar plan script (t + 1) new old now
+      → Wrote (turn_text r.plan r.script r.at) mid now → HasPlayedOne r new
+          → TurnsSoFar plan script (t + 1) new old now
   turns_go_on new now lt wrote played = record {
     plan_is = played.plan ∙ so_far.plan_is;
     script_is = played.script ∙ so_far.script_is;
@@ -102,13 +111,15 @@ module _ (plan : Plan) (script : Script) (t : ℕ) (r : Running NoOverlay) (old 
         (subst (λ (text : List ℕ). Wrote text mid now) turn_is wrote);
   }
 
-  pub turns_cut : (now : Told) → t < script.rounds → Cut (turn_text r.plan r.script r.at) mid now → Cut (turns_text plan script) old now
+  pub turns_cut : (now : Told) → t < script.rounds → Cut (turn_text r.plan r.script r.at) mid now
+      → Cut (turns_text plan script) old now
   turns_cut now lt cut =
       words_cut (turn_text plan script) script.rounds t old mid now lt so_far.wrote
       (subst (λ (text : List ℕ). Cut text mid now) turn_is cut)
 
   -- a runner that began with this plan and script
-  module _ (began : Running NoOverlay) (plan_is : began.plan ≡ plan) (script_is : began.script ≡ script) where
+  module _ (began : Running NoOverlay) (plan_is : began.plan ≡ plan)
+      (script_is : began.script ≡ script) where
     pub turns_stopped : (new : Running NoOverlay) → StillPlays r new → StillPlays began new
     turns_stopped new stops =
         let within = stops.within in
@@ -127,7 +138,8 @@ module _ (plan : Plan) (script : Script) (t : ℕ) (r : Running NoOverlay) (old 
     pub turns_played : script.rounds ≤ t → HasPlayedAll began r
     turns_played le =
         let rounds = ap (λ (s : Script). s.rounds) script_is in
-        let last : r.at ≡ began.script.rounds = omega (arith, le, so_far.at, so_far.within, rounds) in
+        let last : r.at
+            ≡ began.script.rounds = omega (arith, le, so_far.at, so_far.within, rounds) in
         record {
           still = record {
             plan = so_far.plan_is ∙ sym plan_is;
@@ -158,7 +170,8 @@ pub left_out : (b : Bool) (text : List ℕ) (s : Told) → b ≡ true → Wrote 
 left_out true text s e = wrote_none s
 left_out false text s e = absurd cc
 
-pub put_in : {T E : Type 0} (r : Result T E) (b : Bool) (text : List ℕ) (s t : Told) → b ≡ false → Puts r text s t
+pub put_in : {T E : Type 0} (r : Result T E) (b : Bool) (text : List ℕ) (s t : Told) → b ≡ false
+    → Puts r text s t
     → Puts r (cond b [] text) s t
 put_in r true text s t e h = absurd cc
 put_in r false text s t e h = h
@@ -167,10 +180,12 @@ pub not_stated : (b : Bool) (text : List ℕ) (s : Told) → b ≡ false → Wro
 not_stated true text s e = absurd cc
 not_stated false text s e = wrote_none s
 
-pub stated : {T E : Type 0} (r : Result T E) (b : Bool) (text : List ℕ) (s t : Told) → b ≡ true → Puts r text s t
+pub stated : {T E : Type 0} (r : Result T E) (b : Bool) (text : List ℕ) (s t : Told) → b ≡ true
+    → Puts r text s t
     → Puts r (cond b text []) s t
 stated r true text s t e h = h
 stated r false text s t e h = absurd cc
 
-pub puts_last : {T E : Type 0} (r : Result T E) (text : List ℕ) (s t : Told) → Puts r text s t → Puts r (text ++ []) s t
+pub puts_last : {T E : Type 0} (r : Result T E) (text : List ℕ) (s t : Told) → Puts r text s t
+    → Puts r (text ++ []) s t
 puts_last r text s t puts = subst (λ (x : List ℕ). Puts r x s t) (sym (append-nil text)) puts

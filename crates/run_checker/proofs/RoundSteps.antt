@@ -27,10 +27,13 @@ use Rattle.run_checker.proofs.BodyKept.{node_range, node_deep}
 -- ---- a step
 
 -- a state that was written over one of the same depth
-pub written_over : (depth : ℕ) (s out : State) → length out.registers ≡ depth → written depth s out ≡ s
+pub written_over : (depth : ℕ) (s out : State) → length out.registers ≡ depth
+    → written depth s out ≡ s
 written_over depth s out long =
-    ap (λ rs. let r : State = record { x = s.x; registers = s.registers ++ rs } in r) (none out.registers depth long)
-    ∙ ap (λ rs. let r : State = record { x = s.x; registers = rs } in r) (append-nil s.registers) where
+    ap (λ rs. let r : State = record { x = s.x; registers = s.registers ++ rs } in r)
+        (none out.registers depth long)
+    ∙ ap (λ rs. let r : State = record { x = s.x; registers = rs } in r) (append-nil s.registers)
+        where
       none : {X : Type 0} (xs : List X) (n : ℕ) → length xs ≡ n → drop n xs ≡ []
       none [] zero e = refl
       none [] (suc n) e = refl
@@ -103,8 +106,10 @@ module _ (plan : Plan) (ids : List ℕ) (told : List State) (config : Pack) (nex
   })
 
   pub gathered_out : IsGathered plan ids told now room → IsGathered plan ids told config room
-  gathered_out h = same_current (subst (λ (p : Pack). IsGathered plan ids told p room) fixed h) where
-    same_current : IsGathered plan ids told (record config { next = next }) room → IsGathered plan ids told config room
+  gathered_out h =
+      same_current (subst (λ (p : Pack). IsGathered plan ids told p room) fixed h) where
+    same_current : IsGathered plan ids told (record config { next = next }) room
+        → IsGathered plan ids told config room
     same_current k = record {
       said = k.said;
       is = record { size = k.is.size; shape = k.is.shape };
@@ -113,7 +118,8 @@ module _ (plan : Plan) (ids : List ℕ) (told : List State) (config : Pack) (nex
     }
 
 -- a room in which lies were laid
-pub gathered_laid : (plan : Plan) (ids : List ℕ) (told : List State) (config : Pack) (old new : Room)
+pub gathered_laid : (plan : Plan) (ids : List ℕ) (told : List State) (config : Pack)
+    (old new : Room)
     → new ≡ record old { lies = new.lies } → IsGathered plan ids told config old
     → length new.lies.items ≡ length old.lies.items → AreStates plan new.lies.items
     → IsGathered plan ids told config new

@@ -39,8 +39,14 @@ module _ (depth : ℕ) (faulty : List ℕ) (config : List State) where
 
   -- one value in front of a row
   one_more : (x : Option ℕ) (bad : Bool) (v m : ℕ) (row : List (Option ℕ))
-      → cond (same_marks (is_some x ∷ map is_some row) (not bad ∷ map (λ u. not (is_in faulty u)) (range_with_len (v + 1) m)))
-      (Some (same_rows (x ∷ row) (cond bad None (Some (shown depth (state_of config v))) ∷ map (shown_at depth faulty config) (range_with_len (v + 1) m)))) None
+      → cond
+          (same_marks (is_some x ∷ map is_some row)
+            (not bad ∷ map (λ u. not (is_in faulty u)) (range_with_len (v + 1) m)))
+      (Some
+            (same_rows (x ∷ row)
+              (cond bad None (Some (shown depth (state_of config v)))
+                ∷ map (shown_at depth faulty config) (range_with_len (v + 1) m))))
+          None
       ≡ behind_word (value_compared x (cond bad None (Some (shown depth (state_of config v)))))
       (λ now. with_same now (compared_from depth faulty config (v + 1) m row))
   one_more None true v m row = by (compared_from depth faulty config (v + 1) m row) where
@@ -50,33 +56,49 @@ module _ (depth : ℕ) (faulty : List ℕ) (config : List State) where
   one_more None false v m row = refl
   one_more (Some a) true v m row = refl
   one_more (Some a) false v m row =
-      by (same_marks (map is_some row) (map (λ u. not (is_in faulty u)) (range_with_len (v + 1) m))) where
-        by : (b : Bool) → cond b (Some (nat_eq a (shown depth (state_of config v)) && same_rows row (map (shown_at depth faulty config) (range_with_len (v + 1) m)))) None
-            ≡ with_same (nat_eq a (shown depth (state_of config v))) (cond b (Some (same_rows row (map (shown_at depth faulty config) (range_with_len (v + 1) m)))) None)
+      by (same_marks (map is_some row) (map (λ u. not (is_in faulty u)) (range_with_len (v + 1) m)))
+          where
+        by : (b : Bool)
+            → cond b
+              (Some
+                (nat_eq a (shown depth (state_of config v))
+                  && same_rows row (map (shown_at depth faulty config) (range_with_len (v + 1) m))))
+              None
+            ≡ with_same (nat_eq a (shown depth (state_of config v)))
+                (cond b
+                  (Some
+                    (same_rows row (map (shown_at depth faulty config) (range_with_len (v + 1) m))))
+                  None)
         by true = refl
         by false = refl
 
-  none_behind : (o : Option Bool) (f : Bool → Option Bool) → ((b : Bool) → f b ≡ None) → behind_word o f ≡ None
+  none_behind : (o : Option Bool) (f : Bool → Option Bool) → ((b : Bool) → f b ≡ None)
+      → behind_word o f ≡ None
   none_behind None f none = refl
   none_behind (Some b) f none = none b
 
-  same_behind : (o : Option Bool) (f g : Bool → Option Bool) → ((b : Bool) → f b ≡ g b) → behind_word o f ≡ behind_word o g
+  same_behind : (o : Option Bool) (f g : Bool → Option Bool) → ((b : Bool) → f b ≡ g b)
+      → behind_word o f ≡ behind_word o g
   same_behind None f g same = refl
   same_behind (Some b) f g same = same b
 
   -- the words from one on
-  next_word : (said : Option (Option ℕ)) (row : Option (List (Option ℕ))) (v m : ℕ) (same : Bool) (f : Bool → Option Bool)
+  next_word : (said : Option (Option ℕ)) (row : Option (List (Option ℕ))) (v m : ℕ) (same : Bool)
+      (f : Bool → Option Bool)
       → ((now : Bool) → f now ≡ with_same (same && now) (from (v + 1) m row))
-      → behind_word (word_compared said (shown_at depth faulty config v)) f ≡ with_same same (from v (suc m) (onto said row))
+      → behind_word (word_compared said (shown_at depth faulty config v)) f
+          ≡ with_same same (from v (suc m) (onto said row))
   next_word None row v m same f is = refl
-  next_word (Some x) None v m same f is = none_behind (value_compared x (shown_at depth faulty config v)) f is
+  next_word (Some x) None v m same f is =
+      none_behind (value_compared x (shown_at depth faulty config v)) f is
   next_word (Some x) (Some row) v m same f is =
       same_behind (value_compared x (shown_at depth faulty config v)) f
       (λ now. with_same same (with_same now (from (v + 1) m (Some row))))
       (λ now. is now ∙ with_both same now (from (v + 1) m (Some row)))
       ∙ out (value_compared x (shown_at depth faulty config v))
       ∙ ap (with_same same) (sym (one_more x (is_in faulty v) v m row)) where
-        out : (o : Option Bool) → behind_word o (λ now. with_same same (with_same now (from (v + 1) m (Some row))))
+        out : (o : Option Bool)
+            → behind_word o (λ now. with_same same (with_same now (from (v + 1) m (Some row))))
             ≡ with_same same (behind_word o (λ now. with_same now (from (v + 1) m (Some row))))
         out None = refl
         out (Some b) = refl
@@ -89,27 +111,32 @@ module _ (depth : ℕ) (faulty : List ℕ) (config : List State) where
   too_many (Some (Some a)) (Some row) v same = refl
 
   words_row : (v m : ℕ) (same : Bool) (words : List (List ℕ))
-      → words_compared depth faulty config v m same words ≡ with_same same (from v m (values_said words))
+      → words_compared depth faulty config v m same words
+          ≡ with_same same (from v m (values_said words))
   words_row v zero same [] = ap Some (and_true same)
   words_row v zero same (w ∷ ws) = too_many (value_said w) (values_said ws) v same
   words_row v (suc m) same [] = refl
   words_row v (suc m) same (w ∷ ws) =
-      next_word (value_said w) (values_said ws) v m same (λ now. words_compared depth faulty config (v + 1) m (same && now) ws)
+      next_word (value_said w) (values_said ws) v m same
+          (λ now. words_compared depth faulty config (v + 1) m (same && now) ws)
       (λ now. words_row (v + 1) m (same && now) ws)
 
   true_only : (o : Option Bool) → with_same true o ≡ o
   true_only None = refl
   true_only (Some b) = refl
 
-  from_row : (n : ℕ) (row : Option (List (Option ℕ))) → from 0 n row ≡ row_compared depth faulty config n row
+  from_row : (n : ℕ) (row : Option (List (Option ℕ)))
+      → from 0 n row ≡ row_compared depth faulty config n row
   from_row n None = refl
   from_row n (Some row) = refl
 
   -- the words of all nodes
   pub all_words : (n : ℕ) (words : List (List ℕ))
-      → words_compared depth faulty config 0 n true words ≡ row_compared depth faulty config n (values_said words)
+      → words_compared depth faulty config 0 n true words
+          ≡ row_compared depth faulty config n (values_said words)
   all_words n words =
-      words_row 0 n true words ∙ true_only (from 0 n (values_said words)) ∙ from_row n (values_said words)
+      words_row 0 n true words ∙ true_only (from 0 n (values_said words))
+          ∙ from_row n (values_said words)
 
   -- one word of them
   pub one_word : (v n : ℕ) (same : Bool) (w : List ℕ) (ws : List (List ℕ)) → v < n
@@ -118,10 +145,12 @@ module _ (depth : ℕ) (faulty : List ℕ) (config : List State) where
       (λ now. words_compared depth faulty config (v + 1) (n - (v + 1)) (same && now) ws)
   one_word v n same w ws lt = let more : n - v ≡ suc (n - (v + 1)) = omega arith in rw more refl
 
-  pub no_word : (v n : ℕ) (same : Bool) → v < n → words_compared depth faulty config v (n - v) same [] ≡ None
+  pub no_word : (v n : ℕ) (same : Bool) → v < n
+      → words_compared depth faulty config v (n - v) same [] ≡ None
   no_word v n same lt = let more : n - v ≡ suc (n - (v + 1)) = omega arith in rw more refl
 
-  pub last_word : (v n : ℕ) (same : Bool) → n - v ≡ 0 → words_compared depth faulty config v (n - v) same [] ≡ Some same
+  pub last_word : (v n : ℕ) (same : Bool) → n - v ≡ 0
+      → words_compared depth faulty config v (n - v) same [] ≡ Some same
   last_word v n same none = rw none refl
 
   pub word_behind : (v n : ℕ) (same : Bool) (w : List ℕ) (ws : List (List ℕ)) → n - v ≡ 0
@@ -129,7 +158,9 @@ module _ (depth : ℕ) (faulty : List ℕ) (config : List State) where
   word_behind v n same w ws none = rw none refl
 
   module _ (n : ℕ) (words iter : List (List ℕ)) (v : ℕ) (same : Bool)
-      (read : words_compared depth faulty config 0 n true words ≡ words_compared depth faulty config v (n - v) same iter) where
+      (read : words_compared depth faulty config 0 n true words
+            ≡ words_compared depth faulty config v (n - v) same iter)
+          where
     ends_with : (o : Option Bool) → words_compared depth faulty config v (n - v) same iter ≡ o
         → o ≡ row_compared depth faulty config n (values_said words)
     ends_with o e = sym e ∙ sym read ∙ all_words n words
@@ -137,22 +168,31 @@ module _ (depth : ℕ) (faulty : List ℕ) (config : List State) where
     pub no_place : (w : List ℕ) (ws : List (List ℕ)) → iter ≡ w ∷ ws → n ≤ v
         → None ≡ row_compared depth faulty config n (values_said words)
     no_place w ws is le =
-        ends_with None (ap (words_compared depth faulty config v (n - v) same) is ∙ word_behind v n same w ws (omega (arith, le)))
+        ends_with None
+            (ap (words_compared depth faulty config v (n - v) same) is
+              ∙ word_behind v n same w ws (omega (arith, le)))
 
     pub no_value : (w : List ℕ) (ws : List (List ℕ)) → iter ≡ w ∷ ws → v < n → value_said w ≡ None
         → None ≡ row_compared depth faulty config n (values_said words)
     no_value w ws is lt said =
-        ends_with None (ap (words_compared depth faulty config v (n - v) same) is ∙ one_word v n same w ws lt
-        ∙ ap (λ (o : Option (Option ℕ)). behind_word (word_compared o (shown_at depth faulty config v))
+        ends_with None
+            (ap (words_compared depth faulty config v (n - v) same) is ∙ one_word v n same w ws lt
+        ∙ ap
+            (λ (o : Option (Option ℕ)). behind_word
+              (word_compared o (shown_at depth faulty config v))
         (λ now. words_compared depth faulty config (v + 1) (n - (v + 1)) (same && now) ws)) said)
 
-    one_compared : (w : List ℕ) (ws : List (List ℕ)) (x : Option ℕ) (o : Option Bool) → iter ≡ w ∷ ws → v < n
+    one_compared : (w : List ℕ) (ws : List (List ℕ)) (x : Option ℕ) (o : Option Bool)
+        → iter ≡ w ∷ ws → v < n
         → value_said w ≡ Some x → value_compared x (shown_at depth faulty config v) ≡ o
         → words_compared depth faulty config v (n - v) same iter
-        ≡ behind_word o (λ now. words_compared depth faulty config (v + 1) (n - (v + 1)) (same && now) ws)
+        ≡ behind_word o
+            (λ now. words_compared depth faulty config (v + 1) (n - (v + 1)) (same && now) ws)
     one_compared w ws x o is lt said e =
         ap (words_compared depth faulty config v (n - v) same) is ∙ one_word v n same w ws lt
-        ∙ ap (λ (y : Option (Option ℕ)). behind_word (word_compared y (shown_at depth faulty config v))
+        ∙ ap
+            (λ (y : Option (Option ℕ)). behind_word
+              (word_compared y (shown_at depth faulty config v))
         (λ now. words_compared depth faulty config (v + 1) (n - (v + 1)) (same && now) ws)) said
         ∙ ap (λ (y : Option Bool). behind_word y
         (λ now. words_compared depth faulty config (v + 1) (n - (v + 1)) (same && now) ws)) e
@@ -162,15 +202,22 @@ module _ (depth : ℕ) (faulty : List ℕ) (config : List State) where
         → None ≡ row_compared depth faulty config n (values_said words)
     no_match w ws x is lt said e = ends_with None (one_compared w ws x None is lt said e)
 
-    pub goes_on : (w : List ℕ) (ws : List (List ℕ)) (x : Option ℕ) (b : Bool) → iter ≡ w ∷ ws → v < n
+    pub goes_on : (w : List ℕ) (ws : List (List ℕ)) (x : Option ℕ) (b : Bool) → iter ≡ w ∷ ws
+        → v < n
         → value_said w ≡ Some x → value_compared x (shown_at depth faulty config v) ≡ Some b
         → words_compared depth faulty config 0 n true words
         ≡ words_compared depth faulty config (v + 1) (n - (v + 1)) (same && b) ws
     goes_on w ws x b is lt said e = read ∙ one_compared w ws x (Some b) is lt said e
 
-    pub ends_early : iter ≡ [] → v < n → None ≡ row_compared depth faulty config n (values_said words)
-    ends_early is lt = ends_with None (ap (words_compared depth faulty config v (n - v) same) is ∙ no_word v n same lt)
+    pub ends_early : iter ≡ [] → v < n
+        → None ≡ row_compared depth faulty config n (values_said words)
+    ends_early is lt =
+        ends_with None
+        (ap (words_compared depth faulty config v (n - v) same) is ∙ no_word v n same lt)
 
-    pub ends_whole : iter ≡ [] → n ≤ v → Some same ≡ row_compared depth faulty config n (values_said words)
+    pub ends_whole : iter ≡ [] → n ≤ v
+        → Some same ≡ row_compared depth faulty config n (values_said words)
     ends_whole is le =
-        ends_with (Some same) (ap (words_compared depth faulty config v (n - v) same) is ∙ last_word v n same (omega (arith, le)))
+        ends_with (Some same)
+            (ap (words_compared depth faulty config v (n - v) same) is
+              ∙ last_word v n same (omega (arith, le)))

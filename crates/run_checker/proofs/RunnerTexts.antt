@@ -45,8 +45,12 @@ module _ (plan : Plan) (old now : Running NoOverlay) (same : now ≡ old) (is : 
       ≡ row_text plan (faulty_at old.script 0) 0 (played_at plan old.script 0)
   first_row_is =
       ap (λ (r : Running NoOverlay). row_text r.plan (faulty_at r.script r.at) r.at r.states) same
-      ∙ ap (λ (config : List State). row_text old.plan (faulty_at old.script old.at) old.at config) states_at
-      ∙ ap (λ (p : Plan). row_text p (faulty_at old.script old.at) old.at (played_at plan old.script 0)) is
+      ∙ ap (λ (config : List State). row_text old.plan (faulty_at old.script old.at) old.at config)
+          states_at
+      ∙ ap
+          (λ (p : Plan). row_text p (faulty_at old.script old.at) old.at
+            (played_at plan old.script 0))
+          is
       ∙ ap (λ (t : ℕ). row_text plan (faulty_at old.script t) t (played_at plan old.script 0)) at
 
   pub turns_is : turns_text now.plan now.script ≡ turns_text plan old.script
@@ -87,19 +91,42 @@ module _ (old new now : Running NoOverlay) (one : HasPlayedOne old new) (same : 
       ≡ era_lines old.plan old.script old.at (played_at old.plan old.script (old.at + 1))
       (era_at old.plan old.script (old.at + 1))
   era_is t is =
-      ap (λ (config : List State). era_lines new.plan new.script t config (era_at new.plan new.script (t + 1))) states_behind
-      ∙ ap (λ (p : Plan). era_lines p new.script t (played_at old.plan old.script (old.at + 1)) (era_at p new.script (t + 1))) one.plan
-      ∙ ap (λ (s : Script). era_lines old.plan s t (played_at old.plan old.script (old.at + 1)) (era_at old.plan s (t + 1))) one.script
-      ∙ ap (λ (t : ℕ). era_lines old.plan old.script t (played_at old.plan old.script (old.at + 1)) (era_at old.plan old.script (t + 1))) is
+      ap
+          (λ (config : List State). era_lines new.plan new.script t config
+            (era_at new.plan new.script (t + 1)))
+          states_behind
+      ∙ ap
+          (λ (p : Plan). era_lines p new.script t (played_at old.plan old.script (old.at + 1))
+            (era_at p new.script (t + 1)))
+          one.plan
+      ∙ ap
+          (λ (s : Script). era_lines old.plan s t (played_at old.plan old.script (old.at + 1))
+            (era_at old.plan s (t + 1)))
+          one.script
+      ∙ ap
+          (λ (t : ℕ). era_lines old.plan old.script t (played_at old.plan old.script (old.at + 1))
+            (era_at old.plan old.script (t + 1)))
+          is
 
   pub row_behind_is : row_text now.plan (faulty_at now.script now.at) now.at now.states
-      ≡ row_text old.plan (faulty_at old.script (old.at + 1)) (old.at + 1) (played_at old.plan old.script (old.at + 1))
+      ≡ row_text old.plan (faulty_at old.script (old.at + 1)) (old.at + 1)
+          (played_at old.plan old.script (old.at + 1))
   row_behind_is =
       ap (λ (r : Running NoOverlay). row_text r.plan (faulty_at r.script r.at) r.at r.states) same
-      ∙ ap (λ (config : List State). row_text new.plan (faulty_at new.script new.at) new.at config) states_behind
-      ∙ ap (λ (p : Plan). row_text p (faulty_at new.script new.at) new.at (played_at old.plan old.script (old.at + 1))) one.plan
-      ∙ ap (λ (s : Script). row_text old.plan (faulty_at s new.at) new.at (played_at old.plan old.script (old.at + 1))) one.script
-      ∙ ap (λ (t : ℕ). row_text old.plan (faulty_at old.script t) t (played_at old.plan old.script (old.at + 1))) one.at
+      ∙ ap (λ (config : List State). row_text new.plan (faulty_at new.script new.at) new.at config)
+          states_behind
+      ∙ ap
+          (λ (p : Plan). row_text p (faulty_at new.script new.at) new.at
+            (played_at old.plan old.script (old.at + 1)))
+          one.plan
+      ∙ ap
+          (λ (s : Script). row_text old.plan (faulty_at s new.at) new.at
+            (played_at old.plan old.script (old.at + 1)))
+          one.script
+      ∙ ap
+          (λ (t : ℕ). row_text old.plan (faulty_at old.script t) t
+            (played_at old.plan old.script (old.at + 1)))
+          one.at
 
 -- ---- one part of a text after another
 
@@ -109,7 +136,8 @@ wrote_as x y a b same wrote = subst (λ (text : List ℕ). Wrote text a b) same 
 pub cut_as : (x y : List ℕ) (a b : Told) → x ≡ y → Cut x a b → Cut y a b
 cut_as x y a b same cut = subst (λ (text : List ℕ). Cut text a b) same cut
 
-pub puts_as : {T E : Type 0} (r : Result T E) (x y : List ℕ) (a b : Told) → x ≡ y → Puts r x a b → Puts r y a b
+pub puts_as : {T E : Type 0} (r : Result T E) (x y : List ℕ) (a b : Told) → x ≡ y → Puts r x a b
+    → Puts r y a b
 puts_as r x y a b same puts = subst (λ (text : List ℕ). Puts r text a b) same puts
 
 module _ (plan : Plan) (s : Script) where
@@ -131,7 +159,8 @@ module _ (plan : Plan) (s : Script) where
   pub cut_in_head : (a b : Told) → Cut head a b → Cut (record_text plan s) a b
   cut_in_head a b cut = cut_more a b head (starts ++ (row ++ (turns ++ last))) cut
 
-  pub cut_in_starts : (a b c : Told) → Wrote head a b → Cut starts b c → Cut (record_text plan s) a c
+  pub cut_in_starts : (a b c : Told) → Wrote head a b → Cut starts b c
+      → Cut (record_text plan s) a c
   cut_in_starts a b c one cut =
       cut_then a b c head (starts ++ (row ++ (turns ++ last))) one
       (cut_more b c starts (row ++ (turns ++ last)) cut)

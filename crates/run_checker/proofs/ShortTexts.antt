@@ -99,9 +99,11 @@ module _ (plan : Plan) (accepted : IsAccepted plan) where
         arith,
         length-append (line_of (lie_of lie)) (lines (map lie_of lies)),
         lie_most lie (All-head HasLine (lie_of lie) (map lie_of lies) have)
-            (All-head (λ lie. is_state_text (fields_of plan lie.sender) lie.digits ≡ true) lie lies texts),
+            (All-head (λ lie. is_state_text (fields_of plan lie.sender) lie.digits ≡ true) lie lies
+                texts),
         lies_most lies (All-tail HasLine (lie_of lie) (map lie_of lies) have)
-            (All-tail (λ lie. is_state_text (fields_of plan lie.sender) lie.digits ≡ true) lie lies texts),
+            (All-tail (λ lie. is_state_text (fields_of plan lie.sender) lie.digits ≡ true) lie lies
+                texts),
       )
 
   -- ---- how many lines
@@ -125,7 +127,8 @@ module _ (plan : Plan) (accepted : IsAccepted plan) where
 
   -- each of these senders with each correct node
   abbrev pairs_from : (faulty senders : List ℕ) → List (ℕ × ℕ)
-  pairs_from faulty senders = flat_map (λ u. map (λ v. (u, v)) (correct_nodes (plan_nodes plan) faulty)) senders
+  pairs_from faulty senders =
+      flat_map (λ u. map (λ v. (u, v)) (correct_nodes (plan_nodes plan) faulty)) senders
 
   pairs_most : (faulty senders : List ℕ)
       → length (pairs_from faulty senders) ≤ 256 * length senders
@@ -185,7 +188,8 @@ module _ (plan : Plan) (accepted : IsAccepted plan) where
   turn_most : (faulty : List ℕ) (t : ℕ) (turn : Turn) (more : List Item) → IsBorne plan faulty
       → IsTurn plan faulty turn
       → All HasLine (map lie_of turn.lies ++ (era_items t turn.era ++ (row_item t turn.row ∷ more)))
-      → length (lines (map lie_of turn.lies ++ (era_items t turn.era ++ (row_item t turn.row ∷ more))))
+      → length
+          (lines (map lie_of turn.lies ++ (era_items t turn.era ++ (row_item t turn.row ∷ more))))
       ≤ 7676162 + length (lines more)
   turn_most faulty t turn more borne is have =
       let told = map lie_of turn.lies in
@@ -237,7 +241,8 @@ certificates_are_short c is =
     let first = run_item c.version ∷ base_item c.plan.base ∷ levels in
     let have_first = all_front HasLine first behind is.lines in
     let have_behind = all_back HasLine first behind is.lines in
-    let have_starts = All-tail HasLine (faulty_item c.faulty) (starts ++ (row ∷ turns)) have_behind in
+    let have_starts = All-tail HasLine (faulty_item c.faulty) (starts ++ (row ∷ turns))
+        have_behind in
     let have_rows = all_back HasLine starts (row ∷ turns) have_starts in
     omega (
       arith,
@@ -252,10 +257,13 @@ certificates_are_short c is =
       length-map (reverse c.plan.levels) (level_of c.version),
       length-reverse c.plan.levels,
       accepted_depth c.plan.base c.plan.levels is.accepted.levels,
-      line_most (faulty_item c.faulty) (All-head HasLine (faulty_item c.faulty) (starts ++ (row ∷ turns)) have_behind),
+      line_most (faulty_item c.faulty)
+          (All-head HasLine (faulty_item c.faulty) (starts ++ (row ∷ turns)) have_behind),
       lines_most starts (all_front HasLine starts (row ∷ turns) have_starts),
-      starts_few c.plan is.accepted (range_with_len 0 (plan_nodes c.plan)) c.faulty c.starts is.starts,
+      starts_few c.plan is.accepted (range_with_len 0 (plan_nodes c.plan)) c.faulty c.starts
+          is.starts,
       line_most row (All-head HasLine row turns have_rows),
-      turns_most c.plan is.accepted c.turns c.faulty 1 is.borne is.turns (All-tail HasLine row turns have_rows),
+      turns_most c.plan is.accepted c.turns c.faulty 1 is.borne is.turns
+          (All-tail HasLine row turns have_rows),
       is.rounds,
     )

@@ -20,12 +20,14 @@ use Rattle.run_checker.proofs.PendingTexts.{pending_short}
 use Rattle.run_checker.proofs.Unlimited.{limits_matter_beyond}
 
 -- bytes read of a feed and those in its buffer were read of its source
-pub read_of : (s f l : Option (List ℕ)) (held bytes : List ℕ) → Keeps s f → Consumes f (prepend_known held l) bytes
+pub read_of : (s f l : Option (List ℕ)) (held bytes : List ℕ) → Keeps s f
+    → Consumes f (prepend_known held l) bytes
     → Consumes s l (bytes ++ held)
 read_of None f l held bytes keeps read = tt
 read_of (Some xs) None l held bytes keeps read = absurd keeps
 read_of (Some xs) (Some ys) None held bytes keeps read = absurd read
-read_of (Some xs) (Some ys) (Some zs) held bytes keeps read = sym keeps ∙ read ∙ sym (append_assoc bytes held zs)
+read_of (Some xs) (Some ys) (Some zs) held bytes keeps read =
+    sym keeps ∙ read ∙ sym (append_assoc bytes held zs)
 
 reads_nothing : (s : Option (List ℕ)) → Consumes s s []
 reads_nothing None = tt
@@ -36,7 +38,8 @@ nothing_left [] ys e = (refl, e)
 nothing_left (x ∷ xs) ys e = absurd cc
 
 -- at its end all was read
-read_all_of : (s f l : Option (List ℕ)) (held bytes : List ℕ) → Keeps s f → Consumes f (prepend_known held l) bytes
+read_all_of : (s f l : Option (List ℕ)) (held bytes : List ℕ) → Keeps s f
+    → Consumes f (prepend_known held l) bytes
     → IsAtEnd (prepend_known held l) → Consumes s l bytes × IsAtEnd l
 read_all_of None f None held bytes keeps read end = (tt, tt)
 read_all_of None f (Some zs) held bytes keeps read end = (tt, (nothing_left held zs end).1)
@@ -44,7 +47,8 @@ read_all_of (Some xs) None l held bytes keeps read end = absurd keeps
 read_all_of (Some xs) (Some ys) None held bytes keeps read end = absurd read
 read_all_of (Some xs) (Some ys) (Some zs) held bytes keeps read end =
     let e = nothing_left held zs end in
-    (sym keeps ∙ read ∙ ap (λ (h : List ℕ). bytes ++ h) end ∙ ap (λ (h : List ℕ). bytes ++ h) (sym (e.1)), e.1)
+    (sym keeps ∙ read ∙ ap (λ (h : List ℕ). bytes ++ h) end
+        ∙ ap (λ (h : List ℕ). bytes ++ h) (sym (e.1)), e.1)
 
 verdict_back : (r : Result Verdict ℕ) (v : Verdict) → unlimited r ≡ Ok v → r ≡ Ok v
 verdict_back (Ok w) v e = let same : w ≡ v = cc in ap Ok same
@@ -52,7 +56,8 @@ verdict_back (Err n) v e = absurd cc
 
 -- ---- a greater limit
 
-pending_more : (most limit : ℕ) (bytes : List ℕ) → most ≤ limit → Pending most bytes → Pending limit bytes
+pending_more : (most limit : ℕ) (bytes : List ℕ) → most ≤ limit → Pending most bytes
+    → Pending limit bytes
 pending_more most limit bytes le p =
     let within = p.room.within in
     record {
@@ -87,8 +92,10 @@ long_within limit most f l is h =
 
 -- ---- of a source whose feed was read within the least of both limits
 
-module _ (limit most : ℕ) (le : most ≤ limit) (s f l : Option (List ℕ)) (held : List ℕ) (keeps : Keeps s f) where
-  pub whole_checked : (v : Verdict) → WholeText line_step tt unread most f (prepend_known held l) v → IsChecked limit s l v
+module _ (limit most : ℕ) (le : most ≤ limit) (s f l : Option (List ℕ)) (held : List ℕ)
+    (keeps : Keeps s f) where
+  pub whole_checked : (v : Verdict) → WholeText line_step tt unread most f (prepend_known held l) v
+      → IsChecked limit s l v
   whole_checked v h =
       let all = read_all_of s f l held h.bytes keeps h.read h.at_end in
       let within = h.within in
@@ -125,7 +132,9 @@ module _ (limit most : ℕ) (le : most ≤ limit) (s f l : Option (List ℕ)) (h
     are = pending_more most limit bytes le once;
   }
 
-  refused_by : length held ≤ 4096 → (line : ℕ) (r : Unit {0}) (h : RefusedText line_step tt unread most f (prepend_known held l) line r) (ended : Bool)
+  refused_by : length held ≤ 4096
+      → (line : ℕ) (r : Unit {0})
+        (h : RefusedText line_step tt unread most f (prepend_known held l) line r) (ended : Bool)
       → h.ended ≡ ended → IsRefused limit s l line
   refused_by few line r h true e =
       let all = read_all_of s f l held h.bytes keeps h.read (h.at_end e) in
@@ -136,7 +145,9 @@ module _ (limit most : ℕ) (le : most ≤ limit) (s f l : Option (List ℕ)) (h
         read = all.0;
         at_end = λ same. all.1;
         within = λ same. omega (arith, within, le);
-        at_once = none_ahead h.bytes (subst (λ (b : Bool). AtOnce b (λ bs. Pending most bs) h.bytes) e h.at_once);
+        at_once =
+            none_ahead h.bytes
+            (subst (λ (b : Bool). AtOnce b (λ bs. Pending most bs) h.bytes) e h.at_once);
         decides = λ longer rest follows. more_room (h.bytes ++ rest) line longer most limit le
             (h.decides longer rest (subst (λ (b : Bool). MayFollow b longer rest) (sym e) follows));
       }
@@ -146,19 +157,24 @@ module _ (limit most : ℕ) (le : most ≤ limit) (s f l : Option (List ℕ)) (h
     read = read_of s f l held h.bytes keeps h.read;
     at_end = λ same. absurd (not_both same);
     within = λ same. absurd (not_both same);
-    at_once = ahead (AtOnce false (Pending limit)) few h.bytes (at_once_more most limit false h.bytes le
+    at_once =
+        ahead (AtOnce false (Pending limit)) few h.bytes (at_once_more most limit false h.bytes le
         (subst (λ (b : Bool). AtOnce b (λ bs. Pending most bs) h.bytes) e h.at_once));
     decides = λ longer rest follows. ap (checked_by limit longer) (append_assoc h.bytes held rest)
         ∙ more_room (h.bytes ++ (held ++ rest)) line longer most limit le
-        (h.decides longer (held ++ rest) (subst (λ (b : Bool). MayFollow b longer (held ++ rest)) (sym e) tt));
+        (h.decides longer (held ++ rest)
+            (subst (λ (b : Bool). MayFollow b longer (held ++ rest)) (sym e) tt));
   } where
     not_both : false ≡ true → ⊥
     not_both e = absurd cc
 
-  pub text_refused : length held ≤ 4096 → (line : ℕ) (r : Unit {0}) → RefusedText line_step tt unread most f (prepend_known held l) line r → IsRefused limit s l line
+  pub text_refused : length held ≤ 4096 → (line : ℕ) (r : Unit {0})
+      → RefusedText line_step tt unread most f (prepend_known held l) line r
+      → IsRefused limit s l line
   text_refused few line r h = refused_by few line r h h.ended refl
 
-  pub text_too_long : length held ≤ 4096 → most ≡ limit → LongText line_step tt unread most f (prepend_known held l) → IsTooLong limit s l
+  pub text_too_long : length held ≤ 4096 → most ≡ limit
+      → LongText line_step tt unread most f (prepend_known held l) → IsTooLong limit s l
   text_too_long few same h =
       let past = h.past in
       record {
@@ -174,7 +190,8 @@ module _ (limit most : ℕ) (le : most ≤ limit) (s f l : Option (List ℕ)) (h
       }
 
   -- where a read failed the buffer is empty
-  pub text_lost : held ≡ [] → LostText line_step tt unread most f (prepend_known held l) → IsLost limit s l
+  pub text_lost : held ≡ [] → LostText line_step tt unread most f (prepend_known held l)
+      → IsLost limit s l
   text_lost none h = record {
     bytes = h.bytes;
     read = subst (Consumes s l) (ap (λ (more : List ℕ). h.bytes ++ more) none ∙ append-nil h.bytes)
@@ -182,7 +199,8 @@ module _ (limit most : ℕ) (le : most ≤ limit) (s f l : Option (List ℕ)) (h
     pending = pending_more most limit h.bytes le h.lost;
   }
 
-  pub text_halted : length held ≤ 4096 → HaltedText line_step tt unread most f (prepend_known held l) → IsHalted limit s l
+  pub text_halted : length held ≤ 4096
+      → HaltedText line_step tt unread most f (prepend_known held l) → IsHalted limit s l
   text_halted few h = record {
     bytes = h.bytes ++ held;
     none = false;
@@ -216,6 +234,7 @@ held_none f dry =
     ap (λ (n : ℕ). take n (drop f.at f.buffer)) none
 
 -- the source that was lent ends as what stands under its name
-pub lent_back : {X : Type 0} (P : X → Type 0) (final now : X) (lent other : ℕ) → (lent ≡ other → final ≡ now) → lent ≡ other
+pub lent_back : {X : Type 0} (P : X → Type 0) (final now : X) (lent other : ℕ)
+    → (lent ≡ other → final ≡ now) → lent ≡ other
     → P now → P final
 lent_back P final now lent other given same h = subst P (sym (given same)) h

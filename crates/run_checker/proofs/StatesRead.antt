@@ -96,7 +96,8 @@ module _ (shape : Shape) where
     told_at k lt =
         let long = length-take-le count texts (omega (arith, h.many, h.fits)) in
         read_of pairs (take count texts) k (omega (arith, long, lt)) (omega (arith, long, h.fits))
-        ∙ ap (read_text (fields_at shape (get_or pairs k (0, 0)).0)) (get_or-take count texts k [] lt)
+        ∙ ap (read_text (fields_at shape (get_or pairs k (0, 0)).0))
+            (get_or-take count texts k [] lt)
 
     -- what was told for a pair is read of its digits
     module _ (k : ℕ) (pair : ℕ × ℕ) (room text : List ℕ) (lt : k < count)
@@ -193,7 +194,8 @@ module _ (shape : Shape) where
           → is_state_text (next_fields told_view) text ≡ false
       adds_none e = next_is ∙ e
 
-      module _ (fit : (eqb (length text) (length room) && list_all is_lower_digit text) ≡ true) where
+      module _ (fit : (eqb (length text) (length room) && list_all is_lower_digit text) ≡ true)
+          where
         pub fit_long : length text ≡ length room
         fit_long =
             eqb-true (length text) (length room)

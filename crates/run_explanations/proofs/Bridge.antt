@@ -39,7 +39,8 @@ module _ (level : Level) (below : List Level) (faulty : ℕ → Bool) (last from
 
     small_part : why.part t < beat_of level
     small_part =
-        (seen_shows (top_over level below) faulty (outs t) is (record { leader = b; part = why.part t })
+        (seen_shows (top_over level below) faulty (outs t) is
+            (record { leader = b; part = why.part t })
         (seen_in_window t (omega arith) (omega arith))).below
 
     part_on : (x : ℕ) → x < beat_of level → why.part (t + x) ≡ (why.part t + x) % beat_of level
@@ -77,14 +78,17 @@ module _ (level : Level) (below : List Level) (faulty : ℕ → Bool) (last from
           king = why.king;
         }
 
-  module _ (t b s k : ℕ) (why : Explained (beat_of level) faulty last from (seen_over level below faulty outs) t b s k) where
+  module _ (t b s k : ℕ)
+      (why : Explained (beat_of level) faulty last from (seen_over level below faulty outs) t b s k)
+      where
     window_shows : (r : ℕ) → t ≤ r → r < t + beat_of level
         → Sees (top_over level below) faulty (outs r) b ((why.p + (r - t)) % beat_of level)
     window_shows r lo hi =
         let back : t + (r - t) ≡ r = omega (arith, lo) in
         (seen_shows (top_over level below) faulty (outs r) is
         (record { leader = b; part = (why.p + (r - t)) % beat_of level })
-        (ap (seen_over level below faulty outs) (sym back) ∙ why.window.each (r - t) (omega (arith, lo, hi)))).sees
+        (ap (seen_over level below faulty outs) (sym back)
+            ∙ why.window.each (r - t) (omega (arith, lo, hi)))).sees
 
     from_seen : Explains level (nodes_of below) (faults_of below) faulty last outs t b s k
     from_seen =
@@ -127,31 +131,40 @@ module _ (script : Script) (config_at : ℕ → List State) (t b s k : ℕ) wher
 
   to_in : (levels : List Level) (from : ℕ) → IsTop (top_in levels) → from ≤ t
       → ExplainsIn levels script config_at t b s k
-      → Explained (top_in levels).beat (is_faulty script) script.rounds from (seen_by levels) t b s k
+      → Explained (top_in levels).beat (is_faulty script) script.rounds from (seen_by levels) t b s
+          k
   to_in [] from is since why = absurd why
   to_in (level ∷ below) from is since why =
-      subst (λ (seen : ℕ → Option Seen). Explained (beat_of level) (is_faulty script) script.rounds from seen t b s k)
+      subst
+          (λ (seen : ℕ → Option Seen). Explained (beat_of level) (is_faulty script) script.rounds
+            from seen t b s k)
       (same_seen level below)
       (to_seen level below (is_faulty script) script.rounds from
       (λ r. outputs_in (length below) (config_at r)) is t b s k since why)
 
   from_in : (levels : List Level) (from : ℕ) → IsTop (top_in levels)
-      → Explained (top_in levels).beat (is_faulty script) script.rounds from (seen_by levels) t b s k
+      → Explained (top_in levels).beat (is_faulty script) script.rounds from (seen_by levels) t b s
+          k
       → ExplainsIn levels script config_at t b s k
   from_in [] from is why = (let beat = is.beat in absurd (omega (arith, beat)))
   from_in (level ∷ below) from is why =
       from_seen level below (is_faulty script) script.rounds from
       (λ r. outputs_in (length below) (config_at r)) is t b s k
-      (subst (λ (seen : ℕ → Option Seen). Explained (beat_of level) (is_faulty script) script.rounds from seen t b s k)
+      (subst
+          (λ (seen : ℕ → Option Seen). Explained (beat_of level) (is_faulty script) script.rounds
+            from seen t b s k)
       (sym (same_seen level below)) why)
 
 module _ (plan : Plan) (script : Script) (is : IsTop (top_of plan)) (t b s k : ℕ) where
   pub era_is_seen : ExplainsEra plan script t b s k
-      → Explained (top_of plan).beat (is_faulty script) script.rounds (era_begin script) (seen_at plan script) t b s k
+      → Explained (top_of plan).beat (is_faulty script) script.rounds (era_begin script)
+          (seen_at plan script) t b s k
   era_is_seen why =
-      to_in script (played_at plan script) t b s k plan.levels (era_begin script) is why.from why.explains
+      to_in script (played_at plan script) t b s k plan.levels (era_begin script) is why.from
+          why.explains
 
-  pub seen_is_era : Explained (top_of plan).beat (is_faulty script) script.rounds (era_begin script) (seen_at plan script) t b s k
+  pub seen_is_era : Explained (top_of plan).beat (is_faulty script) script.rounds (era_begin script)
+      (seen_at plan script) t b s k
       → ExplainsEra plan script t b s k
   seen_is_era why = record {
     from = why.since;

@@ -44,20 +44,24 @@ module _ (beat : ℕ) (six : 6 ≤ beat) (faulty : ℕ → Bool) (last from : �
       → begins_phase beat faulty last t p x ≡ true
   passes t p x k part king room =
       let q = third ((p + x) % beat) k part in
-      and_from (nat_eq ((p + x) % beat % 3) 0 && not (faulty ((p + x) % beat / 3))) (nat_le (t + x + 3) last)
+      and_from (nat_eq ((p + x) % beat % 3) 0 && not (faulty ((p + x) % beat / 3)))
+          (nat_le (t + x + 3) last)
       (and_from (nat_eq ((p + x) % beat % 3) 0) (not (faulty ((p + x) % beat / 3))) (eq-eqb _ _ q.0)
       (not_from_false _ (ap faulty q.1 ∙ king))) (le-leb _ _ room)
 
   pub passed : (t p x : ℕ) → begins_phase beat faulty last t p x ≡ true
-      → ((p + x) % beat ≡ 3 * ((p + x) % beat / 3)) × (faulty ((p + x) % beat / 3) ≡ false) × (t + x + 3 ≤ last)
+      → ((p + x) % beat ≡ 3 * ((p + x) % beat / 3)) × (faulty ((p + x) % beat / 3) ≡ false)
+          × (t + x + 3 ≤ last)
   passed t p x e =
-      let u = and_parts (nat_eq ((p + x) % beat % 3) 0 && not (faulty ((p + x) % beat / 3))) (nat_le (t + x + 3) last) e in
+      let u = and_parts (nat_eq ((p + x) % beat % 3) 0 && not (faulty ((p + x) % beat / 3)))
+          (nat_le (t + x + 3) last) e in
       let v = and_parts (nat_eq ((p + x) % beat % 3) 0) (not (faulty ((p + x) % beat / 3))) u.0 in
       let zero_rest = eqb-true _ _ v.0 in
       (omega (arith, zero_rest), not-true _ v.1, leb-true _ _ u.1)
 
   -- the window that ends with a stretch
-  pub last_window : (c count : ℕ) (seen : Seen) → Ends beat seen_at from (suc c) count seen → beat ≤ count
+  pub last_window : (c count : ℕ) (seen : Seen) → Ends beat seen_at from (suc c) count seen
+      → beat ≤ count
       → IsWindow beat seen_at (c + 1 - beat) beat seen.leader ((seen.part + 1) % beat)
   last_window c count seen ends long = record {
     each = λ y lt.
@@ -73,7 +77,8 @@ module _ (beat : ℕ) (six : 6 ≤ beat) (faulty : ℕ → Bool) (last from : �
         ∙ ap (λ (q : ℕ). (q + y) % beat) (sym ends.next)))));
   }
 
-  last_begins : (c count : ℕ) (seen : Seen) → Ends beat seen_at from (suc c) count seen → beat ≤ count
+  last_begins : (c count : ℕ) (seen : Seen) → Ends beat seen_at from (suc c) count seen
+      → beat ≤ count
       → (from ≤ c + 1 - beat) × (c + 1 - beat + beat ≡ c + 1)
   last_begins c count seen ends long =
       let at = ends.at in
@@ -81,12 +86,15 @@ module _ (beat : ℕ) (six : 6 ≤ beat) (faulty : ℕ → Bool) (last from : �
       (omega (arith, at, begins, long), omega (arith, at, long))
 
   -- two explanations of one window have one leader and one part
-  same_window : (t b p b' p' : ℕ) → IsWindow beat seen_at t beat b p → IsWindow beat seen_at t beat b' p'
+  same_window : (t b p b' p' : ℕ) → IsWindow beat seen_at t beat b p
+      → IsWindow beat seen_at t beat b' p'
       → p < beat → p' < beat → (b' ≡ b) × (p' ≡ p)
   same_window t b p b' p' w w' lt lt' =
-      let e : Some (record { leader = b'; part = (p' + 0) % beat }) ≡ Some (record { leader = b; part = (p + 0) % beat }) =
+      let e : Some (record { leader = b'; part = (p' + 0) % beat })
+          ≡ Some (record { leader = b; part = (p + 0) % beat }) =
       sym (w'.each 0 (omega (arith, six))) ∙ w.each 0 (omega (arith, six)) in
-      let s : ◌≡◌ {A = Seen} (record { leader = b'; part = (p' + 0) % beat }) (record { leader = b; part = (p + 0) % beat }) =
+      let s : ◌≡◌ {A = Seen} (record { leader = b'; part = (p' + 0) % beat })
+          (record { leader = b; part = (p + 0) % beat }) =
       same_Some _ _ e in
       let rest : (q : ℕ) → q < beat → (q + 0) % beat ≡ q = λ q small.
       ap (λ (y : ℕ). y % beat) (add-zero q) ∙ mod-eq_of_lt small in
@@ -98,7 +106,8 @@ module _ (beat : ℕ) (six : 6 ≤ beat) (faulty : ℕ → Bool) (last from : �
     pub explained : Why e.window e.leader e.phase e.king
     pub first : (b s k : ℕ) → Why t b s k → e.phase ≤ s
 
-  found_phase : (t b p : ℕ) (x : Option ℕ) (e : Explanation) → from ≤ t → t + beat ≤ last + 1 → p < beat
+  found_phase : (t b p : ℕ) (x : Option ℕ) (e : Explanation) → from ≤ t → t + beat ≤ last + 1
+      → p < beat
       → IsWindow beat seen_at t beat b p → IsFirst (begins_phase beat faulty last t p) (beat - 2) x
       → option_map (explained_by beat faulty last t b p) x ≡ Some e → IsFoundIn t e
   found_phase t b p None e le room small_p w h is = absurd (none-some e is)
@@ -136,7 +145,9 @@ module _ (beat : ℕ) (six : 6 ≤ beat) (faulty : ℕ → Bool) (last from : �
 
   found_gate : (c count : ℕ) (seen : Seen) (b : Bool) (e : Explanation) → nat_le beat count ≡ b
       → c ≤ last → Ends beat seen_at from (suc c) count seen
-      → (if b then explained_in beat faulty last (c + 1 - beat) seen.leader ((seen.part + 1) % beat) else None) ≡ Some e
+      → (if b then explained_in beat faulty last (c + 1 - beat) seen.leader ((seen.part + 1) % beat)
+            else None)
+          ≡ Some e
       → IsFoundIn (c + 1 - beat) e
   found_gate c count seen false e g le ends is = absurd (none-some e is)
   found_gate c count seen true e g le ends is =
@@ -144,16 +155,20 @@ module _ (beat : ℕ) (six : 6 ≤ beat) (faulty : ℕ → Bool) (last from : �
       let at = last_begins c count seen ends long in
       let whole = at.1 in
       found_phase (c + 1 - beat) seen.leader ((seen.part + 1) % beat)
-      (first_below (begins_phase beat faulty last (c + 1 - beat) ((seen.part + 1) % beat)) (beat - 2)) e
+      (first_below (begins_phase beat faulty last (c + 1 - beat) ((seen.part + 1) % beat))
+            (beat - 2))
+          e
       at.0 (omega (arith, whole, le)) (mod-lt (seen.part + 1) (omega (arith, six)))
       (last_window c count seen ends long)
-      (first_is (begins_phase beat faulty last (c + 1 - beat) ((seen.part + 1) % beat)) (beat - 2)) is
+      (first_is (begins_phase beat faulty last (c + 1 - beat) ((seen.part + 1) % beat)) (beat - 2))
+          is
 
   found_from : (c count : ℕ) (seen : Option Seen) (e : Explanation) → c ≤ last
       → Stands beat seen_at from (suc c) count seen
       → explained_from beat faulty last c count seen ≡ Some e → IsFoundIn (c + 1 - beat) e
   found_from c count None e le h is = absurd (none-some e is)
-  found_from c count (Some seen) e le h is = found_gate c count seen (nat_le beat count) e refl le h is
+  found_from c count (Some seen) e le h is =
+      found_gate c count seen (nat_le beat count) e refl le h is
 
   found_at : (c : ℕ) (e : Explanation) → c ≤ last
       → explained_at beat faulty last from seen_at c ≡ Some e → IsFoundIn (c + 1 - beat) e
@@ -164,7 +179,8 @@ module _ (beat : ℕ) (six : 6 ≤ beat) (faulty : ℕ → Bool) (last from : �
   known_in : (t b p : ℕ) (x : Option ℕ) → ((y : ℕ) × (x ≡ Some y))
       → (e : Explanation) × (option_map (explained_by beat faulty last t b p) x ≡ Some e)
   known_in t b p x (y, is) =
-      (explained_by beat faulty last t b p y, ap (option_map (explained_by beat faulty last t b p)) is)
+      (explained_by beat faulty last t b p y,
+          ap (option_map (explained_by beat faulty last t b p)) is)
 
   pub known_at : (t b s k : ℕ) → Why t b s k → (c : ℕ) → t + beat ≡ c + 1
       → (e : Explanation) × (explained_at beat faulty last from seen_at c ≡ Some e)
@@ -189,11 +205,20 @@ module _ (beat : ℕ) (six : 6 ≤ beat) (faulty : ℕ → Bool) (last from : �
       let x = first_known (begins_phase beat faulty last t why.p) (beat - 2) (s - t)
       (omega (arith, begins, ends, six))
       (passes t why.p (s - t) k why.phase why.king (omega (arith, begins, by))) in
-      let known = known_in t b why.p (first_below (begins_phase beat faulty last t why.p) (beat - 2)) (x.0, x.1) in (
+      let known = known_in t b why.p
+            (first_below (begins_phase beat faulty last t why.p) (beat - 2)) (x.0, x.1) in
+          (
         known.0,
-        ap (explained_from beat faulty last c (stretch_before beat from seen_at (suc c)).count) long.seen
-            ∙ (ap (λ (g : Bool). if g then explained_in beat faulty last (c + 1 - beat) b (((why.p + (beat - 1)) % beat + 1) % beat) else None)
-            (le-leb beat (stretch_before beat from seen_at (suc c)).count (omega (arith, more, six)))
+        ap (explained_from beat faulty last c (stretch_before beat from seen_at (suc c)).count)
+            long.seen
+            ∙
+                (ap
+                  (λ (g : Bool). if g
+                    then explained_in beat faulty last (c + 1 - beat) b
+                      (((why.p + (beat - 1)) % beat + 1) % beat)
+                    else None)
+            (le-leb beat (stretch_before beat from seen_at (suc c)).count
+                (omega (arith, more, six)))
             ∙ (ap₂ (λ (t p : ℕ). explained_in beat faulty last t b p) window start ∙ known.1)),
       )
 
@@ -213,7 +238,8 @@ module _ (beat : ℕ) (six : 6 ≤ beat) (faulty : ℕ → Bool) (last from : �
   IsFirstFound None = (t b s k : ℕ) → Why t b s k → ⊥
 
   from_first : (found : Option Explanation)
-      → IsFirstKnown (explained_at beat faulty last from seen_at) (last + 1) found → IsFirstFound found
+      → IsFirstKnown (explained_at beat faulty last from seen_at) (last + 1) found
+          → IsFirstFound found
   from_first None h = λ t b s k why.
       let within = why.within in
       let e = known_at t b s k why (t + beat - 1) (omega (arith, six)) in
@@ -226,7 +252,8 @@ module _ (beat : ℕ) (six : 6 ≤ beat) (faulty : ℕ → Bool) (last from : �
         λ t b s k why.
             let other = known_at t b s k why (t + beat - 1) (omega (arith, six)) in (
               elim (cases_lt (t + beat - 1) h.0) [
-                | inl before ↦ absurd (none-some other.0 (sym (h.3 (t + beat - 1) before) ∙ other.1))
+                | inl before ↦ absurd
+                    (none-some other.0 (sym (h.3 (t + beat - 1) before) ∙ other.1))
                 | inr from_c ↦ omega (arith, from_c, at, six)
               ],
               λ same. found.first b s k (subst (λ (t : ℕ). Why t b s k) (same ∙ at) why),
@@ -234,4 +261,5 @@ module _ (beat : ℕ) (six : 6 ≤ beat) (faulty : ℕ → Bool) (last from : �
       )
 
   pub first_found : IsFirstFound (found_before beat faulty last from seen_at (last + 1))
-  first_found = from_first (found_before beat faulty last from seen_at (last + 1)) (firsts (last + 1))
+  first_found =
+      from_first (found_before beat faulty last from seen_at (last + 1)) (firsts (last + 1))

@@ -107,7 +107,8 @@ module _ (top : Top) (faulty : ℕ → Bool) (outputs : ℕ → ℕ) where
     pub below : seen.part < top.beat
 
   module _ (is : IsTop top) where
-    sees_parts : (b : ℕ) (parts : Shared) (seen : Seen) → pointed top faulty outputs top.blocks ≡ One b
+    sees_parts : (b : ℕ) (parts : Shared) (seen : Seen)
+        → pointed top faulty outputs top.blocks ≡ One b
         → is_sound top faulty b ≡ true → parted top faulty outputs b ≡ parts
         → seen_parts top faulty outputs b parts ≡ Some seen → Shows seen
     sees_parts b Nothing seen points ok parts e = absurd (none-some seen e)
@@ -132,7 +133,8 @@ module _ (top : Top) (faulty : ℕ → Bool) (outputs : ℕ → ℕ) where
 
     sees_sound : (b : ℕ) (ok : Bool) (seen : Seen) → pointed top faulty outputs top.blocks ≡ One b
         → is_sound top faulty b ≡ ok
-        → (if ok then seen_parts top faulty outputs b (parted top faulty outputs b) else None) ≡ Some seen
+        → (if ok then seen_parts top faulty outputs b (parted top faulty outputs b) else None)
+            ≡ Some seen
         → Shows seen
     sees_sound b true seen points ok e =
         sees_parts b (parted top faulty outputs b) seen points ok refl e
@@ -172,5 +174,9 @@ module _ (top : Top) (faulty : ℕ → Bool) (outputs : ℕ → ℕ) where
         (shared_fits Nothing (is_correct top faulty b) (part_at top outputs b) p top.nodes tt
         (λ j jlt correct. sees.parts j jlt (not-true _ correct))) in
         ap (seen_leader top faulty outputs) points
-        ∙ (ap (λ (ok : Bool). if ok then seen_parts top faulty outputs b (parted top faulty outputs b) else None) ok
+        ∙
+            (ap
+              (λ (ok : Bool). if ok
+                then seen_parts top faulty outputs b (parted top faulty outputs b) else None)
+              ok
         ∙ ap (seen_parts top faulty outputs b) parts)

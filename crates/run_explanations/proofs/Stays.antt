@@ -26,7 +26,8 @@ module _ (beat : ℕ) (faulty : ℕ → Bool) (last from : ℕ) (seen_at : ℕ �
   by_known (Some e) c d is some le = stays e c 1 is ∙ sym (stays e c d is)
 
   -- with the next configuration as much is found as with all, where something was
-  pub found_in_all : (c : ℕ) → c ≤ last → is_some (found_before beat faulty last from seen_at c) ≡ true
+  pub found_in_all : (c : ℕ) → c ≤ last
+      → is_some (found_before beat faulty last from seen_at c) ≡ true
       → found_before beat faulty last from seen_at (c + 1)
       ≡ found_before beat faulty last from seen_at (last + 1)
   found_in_all c le some =

@@ -13,7 +13,8 @@ use Rattle.run_explanations.specs.Searching.{goes_on, no_stretch, stretched, str
 module _ (beat : ℕ) (seen_at : ℕ → Option Seen) where
   -- From configuration t on, m configurations show leader b, and a part that is p and grows by one.
   pub record IsWindow (t m b p : ℕ) : Type 0 where
-    pub each : (x : ℕ) → x < m → seen_at (t + x) ≡ Some (record { leader = b; part = (p + x) % beat })
+    pub each : (x : ℕ) → x < m
+        → seen_at (t + x) ≡ Some (record { leader = b; part = (p + x) % beat })
 
   module _ (from : ℕ) where
     -- the stretch that ends before configuration c
@@ -33,13 +34,19 @@ module _ (beat : ℕ) (seen_at : ℕ → Option Seen) where
     pub none_before : (c : ℕ) → c ≤ from → stretch_before beat from seen_at c ≡ no_stretch
     none_before zero h = refl
     none_before (suc c) h =
-        ap (λ (b : Bool). if b then stretched beat (stretch_before beat from seen_at c) (seen_at c) else stretch_before beat from seen_at c) (lt-leb from c (omega (arith, h)))
+        ap
+            (λ (b : Bool). if b then stretched beat (stretch_before beat from seen_at c) (seen_at c)
+              else stretch_before beat from seen_at c)
+            (lt-leb from c (omega (arith, h)))
         ∙ none_before c (omega (arith, h))
 
     pub begun : (c : ℕ) → from ≤ c → stretch_before beat from seen_at (suc c)
         ≡ stretched beat (stretch_before beat from seen_at c) (seen_at c)
     begun c h =
-        ap (λ (b : Bool). if b then stretched beat (stretch_before beat from seen_at c) (seen_at c) else stretch_before beat from seen_at c) (le-leb from c h)
+        ap
+            (λ (b : Bool). if b then stretched beat (stretch_before beat from seen_at c) (seen_at c)
+              else stretch_before beat from seen_at c)
+            (le-leb from c h)
 
     module _ (small : (c : ℕ) (seen : Seen) → seen_at c ≡ Some seen → seen.part < beat) where
       -- one configuration is a stretch
@@ -55,7 +62,8 @@ module _ (beat : ℕ) (seen_at : ℕ → Option Seen) where
               let none : 0 ≡ x = omega (arith, lt) in
               let same : now.part ≡ (now.part + x) % beat =
               subst (λ (x : ℕ). now.part ≡ (now.part + x) % beat) none
-              (sym (ap (λ (p : ℕ). p % beat) (add-zero now.part) ∙ mod-eq_of_lt (small c now is))) in
+              (sym
+                  (ap (λ (p : ℕ). p % beat) (add-zero now.part) ∙ mod-eq_of_lt (small c now is))) in
               let here : c + x ≡ c = omega (arith, none) in
               ap seen_at here
               ∙ (is ∙ ap (λ (p : ℕ). Some (record { leader = now.leader; part = p })) same);
@@ -80,13 +88,17 @@ module _ (beat : ℕ) (seen_at : ℕ → Option Seen) where
             window = record {
               each = λ x lt. elim (cases_lt x count) [
                 | inl before_it ↦ ends.window.each x before_it
-                    ∙ ap (λ (b : ℕ). Some (record { leader = b; part = (ends.p + x) % beat })) leader
+                    ∙ ap (λ (b : ℕ). Some (record { leader = b; part = (ends.p + x) % beat }))
+                        leader
                 | inr from_it ↦
                     let here : count ≡ x = omega (arith, lt, from_it) in
                     subst (λ (x : ℕ). seen_at (ends.t + x)
                     ≡ Some (record { leader = now.leader; part = (ends.p + x) % beat })) here
                     (ap seen_at at
-                    ∙ (is ∙ ap (λ (p : ℕ). Some (record { leader = now.leader; part = p })) part_is))
+                    ∙
+                        (is
+                          ∙ ap (λ (p : ℕ). Some (record { leader = now.leader; part = p }))
+                            part_is))
               ];
             };
             next =
@@ -113,7 +125,8 @@ module _ (beat : ℕ) (seen_at : ℕ → Option Seen) where
           goes c count before now (goes_on beat (Some before) now) le h is refl
 
       stands_more : (c : ℕ) (b : Bool) → nat_le from c ≡ b
-          → Stands c (stretch_before beat from seen_at c).count (stretch_before beat from seen_at c).seen
+          → Stands c (stretch_before beat from seen_at c).count
+              (stretch_before beat from seen_at c).seen
           → Stands (suc c) (stretch_before beat from seen_at (suc c)).count
           (stretch_before beat from seen_at (suc c)).seen
       stands_more c true e h =
@@ -165,7 +178,9 @@ module _ (beat : ℕ) (seen_at : ℕ → Option Seen) where
         let on : goes_on beat s.seen (record { leader = b; part = r }) ≡ true =
         ap (λ (o : Option Seen). goes_on beat o (record { leader = b; part = r })) is.seen
         ∙ and_from (nat_eq b b) (nat_eq r ((q + 1) % beat)) (eq-eqb b b refl) (eq-eqb _ _ next) in
-        let count : (if goes_on beat s.seen (record { leader = b; part = r }) then s.count + 1 else 1) ≡ s.count + 1 =
+        let count :
+              (if goes_on beat s.seen (record { leader = b; part = r }) then s.count + 1 else 1)
+            ≡ s.count + 1 =
         ap (λ (g : Bool). if g then s.count + 1 else 1) on in
         let long = is.long in
         subst (λ (now : Option Seen). IsLong (suc m) b r (stretched beat s now)) (sym e) (record {
@@ -178,14 +193,19 @@ module _ (beat : ℕ) (seen_at : ℕ → Option Seen) where
           → IsLong m b ((p + m) % beat) (stretch_before beat from seen_at (suc (t + m)))
       window_long zero w =
           subst (IsLong 0 b ((p + 0) % beat)) (sym (begun (t + 0) (omega (arith, le))))
-          (first_long (stretch_before beat from seen_at (t + 0)) (seen_at (t + 0)) b ((p + 0) % beat)
+          (first_long (stretch_before beat from seen_at (t + 0)) (seen_at (t + 0)) b
+              ((p + 0) % beat)
           (w.each 0 (omega arith)))
       window_long (suc m) w =
           let before = window_long m (record { each = λ x lt. w.each x (omega (arith, lt)) }) in
           let next : t + suc m ≡ suc (t + m) = omega arith in
           let more : p + m + 1 ≡ p + suc m = omega arith in
-          subst (λ (c : ℕ). IsLong (suc m) b ((p + suc m) % beat) (stretch_before beat from seen_at (suc c))) (sym next)
-          (subst (IsLong (suc m) b ((p + suc m) % beat)) (sym (begun (suc (t + m)) (omega (arith, le))))
+          subst
+              (λ (c : ℕ). IsLong (suc m) b ((p + suc m) % beat)
+                (stretch_before beat from seen_at (suc c)))
+              (sym next)
+          (subst (IsLong (suc m) b ((p + suc m) % beat))
+              (sym (begun (suc (t + m)) (omega (arith, le))))
           (more_long (stretch_before beat from seen_at (suc (t + m))) (seen_at (suc (t + m))) m b
           ((p + m) % beat) ((p + suc m) % beat) before
           (ap seen_at (sym next) ∙ w.each (suc m) (omega arith))

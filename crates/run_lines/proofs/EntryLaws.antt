@@ -109,7 +109,8 @@ module _ (plan : Plan) (accepted : IsAccepted plan) (said : LogSaid) (for : IsFo
 
   -- ---- the lines
 
-  -- the line of a slot that begins in configuration t, is of this owner, and ends in configuration d
+  -- the line of a slot that begins in configuration t, is of this owner, and ends in configuration
+  -- d
   abbrev line_to : (t owner d : ℕ) → List ℕ
   line_to t owner d =
       concat (entry_front t owner

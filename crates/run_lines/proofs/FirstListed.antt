@@ -18,14 +18,17 @@ IsFirst locked n None = (t : ℕ) → t ≤ n → locked t ≡ false
 module _ (locked : ℕ → Bool) where
   at_zero : (b : Bool) → locked 0 ≡ b → IsFirst locked 0 (first_of None b 0)
   at_zero true is = (omega arith, is, λ t lt. absurd (omega (arith, lt)))
-  at_zero false is = λ t le. let here : 0 ≡ t = omega (arith, le) in subst (λ (t : ℕ). locked t ≡ false) here is
+  at_zero false is =
+      λ t le. let here : 0 ≡ t = omega (arith, le) in subst (λ (t : ℕ). locked t ≡ false) here is
 
-  one_more : (known : Option ℕ) (b : Bool) (n : ℕ) → IsFirst locked n known → locked (suc n) ≡ b → IsFirst locked (suc n) (first_of known b (suc n))
+  one_more : (known : Option ℕ) (b : Bool) (n : ℕ) → IsFirst locked n known → locked (suc n) ≡ b
+      → IsFirst locked (suc n) (first_of known b (suc n))
   one_more (Some w) b n h is = let le = h.0 in (omega (arith, le), h.1, h.2)
   one_more None true n h is = (omega arith, is, λ t lt. h t (omega (arith, lt)))
   one_more None false n h is = λ t le. elim (cases_lt t (suc n)) [
     | inl before ↦ h t (omega (arith, before))
-    | inr from ↦ let here : suc n ≡ t = omega (arith, le, from) in subst (λ (t : ℕ). locked t ≡ false) here is
+    | inr from ↦ let here : suc n ≡ t = omega (arith, le, from) in
+        subst (λ (t : ℕ). locked t ≡ false) here is
   ]
 
   first_is : (n : ℕ) → IsFirst locked n (first_locked locked n)
@@ -52,7 +55,8 @@ module _ (p : ℕ → Bool) (n : ℕ) where
       (omega (arith, le, size)) (λ k lt. at k (omega (arith, le, lt)) ∙ h.2 k lt)
       (λ lt. at w le ∙ h.1) in
       ap (λ (i : ℕ). cond (nat_lt i (length numbers)) (Some i) None) place
-      ∙ ap (λ (b : Bool). cond b (Some w) None) (lt-ltb w (length numbers) (omega (arith, le, size)))
+      ∙ ap (λ (b : Bool). cond b (Some w) None)
+          (lt-ltb w (length numbers) (omega (arith, le, size)))
   found None h =
       let place : position_or_len p numbers ≡ length numbers =
       position_or_len_is p numbers (length numbers) 0 (omega arith)

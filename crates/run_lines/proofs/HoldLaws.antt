@@ -22,7 +22,8 @@ other_word : codes " ." ≡ codes " 1" → ⊥
 other_word e = let second = ap (λ (word : List ℕ). get_or word 1 0) e in omega (arith, second)
 
 -- a word that is 1 is that of the holder
-is_holder : (holder : Option ℕ) (v : ℕ) (b : Bool) → option_eq nat_eq holder (Some v) ≡ b → cond b (codes " 1") (codes " .") ≡ codes " 1" → holder ≡ Some v
+is_holder : (holder : Option ℕ) (v : ℕ) (b : Bool) → option_eq nat_eq holder (Some v) ≡ b
+    → cond b (codes " 1") (codes " .") ≡ codes " 1" → holder ≡ Some v
 is_holder None v true e is = absurd (cc)
 is_holder None v false e is = absurd (other_word is)
 is_holder (Some w) v true e is = ap Some (eqb-true w v e)
@@ -38,8 +39,12 @@ at_most_one_in_a_line plan script read lines apart t lo hi u v ult uok vlt vok o
     let output : ℕ = counts.output t in
     let shows_u = counts.shows t lo era.before u ult uok in
     let shows_v = counts.shows t lo era.before v vlt vok in
-    let holder_u = is_holder (holder_of lines (shown (plan_depth plan) (state_of (played_at plan script t) u))) u _ refl one in
-    let holder_v = is_holder (holder_of lines (shown (plan_depth plan) (state_of (played_at plan script t) v))) v _ refl other in
+    let holder_u = is_holder
+        (holder_of lines (shown (plan_depth plan) (state_of (played_at plan script t) u))) u _ refl
+        one in
+    let holder_v = is_holder
+        (holder_of lines (shown (plan_depth plan) (state_of (played_at plan script t) v))) v _ refl
+        other in
     some_one u v (sym holder_u ∙ (ap (holder_of lines) (shows_u ∙ sym shows_v) ∙ holder_v))
 
 -- ---- exactly the holder's word is 1

@@ -31,7 +31,8 @@ use Rattle.run_lines.specs.SlotTexts.{lead_output, counts_at}
 use Rattle.round_runner.proofs.LowestCorrect.{lowest_among}
 
 -- outputs that count do so for any number of rounds
-counted : (c : ℕ) (output : ℕ → ℕ) (from end : ℕ) → ((t : ℕ) → from ≤ t → t + 1 < end → output (t + 1) ≡ (output t + 1) % c)
+counted : (c : ℕ) (output : ℕ → ℕ) (from end : ℕ)
+    → ((t : ℕ) → from ≤ t → t + 1 < end → output (t + 1) ≡ (output t + 1) % c)
     → (i x : ℕ) → from ≤ i → i + suc x < end → output (i + suc x) ≡ (output i + suc x) % c
 counted c output from end grows i zero lo hi =
     let one : i + 1 ≡ i + suc zero = omega arith in
@@ -46,7 +47,8 @@ counted c output from end grows i (suc x) lo hi =
     ∙ (mod-add-mod (output i + suc x) c 1 ∙ ap (λ y. y % c) same)))
 
 module _ {Kept : Type 0} (plan : Plan) (script : Script) (layer : Layer Kept) (began : List Kept)
-    (accepted : IsAccepted plan) (right : IsFor plan layer script) (sound : IsShape script.shape) (whole : IsScript script) where
+    (accepted : IsAccepted plan) (right : IsFor plan layer script) (sound : IsShape script.shape)
+        (whole : IsScript script) where
   abbrev n : ℕ
   n = plan_nodes plan
 
@@ -67,32 +69,50 @@ module _ {Kept : Type 0} (plan : Plan) (script : Script) (layer : Layer Kept) (b
     leads =
         let quorum = (accepted_sized plan.base plan.levels accepted.levels).quorum in
         let few = borne.few in
-        let some = one_fails (is_in (faulty_of_era script j)) n (omega (arith, places_of_ids (faulty_of_era script j) n, few, quorum)) in
+        let some = one_fails (is_in (faulty_of_era script j)) n
+            (omega (arith, places_of_ids (faulty_of_era script j) n, few, quorum)) in
         lowest_among n (faulty_of_era script j) some.0 some.1 some.2
 
-    module _ (count : ℕ) (some : 0 < count) (within : first_of_era script j + count ≤ end_of_era script j) where
+    module _ (count : ℕ) (some : 0 < count)
+        (within : first_of_era script j + count ≤ end_of_era script j) where
       abbrev run : List (List State)
       run = cut_run plan script layer began (first_of_era script j) count
 
       counts : Counts plan (faulty_of_era script j) run
-      counts = every_plan_settles plan accepted (faulty_of_era script j) run borne (scenes_run plan script layer began accepted right sound whole j among count some within)
+      counts =
+          every_plan_settles plan accepted (faulty_of_era script j) run borne
+          (scenes_run plan script layer began accepted right sound whole j among count some within)
 
       long : length run ≡ count
       long = cut_length plan script layer began (first_of_era script j) count
 
       -- what it shows is the output
-      shows : (i : ℕ) → plan_bound plan ≤ i → i < count → shown (plan_depth plan) (state_of (config_at (first_of_era script j + i)) lead) ≡ counts.output i
+      shows : (i : ℕ) → plan_bound plan ≤ i → i < count
+          → shown (plan_depth plan) (state_of (config_at (first_of_era script j + i)) lead)
+            ≡ counts.output i
       shows i lo lt =
-          sym (shown_of_cut (plan_depth plan) (plan_depth plan) (omega arith) (state_of (config_at (first_of_era script j + i)) lead))
-          ∙ (ap (shown (plan_depth plan)) (sym (state_of-cut (plan_depth plan) (config_at (first_of_era script j + i)) lead))
-          ∙ (ap (λ (config : List State). shown (plan_depth plan) (state_of config lead)) (sym (cut_configuration plan script layer began (first_of_era script j) count i lt))
+          sym
+              (shown_of_cut (plan_depth plan) (plan_depth plan) (omega arith)
+                (state_of (config_at (first_of_era script j + i)) lead))
+          ∙
+              (ap (shown (plan_depth plan))
+                (sym (state_of-cut (plan_depth plan) (config_at (first_of_era script j + i)) lead))
+          ∙
+              (ap (λ (config : List State). shown (plan_depth plan) (state_of config lead))
+                (sym (cut_configuration plan script layer began (first_of_era script j) count i lt))
           ∙ counts.shows i lo (omega (arith, lt, long)) lead leads.0 leads.1))
 
       later : (i x : ℕ) → plan_bound plan ≤ i → i + suc x < count
-          → shown (plan_depth plan) (state_of (config_at (first_of_era script j + (i + suc x))) lead) ≡ (shown (plan_depth plan) (state_of (config_at (first_of_era script j + i)) lead) + suc x) % plan_modulus plan
+          → shown (plan_depth plan)
+                (state_of (config_at (first_of_era script j + (i + suc x))) lead)
+              ≡ (shown (plan_depth plan) (state_of (config_at (first_of_era script j + i)) lead)
+                  + suc x)
+                % plan_modulus plan
       later i x lo lt =
           shows (i + suc x) (omega (arith, lo)) lt
-          ∙ (counted (plan_modulus plan) counts.output (plan_bound plan) count (λ t from to. counts.grows t from (omega (arith, to, long))) i x lo lt
+          ∙
+              (counted (plan_modulus plan) counts.output (plan_bound plan) count
+                (λ t from to. counts.grows t from (omega (arith, to, long))) i x lo lt
           ∙ ap (λ o. (o + suc x) % plan_modulus plan) (sym (shows i lo (omega (arith, lt)))))
 
   -- a slot that counts is of one era
@@ -125,9 +145,12 @@ module _ {Kept : Type 0} (plan : Plan) (script : Script) (layer : Layer Kept) (b
     within_rounds = leb-true (t + q) script.rounds parts.2
 
     pub before_end : t + suc x < end_of_era script (era_of script t)
-    before_end = subst (λ i. t + q < end_of_era script i) same_era (of_one_era script whole (t + q) within_rounds).before
+    before_end =
+        subst (λ i. t + q < end_of_era script i) same_era
+        (of_one_era script whole (t + q) within_rounds).before
 
-    pub later_output : lead_output plan script (t + suc x) (config_at (t + suc x)) ≡ (lead_output plan script t (config_at t) + suc x) % plan_modulus plan
+    pub later_output : lead_output plan script (t + suc x) (config_at (t + suc x))
+        ≡ (lead_output plan script t (config_at t) + suc x) % plan_modulus plan
     unfolding lead
     later_output =
         let first : ℕ = first_of_era script j in
@@ -139,12 +162,21 @@ module _ {Kept : Type 0} (plan : Plan) (script : Script) (layer : Layer Kept) (b
         let there : first + (i + q) ≡ t + q = omega (arith, lo) in
         let node : ℕ = lead j (era_within script t) in
         let shown_in : ℕ → ℕ = λ c. shown (plan_depth plan) (state_of (config_at c) node) in
-        let goes = later j (era_within script t) count (omega (arith, lo)) (omega (arith, lo, hi)) i x (omega (arith, lo)) (omega (arith, lo)) in
-        ap (λ era. shown (plan_depth plan) (state_of (config_at (t + q)) (lowest_correct n (faulty_of_era script era)))) same_era
+        let goes = later j (era_within script t) count (omega (arith, lo)) (omega (arith, lo, hi)) i
+            x (omega (arith, lo)) (omega (arith, lo)) in
+        ap
+            (λ era. shown (plan_depth plan)
+              (state_of (config_at (t + q)) (lowest_correct n (faulty_of_era script era))))
+            same_era
         ∙ (ap shown_in (sym there) ∙ (goes ∙ ap (λ c. (shown_in c + q) % plan_modulus plan) here))
 
     -- so it is a multiple of the slot's length where it was one
-    pub same_rest : plan_modulus plan % suc x ≡ 0 → (lead_output plan script (t + suc x) (config_at (t + suc x)) % suc x == 0) ≡ (lead_output plan script t (config_at t) % suc x == 0)
+    pub same_rest : plan_modulus plan % suc x ≡ 0
+        → (lead_output plan script (t + suc x) (config_at (t + suc x)) % suc x == 0)
+          ≡ (lead_output plan script t (config_at t) % suc x == 0)
     same_rest divides =
         ap (λ y. y % q == 0) later_output
-        ∙ ap (λ y. y == 0) (mod-mod_of_dvd q (lead_output plan script t (config_at t) + q) (dvd_of_mod-eq-zero q divides) ∙ add-mod_right (lead_output plan script t (config_at t)) q)
+        ∙ ap (λ y. y == 0)
+            (mod-mod_of_dvd q (lead_output plan script t (config_at t) + q)
+                (dvd_of_mod-eq-zero q divides)
+              ∙ add-mod_right (lead_output plan script t (config_at t)) q)

@@ -14,7 +14,8 @@ use Rattle.run_lines.specs.RunTexts.{locked_line, lock_of_era, era_line, lock_li
 use Rattle.run_lines.proofs.WordsSoFar.{words_before}
 use Rattle.run_lines.proofs.FirstListed.{first_listed}
 
-module _ {O Kept : Type 0} (layer : O → Layer Kept) (kept : O → List Kept) (began : List Kept) (r : Running O) where
+module _ {O Kept : Type 0} (layer : O → Layer Kept) (kept : O → List Kept) (began : List Kept)
+    (r : Running O) where
   abbrev config_at : ℕ → List State
   config_at = configuration_of layer began r
 
@@ -27,11 +28,15 @@ module _ {O Kept : Type 0} (layer : O → Layer Kept) (kept : O → List Kept) (
 
   -- the lines of the eras before era j are written
   abbrev ErasBefore : (j : ℕ) (s t : Told) → Type 0
-  ErasBefore j s t = Wrote (words_before (era_line r.plan r.script config_at) (length r.script.eras + 1) j) s t
+  ErasBefore j s t =
+      Wrote (words_before (era_line r.plan r.script config_at) (length r.script.eras + 1) j) s t
 
 -- so they are, of all that the runner may play
-abbrev pub ErasSoFar : {O Kept : Type 0} (layer : O → Layer Kept) (kept : O → List Kept) (r : Running O) (j : ℕ) (s t : Told) → Type 0
-ErasSoFar {O} {Kept} layer kept r j s t = (began : List Kept) → IsPlaying layer kept began r → ErasBefore layer kept began r j s t
+abbrev pub ErasSoFar : {O Kept : Type 0} (layer : O → Layer Kept) (kept : O → List Kept)
+      (r : Running O) (j : ℕ) (s t : Told)
+    → Type 0
+ErasSoFar {O} {Kept} layer kept r j s t =
+    (began : List Kept) → IsPlaying layer kept began r → ErasBefore layer kept began r j s t
 
 -- so that is what its line says
 pub puts_locked : {T E : Type 0} (result : Result T E) (told known : Option ℕ) (s t : Told)
@@ -45,7 +50,8 @@ pub puts_last : {T E : Type 0} (result : Result T E) (text : List ℕ) (s t : To
 puts_last result text s t puts =
     subst (λ (x : List ℕ). Puts result x s t) (sym (append-nil text)) puts
 
-module _ (plan : Plan) (script : Script) (config_at : ℕ → List State) (version : ℕ) (is : version ≡ script.version)
+module _ (plan : Plan) (script : Script) (config_at : ℕ → List State) (version : ℕ)
+    (is : version ≡ script.version)
     (s t : Told) where
   -- for a script of version 1 there is one line
   pub puts_one : {T E : Type 0} (result : Result T E) → version ≡ 1
@@ -56,7 +62,8 @@ module _ (plan : Plan) (script : Script) (config_at : ℕ → List State) (versi
       rw one puts
 
   -- else there is one for each era
-  many : (version ≢ 1) → flat_map (era_line plan script config_at) (range_with_len 0 (length script.eras + 1))
+  many : (version ≢ 1)
+      → flat_map (era_line plan script config_at) (range_with_len 0 (length script.eras + 1))
       ≡ lock_lines plan script config_at
   many further =
       ap (λ (b : Bool). cond b (locked_line (lock_of_era plan script config_at 0))
@@ -64,11 +71,14 @@ module _ (plan : Plan) (script : Script) (config_at : ℕ → List State) (versi
       (sym (ne_eqb script.version 1 (λ one. further (is ∙ one))))
 
   pub cut_of_many : (version ≢ 1)
-      → Cut (flat_map (era_line plan script config_at) (range_with_len 0 (length script.eras + 1))) s t
+      → Cut (flat_map (era_line plan script config_at) (range_with_len 0 (length script.eras + 1)))
+          s t
       → Cut (lock_lines plan script config_at) s t
   cut_of_many further cut = subst (λ (x : List ℕ). Cut x s t) (many further) cut
 
   pub wrote_many : (version ≢ 1)
-      → Wrote (flat_map (era_line plan script config_at) (range_with_len 0 (length script.eras + 1))) s t
+      → Wrote
+          (flat_map (era_line plan script config_at) (range_with_len 0 (length script.eras + 1))) s
+          t
       → Wrote (lock_lines plan script config_at) s t
   wrote_many further wrote = subst (λ (x : List ℕ). Wrote x s t) (many further) wrote

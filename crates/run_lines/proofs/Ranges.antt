@@ -45,7 +45,8 @@ texts_split f n c =
 take_range : (k n a : ℕ) → k ≤ n → take k (range_with_len a n) ≡ range_with_len a k
 take_range zero n a le = refl
 take_range (suc k) zero a le = absurd (omega arith)
-take_range (suc k) (suc n) a le = ap (λ (xs : List ℕ). a ∷ xs) (take_range k n (a + 1) (omega arith))
+take_range (suc k) (suc n) a le =
+    ap (λ (xs : List ℕ). a ∷ xs) (take_range k n (a + 1) (omega arith))
 
 -- the texts of the numbers before c, and those from c on to before d
 pub texts_on : (f : ℕ → List ℕ) (n c d : ℕ) → c ≤ d → d ≤ n

@@ -60,7 +60,8 @@ length-groups_of (level ∷ below) first =
     omega (
       arith,
       length-pieces (λ b. groups_of below (first + b * nodes_of below))
-          (group_count below) (λ b. length-groups_of below (first + b * nodes_of below)) level.blocks
+          (group_count below) (λ b. length-groups_of below (first + b * nodes_of below))
+              level.blocks
           0,
     )
 

@@ -25,7 +25,8 @@ use Rattle.slot_table.specs.SlotPart.{slots_step, part_of, IsFor, AreFor}
 -- ---- a line that meets no other one
 
 -- an output in both makes them meet
-meet_there : (output : ℕ) (old line : SlotLine) → covers output old ≡ true → covers output line ≡ true → meets line.first line.last old ≡ true
+meet_there : (output : ℕ) (old line : SlotLine) → covers output old ≡ true
+    → covers output line ≡ true → meets line.first line.last old ≡ true
 meet_there output old line here there =
     let a = and_parts (nat_le old.first output) (nat_le output old.last) here in
     let b = and_parts (nat_le line.first output) (nat_le output line.last) there in
@@ -33,7 +34,8 @@ meet_there output old line here there =
     let old_to = leb-true _ _ a.1 in
     let from = leb-true _ _ b.0 in
     let to = leb-true _ _ b.1 in
-    ap (λ (x : Bool). x && nat_le line.first old.last) (le-leb old.first line.last (omega (arith, old_from, to)))
+    ap (λ (x : Bool). x && nat_le line.first old.last)
+        (le-leb old.first line.last (omega (arith, old_from, to)))
     ∙ le-leb line.first old.last (omega (arith, from, old_to))
 
 none_before : (b rest : Bool) → (b || rest) ≡ false → b ≡ false
@@ -44,12 +46,15 @@ none_behind : (b rest : Bool) → (b || rest) ≡ false → rest ≡ false
 none_behind true rest e = absurd (true≢false e)
 none_behind false rest e = e
 
-no_meeting : (p : SlotLine → Bool) (lines : List SlotLine) (i : ℕ) (d : SlotLine) → list_any p lines ≡ false → i < length lines → p (get_or lines i d) ≡ false
+no_meeting : (p : SlotLine → Bool) (lines : List SlotLine) (i : ℕ) (d : SlotLine)
+    → list_any p lines ≡ false → i < length lines → p (get_or lines i d) ≡ false
 no_meeting p [] i d e lt = absurd (omega arith)
 no_meeting p (x ∷ xs) zero d e lt = (or_parts (p x) (list_any p xs) e).0
-no_meeting p (x ∷ xs) (suc i) d e lt = no_meeting p xs i d (or_parts (p x) (list_any p xs) e).1 (omega arith)
+no_meeting p (x ∷ xs) (suc i) d e lt =
+    no_meeting p xs i d (or_parts (p x) (list_any p xs) e).1 (omega arith)
 
-module _ (lines : List SlotLine) (line : SlotLine) (apart : AreApart lines) (clear : list_any (meets line.first line.last) lines ≡ false) where
+module _ (lines : List SlotLine) (line : SlotLine) (apart : AreApart lines)
+    (clear : list_any (meets line.first line.last) lines ≡ false) where
   abbrev all : List SlotLine
   all = lines ++ line ∷ []
 
@@ -57,20 +62,31 @@ module _ (lines : List SlotLine) (line : SlotLine) (apart : AreApart lines) (cle
   old_at i d lt = get_or_append_left lines (line ∷ []) d i lt
 
   new_at : (i : ℕ) (d : SlotLine) → length lines ≤ i → i < length all → get_or all i d ≡ line
-  new_at i d le lt = let long = length_push lines line in get_or_at lines line [] d i (omega (arith, le, lt, long))
+  new_at i d le lt =
+      let long = length_push lines line in get_or_at lines line [] d i (omega (arith, le, lt, long))
 
-  never_both : (i j output : ℕ) (d : SlotLine) → i < length lines → covers output (get_or lines i d) ≡ true → covers output line ≡ true → i ≡ j
+  never_both : (i j output : ℕ) (d : SlotLine) → i < length lines
+      → covers output (get_or lines i d) ≡ true → covers output line ≡ true → i ≡ j
   never_both i j output d lt here there =
-      absurd (true≢false (sym (meet_there output (get_or lines i d) line here there) ∙ no_meeting (meets line.first line.last) lines i d clear lt))
+      absurd
+          (true≢false
+            (sym (meet_there output (get_or lines i d) line here there)
+              ∙ no_meeting (meets line.first line.last) lines i d clear lt))
 
   pub apart_more : AreApart all
   apart_more i j output d ilt jlt here there = elim (cases_lt i (length lines)) [
     | inl i_old ↦ elim (cases_lt j (length lines)) [
-      | inl j_old ↦ apart i j output d i_old j_old (ap (covers output) (sym (old_at i d i_old)) ∙ here) (ap (covers output) (sym (old_at j d j_old)) ∙ there)
-      | inr j_new ↦ never_both i j output d i_old (ap (covers output) (sym (old_at i d i_old)) ∙ here) (ap (covers output) (sym (new_at j d j_new jlt)) ∙ there)
+      | inl j_old ↦ apart i j output d i_old j_old
+          (ap (covers output) (sym (old_at i d i_old)) ∙ here)
+          (ap (covers output) (sym (old_at j d j_old)) ∙ there)
+      | inr j_new ↦ never_both i j output d i_old
+          (ap (covers output) (sym (old_at i d i_old)) ∙ here)
+          (ap (covers output) (sym (new_at j d j_new jlt)) ∙ there)
     ]
     | inr i_new ↦ elim (cases_lt j (length lines)) [
-      | inl j_old ↦ sym (never_both j i output d j_old (ap (covers output) (sym (old_at j d j_old)) ∙ there) (ap (covers output) (sym (new_at i d i_new ilt)) ∙ here))
+      | inl j_old ↦ sym
+          (never_both j i output d j_old (ap (covers output) (sym (old_at j d j_old)) ∙ there)
+            (ap (covers output) (sym (new_at i d i_new ilt)) ∙ here))
       | inr j_new ↦ let long = length_push lines line in omega (arith, i_new, j_new, ilt, jlt, long)
     ]
   ]
@@ -123,9 +139,11 @@ tested s (Some (v ∷ a ∷ b ∷ [])) =
 tested s (Some (v ∷ a ∷ b ∷ c ∷ more)) = tt
 
 -- so lines stay apart
-pub still_apart : (s : SlotsSoFar) (line : SlotLine) (numbers : Option (List ℕ)) → AreApart s.lines → Ok line ≡ line_tested s numbers → AreApart (s.lines ++ line ∷ [])
+pub still_apart : (s : SlotsSoFar) (line : SlotLine) (numbers : Option (List ℕ)) → AreApart s.lines
+    → Ok line ≡ line_tested s numbers → AreApart (s.lines ++ line ∷ [])
 still_apart s line numbers apart is =
-    let one = subst (λ (r : Result SlotLine Rule). IfOk r (IsOneMore s)) (sym is) (tested s numbers) in
+    let one = subst (λ (r : Result SlotLine Rule). IfOk r (IsOneMore s)) (sym is)
+        (tested s numbers) in
     apart_more s.lines line apart one.clear
 
 module _ (plan : Plan) where
@@ -148,7 +166,10 @@ module _ (plan : Plan) where
   headed : (s : SlotsSoFar) (is : Bool) → FitSoFar plan s
       → Goes (if is then goes (record s { begun = true }) else refuses Form)
   headed s false fit = tt
-  headed s true fit = record { nodes = fit.nodes; modulus = fit.modulus; many = fit.many; each = fit.each; apart = fit.apart }
+  headed s true fit =
+      record
+      { nodes = fit.nodes; modulus = fit.modulus; many = fit.many; each = fit.each;
+        apart = fit.apart }
 
   ended : (s : SlotsSoFar) (is : Bool) (line : List ℕ) → FitSoFar plan s
       → Goes (if is then ends s.lines else goes_with s (line_in s line))

@@ -11,7 +11,8 @@ use Rattle.std.proofs.lemmas.List.FromFn.{get_or-map-range_with_len, fill_by_all
 use Rattle.std.proofs.lemmas.Grind.{same_number_lists}
 use Rattle.construction.specs.Plans.{Plan, plan_low, plan_nodes}
 use Rattle.state_codec.specs.Shapes.{Fields, no_fields, to_depth, fields_at, Shape, IsFields}
-use Rattle.state_codec.specs.Shapes.{IsShape, AreAll, moduli_from, fields_from, all_over, shape_over}
+use Rattle.state_codec.specs.Shapes.{IsShape, AreAll, moduli_from, fields_from, all_over}
+use Rattle.state_codec.specs.Shapes.{shape_over}
 use Rattle.state_codec.specs.ShapesKept.{IsKept}
 
 -- a list that is made item by item
@@ -109,7 +110,8 @@ pub modulus_of_node : (shape : Shape) (v i : ℕ) → i < shape.depth
     → get_or (fields_at shape v).moduli i 0
     ≡ get_or (slice_index_or shape.fields v no_fields).moduli i 0
 modulus_of_node shape v i lt = get_or-map-range_with_len
-    (λ i. slice_index_or (slice_index_or shape.fields v no_fields).moduli i 0) 0 shape.depth i i 0 lt
+    (λ i. slice_index_or (slice_index_or shape.fields v no_fields).moduli i 0) 0 shape.depth i i 0
+        lt
     (omega arith)
 
 -- fields of the depth are taken as they are
@@ -159,7 +161,8 @@ pub kind_at : (shape : Shape) (kinds : List Fields) (which : List ℕ) (v kind :
     → IsKept shape kinds which → v < length which → kind ≡ get_or which v 0
     → found ≡ get_or kinds kind found → found ≡ fields_at shape v
 kind_at shape kinds which v kind found kept lt same is =
-    let below : kind < length kinds = subst (λ k. k < length kinds) (sym same) (kept.among v 0 lt) in
+    let below : kind
+        < length kinds = subst (λ k. k < length kinds) (sym same) (kept.among v 0 lt) in
     let deep : length found.moduli ≡ shape.depth =
     subst (λ (f : Fields). length f.moduli ≡ shape.depth) (sym is) (kept.depth kind found below) in
     let own : get_or shape.fields v no_fields ≡ found =

@@ -128,7 +128,8 @@ module _ (lock : ℕ → Option ℕ) (from size : ℕ) (seeds : List ℕ) (seed 
       }
 
 -- a run with its first locked configuration is one more run of an era
-pub noted_run : (runs now : EraRuns) (locked : Option ℕ) (seed : ℕ) → now ≡ with_lock runs locked seed
+pub noted_run : (runs now : EraRuns) (locked : Option ℕ) (seed : ℕ)
+    → now ≡ with_lock runs locked seed
     → IsWithin runs locked → (lock : ℕ → Option ℕ) (first size : ℕ) (seeds : List ℕ)
     → length seeds + 1 < 2 ^ 64 → lock seed ≡ locked → AreRuns lock first size seeds runs
     → AreRuns lock first size (seeds ++ seed ∷ []) now

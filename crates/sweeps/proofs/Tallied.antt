@@ -100,7 +100,8 @@ within_room runs first end (Some t) is long inside =
 
 module _ (script : Script) (tally : List EraRuns) (j : ℕ) (old now : EraRuns)
     (here : j < length tally) (is : old ≡ get_or tally j no_runs) where
-  placed : (k : ℕ) (P : EraRuns → Type 0) → (k ≡ j → P now) → ((k ≡ j → ⊥) → P (get_or tally k no_runs))
+  placed : (k : ℕ) (P : EraRuns → Type 0) → (k ≡ j → P now)
+      → ((k ≡ j → ⊥) → P (get_or tally k no_runs))
       → P (get_or (set tally j now) k no_runs)
   placed k P same other = elim (cases_eq k j) [
     | inl e ↦ subst P (sym (ap (λ (i : ℕ). get_or (set tally j now) i no_runs) e
@@ -185,7 +186,8 @@ module _ (plan : Plan) (script : Script) (seeds : List ℕ) (seed : ℕ)
         size = length-set tally j now ∙ are.size;
         done = λ k lt in_k. placed script tally j old now here is k
             (AreOfEra plan script (seeds ++ seed ∷ []) k)
-            (λ e. subst (λ (i : ℕ). AreOfEra plan script (seeds ++ seed ∷ []) i now) (sym e) counted)
+            (λ e. subst (λ (i : ℕ). AreOfEra plan script (seeds ++ seed ∷ []) i now) (sym e)
+                counted)
             (λ e. are.done k (omega (arith, lt, e)) in_k);
         rest = λ k le in_k. placed script tally j old now here is k (AreOfEra plan script seeds k)
             (λ e. absurd (omega (arith, le, e)))

@@ -29,14 +29,19 @@ parted_more false front b bs n is lt more =
     let k : 1 + n + 1 ≡ suc (n + 1) = omega arith in
     let m : 1 + n ≡ suc n = omega arith in
     record {
-      lines = rw (is, k, m) (h.lines ∙ ap (λ l. l ∷ whole_lines (drop (n + 1) bs)) (append_assoc front (b ∷ []) (take n bs)));
+      lines =
+          rw (is, k, m)
+          (h.lines
+            ∙ ap (λ l. l ∷ whole_lines (drop (n + 1) bs))
+              (append_assoc front (b ∷ []) (take n bs)));
       behind = rw (is, k) h.behind;
     }
 
 parted : (front text : List ℕ) → place text < length text → Parted front text (place text)
 parted front [] lt = absurd (omega arith)
 parted front (b ∷ bs) lt =
-    parted_more (eqb b 10) front b bs (place bs) refl lt (λ within. parted (front ++ b ∷ []) bs within)
+    parted_more (eqb b 10) front b bs (place bs) refl lt
+        (λ within. parted (front ++ b ∷ []) bs within)
 
 -- the line that ends at the newline at i
 pub whole_at : (text : List ℕ) (i : ℕ) → position (λ b. eqb b 10) text ≡ Some i

@@ -92,7 +92,8 @@ read_is_small word n e =
     subst (λ m. m < 10 ^ 15) h.1 (value_small word q.1 (leb-true _ _ r.1))
 
 -- a number has one word
-pub number_back : (word : List ℕ) (n : ℕ) → number_of word ≡ Some n → (decimal n ≡ word) × (n < 10 ^ 15)
+pub number_back : (word : List ℕ) (n : ℕ) → number_of word ≡ Some n
+    → (decimal n ≡ word) × (n < 10 ^ 15)
 number_back word n e = (sym (read_is_printed word n e), read_is_small word n e)
 
 -- and is read back from it

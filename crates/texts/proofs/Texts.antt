@@ -13,7 +13,8 @@ IsOneLine line = is_one_line line ≡ true
 
 whole_by : (newline : Bool) (b : ℕ) (line bs : List ℕ) → eqb b 10 ≡ newline
     → text_of (whole_from [] bs) ++ open_from [] bs ≡ bs
-    → text_of (whole_from (line ++ b ∷ []) bs) ++ open_from (line ++ b ∷ []) bs ≡ (line ++ b ∷ []) ++ bs
+    → text_of (whole_from (line ++ b ∷ []) bs) ++ open_from (line ++ b ∷ []) bs
+        ≡ (line ++ b ∷ []) ++ bs
     → text_of (cond newline (line ∷ whole_from [] bs) (whole_from (line ++ b ∷ []) bs))
     ++ cond newline (open_from [] bs) (open_from (line ++ b ∷ []) bs)
     ≡ line ++ b ∷ bs
@@ -63,7 +64,8 @@ ended_more line text plain =
     (ap whole_lines is ∙ first.0, ap open_rest is ∙ first.1)
 
 -- lines, and a rest without a newline, are the whole lines and the rest of their text
-pub cut_again : (lines : List (List ℕ)) (rest : List ℕ) → AllByRecursion IsOneLine lines → IsOneLine rest
+pub cut_again : (lines : List (List ℕ)) (rest : List ℕ) → AllByRecursion IsOneLine lines
+    → IsOneLine rest
     → (whole_lines (text_of lines ++ rest) ≡ lines) × (open_rest (text_of lines ++ rest) ≡ rest)
 cut_again [] rest plain last = rest_alone [] rest last
 cut_again (line ∷ lines) rest plain last =

@@ -24,8 +24,10 @@ use Rattle.workbench.proofs.Unread.{left_of, holds_left}
 use Rattle.workbench.proofs.NodeReturns.{all_front}
 
 -- a front of an input was read, of which what is left follows
-front_read : (s l : Option (List ℕ)) (bytes : List ℕ) → Consumes s l bytes → ReadsFront s l (bytes ++ left_of l)
-front_read s l bytes read = record { front = bytes; behind = left_of l; parts = refl; read = read; rest = holds_left l }
+front_read : (s l : Option (List ℕ)) (bytes : List ℕ) → Consumes s l bytes
+    → ReadsFront s l (bytes ++ left_of l)
+front_read s l bytes read =
+    record { front = bytes; behind = left_of l; parts = refl; read = read; rest = holds_left l }
 
 -- an input of which these bytes decide a line
 record Input (s l : Option (List ℕ)) (bytes : List ℕ) (ended : Bool) : Type 0 where
@@ -33,15 +35,21 @@ record Input (s l : Option (List ℕ)) (bytes : List ℕ) (ended : Bool) : Type 
   read : ReadsFront s l (bytes ++ rest)
   follows : MayFollow ended (nat_lt (2 ^ 44) (length (bytes ++ rest))) rest
 
-input_of : (ended : Bool) (s l : Option (List ℕ)) (bytes : List ℕ) → Consumes s l bytes → (ended ≡ true → IsAtEnd l) → (ended ≡ true → length bytes ≤ 2 ^ 44) → Input s l bytes ended
+input_of : (ended : Bool) (s l : Option (List ℕ)) (bytes : List ℕ) → Consumes s l bytes
+    → (ended ≡ true → IsAtEnd l) → (ended ≡ true → length bytes ≤ 2 ^ 44) → Input s l bytes ended
 input_of true s l bytes read end within =
     let short = within refl in
     record {
       rest = [];
-      read = subst (ReadsFront s l) (sym (append-nil bytes)) (all_front s l bytes (record { read = read; end = end refl }));
-      follows = (refl, le-ltb (2 ^ 44) (length (bytes ++ [])) (omega (arith, length-append bytes [], short)));
+      read =
+          subst (ReadsFront s l) (sym (append-nil bytes))
+          (all_front s l bytes (record { read = read; end = end refl }));
+      follows =
+          (refl,
+          le-ltb (2 ^ 44) (length (bytes ++ [])) (omega (arith, length-append bytes [], short)));
     }
-input_of false s l bytes read end within = record { rest = left_of l; read = front_read s l bytes read; follows = tt }
+input_of false s l bytes read end within =
+    record { rest = left_of l; read = front_read s l bytes read; follows = tt }
 
 -- a verdict is written
 pub verdict_touches : {K : Type 0} (v : Verdict) (old new : K)
@@ -57,16 +65,26 @@ verdict_unmet (verdict.False row) before now = tt
 
 module _ (s l : Option (List ℕ)) (before now : ℕ) where
   -- a read failed
-  pub check_lost : (t : Told) → IsLost (2 ^ 44) s l → Counted before now → Does (Some command.Check) status.ReadFault s l before now t t
-  check_lost t h cause = record { seen = h.bytes; read = h.read; pending = h.pending; cause = cause; wrote = wrote_none t }
+  pub check_lost : (t : Told) → IsLost (2 ^ 44) s l → Counted before now
+      → Does (Some command.Check) status.ReadFault s l before now t t
+  check_lost t h cause =
+      record
+      { seen = h.bytes; read = h.read; pending = h.pending; cause = cause; wrote = wrote_none t }
 
   -- the text is too long
-  pub check_long : (t : Told) → IsTooLong (2 ^ 44) s l → now ≡ before → Does (Some command.Check) status.TooLong s l before now t t
+  pub check_long : (t : Told) → IsTooLong (2 ^ 44) s l → now ≡ before
+      → Does (Some command.Check) status.TooLong s l before now t t
   check_long t h still =
       let input = h.bytes ++ left_of l in
-      let above : nat_lt (2 ^ 44) (length input) ≡ true = lt-ltb (2 ^ 44) (length input) (omega (arith, length-append h.bytes (left_of l), h.past)) in
-      let is : check_outcome input ≡ too_long = ap (λ (b : Bool). checked_outcome (checked_by (2 ^ 44) b input)) above ∙ ap checked_outcome (h.decides (left_of l)) in
-      record { input = input; read = front_read s l h.bytes h.read; still = still; status = ap (λ (o : Outcome). o.status) (sym is); wrote = rw is (wrote_none t) }
+      let above : nat_lt (2 ^ 44) (length input)
+          ≡ true = lt-ltb (2 ^ 44) (length input)
+            (omega (arith, length-append h.bytes (left_of l), h.past)) in
+      let is : check_outcome input
+            ≡ too_long = ap (λ (b : Bool). checked_outcome (checked_by (2 ^ 44) b input)) above
+          ∙ ap checked_outcome (h.decides (left_of l)) in
+      record
+          { input = input; read = front_read s l h.bytes h.read; still = still;
+            status = ap (λ (o : Outcome). o.status) (sym is); wrote = rw is (wrote_none t) }
 
   -- a line is refused
   module _ (line : ℕ) (h : IsRefused (2 ^ 44) s l line) (still : now ≡ before) (t u : Told) where
@@ -74,29 +92,49 @@ module _ (s l : Option (List ℕ)) (before now : ℕ) where
     input = input_of h.ended s l h.bytes h.read h.at_end h.within
 
     refused_is : check_outcome (h.bytes ++ input.rest) ≡ outcome_of (Err (refusal.Certificate line))
-    refused_is = ap checked_outcome (h.decides (nat_lt (2 ^ 44) (length (h.bytes ++ input.rest))) input.rest input.follows)
+    refused_is =
+        ap checked_outcome
+        (h.decides (nat_lt (2 ^ 44) (length (h.bytes ++ input.rest))) input.rest input.follows)
 
-    pub check_refused : Wrote (refusal_line (refusal.Certificate line)) t u → Does (Some command.Check) (status.CertRefused line) s l before now t u
-    check_refused wrote = record { input = h.bytes ++ input.rest; read = input.read; still = still; status = ap (λ (o : Outcome). o.status) (sym refused_is); wrote = rw refused_is wrote }
+    pub check_refused : Wrote (refusal_line (refusal.Certificate line)) t u
+        → Does (Some command.Check) (status.CertRefused line) s l before now t u
+    check_refused wrote =
+        record
+        { input = h.bytes ++ input.rest; read = input.read; still = still;
+          status = ap (λ (o : Outcome). o.status) (sym refused_is); wrote = rw refused_is wrote }
 
-    pub check_refused_cut : Cut (refusal_line (refusal.Certificate line)) t u → Does (Some command.Check) status.WriteFault s l before now t u
-    check_refused_cut cut = record { input = h.bytes ++ input.rest; read = input.read; still = still; cut = rw refused_is cut }
+    pub check_refused_cut : Cut (refusal_line (refusal.Certificate line)) t u
+        → Does (Some command.Check) status.WriteFault s l before now t u
+    check_refused_cut cut =
+        record
+        { input = h.bytes ++ input.rest; read = input.read; still = still; cut = rw refused_is cut }
 
   -- the text is a certificate's
-  module _ (law : LimitsMatterBeyond) (v : Verdict) (h : IsChecked (2 ^ 44) s l v) (still : now ≡ before) (t u : Told) where
+  module _ (law : LimitsMatterBeyond) (v : Verdict) (h : IsChecked (2 ^ 44) s l v)
+      (still : now ≡ before) (t u : Told) where
     all_read : ReadsAll s l h.text
     all_read = record { read = h.read; end = h.at_end }
 
     verdict_is : check_outcome h.text ≡ verdict_outcome v
     verdict_is = ap checked_outcome (law (2 ^ 44) h.text h.within ∙ ap unlimited h.is)
 
-    pub check_cut : Cut (verdict_outcome v).text t u → Does (Some command.Check) status.WriteFault s l before now t u
-    check_cut cut = record { input = h.text; read = all_front s l h.text all_read; still = still; cut = rw verdict_is cut }
+    pub check_cut : Cut (verdict_outcome v).text t u
+        → Does (Some command.Check) status.WriteFault s l before now t u
+    check_cut cut =
+        record
+        { input = h.text; read = all_front s l h.text all_read; still = still;
+          cut = rw verdict_is cut }
 
-  pub check_done : LimitsMatterBeyond → (v : Verdict) → IsChecked (2 ^ 44) s l v → now ≡ before → (t u : Told) → Wrote (verdict_outcome v).text t u → Does (Some command.Check) (verdict_outcome v).status s l before now t u
+  pub check_done : LimitsMatterBeyond → (v : Verdict) → IsChecked (2 ^ 44) s l v → now ≡ before
+      → (t u : Told) → Wrote (verdict_outcome v).text t u
+      → Does (Some command.Check) (verdict_outcome v).status s l before now t u
   check_done law (verdict.True rows locked) h still t u wrote =
       let is = verdict_is law (verdict.True rows locked) h still t u in
-      record { input = h.text; read = all_read law (verdict.True rows locked) h still t u; still = still; status = ap (λ (o : Outcome). o.status) (sym is); wrote = rw is wrote }
+      record
+          { input = h.text; read = all_read law (verdict.True rows locked) h still t u;
+            still = still; status = ap (λ (o : Outcome). o.status) (sym is); wrote = rw is wrote }
   check_done law (verdict.False row) h still t u wrote =
       let is = verdict_is law (verdict.False row) h still t u in
-      record { input = h.text; read = all_read law (verdict.False row) h still t u; still = still; status = ap (λ (o : Outcome). o.status) (sym is); wrote = rw is wrote }
+      record
+          { input = h.text; read = all_read law (verdict.False row) h still t u; still = still;
+            status = ap (λ (o : Outcome). o.status) (sym is); wrote = rw is wrote }

@@ -16,9 +16,11 @@ unfolding left_of
 holds_left None = tt
 holds_left (Some left) = refl
 
-module _ (outcome : List ℕ → Outcome) (o : Outcome) (same : (input : List ℕ) → outcome input ≡ o) (left : Option (List ℕ)) (count : ℕ) (old new : Told) where
+module _ (outcome : List ℕ → Outcome) (o : Outcome) (same : (input : List ℕ) → outcome input ≡ o)
+    (left : Option (List ℕ)) (count : ℕ) (old new : Told) where
   -- its text was written
-  pub unread_answered : (s : Status) → s ≡ o.status → Wrote o.text old new → Answered nothing outcome s left left count count old new
+  pub unread_answered : (s : Status) → s ≡ o.status → Wrote o.text old new
+      → Answered nothing outcome s left left count count old new
   unread_answered s is wrote = record {
     input = left_of left;
     read = (refl, holds_left left);

@@ -9,13 +9,15 @@ use Rattle.answers.proofs.words.record.Goals as goal
 pub returns-in_err-plan : goal.returns-in_err-plan
 returns-in_err-plan g c =
     unread g.K.Sink.told _ _ _ _
-    (refuses_text (λ (s : Scripted). certificate_text (certificate_of s.plan s.script)) _ (scripted_of c.args.input.now) c.in_err-plan.ensures)
+    (refuses_text (λ (s : Scripted). certificate_text (certificate_of s.plan s.script)) _
+        (scripted_of c.args.input.now) c.in_err-plan.ensures)
     c.from_residual.ensures.1
 
 pub returns-in_err-write_run : goal.returns-in_err-write_run
 returns-in_err-write_run g c =
     unwritten g.K.Sink.told _ _ _ _ _
-    (ap (text_by (λ (s : Scripted). certificate_text (certificate_of s.plan s.script))) c.in_ok-plan.ensures.read)
+    (ap (text_by (λ (s : Scripted). certificate_text (certificate_of s.plan s.script)))
+        c.in_ok-plan.ensures.read)
     c.from_residual-in_err-write_run.ensures.1 c.in_err-write_run.ensures.text
 
 pub returns : goal.returns

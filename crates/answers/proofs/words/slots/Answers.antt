@@ -2,11 +2,13 @@ use Rattle.answers.proofs.Unwritten.{unread, unwritten}
 use Rattle.answers.proofs.words.slots.Goals as goal
 
 pub returns-in_err-lines : goal.returns-in_err-lines
-returns-in_err-lines g c = unread g.K.Sink.told _ _ _ _ c.in_err-lines.ensures c.from_residual.ensures.1
+returns-in_err-lines g c =
+    unread g.K.Sink.told _ _ _ _ c.in_err-lines.ensures c.from_residual.ensures.1
 
 pub returns-in_err-put_counting : goal.returns-in_err-put_counting
 returns-in_err-put_counting g c =
-    unwritten g.K.Sink.told _ _ _ _ _ c.in_ok-lines.ensures.text c.from_residual-in_err-put_counting.ensures.1
+    unwritten g.K.Sink.told _ _ _ _ _ c.in_ok-lines.ensures.text
+        c.from_residual-in_err-put_counting.ensures.1
     c.in_err-put_counting.ensures
 
 pub returns : goal.returns

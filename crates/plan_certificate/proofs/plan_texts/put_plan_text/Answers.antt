@@ -20,6 +20,8 @@ returns-in_err-put_levels g c = puts_exit _ _ _ _ _ c.from_residual-in_err-put_l
     (cut_more _ _ (level_texts c.args.version c.args.plan.now) _ c.in_err-put_levels.ensures)))
 
 pub returns : goal.returns
-returns g c = puts_then _ _ _ _ (version_line (codes "plan ") c.args.version) _ c.in_ok-put_version.ensures
+returns g c =
+    puts_then _ _ _ _ (version_line (codes "plan ") c.args.version) _ c.in_ok-put_version.ensures
     (puts_then _ _ _ _ (base_line c.args.plan.now.base) _ c.in_ok-put_base.ensures
-    (puts_then _ _ _ _ (level_texts c.args.version c.args.plan.now) _ c.in_ok-put_levels.ensures c.put_all.ensures))
+    (puts_then _ _ _ _ (level_texts c.args.version c.args.plan.now) _ c.in_ok-put_levels.ensures
+        c.put_all.ensures))

@@ -8,5 +8,6 @@ abbrev pub invariant-loop-name : goal.invariant-loop-name
 invariant-loop-name g l = record {
   size : length l.numbers ≡ g.row.N;
   count : l.i + length l.name-iterator ≡ g.row.N;
-  so_far : numbers_named (words_of l.names) l.fn.words ≡ with_front (take l.i l.numbers) (numbers_named l.name-iterator l.words);
+  so_far : numbers_named (words_of l.names) l.fn.words
+      ≡ with_front (take l.i l.numbers) (numbers_named l.name-iterator l.words);
 }

@@ -28,7 +28,9 @@ a_line text i e =
     }
 
 pub returns-in_err-end : goal.returns-in_err-end
-returns-in_err-end c = rw c.from_residual.ensures (no_line c.args.text.now (sym c.newline_in.ensures ∙ c.in_err-end.was))
+returns-in_err-end c =
+    rw c.from_residual.ensures
+    (no_line c.args.text.now (sym c.newline_in.ensures ∙ c.in_err-end.was))
 
 pub returns : goal.returns
 returns c = a_line c.args.text.now c.in_ok-end.end (sym c.newline_in.ensures ∙ c.in_ok-end.was)

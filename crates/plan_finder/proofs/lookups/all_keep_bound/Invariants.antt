@@ -4,4 +4,5 @@ use Rattle.plan_finder.specs.Potentials.{KeepsBound}
 use Rattle.plan_finder.proofs.lookups.all_keep_bound.Given as goal
 
 abbrev pub invariant-loop-pot : goal.invariant-loop-pot
-invariant-loop-pot l = (i : ℕ) (d : Pot) → i < l.pot-index → KeepsBound l.f l.bound (slice_index_or l.pots i d)
+invariant-loop-pot l =
+    (i : ℕ) (d : Pot) → i < l.pot-index → KeepsBound l.f l.bound (slice_index_or l.pots i d)

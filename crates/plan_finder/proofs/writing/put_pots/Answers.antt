@@ -6,7 +6,11 @@ pub loop-i-init : goal.loop-i-init
 loop-i-init g c = wrote_none _
 
 pub returns-in-Err : goal.returns-in-Err
-returns-in-Err g c = cut_at pot_line c.args.pots.now c.loop-i.i _ _ _ _ c.loop-i-test.true c.loop-i.invariant c.in-Err.ensures
+returns-in-Err g c =
+    cut_at pot_line c.args.pots.now c.loop-i.i _ _ _ _ c.loop-i-test.true c.loop-i.invariant
+    c.in-Err.ensures
 
 pub loop-i-preserved : goal.loop-i-preserved
-loop-i-preserved g c = wrote_at pot_line c.args.pots.now c.loop-i.i _ _ _ _ c.loop-i-test.true c.loop-i.invariant c.in-Ok.ensures
+loop-i-preserved g c =
+    wrote_at pot_line c.args.pots.now c.loop-i.i _ _ _ _ c.loop-i-test.true c.loop-i.invariant
+    c.in-Ok.ensures

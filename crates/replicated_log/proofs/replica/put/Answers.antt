@@ -14,4 +14,6 @@ returns-clause-logs c =
     map-set log_seen logs c.args.node c.push_back.new.self
     ∙ ap (set (map log_seen logs) c.args.node)
     (ap log_seen c.push_back.ensures.items ∙ (newest_first at.capacity at.items c.args.entry
-    ∙ ap₂ (λ (k : ℕ) (l : List Entry). take k (c.args.entry ∷ l)) (c.requires.keep c.args.node r c.requires.node) (sym (get_or-map log_seen logs c.args.node r [] c.requires.node))))
+    ∙ ap₂ (λ (k : ℕ) (l : List Entry). take k (c.args.entry ∷ l))
+        (c.requires.keep c.args.node r c.requires.node)
+        (sym (get_or-map log_seen logs c.args.node r [] c.requires.node))))

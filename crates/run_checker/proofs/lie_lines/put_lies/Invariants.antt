@@ -9,6 +9,10 @@ use Rattle.run_checker.proofs.lie_lines.put_lies.Given as goal
 abbrev pub invariant-loop-i : goal.invariant-loop-i
 invariant-loop-i g l = record {
   same : l.runner ≡ l.fn.runner;
-  wrote : Wrote (flat_map (lies_from l.fn.runner.script (plan_nodes l.fn.runner.plan) l.fn.runner.at l.fn.runner.states)
-      (take l.i (faulty_at l.fn.runner.script l.fn.runner.at))) (g.K.Sink.told l.fn.sink) (g.K.Sink.told l.sink);
+  wrote : Wrote
+      (flat_map
+        (lies_from l.fn.runner.script (plan_nodes l.fn.runner.plan) l.fn.runner.at
+          l.fn.runner.states)
+      (take l.i (faulty_at l.fn.runner.script l.fn.runner.at))) (g.K.Sink.told l.fn.sink)
+          (g.K.Sink.told l.sink);
 }

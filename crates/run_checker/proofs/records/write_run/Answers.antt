@@ -8,7 +8,10 @@ pub returns-in-Ok-clause-text : goal.returns-in-Ok-clause-text
 returns-in-Ok-clause-text g c =
     let text = record_is c.args.plan.now c.args.runner.now.script c.requires.plays.script
     (rw c.requires.plan at c.requires.plays.shape) in
-    rw text (puts_lent g.K.Sink.told _ _ _ _ _ _ _ _ (search rules) (c.finish.ensures.puts _ _ (rw c.new-lines.ensures.told at c.in-Ok.ensures.text)) c.finish.ensures.none_held)
+    rw text
+        (puts_lent g.K.Sink.told _ _ _ _ _ _ _ _ (search rules)
+          (c.finish.ensures.puts _ _ (rw c.new-lines.ensures.told at c.in-Ok.ensures.text))
+          c.finish.ensures.none_held)
 
 pub returns-in-Ok-clause-played : goal.returns-in-Ok-clause-played
 returns-in-Ok-clause-played g c = on_ok _ _ c.in-Ok.ensures.played
@@ -22,4 +25,6 @@ pub returns-in-Err-clause-text : goal.returns-in-Err-clause-text
 returns-in-Err-clause-text g c =
     let text = record_is c.args.plan.now c.args.runner.now.script c.requires.plays.script
     (rw c.requires.plan at c.requires.plays.shape) in
-    rw text (cut_lent g.K.Sink.told _ _ _ _ _ _ _ (search rules) (rw c.new-lines.ensures.told at c.in-Err.ensures.text))
+    rw text
+        (cut_lent g.K.Sink.told _ _ _ _ _ _ _ (search rules)
+          (rw c.new-lines.ensures.told at c.in-Err.ensures.text))

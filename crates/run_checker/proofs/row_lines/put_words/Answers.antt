@@ -8,10 +8,16 @@ pub loop-v-init : goal.loop-v-init
 loop-v-init g c = wrote_none _
 
 pub returns-in-Err : goal.returns-in-Err
-returns-in-Err g c = words_cut _ (plan_nodes c.args.runner.now.plan) c.loop-v.v _ _ _ (omega (arith, c.loop-v-test.true, c.nodes-v-end.ensures)) c.loop-v.invariant c.in-Err.ensures
+returns-in-Err g c =
+    words_cut _ (plan_nodes c.args.runner.now.plan) c.loop-v.v _ _ _
+    (omega (arith, c.loop-v-test.true, c.nodes-v-end.ensures)) c.loop-v.invariant c.in-Err.ensures
 
 pub loop-v-preserved : goal.loop-v-preserved
-loop-v-preserved g c = words_more _ (plan_nodes c.args.runner.now.plan) c.loop-v.v _ _ _ (omega (arith, c.loop-v-test.true, c.nodes-v-end.ensures)) c.loop-v.invariant c.in-Ok.ensures
+loop-v-preserved g c =
+    words_more _ (plan_nodes c.args.runner.now.plan) c.loop-v.v _ _ _
+    (omega (arith, c.loop-v-test.true, c.nodes-v-end.ensures)) c.loop-v.invariant c.in-Ok.ensures
 
 pub returns : goal.returns
-returns g c = words_all _ (plan_nodes c.args.runner.now.plan) c.loop-v.v _ _ (omega (arith, c.loop-v-test.false, c.nodes-v-end.ensures)) c.loop-v.invariant
+returns g c =
+    words_all _ (plan_nodes c.args.runner.now.plan) c.loop-v.v _ _
+    (omega (arith, c.loop-v-test.false, c.nodes-v-end.ensures)) c.loop-v.invariant

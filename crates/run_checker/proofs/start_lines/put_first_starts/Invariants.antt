@@ -8,5 +8,8 @@ use Rattle.run_checker.proofs.start_lines.put_first_starts.Given as goal
 abbrev pub invariant-loop-v : goal.invariant-loop-v
 invariant-loop-v g l = record {
   same : l.runner ≡ l.fn.runner;
-  wrote : Wrote (words_before (first_start l.fn.runner.script l.fn.runner.states) (plan_nodes l.fn.runner.plan) l.v) (g.K.Sink.told l.fn.sink) (g.K.Sink.told l.sink);
+  wrote : Wrote
+      (words_before (first_start l.fn.runner.script l.fn.runner.states)
+        (plan_nodes l.fn.runner.plan) l.v)
+      (g.K.Sink.told l.fn.sink) (g.K.Sink.told l.sink);
 }

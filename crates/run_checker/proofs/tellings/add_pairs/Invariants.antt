@@ -4,6 +4,7 @@ use Rattle.run_checker.proofs.tellings.add_pairs.Given as goal
 
 abbrev pub invariant-loop-v : goal.invariant-loop-v
 invariant-loop-v l = record {
-  pairs : l.pairs.items ≡ l.fn.pairs.items ++ map (λ v. (l.sender, v)) (correct_nodes l.v l.faulty.ids);
+  pairs : l.pairs.items
+      ≡ l.fn.pairs.items ++ map (λ v. (l.sender, v)) (correct_nodes l.v l.faulty.ids);
   room : vec_capacity l.fn.pairs ≤ vec_capacity l.pairs;
 }

@@ -6,6 +6,7 @@ use Rattle.run_checker.proofs.tellings.take_pairs.Given as goal
 
 abbrev pub invariant-loop-i : goal.invariant-loop-i
 invariant-loop-i l = record {
-  pairs : l.pairs.items ≡ flat_map (row_of (correct_nodes l.faulty.nodes l.faulty.ids)) (take l.i l.faulty.ids);
+  pairs : l.pairs.items
+      ≡ flat_map (row_of (correct_nodes l.faulty.nodes l.faulty.ids)) (take l.i l.faulty.ids);
   room : vec_capacity l.fn.pairs ≤ vec_capacity l.pairs;
 }

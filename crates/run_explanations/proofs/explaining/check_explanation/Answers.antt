@@ -72,7 +72,11 @@ returns-clause-played c =
       fits = λ fits. subst (λ (t : Top).
           HasPlayed c.args.runner.now (e.window + t.beat - 1) c.look_over-stretch.new.runner)
           c.top_of-top.ensures c.look_over-stretch.ensures.played;
-      strays = λ no. absurd (no (fits_era plan script c.top_of-top.result.numbers _ _ e c.top_of-top.ensures begin rounds
+      strays =
+          λ no. absurd
+          (no
+            (fits_era plan script c.top_of-top.result.numbers _ _ e c.top_of-top.ensures begin
+              rounds
           (c.fits.ensures.0 c.if-not-fits.false)));
     }
 

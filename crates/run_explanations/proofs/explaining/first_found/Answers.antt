@@ -38,7 +38,8 @@ pub take-search-requires-clause-few : goal.take-search-requires-clause-few
 take-search-requires-clause-few c =
     let is = c.loop-runner.invariant in
     let read = c.requires.read in
-    let count = count_now c.args.top.numbers (era_begin c.args.runner.now.script) c.args.runner.now.plan c.args.runner.now.script
+    let count = count_now c.args.top.numbers (era_begin c.args.runner.now.script)
+        c.args.runner.now.plan c.args.runner.now.script
     read.reads.top_is read.top_is _ _ is.found.stretch in
     omega (arith, count)
 
@@ -89,7 +90,8 @@ pub take-requires-clause-few : goal.take-requires-clause-few
 take-requires-clause-few c =
     let is = c.loop-runner.invariant in
     let read = c.requires.read in
-    let count = count_now c.args.top.numbers (era_begin c.args.runner.now.script) c.args.runner.now.plan c.args.runner.now.script
+    let count = count_now c.args.top.numbers (era_begin c.args.runner.now.script)
+        c.args.runner.now.plan c.args.runner.now.script
     read.reads.top_is read.top_is _ _ is.found.stretch in
     omega (arith, count)
 

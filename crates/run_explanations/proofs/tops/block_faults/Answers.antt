@@ -3,7 +3,8 @@ use Rattle.run_explanations.proofs.TopNumbers.{faults_read, faults_none}
 use Rattle.run_explanations.proofs.tops.block_faults.Goals as goal
 
 pub returns-then-depth-lt2 : goal.returns-then-depth-lt2
-returns-then-depth-lt2 c = faults_none c.args.plan.now (omega (arith, c.depth-depth.ensures.value, c.if-depth-lt2.true))
+returns-then-depth-lt2 c =
+    faults_none c.args.plan.now (omega (arith, c.depth-depth.ensures.value, c.if-depth-lt2.true))
 
 pub returns : goal.returns
 returns c =

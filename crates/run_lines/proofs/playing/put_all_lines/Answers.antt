@@ -16,7 +16,8 @@ returns-in_err-put_lines g c =
     (cut_then _ _ _ _ _ bound (cut_more _ _ _ _ c.in_err-put_lines.ensures.lines))
 
 pub put_locks-requires : goal.put_locks-requires
-put_locks-requires g c = inl (end_at _ _ (g.L.Lines.wording c.args.lines.now) _ _ c.in_ok-put_lines.ensures.played)
+put_locks-requires g c =
+    inl (end_at _ _ (g.L.Lines.wording c.args.lines.now) _ _ c.in_ok-put_lines.ensures.played)
 
 pub returns : goal.returns
 returns g c =
@@ -24,4 +25,6 @@ returns g c =
     let lines = c.in_ok-put_lines.ensures in
     puts_then _ _ _ _ _ _ bound
     (puts_then _ _ _ _ _ _ lines.lines
-    (puts_last _ _ _ _ (locks_after _ _ (g.L.Lines.wording c.args.lines.now) _ _ _ _ _ _ lines.played (c.put_locks.ensures _ lines.played.plays))))
+    (puts_last _ _ _ _
+        (locks_after _ _ (g.L.Lines.wording c.args.lines.now) _ _ _ _ _ _ lines.played
+          (c.put_locks.ensures _ lines.played.plays))))

@@ -17,7 +17,8 @@ use Rattle.workbench.proofs.Whole.{unmet}
 use Rattle.workbench.proofs.demo_word.demo.Goals as goal
 
 -- what `demo` did, by what became of its text
-module _ {K : Type 0} (told : K → Told) (seed : ℕ) (left : Option (List ℕ)) (count : ℕ) (old new : K) where
+module _ {K : Type 0} (told : K → Told) (seed : ℕ) (left : Option (List ℕ)) (count : ℕ)
+    (old new : K) where
   abbrev Did : Status → Type 0
   Did s = Does (Some (command.Demo seed)) s left left count count (told old) (told new)
 

@@ -48,14 +48,18 @@ invariant_of-result c =
       shape = ap (λ (p : Pack). p.shape) c.in_ok-config.ensures
           ∙ (c.in_ok-shape.ensures.shape ∙ sym (ap shape_of plan));
       faulty = faulty;
-      unknown = ap (λ (s : FaultIds). s.nodes) c.in_ok-unknown.ensures ∙ (c.nodes.ensures ∙ sym nodes);
+      unknown =
+          ap (λ (s : FaultIds). s.nodes) c.in_ok-unknown.ensures ∙ (c.nodes.ensures ∙ sym nodes);
       size = ap (λ (p : Pack). length p.current) c.in_ok-config.ensures
           ∙ (length-replicate c.nodes-2.result _ ∙ count);
-      pairs = ap (λ (t : Telling). t.pairs) told ∙ ap (λ (n : ℕ). pairs_of n c.args.faulty.ids) faulty;
+      pairs =
+          ap (λ (t : Telling). t.pairs) told ∙ ap (λ (n : ℕ). pairs_of n c.args.faulty.ids) faulty;
       senders = subst (λ (n : ℕ). All (Below n) c.begin.new.self.pairs) faulty
           c.begin.ensures.senders;
       kept = ap (λ (t : Telling). t.shape) told ∙ sym (ap shape_of plan);
-      told = subst (AreStates tower) (sym (ap (λ (t : Telling). t.states) told)) (no_states tower accepted);
+      told =
+          subst (AreStates tower) (sym (ap (λ (t : Telling). t.states) told))
+          (no_states tower accepted);
       most = ap (λ (t : Telling). t.room) told ∙ sym (ap most_pairs plan);
       room = c.in_ok-room.ensures;
       sets = subst (λ (n : ℕ). All (λ (set : FaultIds). set ≡ no_ids n) c.in_ok-sets.sets.items)
@@ -67,7 +71,8 @@ invariant_of-result c =
 
 pub returns : goal.returns
 returns c =
-    let view : Plan → (eras : ℕ) → List State → List ℕ → List State → BodySeen = λ plan eras config unknown told. record {
+    let view : Plan → (eras : ℕ) → List State → List ℕ → List State
+        → BodySeen = λ plan eras config unknown told. record {
       known = record {
         version = c.args.version;
         plan = plan;
@@ -88,9 +93,13 @@ returns c =
     let zeros = ap (λ (p : Pack). p.current) c.in_ok-config.ensures
     ∙ (ap₂ (λ (n d : ℕ). replicate n (zero_state d)) c.nodes-2.ensures depth
     ∙ zeros_known plan c.args.faulty.ids) in
-    let unknown = ap (λ (s : FaultIds). s.ids) c.in_ok-unknown.ensures ∙ ap (range_with_len 0) c.nodes.ensures in
+    let unknown = ap (λ (s : FaultIds). s.ids) c.in_ok-unknown.ensures
+        ∙ ap (range_with_len 0) c.nodes.ensures in
     let eras : most_eras c.args.version - length c.in_ok-sets.sets.items ≡ 0 =
     omega (arith, c.in_ok-sets.ensures.count, c.most_eras.ensures) in
-    ap₂ (λ p eras. view p eras c.in_ok-config.config.current c.in_ok-unknown.unknown.ids c.begin.new.self.states) c.in_ok-tower.ensures.plan eras
+    ap₂
+        (λ p eras. view p eras c.in_ok-config.config.current c.in_ok-unknown.unknown.ids
+          c.begin.new.self.states)
+        c.in_ok-tower.ensures.plan eras
     ∙ ap₂ (λ config unknown. view plan 0 config unknown c.begin.new.self.states) zeros unknown
     ∙ ap (view plan 0 _ _) (ap (λ (t : Telling). t.states) c.begin.ensures.value)

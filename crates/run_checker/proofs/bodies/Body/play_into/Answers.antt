@@ -45,7 +45,8 @@ play-requires-clause-room c = c.self.invariant.room
 
 pub returns : goal.returns
 returns c =
-    let view : FaultIds → FaultIds → List State → List State → BodySeen = λ faulty unknown config told. record {
+    let view : FaultIds → FaultIds → List State → List State
+        → BodySeen = λ faulty unknown config told. record {
       known = record {
         version = c.self.inside.version;
         plan = c.self.inside.tower;
@@ -63,8 +64,10 @@ returns c =
     let config = c.play.ensures.current
     ∙ (stepped_is c.self.inside.tower c.self.inside.faulty.ids
     c.args.faulty.ids c.self.inside.config.current _ c.self.inside.tellings.states refl) in
-    ap₂ (λ f u. view f u c.play.new.config.current c.begin.new.self.states) c.replace.ensures.after c.replace.ensures.value
-    ∙ ap₂ (view c.args.faulty c.self.inside.faulty) config (ap (λ (t : Telling). t.states) c.begin.ensures.value)
+    ap₂ (λ f u. view f u c.play.new.config.current c.begin.new.self.states) c.replace.ensures.after
+        c.replace.ensures.value
+    ∙ ap₂ (view c.args.faulty c.self.inside.faulty) config
+        (ap (λ (t : Telling). t.states) c.begin.ensures.value)
     ∙ ap (λ (b : BodySeen). played_into b c.args.faulty.ids) c.self.view_is
 
 pub invariant_of-self : goal.invariant_of-self
@@ -83,7 +86,8 @@ invariant_of-self c =
           ∙ ap (λ (n : ℕ). pairs_of n c.args.faulty.ids) nodes
           ∙ ap (λ (s : FaultIds). pairs_of (plan_nodes c.self.inside.tower) s.ids)
           (sym c.replace.ensures.after);
-      senders = subst (λ (n : ℕ). All (Below n) c.begin.new.self.pairs) nodes c.begin.ensures.senders;
+      senders =
+          subst (λ (n : ℕ). All (Below n) c.begin.new.self.pairs) nodes c.begin.ensures.senders;
       kept = ap (λ (t : Telling). t.shape) begun ∙ i.kept;
       told = subst (AreStates c.self.inside.tower)
           (sym (ap (λ (t : Telling). t.states) begun)) (none_are c.self.inside.tower);

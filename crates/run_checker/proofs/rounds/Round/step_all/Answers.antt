@@ -10,7 +10,8 @@ use Rattle.run_checker.proofs.rounds.Round.step_all.Goals as goal
 
 pub gather-requires-clause-deep : goal.gather-requires-clause-deep
 gather-requires-clause-deep g c =
-    let deep = pack_deep c.args.self.now.tower.now c.tell.ensures c.args.config.now c.requires.config.shape
+    let deep = pack_deep c.args.self.now.tower.now c.tell.ensures c.args.config.now
+        c.requires.config.shape
     in omega (arith, deep)
 
 pub gather-requires-clause-range : goal.gather-requires-clause-range
@@ -33,7 +34,9 @@ pub loop-v-init : goal.loop-v-init
 loop-v-init g c =
     let room = c.requires.room in
     record {
-      stepped = none_stepped c.args.self.now.tower.now c.args.self.now.faulty.now.ids c.args.new_faulty.now.ids
+      stepped =
+          none_stepped c.args.self.now.tower.now c.args.self.now.faulty.now.ids
+          c.args.new_faulty.now.ids
           c.args.config.now.current c.args.self.now.told.now.states c.args.config.now.next
           (c.tell-2.ensures.size ∙ c.requires.config.size);
       fixed = refl;
@@ -73,11 +76,15 @@ loop-v-preserved g c =
     let more = count_more c.args.self.now.faulty.now.ids c.loop-v.v in
     record {
       stepped = rw (c.step_one.ensures.config, fixed)
-          (one_stepped c.args.self.now.tower.now c.args.self.now.faulty.now.ids c.args.new_faulty.now.ids
-          c.args.config.now.current c.args.self.now.told.now.states c.loop-v.v c.loop-v.config.next lt h.stepped);
+          (one_stepped c.args.self.now.tower.now c.args.self.now.faulty.now.ids
+              c.args.new_faulty.now.ids
+          c.args.config.now.current c.args.self.now.told.now.states c.loop-v.v c.loop-v.config.next
+              lt h.stepped);
       fixed = rw (c.step_one.ensures.config, fixed) refl;
       before = omega (arith, more, h.before, c.correct_at-before.ensures.value);
-      room = gathered_out c.args.self.now.tower.now c.args.self.now.faulty.now.ids c.args.self.now.told.now.states c.args.config.now c.loop-v.config.next
+      room =
+          gathered_out c.args.self.now.tower.now c.args.self.now.faulty.now.ids
+          c.args.self.now.told.now.states c.args.config.now c.loop-v.config.next
           c.loop-v.config c.step_one.new.room fixed c.step_one.ensures.room;
     }
 

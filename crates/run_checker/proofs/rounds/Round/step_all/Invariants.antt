@@ -10,5 +10,6 @@ invariant-loop-v g l = record {
       l.self.told.now.states l.v l.config.next;
   fixed : l.config ≡ record l.fn.config { next = l.config.next };
   before : l.before ≡ length (correct_nodes l.v l.self.faulty.now.ids);
-  room : IsGathered l.self.tower.now l.self.faulty.now.ids l.self.told.now.states l.fn.config l.room;
+  room : IsGathered l.self.tower.now l.self.faulty.now.ids l.self.told.now.states l.fn.config
+      l.room;
 }

@@ -5,7 +5,9 @@ use Rattle.run_checker.proofs.turns.Turn.step.Goals as goal
 
 pub advance_shared-requires-clause-stands : goal.advance_shared-requires-clause-stands
 advance_shared-requires-clause-stands g c =
-    subst (λ (s : Shares). s ≡ stands_for c.args.self.now.round.now.tower.now c.args.config.now.current s.faulty)
+    subst
+        (λ (s : Shares). s
+          ≡ stands_for c.args.self.now.round.now.tower.now c.args.config.now.current s.faulty)
     (sym c.hear.ensures.room.stands) refl
 
 pub returns-clause-room : goal.returns-clause-room
@@ -20,7 +22,9 @@ returns-clause-room g c =
         lies = ready.lies;
         zero = ready.zero;
         shared = ap (λ (s : Shares). s.plan) c.advance_shared.ensures.same ∙ ready.shared;
-        out = out_long c.args.self.now.round.now.tower.now c.tell.ensures c.args.self.now.v _ c.hear.new.room.out _
+        out =
+            out_long c.args.self.now.round.now.tower.now c.tell.ensures c.args.self.now.v _
+            c.hear.new.room.out _
             ready.out c.advance_shared.ensures.out;
       };
       stands = c.advance_shared.ensures.same ∙ heard.stands;

@@ -7,5 +7,9 @@ use Rattle.run_explanations.proofs.seeing.Sight.join_pointers.Given as goal
 
 -- with those so far
 abbrev pub invariant-loop-j : goal.invariant-loop-j
-invariant-loop-j l = l.shared ≡ shared_by l.fn.begun (is_correct l.self.top.numbers (is_in l.self.faulty.now.ids) l.i)
-    (pointer_at l.self.top.numbers (outputs_in (plan_depth l.self.runner.now.plan - 1) l.self.runner.now.states) l.i) l.j
+invariant-loop-j l =
+    l.shared
+    ≡ shared_by l.fn.begun (is_correct l.self.top.numbers (is_in l.self.faulty.now.ids) l.i)
+    (pointer_at l.self.top.numbers
+          (outputs_in (plan_depth l.self.runner.now.plan - 1) l.self.runner.now.states) l.i)
+        l.j

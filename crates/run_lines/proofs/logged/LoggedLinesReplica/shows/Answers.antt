@@ -5,4 +5,5 @@ use Rattle.run_lines.proofs.logged.LoggedLinesReplica.shows.Goals as goal
 pub returns : goal.returns
 returns c =
     let r = c.args.runner.now in
-    c.slot_ends.ensures ∙ ap (λ (q : ℕ). ends_at r.plan r.script q r.at r.states) c.entry_length.ensures
+    c.slot_ends.ensures
+        ∙ ap (λ (q : ℕ). ends_at r.plan r.script q r.at r.states) c.entry_length.ensures

@@ -7,5 +7,7 @@ use Rattle.state_codec.proofs.packed.Packed.old.Goals as goal
 pub copy_from-requires : goal.copy_from-requires
 copy_from-requires c =
     ap (λ (s : State). length s.registers) c.state.ensures
-    ∙ (depth_in_range c.args.self.now.shape c.args.v _ (c.tell.ensures.current c.args.v c.requires.node)
+    ∙
+        (depth_in_range c.args.self.now.shape c.args.v _
+          (c.tell.ensures.current c.args.v c.requires.node)
     ∙ sym c.requires.depth)

@@ -36,7 +36,8 @@ returns-in-Err-clause-words g c =
     c.loop-i.invariant.work.outputs in
     let blocks = ap (λ (p : Placed). p.nums.blocks) c.self.view_is in
     words_cut (vote_word (block_nodes nums) (level_of nums)
-    (take (in_blocks nums) c.args.work.now.outputs.items)) nums.blocks i _ _ _ (omega (arith, c.loop-i-test.true, blocks))
+    (take (in_blocks nums) c.args.work.now.outputs.items)) nums.blocks i _ _ _
+        (omega (arith, c.loop-i-test.true, blocks))
     c.loop-i.invariant.wrote (word_cut _ _ _ _ is c.in-Err.ensures)
 
 pub loop-i-preserved : goal.loop-i-preserved
@@ -52,7 +53,8 @@ loop-i-preserved g c =
     record {
       wrote = words_more (vote_word (block_nodes nums) (level_of nums)
           (take (in_blocks nums) c.args.work.now.outputs.items)) nums.blocks i _ _ _
-          (omega (arith, c.loop-i-test.true, blocks)) c.loop-i.invariant.wrote (word_wrote _ _ _ _ is c.in-Ok.ensures);
+          (omega (arith, c.loop-i-test.true, blocks)) c.loop-i.invariant.wrote
+              (word_wrote _ _ _ _ is c.in-Ok.ensures);
       work = record {
         outputs = c.vote.ensures.work.outputs ∙ c.loop-i.invariant.work.outputs;
         values = c.vote.ensures.work.values ∙ c.loop-i.invariant.work.values;
