@@ -10,4 +10,5 @@ pub mod Strips
 pub mod TracePictures
 pub mod TraceSaid
 pub mod TraceLaid
+pub mod Pages
 pub mod Drawn

@@ -27,6 +27,7 @@ mod laid;
 mod layouts;
 mod lines;
 mod marks;
+mod pages;
 mod pictures;
 mod printing;
 mod reading;
@@ -43,4 +44,6 @@ mod turns;
 mod turns_said;
 
 pub use drawing::{DrawError, draw};
+pub use pages::{Form, put_page_behind, put_page_front};
+pub use pictures::{put_front, put_ground};
 pub use reading::{ChartError, Wanted};

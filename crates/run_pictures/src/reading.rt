@@ -27,6 +27,7 @@ pub enum Wanted {
     Nothing,
     Trace,
     Node,
+    Tally,
 }
 
 impl fmt::Display for Wanted {
@@ -45,6 +46,9 @@ impl fmt::Display for Wanted {
                 "the next line of a trace: the next node, or the next level of the same one"
             }
             Wanted::Node => "the line of a trace for the next node",
+            Wanted::Tally => {
+                "the next line of a sweep: `era`, `locked`, `runs` and `seed`, each with its number"
+            }
         })
     }
 }
@@ -250,7 +254,7 @@ fn take(draft: &mut Draft, line: &[u8]) -> Result<(), LineError> {
             }
         }
         Wanted::Era => take_era(draft, line),
-        Wanted::Nothing | Wanted::Trace | Wanted::Node => Err(LineError::Unwanted),
+        Wanted::Nothing | Wanted::Trace | Wanted::Node | Wanted::Tally => Err(LineError::Unwanted),
     }
 }
 
