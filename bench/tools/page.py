@@ -25,10 +25,12 @@ ACTS = """
 const front = 'node %d, configuration %d';
 for (const group of document.querySelectorAll('g')) {
   const title = group.querySelector('title');
-  if (title && title.textContent.startsWith(front) && /^[:,]/.test(title.textContent.slice(front.length)))
+  const told = title ? title.textContent : '';
+  if (told.startsWith(front) && /^[:,]/.test(told.slice(front.length)))
     group.dispatchEvent(new PointerEvent('pointerover', { bubbles: true }));
 }
-for (const key of %s) document.dispatchEvent(new KeyboardEvent('keydown', { key, cancelable: true }));
+for (const key of %s)
+  document.dispatchEvent(new KeyboardEvent('keydown', { key, cancelable: true }));
 </script>
 """
 

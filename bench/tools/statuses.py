@@ -121,10 +121,10 @@ def sweep_cases():
 
 
 def draw_cases():
-    traced = "four_nodes_traced"
+    traced = (DRAWN / "four_nodes_traced.txt").read_bytes()
     return [
         own_run("draw"),
-        (0, ["--page"], (DRAWN / f"{traced}.txt").read_bytes(), (DRAWN / f"{traced}.html").read_bytes(), b""),
+        (0, ["--page"], traced, (DRAWN / "four_nodes_traced.html").read_bytes(), b""),
         told(1, [], b"refused plan line 1 premise form\n", b"no run to draw: refused plan line 1"),
         told(1, [], b"", b"no run to draw: "),
     ]
