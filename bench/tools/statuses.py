@@ -7,10 +7,10 @@ PROGRAM is the path of a built `counterlab`, `pulselab`, `choose`, `draw`, `stat
 `trace`; where none is named these are crates/NAME/out/NAME, as `rt ci` and `rt run` leave them. One
 that is not there is told in a line, and not tried. It is what the contracts of these programs leave
 to `main`: that all arguments are the words, that standard input, output and error are the source
-and the sinks, and that the status is the exit code. A case is an exit code, words, an input, the bytes that
-must come out, and of the programs beside `counterlab` how the line on standard error must begin.
-The status is 1 where a case ends otherwise. A case that this machine cannot make is told in a line,
-and is no failure, nor is a machine that takes more than a minute.
+and the sinks, and that the status is the exit code. A case is an exit code, words, an input, the
+bytes that must come out, and how the line on standard error must begin, or that there is none. The
+status is 1 where a case ends otherwise. A case that this machine cannot make is told in a line, and
+is no failure, nor is a machine that takes more than a minute.
 """
 
 import os
@@ -54,19 +54,28 @@ def told(code, words, text, begin):
     return code, words, text, b"", begin
 
 
+def command_words():
+    """How `counterlab` tells its words: those of the table in README.md."""
+    rows = (TOP / "README.md").read_text().split("| word | reads | writes |")[1].split("\n\n")[0]
+    words = [row.split("|")[1].replace("`", "").strip() for row in rows.splitlines()[2:]]
+    told = f"one of {', '.join(words[:-1])}, or {words[-1]}; the words are in `man counterlab`\n"
+    return told.encode()
+
+
 def counterlab_cases():
     liar, usage = example("runs/two_faced_liar"), b"usage: counterlab COMMAND\n"
+    words = command_words()
     return [
         stored(0, EXAMPLES, "runs/two_faced_liar", "run"),
         stored(1, EXAMPLES, "refused_plans/blocks", "plan"),
-        (2, (), liar, usage, b""),
-        (2, ("run", "run"), liar, usage, b""),
-        (2, ("demo", "seven"), b"", usage, b""),
+        (2, (), liar, usage, words),
+        (2, ("run", "run"), liar, usage, words),
+        (2, ("demo", "seven"), b"", usage, words),
         stored(3, EXAMPLES, "refused_scripts/faulty_node", "run"),
         stored(4, EXAMPLES, "certificates/no_end", "check"),
         stored(5, EXAMPLES, "certificates/row_differs", "check"),
-        (8, ("run",), TOO_LONG, b"", b""),
-        stored(9, FAULTS, "short/cut_packet", "node"),
+        (8, ("run",), TOO_LONG, b"", b"the input is too long"),
+        (*stored(9, FAULTS, "short/cut_packet", "node")[:4], b"the input ends in packet "),
     ]
 
 
@@ -173,7 +182,7 @@ def least_room(program):
 def folder_read(program, words):
     folder = os.open("/", os.O_RDONLY)
     try:
-        return ended(program, words, stdin=folder)[0]
+        return ended(program, words, stdin=folder)
     finally:
         os.close(folder)
 
@@ -181,7 +190,7 @@ def folder_read(program, words):
 def full_written(program, words, text):
     full = os.open("/dev/full", os.O_WRONLY)
     try:
-        return ended(program, words, input=text, stdout=full)[0]
+        return ended(program, words, input=text, stdout=full)
     finally:
         os.close(full)
 
@@ -189,7 +198,7 @@ def full_written(program, words, text):
 def memory_refused(program, words):
     """An input as long as it may be, and no room for it."""
     text = TOO_LONG[:LIMIT]
-    return ended(program, words, input=text, preexec_fn=within(least_room(program)))[0]
+    return ended(program, words, input=text, preexec_fn=within(least_room(program)))
 
 
 class Looks:
@@ -211,7 +220,7 @@ class Looks:
     @staticmethod
     def fits(found, wanted):
         if isinstance(wanted, int):
-            return found == wanted
+            return found[0] == wanted
         begins = found[2].startswith(wanted[2]) and bool(found[2]) == bool(wanted[2])
         return found[:2] == wanted[:2] and begins
 
@@ -221,15 +230,17 @@ def look_at(name, program, looks):
         what = " ".join([name, *words])
         looks.look(what, (code, answer, begin), ended, program, words, input=text)
     _, words, text, _, _ = CASES[name]()[0]
+    unread, unwritten = b"the input could not be read", b"the answer could not be written"
     if name == "draw" or name == "states":  # all that goes wrong is 1
         looks.look(f"{name}, a folder as input", 1, folder_read, program, words)
         looks.look(f"{name}, output that is full", 1, full_written, program, words, text)
         return
-    looks.look(f"{name}, output that is full", 7, full_written, program, words, text)
+    full = (7, None, unwritten)
+    looks.look(f"{name}, output that is full", full, full_written, program, words, text)
     if name == "choose":  # it reads nothing, and takes little memory
         return
-    looks.look(f"{name}, a folder as input", 6, folder_read, program, words)
-    looks.look(f"{name}, no memory", 10, memory_refused, program, words)
+    looks.look(f"{name}, a folder as input", (6, b"", unread), folder_read, program, words)
+    looks.look(f"{name}, no memory", (10, b"", b"out of memory"), memory_refused, program, words)
 
 
 def main():
