@@ -90,6 +90,12 @@ def pulselab_cases():
 
 
 FRONT_OF_BOTH = b"nodes 10 bound 124 bytes 7 levels 2 pulses 1;group 10 3 1000;end\n"
+NONE_OF_BOTH = (
+    b"none: FAULTS 3 takes MOST_NODES of at least 10; MOST_NODES 9 allows FAULTS of at most 2\n"
+)
+NONE_BOOSTING = (
+    b"none: FAULTS 5 takes MOST_NODES of at least 20; MOST_NODES 14 allows FAULTS of at most 4\n"
+)
 
 
 def choose_cases():
@@ -97,8 +103,13 @@ def choose_cases():
         own_run("choose"),
         (0, ["3", "1000", "14"], b"", FRONT_OF_BOTH, b""),
         (0, ["3", "1000", "14", "plan"], b"", b"pulses 1\ngroup 10 3 1000\nend\n", b""),
-        (0, ["3", "1000", "9"], b"", b"none\n", b""),
+        (0, ["3", "1000", "9"], b"", b"none\n", NONE_OF_BOTH),
+        (0, ["boosting", "5", "10", "14"], b"", b"none\n", NONE_BOOSTING),
+        (0, ["boosting", "40", "10"], b"", b"none\n", b"none: FAULTS 40 is more than any plan "),
+        (0, ["within", "14", "130", "1000"], b"", FRONT_OF_BOTH, b""),
+        (0, ["within", "3", "0", "8", "plan"], b"", b"plan 2\nbase 8\nend\n", b""),
         told(2, [], b"", b"usage: choose "),
+        told(2, ["within", "0", "130", "1000"], b"", b"usage: choose "),
         told(2, ["1", "ten"], b"", b"usage: choose "),
     ]
 
