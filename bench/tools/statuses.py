@@ -8,9 +8,10 @@ PROGRAM is the path of a built `counterlab`, `pulselab`, `choose`, `draw`, `stat
 that is not there is told in a line, and not tried. It is what the contracts of these programs leave
 to `main`: that all arguments are the words, that standard input, output and error are the source
 and the sinks, and that the status is the exit code. A case is an exit code, words, an input, the
-bytes that must come out, and how the line on standard error must begin, or that there is none. The
-status is 1 where a case ends otherwise. A case that this machine cannot make is told in a line, and
-is no failure, nor is a machine that takes more than a minute.
+bytes that must come out, and how the line on standard error must begin, or that there is none. It
+also looks whether programs, header and crate say the version that the file VERSION has. The status
+is 1 where a case ends otherwise. A case that this machine cannot make is told in a line, and is no
+failure, nor is a machine that takes more than a minute.
 """
 
 import os
@@ -23,6 +24,12 @@ TOP = pathlib.Path(__file__).resolve().parent.parent.parent
 CRATES = TOP / "crates"
 EXAMPLES = CRATES / "try_examples" / "data"
 FAULTS = CRATES / "try_faults" / "data"
+VERSION = (TOP / "VERSION").read_text().strip()
+# how the header and the crate for Rust say it
+SAY_VERSION = {
+    "bench/library/counterlab.h": f'#define COUNTERLAB_VERSION "{VERSION}"',
+    "bench/library/rust/Cargo.toml": f'version = "{VERSION}.0"',
+}
 NAMES = ["counterlab", "pulselab", "choose", "draw", "states", "sweep", "trace"]
 # How many bytes an input of `run` may have.
 LIMIT = 2**20
@@ -240,6 +247,9 @@ def look_at(name, program, looks):
     for code, words, text, answer, begin in CASES[name]():
         what = " ".join([name, *words])
         looks.look(what, (code, answer, begin), ended, program, words, input=text)
+    if name != "counterlab":  # it has no such word
+        said = (0, f"{name} {VERSION}\n".encode(), b"")
+        looks.look(f"{name} --version", said, ended, program, ["--version"], input=b"")
     _, words, text, _, _ = CASES[name]()[0]
     unread, unwritten = b"the input could not be read", b"the answer could not be written"
     if name == "draw" or name == "states":  # all that goes wrong is 1
@@ -264,6 +274,9 @@ def main():
             print(f"statuses: {program.name}: not tried, since {program} is not there")
             continue
         look_at(program.name, program, looks)
+    for name, line in SAY_VERSION.items():
+        if line not in (TOP / name).read_text():
+            looks.wrong.append(f"{name} does not say {line}")
     for it in looks.wrong:
         print(f"statuses: {it}")
     print(f"statuses: {looks.tried - len(looks.wrong)} of {looks.tried} calls end as they must")
