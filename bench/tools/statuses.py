@@ -275,6 +275,7 @@ def main():
             continue
         look_at(program.name, program, looks)
     for name, line in SAY_VERSION.items():
+        looks.tried += 1
         if line not in (TOP / name).read_text():
             looks.wrong.append(f"{name} does not say {line}")
     for it in looks.wrong:
