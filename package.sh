@@ -19,6 +19,7 @@ trap 'rm -rf "$room"' EXIT
 ./install.sh "$room/$name" > /dev/null
 cp LICENSE README.md CHANGELOG.md VERSION "$room/$name"
 cp -r docs examples "$room/$name"
+find "$room/$name" -name __pycache__ -prune -exec rm -rf {} +
 (cd "$room/$name" && find . -type f ! -name SHA256SUMS | LC_ALL=C sort |
     xargs sha256sum > SHA256SUMS)
 
