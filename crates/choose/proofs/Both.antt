@@ -59,7 +59,8 @@ boosting_bears n f plan tolerates = record {
 -- ---- plans of either
 
 -- a plan has more than three nodes for each fault
-pub quorum_of : (plan : AnyPlan) → both.IsAccepted plan → 3 * both.faults_of plan < both.nodes_of plan
+pub quorum_of : (plan : AnyPlan) → both.IsAccepted plan
+    → 3 * both.faults_of plan < both.nodes_of plan
 quorum_of (Boosting plan) accepted = (accepted_sized plan.base plan.levels accepted.levels).quorum
 quorum_of (Pulses plan) accepted = accepted.quorum
 
@@ -110,7 +111,8 @@ lone_front c most some least_c most_c =
 abbrev pub fewest : (f c : ℕ) → PulseNumbers
 fewest f c = record { nodes = 3 * f + 1; faults = f; modulus = c }
 
-pub fewest_accepted : (f c : ℕ) → 1 ≤ f → f ≤ 85 → 2 ≤ c → c ≤ 2 ^ 40 → pulses.IsAccepted (fewest f c)
+pub fewest_accepted : (f c : ℕ) → 1 ≤ f → f ≤ 85 → 2 ≤ c → c ≤ 2 ^ 40
+    → pulses.IsAccepted (fewest f c)
 fewest_accepted f c some few least_c most_c = record {
   most_nodes = omega (arith, few);
   least_modulus = least_c;

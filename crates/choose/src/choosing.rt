@@ -192,9 +192,9 @@ pub fn explain_none<K: Sink>(
 /// and `--version`, alone, ask for what they say.
 ///
 /// FAULTS is at most 85, MODULUS from 2 to 2^40, MOST_NODES and NODES from 1 to 256, and MOST_NODES
-/// 256 where it is left out. `Usage` comes exactly where the words ask for nothing; nothing was written then. `NoMemory`
-/// comes only where a plan is asked for, and nothing was written. `WriteFault` comes only where
-/// the sink counted a fault; a prefix of the answer was then taken.
+/// 256 where it is left out. `Usage` comes exactly where the words ask for nothing; nothing was
+/// written then. `NoMemory` comes only where a plan is asked for, and nothing was written.
+/// `WriteFault` comes only where the sink counted a fault; a prefix of the answer was then taken.
 pub fn choose<K: Sink>(alloc: Global, words: &[String], sink: &mut K) -> Result<(), ChooseError>
     // Which bytes were written: of a front, whose plans no accepted plan is better than, its lines
     // or the text of its last plan; or the line or the text of a plan of most faults.
