@@ -49,7 +49,7 @@ slow_by n f some version base (level ∷ below) bears =
     let top = bound_top n f level.blocks version base level below blocks bears refl in
     omega (arith, top, cost_some level.blocks f blocks)
 
-boosting_bears : (n f : ℕ) (plan : Plan) → Tolerates n f (Boosting plan) → Bears n f plan
+pub boosting_bears : (n f : ℕ) (plan : Plan) → Tolerates n f (Boosting plan) → Bears n f plan
 boosting_bears n f plan tolerates = record {
   accepted = tolerates.accepted;
   nodes = tolerates.nodes;
@@ -59,11 +59,12 @@ boosting_bears n f plan tolerates = record {
 -- ---- plans of either
 
 -- a plan has more than three nodes for each fault
-quorum_of : (plan : AnyPlan) → both.IsAccepted plan → 3 * both.faults_of plan < both.nodes_of plan
+pub quorum_of : (plan : AnyPlan) → both.IsAccepted plan
+    → 3 * both.faults_of plan < both.nodes_of plan
 quorum_of (Boosting plan) accepted = (accepted_sized plan.base plan.levels accepted.levels).quorum
 quorum_of (Pulses plan) accepted = accepted.quorum
 
-more_nodes : (n f : ℕ) (plan : AnyPlan) → Tolerates n f plan → 3 * f < both.nodes_of plan
+pub more_nodes : (n f : ℕ) (plan : AnyPlan) → Tolerates n f plan → 3 * f < both.nodes_of plan
 more_nodes n f plan tolerates =
     let quorum = quorum_of plan tolerates.accepted in
     let faults = tolerates.faults in
@@ -110,7 +111,8 @@ lone_front c most some least_c most_c =
 abbrev pub fewest : (f c : ℕ) → PulseNumbers
 fewest f c = record { nodes = 3 * f + 1; faults = f; modulus = c }
 
-fewest_accepted : (f c : ℕ) → 1 ≤ f → f ≤ 85 → 2 ≤ c → c ≤ 2 ^ 40 → pulses.IsAccepted (fewest f c)
+pub fewest_accepted : (f c : ℕ) → 1 ≤ f → f ≤ 85 → 2 ≤ c → c ≤ 2 ^ 40
+    → pulses.IsAccepted (fewest f c)
 fewest_accepted f c some few least_c most_c = record {
   most_nodes = omega (arith, few);
   least_modulus = least_c;
@@ -121,7 +123,7 @@ fewest_accepted f c some few least_c most_c = record {
 
 module _ (f c most : ℕ) (some : 1 ≤ f) (few : f ≤ 85) (least_c : 2 ≤ c) (most_c : c ≤ 2 ^ 40)
     (room : 3 * f < most) where
-  no_slower : (other : AnyPlan) → Tolerates most f other
+  pub no_slower : (other : AnyPlan) → Tolerates most f other
       → halving_bound (tree_of (fewest f c)) ≤ both.bound_of other
   no_slower (Boosting plan) tolerates =
       let fast = bound_of_halving f (3 * f + 1 - (3 * f + 1)) in
