@@ -7,6 +7,7 @@ pub mod Complete
 pub mod LayerPromises
 pub mod LockPromises
 pub mod FindPromises
+pub mod ScriptInputs
 pub mod PlanPromises
 pub mod Printed
 pub mod NodeCalls
