@@ -1,8 +1,7 @@
 -- How many nodes faults take, and how many faults nodes tolerate.
-use Rattle.std.proofs.Common.{◌≡◌, ℕ, zero, suc, ◌+◌, ◌-◌, ◌*◌, ◌/◌, ◌<◌, ◌≤◌, ◌^◌, [], inl, inr}
-use Rattle.std.proofs.Common.{refl, sym, subst, arith}
+use Rattle.std.proofs.Common.{◌≡◌, ℕ, zero, suc, ◌+◌, ◌-◌, ◌*◌, ◌/◌, ◌<◌, ◌≤◌, []}
+use Rattle.std.proofs.Common.{sym, subst, arith}
 use Rattle.std.specs.Prelude.{Option, Some, None, Bool, MatchBool, is_some}
-use Rattle.std.proofs.lemmas.Bool.{cases_lt}
 use Rattle.construction.specs.Plans.{Plan}
 use Rattle.plan_finder.specs.declared.wants.Want.{Want}
 use Rattle.plan_finder.specs.FindPart.{IsFit}
@@ -13,7 +12,7 @@ use Rattle.choose.specs.declared.requests.Scope.TheVariants as scope
 use Rattle.choose.specs.Fronts.{Bears}
 use Rattle.choose.specs.FrontsOfBoth.{Tolerates}
 use Rattle.choose.specs.Least.{IsLeast, IsLeastOf}
-use Rattle.choose.specs.Shortages.{IsIn, CanTolerate, AreFewest, IsMostOf, IsShort}
+use Rattle.choose.specs.Shortages.{IsIn, CanTolerate, IsShort}
 use Rattle.choose.proofs.Both.{boosting_bears, more_nodes, fewest, fewest_accepted}
 use Rattle.choose.proofs.Least.{lone_least}
 use Rattle.choose.proofs.Lower.{plan_of}
@@ -74,40 +73,6 @@ can_by n f None there is least =
 pub lone_can : (n : ℕ) → 1 ≤ n → CanTolerate scope.Boosting n 0
 lone_can n some =
     boosting_can n 0 (plan_of 2 2 []) (lone_least n 2 some (omega arith) (omega arith)).member
-
--- ---- what a search comes to
-
-module _ (n f : ℕ) (none : ¬ CanTolerate scope.Boosting n f) where
-  pub next_fewest : CanTolerate scope.Boosting (n + 1) f
-      → AreFewest scope.Boosting f (Some (n + 1))
-  next_fewest found = (
-    found,
-    λ m can. elim (cases_lt n m) [
-      | inl more ↦ omega (arith, more)
-      | inr less ↦ absurd
-          (none (weaker scope.Boosting m n f f (omega (arith, less)) (omega arith) can))
-    ],
-  )
-
-pub none_fewest : (f : ℕ) → ¬ CanTolerate scope.Boosting 256 f
-    → AreFewest scope.Boosting f None
-none_fewest f none m few can = none (weaker scope.Boosting m 256 f f few (omega arith) can)
-
-pub last_most : (n f : ℕ) → CanTolerate scope.Boosting n f
-    → ¬ CanTolerate scope.Boosting n (f + 1) → IsMostOf scope.Boosting n f
-last_most n f found none = (
-  found,
-  λ g can. elim (cases_lt f g) [
-    | inl more ↦ absurd
-        (none (weaker scope.Boosting n n g (f + 1) (omega arith) (omega (arith, more)) can))
-    | inr less ↦ omega (arith, less)
-  ],
-)
-
-pub all_most : (n : ℕ) → n ≤ 256 → CanTolerate scope.Boosting n 85
-    → IsMostOf scope.Boosting n 85
-all_most n few found =
-    (found, λ g can. omega (arith, few, quorum scope.Boosting n g can))
 
 -- ---- plans of both
 
