@@ -1,16 +1,15 @@
 -- No plan is better than the pulse plan of fewest nodes, where a fault is to be tolerated.
-use Rattle.std.proofs.Common.{◌≡◌, ℕ, zero, suc, ◌+◌, ◌-◌, ◌*◌, ◌<◌, ◌≤◌, ◌^◌, List, [], ◌∷◌, refl}
-use Rattle.std.proofs.Common.{sym, ap, ◌∙◌, subst, arith}
-use Rattle.std.specs.Prelude.{Option, Some, None}
-use Rattle.std.specs.List.{All, Any, AllPairs}
+use Rattle.std.proofs.Common.{ℕ, ◌+◌, ◌-◌, ◌*◌, ◌<◌, ◌≤◌, ◌^◌, List, [], ◌∷◌, refl}
+use Rattle.std.proofs.Common.{arith}
+use Rattle.std.specs.Prelude.{Some, None}
 use Rattle.std.specs.Int.{div_ceil}
 use Rattle.std.proofs.lemmas.List.Elements.{All-nil, All-cons}
 use Rattle.std.proofs.Math.Nat.{pow-le-pow_left, pow-le-pow_right, mul-le-mul}
-use Rattle.construction.specs.Plans.{Level, Plan, plan_nodes, plan_bound, bound_of}
+use Rattle.construction.specs.Plans.{Level, Plan, bound_of}
 use Rattle.plan_numbers.specs.Numbers.{below_of}
 use Rattle.plan_numbers.proofs.Accepted.{meets, accepted_sized}
 use Rattle.plan_finder.specs.Steps.{cost_of}
-use Rattle.pulse_construction.specs.Halvings.{halving_of, halving_bound}
+use Rattle.pulse_construction.specs.Halvings.{halving_bound}
 use Rattle.pulse_construction.proofs.Numbers.{bound_of_halving}
 use Rattle.pulse_plan.specs.Plans.{PulseNumbers, tree_of}
 use Rattle.pulse_plan.specs.Plans as pulses

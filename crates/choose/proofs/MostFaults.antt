@@ -6,7 +6,7 @@ use Rattle.pulse_plan.specs.Plans.{tree_of}
 use Rattle.pulse_plan.proofs.Trees.{bounds_rise}
 use Rattle.choose.specs.declared.any_plans.AnyPlan.{AnyPlan}
 use Rattle.choose.specs.declared.any_plans.AnyPlan.TheVariants.{Boosting, Pulses}
-use Rattle.choose.specs.FrontsOfBoth.{nodes_of, faults_of, bound_of}
+use Rattle.choose.specs.FrontsOfBoth.{faults_of, bound_of}
 use Rattle.choose.specs.MostFaults.{IsWithin, IsMost, AreMost, pulse_bound}
 use Rattle.choose.proofs.Both.{quorum_of, no_slower, lone_front, fewest, fewest_front}
 use Rattle.choose.proofs.Lower.{plan_of}

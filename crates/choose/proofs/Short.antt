@@ -1,8 +1,7 @@
 -- How many nodes faults take, and how many faults nodes tolerate.
-use Rattle.std.proofs.Common.{◌≡◌, ℕ, zero, suc, ◌+◌, ◌-◌, ◌*◌, ◌/◌, ◌<◌, ◌≤◌, ◌^◌, [], inl, inr}
-use Rattle.std.proofs.Common.{refl, arith}
-use Rattle.std.specs.Prelude.{Option, Some, None}
-use Rattle.std.proofs.lemmas.Bool.{cases_lt}
+use Rattle.std.proofs.Common.{◌≡◌, ℕ, zero, suc, ◌+◌, ◌-◌, ◌*◌, ◌/◌, ◌<◌, ◌≤◌, []}
+use Rattle.std.proofs.Common.{sym, subst, arith}
+use Rattle.std.specs.Prelude.{Option, Some, None, Bool, MatchBool, is_some}
 use Rattle.construction.specs.Plans.{Plan}
 use Rattle.plan_finder.specs.declared.wants.Want.{Want}
 use Rattle.plan_finder.specs.FindPart.{IsFit}
@@ -12,8 +11,8 @@ use Rattle.choose.specs.declared.requests.Scope.{Scope}
 use Rattle.choose.specs.declared.requests.Scope.TheVariants as scope
 use Rattle.choose.specs.Fronts.{Bears}
 use Rattle.choose.specs.FrontsOfBoth.{Tolerates}
-use Rattle.choose.specs.Least.{IsLeastOf}
-use Rattle.choose.specs.Shortages.{IsIn, CanTolerate, AreFewest, IsMostOf, IsShort}
+use Rattle.choose.specs.Least.{IsLeast, IsLeastOf}
+use Rattle.choose.specs.Shortages.{IsIn, CanTolerate, IsShort}
 use Rattle.choose.proofs.Both.{boosting_bears, more_nodes, fewest, fewest_accepted}
 use Rattle.choose.proofs.Least.{lone_least}
 use Rattle.choose.proofs.Lower.{plan_of}
@@ -23,11 +22,15 @@ use Rattle.choose.proofs.Lower.{plan_of}
 -- with more nodes, or of fewer faults
 pub weaker : (scope : Scope) (n m f g : ℕ) → n ≤ m → g ≤ f → CanTolerate scope n f
     → CanTolerate scope m g
-weaker scope n m f g more fewer (plan, within, tolerates) = (plan, within, record {
-  accepted = tolerates.accepted;
-  nodes = omega (arith, more, tolerates.nodes);
-  faults = omega (arith, fewer, tolerates.faults);
-})
+weaker scope n m f g more fewer (plan, within, tolerates) = (
+  plan,
+  within,
+  record {
+    accepted = tolerates.accepted;
+    nodes = omega (arith, more, tolerates.nodes);
+    faults = omega (arith, fewer, tolerates.faults);
+  },
+)
 
 pub quorum : (scope : Scope) (n f : ℕ) → CanTolerate scope n f → 3 * f < n
 quorum scope n f (plan, within, tolerates) =
@@ -35,67 +38,61 @@ quorum scope n f (plan, within, tolerates) =
 
 -- ---- plans of the boosting construction
 
-pub boosting_can : (n f : ℕ) (plan : Plan) → Bears n f plan → CanTolerate scope.Boosting n f
-boosting_can n f plan bears = (Boosting plan, tt, record {
+boosting_tolerates : (n f : ℕ) (plan : Plan) → Bears n f plan → Tolerates n f (Boosting plan)
+boosting_tolerates n f plan bears = record {
   accepted = bears.accepted;
   nodes = bears.nodes;
   faults = bears.faults;
-})
+}
+
+boosting_can : (n f : ℕ) (plan : Plan) → Bears n f plan → CanTolerate scope.Boosting n f
+boosting_can n f plan bears = (Boosting plan, tt, boosting_tolerates n f plan bears)
 
 none_by : (n f : ℕ) → ((plan : Plan) → ¬ Bears n f plan) → (plan : AnyPlan)
     → IsIn scope.Boosting plan → ¬ Tolerates n f plan
 none_by n f none (Boosting plan) within tolerates = none plan (boosting_bears n f plan tolerates)
 none_by n f none (Pulses plan) within tolerates = within
 
-pub boosting_cannot : (n f : ℕ) → ((plan : Plan) → ¬ Bears n f plan)
+boosting_cannot : (n f : ℕ) → ((plan : Plan) → ¬ Bears n f plan)
     → ¬ CanTolerate scope.Boosting n f
 boosting_cannot n f none (plan, within, tolerates) = none_by n f none plan within tolerates
 
+-- whether a search finds one
+pub can_by : (n f : ℕ) (found : Option Plan) (there : Bool) → there ≡ is_some found
+    → IsLeastOf 2 (Bears n f) found
+    → MatchBool there (CanTolerate scope.Boosting n f) (CanTolerate scope.Boosting n f → ⊥)
+can_by n f (Some plan) there is least =
+    let it : IsLeast 2 (Bears n f) plan = least in
+    subst (λ b. MatchBool b (CanTolerate scope.Boosting n f) (CanTolerate scope.Boosting n f → ⊥))
+    (sym is) (boosting_can n f plan it.member)
+can_by n f None there is least =
+    subst (λ b. MatchBool b (CanTolerate scope.Boosting n f) (CanTolerate scope.Boosting n f → ⊥))
+    (sym is) (boosting_cannot n f least)
+
 -- one node tolerates no fault
-lone_can : (n : ℕ) → 1 ≤ n → CanTolerate scope.Boosting n 0
+pub lone_can : (n : ℕ) → 1 ≤ n → CanTolerate scope.Boosting n 0
 lone_can n some =
     boosting_can n 0 (plan_of 2 2 []) (lone_least n 2 some (omega arith) (omega arith)).member
-
--- ---- what a search comes to
-
-module _ (n f : ℕ) (none : ¬ CanTolerate scope.Boosting n f) where
-  pub next_fewest : CanTolerate scope.Boosting (n + 1) f
-      → AreFewest scope.Boosting f (Some (n + 1))
-  next_fewest found = (found, λ m can. elim (cases_lt n m) [
-    | inl more ↦ omega (arith, more)
-    | inr less ↦ absurd
-        (none (weaker scope.Boosting m n f f (omega (arith, less)) (omega arith) can))
-  ])
-
-pub none_fewest : (f : ℕ) → ¬ CanTolerate scope.Boosting 256 f
-    → AreFewest scope.Boosting f None
-none_fewest f none m few can = none (weaker scope.Boosting m 256 f f few (omega arith) can)
-
-pub last_most : (n f : ℕ) → CanTolerate scope.Boosting n f
-    → ¬ CanTolerate scope.Boosting n (f + 1) → IsMostOf scope.Boosting n f
-last_most n f found none = (found, λ g can. elim (cases_lt f g) [
-  | inl more ↦ absurd
-      (none (weaker scope.Boosting n n g (f + 1) (omega arith) (omega (arith, more)) can))
-  | inr less ↦ omega (arith, less)
-])
-
-pub all_most : (n : ℕ) → n ≤ 256 → CanTolerate scope.Boosting n 85
-    → IsMostOf scope.Boosting n 85
-all_most n few found =
-    (found, λ g can. omega (arith, few, quorum scope.Boosting n g can))
 
 -- ---- plans of both
 
 can_both : (n f : ℕ) → n ≤ 256 → 3 * f < n → CanTolerate scope.Both n f
-can_both n zero few room = elim (lone_can n (omega (arith, room))) [
-  | (plan, (within, tolerates)) ↦ (plan, tt, tolerates)
-]
-can_both n (suc f) few room = (Pulses (fewest (suc f) 2), tt, record {
-  accepted = fewest_accepted (suc f) 2 (omega arith) (omega (arith, few, room)) (omega arith)
-      (omega arith);
-  nodes = omega (arith, room);
-  faults = omega arith;
-})
+can_both n zero few room = (
+  Boosting (plan_of 2 2 []),
+  tt,
+  boosting_tolerates n 0 (plan_of 2 2 [])
+      (lone_least n 2 (omega (arith, room)) (omega arith) (omega arith)).member,
+)
+can_both n (suc f) few room = (
+  Pulses (fewest (suc f) 2),
+  tt,
+  record {
+    accepted = fewest_accepted (suc f) 2 (omega arith) (omega (arith, few, room)) (omega arith)
+        (omega arith);
+    nodes = omega (arith, room);
+    faults = omega arith;
+  },
+)
 
 pub both_can : (want : Want) → IsFit want → 3 * want.faults < want.most
     → CanTolerate scope.Both want.most want.faults

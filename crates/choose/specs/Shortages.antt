@@ -1,6 +1,6 @@
 -- Why there is no plan for some wants: how many nodes their faults take, and how many faults their
 -- nodes tolerate.
-use Rattle.std.specs.Prelude.{ℕ, ◌≤◌, List, [], ◌∷◌, Option, Some, None, codes, decimal}
+use Rattle.std.specs.Prelude.{ℕ, ◌≤◌, List, [], ◌∷◌, ◌++◌, Option, Some, None, codes, decimal}
 use Rattle.std.specs.List.{concat}
 use Rattle.plan_finder.specs.declared.wants.Want.{Want}
 use Rattle.choose.specs.declared.any_plans.AnyPlan.{AnyPlan}
@@ -58,4 +58,4 @@ faults_part n f = concat (
 abbrev pub shortage_text : Want → Option Shortage → List ℕ
 shortage_text want None = []
 shortage_text want (Some short) =
-    concat (nodes_part want.faults short.nodes ∷ faults_part want.most short.faults ∷ [])
+    nodes_part want.faults short.nodes ++ faults_part want.most short.faults

@@ -176,9 +176,8 @@ pub fn explain_none<K: Sink>(
         (K.told sink.old) (K.told sink.new)) }
 {
     match request_of(words) {
-        Some(Request::Front(scope, want) | Request::LastPlan(scope, want)) => {
-            write_why(alloc, scope, &want, sink)
-        }
+        Some(Request::Front(scope, want)) => write_why(alloc, scope, &want, sink),
+        Some(Request::LastPlan(scope, want)) => write_why(alloc, scope, &want, sink),
         _ => Ok(()),
     }
 }

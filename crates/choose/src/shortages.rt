@@ -29,7 +29,8 @@ fn can_boost(alloc: Global, n: u64, f: u64) -> Result<bool, NoMemory>
     ensures { IfOk result (λ yes. MatchBool yes (CanTolerate scope.Boosting n f)
         (CanTolerate scope.Boosting n f → ⊥)) }
 {
-    Ok(least_plan(alloc, n, f, 2)?.is_some())
+    let plan = least_plan(alloc, n, f, 2)?;
+    Ok(plan.is_some())
 }
 
 /// How many nodes `f` faults take in the boosting construction.
@@ -136,6 +137,14 @@ fn put_faults<K: Sink>(sink: &mut K, nodes: u64, faults: u64) -> Result<(), Writ
     )
 }
 
+fn put_line<K: Sink>(sink: &mut K, want: &Want, short: Shortage) -> Result<(), WriteFault>
+    ensures { Puts result (nodes_part want.now.faults short.nodes
+        ++ faults_part want.now.most short.faults) (K.told sink.old) (K.told sink.new) }
+{
+    put_nodes(sink, want.faults, short.nodes)?;
+    put_faults(sink, want.most, short.faults)
+}
+
 /// Writes the line that says of what there is too little, and nothing where there is enough.
 ///
 /// `WriteFault` comes only where the sink counted a fault; a prefix of the line was then taken.
@@ -146,9 +155,8 @@ pub fn write_shortage<K: Sink>(
 ) -> Result<(), WriteFault>
     ensures { Puts result (shortage_text want.now shortage) (K.told sink.old) (K.told sink.new) }
 {
-    let Some(short) = shortage else {
-        return Ok(());
-    };
-    put_nodes(sink, want.faults, short.nodes)?;
-    put_faults(sink, want.most, short.faults)
+    match shortage {
+        Some(short) => put_line(sink, want, short),
+        None => Ok(()),
+    }
 }
