@@ -47,7 +47,7 @@ ADDLIB $kit/c/liblibc_c.a
 SAVE
 END
 AR
-install -D -m 644 bench/library/counterlab.h "$prefix/include/counterlab.h"
+install -D -m 644 bindings/counterlab.h "$prefix/include/counterlab.h"
 mkdir -p "$prefix/lib/pkgconfig"
 cat > "$prefix/lib/pkgconfig/counterlab.pc" <<PC
 prefix=\${pcfiledir}/../..

@@ -1,8 +1,8 @@
 #!/usr/bin/env python3
 """Draws what the pages say of T.
 
-    python3 bench/tools/pictures.py eras > docs/eras.svg           two eras, and T rounds into each
-    python3 bench/tools/pictures.py bounds > docs/bounds.svg       nodes against T, for each F
+    python3 bench/tools/pictures.py eras > docs/pictures/eras.svg           two eras, and T rounds into each
+    python3 bench/tools/pictures.py bounds > docs/pictures/bounds.svg       nodes against T, for each F
 
 The second one has the plans of the tables of docs/CHOOSE.md, which are those that `choose` writes:
 of pulses the one for each F, of boosting the front for each F up to 7.

@@ -27,8 +27,8 @@ FAULTS = CRATES / "try_faults" / "data"
 VERSION = (TOP / "VERSION").read_text().strip()
 # how the header and the crate for Rust say it
 SAY_VERSION = {
-    "bench/library/counterlab.h": f'#define COUNTERLAB_VERSION "{VERSION}"',
-    "bench/library/rust/Cargo.toml": f'version = "{VERSION}.0"',
+    "bindings/counterlab.h": f'#define COUNTERLAB_VERSION "{VERSION}"',
+    "bindings/rust/Cargo.toml": f'version = "{VERSION}.0"',
 }
 NAMES = ["counterlab", "pulselab", "choose", "draw", "states", "sweep", "trace"]
 # How many bytes an input of `run` may have.

@@ -64,11 +64,11 @@ pub fn put_remark<K: Sink>(sink: &mut K, status: Status) -> Result<(), WriteFaul
         Status::TooLong => put_long(sink),
         Status::Cut { packet, sender } => put_cut(sink, packet, sender),
         Status::NoMemory => put_all(sink, b"out of memory\n"),
-        Status::Ok
-        | Status::PlanRefused { .. }
-        | Status::PartRefused { .. }
-        | Status::CertRefused { .. }
-        | Status::TableRefused { .. }
-        | Status::CertFalse { .. } => Ok(()),
+        Status::Ok => Ok(()),
+        Status::PlanRefused { .. } => Ok(()),
+        Status::PartRefused { .. } => Ok(()),
+        Status::CertRefused { .. } => Ok(()),
+        Status::TableRefused { .. } => Ok(()),
+        Status::CertFalse { .. } => Ok(()),
     }
 }
