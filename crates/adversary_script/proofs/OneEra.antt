@@ -116,8 +116,8 @@ module _ (s : Script) (h : HasEras s) where
       guarded HasEras (not (are_below s.nodes (id ∷ ids))) rule.Node _ (λ _.
       guarded HasEras (not (is_rising (id ∷ ids))) rule.Order _ (λ _.
       guarded HasEras
-          (not (is_name name) || bytes_eq name (codes "all") || is_some (group_at s.groups name))
-          rule.Name _ (λ _. h))))
+      (not (is_name name) || bytes_eq name (codes "all") || is_some (group_at s.groups name))
+      rule.Name _ (λ _. h))))
 
   group_keeps : (words : List (List ℕ)) → IfOk (group_step s words) HasEras
   group_keeps [] = tt

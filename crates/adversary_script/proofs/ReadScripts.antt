@@ -116,7 +116,7 @@ module _ (plan : Plan) (shape : Shape) (sound : IsShape shape) (number : ℕ) (l
     script_is =
         script_has plan shape (IsSoFar plan shape)
         (λ last k s words may h. both_ok plan shape (Some k)
-            (line_step (plan_faults plan) k s words)
+        (line_step (plan_faults plan) k s words)
         (line_kept plan shape sound s h.sound k words)
         (line_closes (plan_faults plan) last k s words may h.sound.formed h.closed))
         (record {

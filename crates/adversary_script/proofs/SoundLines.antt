@@ -241,7 +241,7 @@ module _ (plan : Plan) (shape : Shape) (sound : IsShape shape) (s : Script)
           states = h.right.states;
           borne = sets_pushed s h.formed
               (IsBorne plan) (record { first = first; faulty = ids; starts = [] }) h.right.borne
-                  borne;
+              borne;
         };
   }
 

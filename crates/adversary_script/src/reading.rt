@@ -14,8 +14,8 @@ use state_codec::StateShape;
 use std::alloc::Global;
 use sync_types::Rule;
 
-/// Reads a script for a plan, to the end of the input. `shape` is the shape of the states,
-/// which has as many nodes as the plan: that of the plan's states, or that with registers of a layer
+/// Reads a script for a plan, to the end of the input. `shape` is the shape of the states, which
+/// has as many nodes as the plan: that of the plan's states, or that with registers of a layer
 /// above the counter after them. The first line of `bytes` has the number `first_line`, which is at
 /// least 1 and whose sum with the length of `bytes` is below 2^64.
 ///

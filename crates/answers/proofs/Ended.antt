@@ -36,47 +36,51 @@ module _ {K : Type 0} (told : K → Told) where
   -- the text was written
   pub text_ends : (answer : Result (List ℕ) Refusal) (s t : K)
       → MatchResult answer (λ text. Wrote text (told s) (told t)) (λ refusal. ⊥)
-          → Ends told status.Ok answer s t
+      → Ends told status.Ok answer s t
   text_ends (Ok text) s t wrote = (refl, wrote)
   text_ends (Err refusal) s t none = absurd none
 
   -- or a front of it
   pub text_cut : (answer : Result (List ℕ) Refusal) (s t : K)
       → MatchResult answer (λ text. Cut text (told s) (told t)) (λ refusal. ⊥)
-          → Ends told status.WriteFault answer s t
+      → Ends told status.WriteFault answer s t
   text_cut (Ok text) s t cut = cut
   text_cut (Err refusal) s t none = absurd none
 
   -- the line of a refusal was written, behind a reading that did not touch the sink
   pub refusal_ends : (r : Refusal) (answer : Result (List ℕ) Refusal) (s m t : K)
       → (answer ≡ Err r) × (m ≡ s) → Wrote (refusal_line r) (told m) (told t)
-          → Ends told (refusal_status r) answer s t
+      → Ends told (refusal_status r) answer s t
   refusal_ends refusal.Usage answer s m t (is, same) wrote =
       rw is (refl, subst (λ x. Wrote (refusal_line refusal.Usage) (told x) (told t)) same wrote)
   refusal_ends (refusal.Plan line premise) answer s m t (is, same) wrote =
-      rw is
-          (refl,
-            subst (λ x. Wrote (refusal_line (refusal.Plan line premise)) (told x) (told t)) same
-              wrote)
+      rw is (
+        refl,
+        subst (λ x. Wrote (refusal_line (refusal.Plan line premise)) (told x) (told t)) same
+            wrote,
+      )
   refusal_ends (refusal.Part part line rule) answer s m t (is, same) wrote =
-      rw is
-          (refl,
-            subst (λ x. Wrote (refusal_line (refusal.Part part line rule)) (told x) (told t)) same
-              wrote)
+      rw is (
+        refl,
+        subst (λ x. Wrote (refusal_line (refusal.Part part line rule)) (told x) (told t)) same
+            wrote,
+      )
   refusal_ends (refusal.Certificate line) answer s m t (is, same) wrote =
-      rw is
-          (refl,
-            subst (λ x. Wrote (refusal_line (refusal.Certificate line)) (told x) (told t)) same
-              wrote)
+      rw is (
+        refl,
+        subst (λ x. Wrote (refusal_line (refusal.Certificate line)) (told x) (told t)) same
+            wrote,
+      )
   refusal_ends (refusal.Table line cause) answer s m t (is, same) wrote =
-      rw is
-          (refl,
-            subst (λ x. Wrote (refusal_line (refusal.Table line cause)) (told x) (told t)) same
-              wrote)
+      rw is (
+        refl,
+        subst (λ x. Wrote (refusal_line (refusal.Table line cause)) (told x) (told t)) same
+            wrote,
+      )
 
   -- or a front of it
   pub refusal_cut : (r : Refusal) (answer : Result (List ℕ) Refusal) (s m t : K)
       → (answer ≡ Err r) × (m ≡ s) → Cut (refusal_line r) (told m) (told t)
-          → Ends told status.WriteFault answer s t
+      → Ends told status.WriteFault answer s t
   refusal_cut r answer s m t (is, same) cut =
       rw is (subst (λ x. Cut (refusal_line r) (told x) (told t)) same cut)

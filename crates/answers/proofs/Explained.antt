@@ -74,7 +74,7 @@ pub puts_base : {T E : Type 0} (result : Result T E) (plan : Plan) (script : Scr
 puts_base result plan script s t none puts =
     let is : why_lines plan script ≡ codes "explain base\n" =
     ap (λ (levels : List Level). lines_over levels plan script)
-        (nil_from_length plan.levels none) in
+    (nil_from_length plan.levels none) in
     subst (λ (x : List ℕ). Puts result x s t) (sym is) puts
 
 -- and of one with levels

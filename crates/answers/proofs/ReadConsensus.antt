@@ -53,7 +53,7 @@ pub consensus_text_is : (input : List ℕ) (plan played_plan : Plan) (script pla
     ≡ Ok (played_text played_plan played layer kept (decision_wording length))
 consensus_text_is input plan played_plan script played said layer kept length read p s l k n =
     let is : IsToPlay agree.IsFor agreed_layer
-        (record { plan = plan; said = said; script = script }) =
+    (record { plan = plan; said = said; script = script }) =
     subst (λ (r : Result (Layered AgreeSaid) Refusal). IfOk r (IsToPlay agree.IsFor agreed_layer))
     read (decisions_to_play input) in
     rw (p, s, l, k, n)

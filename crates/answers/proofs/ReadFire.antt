@@ -28,11 +28,11 @@ pub fire_text_is : (input : List ℕ) (plan played_plan : Plan) (script played :
     → played_plan ≡ plan → played ≡ script → layer ≡ fire_layer plan requests
     → kept ≡ replicate (plan_nodes plan) unfired → length ≡ slot_length (plan_faults plan)
     → answer_of batch.Fire input
-        ≡ Ok (played_text played_plan played layer kept (fire_wording length))
+    ≡ Ok (played_text played_plan played layer kept (fire_wording length))
 fire_text_is input plan played_plan script played requests layer kept length said p s l k n =
     let is : IsToPlay AreFor fire_layer (record { plan = plan; said = requests; script = script }) =
     subst (λ (r : Result (Layered (List Request)) Refusal). IfOk r (IsToPlay AreFor fire_layer))
-        said
+    said
     (fires_to_play input) in
     rw (p, s, l, k, n)
     (ap (text_by (λ (l : Layered (List Request)). fire_text l.plan l.script l.said)) said

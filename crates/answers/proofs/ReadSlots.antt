@@ -39,7 +39,7 @@ pub slots_text_is : (input : List ℕ) (plan played_plan : Plan) (script played 
     ≡ Ok (record { plan = plan; said = table; script = script })
     → IsScript script → played_plan ≡ plan → played ≡ script
     → answer_of batch.Slots input
-        ≡ Ok (played_text played_plan played no_layer [] (hold_wording table))
+    ≡ Ok (played_text played_plan played no_layer [] (hold_wording table))
 slots_text_is input plan played_plan script played table said whole p s =
     rw (p, s) (ap (text_by (λ (l : Layered (List SlotLine)). hold_text l.plan l.script l.said)) said
     ∙ ap Ok (sym (holds_as_defined plan script table whole.formed.shown)))

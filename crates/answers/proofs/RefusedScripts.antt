@@ -33,7 +33,7 @@ module _ {Said : Type 0} (name : Part)
       → FailsAsDefined e (script_of plan (shape_for plan said) (1 + lines + part_lines)
       (lines_of (drop part_bytes behind)))
       → Refuses (script_error e)
-          (text_by (λ l. text l.plan l.script l.said) (layered_of name part_of shape_for input))
+      (text_by (λ l. text l.plan l.script l.said) (layered_of name part_of shape_for input))
   by_error input behind plan bytes lines said part_bytes part_lines script.NoMemory read here
       fails =
       tt
@@ -54,7 +54,7 @@ module _ {Said : Type 0} (name : Part)
       → IsErrAnd result (λ error. error ≡ script_error e)
       → MatchResult result P
       (λ error. Refuses error
-          (text_by (λ l. text l.plan l.script l.said) (layered_of name part_of shape_for input)))
+      (text_by (λ l. text l.plan l.script l.said) (layered_of name part_of shape_for input)))
   script_refused P input behind rest plan bytes lines said part_bytes part_lines shape e result
       is_behind is_rest read is said_is fails given =
       let front : behind ≡ drop bytes input = is_behind ∙ all_left input bytes in

@@ -65,7 +65,7 @@ pub held_from_count : (values : List (Option ℕ)) (z : Option ℕ) → 0 < coun
     → (i : ℕ) × (i < length values) × (get_or values i None ≡ z)
 held_from_count values z h =
     let s = one_passes (holds_at values z) (length values)
-        (omega (arith, count_of-places values z)) in
+    (omega (arith, count_of-places values z)) in
     (s.0, s.1, holds_is values z s.0 s.2)
 
 -- two values share no place
@@ -102,6 +102,6 @@ count_of_numbers (y ∷ numbers) x =
 -- a number's places among numbers, counted by places
 pub count_of_numbers-places : (numbers : List ℕ) (x : ℕ)
     → count_of (map Some numbers) (Some x)
-      ≡ places (λ i. nat_eq x (get_or numbers i 0)) (length numbers)
+    ≡ places (λ i. nat_eq x (get_or numbers i 0)) (length numbers)
 count_of_numbers-places numbers x =
     count_of_numbers numbers x ∙ count_by_places (nat_eq x) numbers 0

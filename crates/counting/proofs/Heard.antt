@@ -25,28 +25,28 @@ module _ {X : Type 0} (none : X) (told : List X) (p : ℕ → Bool) (w : X → O
   unfolding heard parted
   as_many z = heard_counts none told p w true_value from count k e within z
       ∙ sym
-          (count_of-append (true_values none told p w true_value from count)
-            (told_values none told p w true_value from k) z)
+      (count_of-append (true_values none told p w true_value from count)
+      (told_values none told p w true_value from k) z)
 
   as_long : length heard ≡ length parted
   unfolding heard parted
   as_long = heard_long none told p w true_value from count k e within
       ∙ sym
-          (length-append (true_values none told p w true_value from count)
-            (told_values none told p w true_value from k))
+      (length-append (true_values none told p w true_value from count)
+      (told_values none told p w true_value from k))
 
   pub heard_majority : majority_of (heard_values none told p w true_value from count)
       ≡ majority_of
-        (true_values none told p w true_value from count
-          ++ told_values none told p w true_value from k)
+      (true_values none told p w true_value from count
+      ++ told_values none told p w true_value from k)
   unfolding heard parted
   heard_majority = same_majority heard parted as_long (λ z. as_many (Some z))
 
   pub heard_least : (f : ℕ)
       → least_above f (heard_values none told p w true_value from count)
-        ≡ least_above f
-          (true_values none told p w true_value from count
-            ++ told_values none told p w true_value from k)
+      ≡ least_above f
+      (true_values none told p w true_value from count
+      ++ told_values none told p w true_value from k)
   unfolding heard parted
   heard_least f = same_least f heard parted (λ z. as_many (Some z))
 
@@ -57,7 +57,7 @@ module _ {X : Type 0} (none : X) (told : List X) (p : ℕ → Bool) (w : X → O
   known_majority majority stays =
       heard_majority
       ∙ stays (told_values none told p w true_value from k)
-        (told_long none told p w true_value from count k e within)
+      (told_long none told p w true_value from count k e within)
 
   -- a least value that stays is the one heard
   pub known_least : (f : ℕ) (least : Option ℕ)
@@ -66,4 +66,4 @@ module _ {X : Type 0} (none : X) (told : List X) (p : ℕ → Bool) (w : X → O
   known_least f least stays =
       heard_least f
       ∙ stays (told_values none told p w true_value from k)
-        (told_long none told p w true_value from count k e within)
+      (told_long none told p w true_value from count k e within)

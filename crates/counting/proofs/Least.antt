@@ -14,7 +14,7 @@ lesser_passes passes a None j h g e = let f : a ≡ j = cc in subst (λ z. passe
 lesser_passes passes a (Some b) j h g e =
     let f : min a b ≡ j = cc in
     ⊎_elim (λ lt. let k : b ≡ j = omega arith in g j (ap Some k))
-        (λ le. let k : a ≡ j = omega arith in subst (λ z. passes z ≡ true) k h) (cases_lt b a)
+    (λ le. let k : a ≡ j = omega arith in subst (λ z. passes z ≡ true) k h) (cases_lt b a)
 
 least_passes_by : (passes : ℕ → Bool) (a : ℕ) (o : Option ℕ) (j : ℕ) (b : Bool) → passes a ≡ b
     → ((j : ℕ) → o ≡ Some j → passes j ≡ true) → (if b then lesser a o else o) ≡ Some j
@@ -84,7 +84,7 @@ pub least_is : (f : ℕ) (values : List (Option ℕ)) (z : ℕ) → f < count_of
 least_is f values z h =
     let s = held_from_count values (Some z) (omega arith) in
     least_at_most (λ a. nat_lt f (count_of values (Some a))) values s.0 z s.1 s.2
-        (lt-ltb f (count_of values (Some z)) h)
+    (lt-ltb f (count_of values (Some z)) h)
 
 -- a number that more than f places hold, while none below it is so held, is the least
 pub least_from : (f : ℕ) (values : List (Option ℕ)) (j : ℕ) → f < count_of values (Some j)
@@ -94,8 +94,8 @@ least_from f values j h lower =
     let more = least_has f values s.0 s.1 in
     let le = s.2 in
     let e : s.0
-        ≡ j = ⊎_elim (λ lt. absurd (omega (arith, lower s.0 lt))) (λ ge. omega arith)
-          (cases_lt s.0 j) in
+    ≡ j = ⊎_elim (λ lt. absurd (omega (arith, lower s.0 lt))) (λ ge. omega arith)
+    (cases_lt s.0 j) in
     s.1 ∙ ap Some e
 
 no_least_by : (f : ℕ) (values : List (Option ℕ)) → ((z : ℕ) → count_of values (Some z) ≤ f)
@@ -113,9 +113,9 @@ pub few_below : (f : ℕ) (values : List (Option ℕ)) (j z : ℕ) → least_abo
     → count_of values (Some z) ≤ f
 few_below f values j z e lt = ⊎_elim
     (λ more. let s = least_is f values z more in
-        let g : Some j ≡ Some s.0 = sym e ∙ s.1 in
-        let k : j ≡ s.0 = cc in
-        absurd (omega (arith, s.2)))
+    let g : Some j ≡ Some s.0 = sym e ∙ s.1 in
+    let k : j ≡ s.0 = cc in
+    absurd (omega (arith, s.2)))
     (λ le. le)
     (cases_lt f (count_of values (Some z)))
 
@@ -124,8 +124,8 @@ pub least_above_none : (f : ℕ) (values : List (Option ℕ)) (z : ℕ) → leas
     → count_of values (Some z) ≤ f
 least_above_none f values z e = ⊎_elim
     (λ more. let s = least_is f values z more in
-        let g : None ≡ Some s.0 = sym e ∙ s.1 in
-        absurd (cc))
+    let g : None ≡ Some s.0 = sym e ∙ s.1 in
+    absurd (cc))
     (λ le. le)
     (cases_lt f (count_of values (Some z)))
 

@@ -73,10 +73,10 @@ majority_by values z h (Some y) e =
 majority_by values z h None e =
     let s = held_from_count values (Some z) (omega arith) in
     absurd
-        (true≢false
-          (sym (lt-ltb (length values) (2 * count_of values (Some z)) h)
-            ∙ first_none (λ a. nat_lt (length values) (2 * count_of values (Some a))) values s.0 z e
-              s.1 s.2))
+    (true≢false
+    (sym (lt-ltb (length values) (2 * count_of values (Some z)) h)
+    ∙ first_none (λ a. nat_lt (length values) (2 * count_of values (Some a))) values s.0 z e
+    s.1 s.2))
 
 -- a number that more than half of the places hold is the majority
 pub majority_is : (values : List (Option ℕ)) (z : ℕ) → length values < 2 * count_of values (Some z)
@@ -117,25 +117,25 @@ pub majority_or_zero_of_most : (numbers : List ℕ) (odd : ℕ → Bool) (z : �
     → majority_or_zero numbers ≡ z
 majority_or_zero_of_most numbers odd z few h =
     ap (λ o. unwrap_or o 0) (majority_is (map Some numbers) z (omega (
-  arith,
-  length-map numbers Some,
-  count_of_numbers-places numbers z,
-  cover_all odd (λ i. nat_eq z (get_or numbers i 0)) (length numbers)
-      (λ i lt. ⊎_elim inl (λ e. inr (eq-eqb z _ (sym (h i lt e)))) (cases_Bool (odd i))),
-)))
+      arith,
+      length-map numbers Some,
+      count_of_numbers-places numbers z,
+      cover_all odd (λ i. nat_eq z (get_or numbers i 0)) (length numbers)
+          (λ i lt. ⊎_elim inl (λ e. inr (eq-eqb z _ (sym (h i lt e)))) (cases_Bool (odd i))),
+    )))
 
 member_or_zero_by : (numbers : List ℕ) (o : Option ℕ) → majority_of (map Some numbers) ≡ o
     → ((i : ℕ) × (i < length numbers) × (get_or numbers i 0 ≡ unwrap_or o 0)) ⊎ (unwrap_or o 0 ≡ 0)
 member_or_zero_by numbers None e = inr refl
 member_or_zero_by numbers (Some z) e =
     let s = one_passes (λ i. nat_eq z (get_or numbers i 0)) (length numbers)
-        (omega (arith, majority_has (map Some numbers) z e, count_of_numbers-places numbers z)) in
+    (omega (arith, majority_has (map Some numbers) z e, count_of_numbers-places numbers z)) in
     inl (s.0, s.1, sym (eqb-true z _ s.2))
 
 -- a majority of numbers stands among them, or is 0
 pub member_or_zero : (numbers : List ℕ)
     → ((i : ℕ) × (i < length numbers) × (get_or numbers i 0 ≡ majority_or_zero numbers))
-      ⊎ (majority_or_zero numbers ≡ 0)
+    ⊎ (majority_or_zero numbers ≡ 0)
 member_or_zero numbers = member_or_zero_by numbers (majority_of (map Some numbers)) refl
 
 -- a majority of numbers that are below m at each place is below m

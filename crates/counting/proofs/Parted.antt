@@ -16,7 +16,7 @@ module _ {X : Type 0} (g : X → Option ℕ) (z : Option ℕ) where
   one_more : (x : X) (xs ps qs : List X) (b : Bool)
       → count_of (map g xs) z ≡ count_of (map g ps) z + count_of (map g qs) z
       → count_of (map g (x ∷ xs)) z
-          ≡ count_of (map g (cond b (x ∷ ps) ps)) z + count_of (map g (cond (not b) (x ∷ qs) qs)) z
+      ≡ count_of (map g (cond b (x ∷ ps) ps)) z + count_of (map g (cond (not b) (x ∷ qs) qs)) z
   one_more x xs ps qs true e =
       omega (arith, count_of-cons (g x) (map g xs) z, count_of-cons (g x) (map g ps) z, e)
   one_more x xs ps qs false e =
@@ -25,7 +25,7 @@ module _ {X : Type 0} (g : X → Option ℕ) (z : Option ℕ) where
   -- a value counts among those that pass, or among those that fail
   pub count_of_parted : (p : X → Bool) (xs : List X)
       → count_of (map g xs) z
-        ≡ count_of (map g (filter p xs)) z + count_of (map g (filter (λ x. not (p x)) xs)) z
+      ≡ count_of (map g (filter p xs)) z + count_of (map g (filter (λ x. not (p x)) xs)) z
   count_of_parted p [] = refl
   count_of_parted p (x ∷ xs) =
       one_more x xs (filter p xs) (filter (λ x. not (p x)) xs) (p x) (count_of_parted p xs)
@@ -77,16 +77,16 @@ module _ {X : Type 0} (none : X) (told : List X) (p : ℕ → Bool) where
           let i = places p from in
           let here : places p (from + 1) ≡ i + 1 = further true h in
           let one_left : k
-              ≡ suc (k - 1) = omega (arith, here, shifted from count, grows (from + 1) count) in
+          ≡ suc (k - 1) = omega (arith, here, shifted from count, grows (from + 1) count) in
           let more = again (k - 1) (omega (arith, here, one_left, shifted from count))
-              (omega (arith, shifted from count)) in
+          (omega (arith, shifted from count)) in
           let at : places p (from + 1) ≡ suc i = omega (arith, here) in
           let cons = drop-cons told i none
-              (omega (arith, here, shifted from count, grows (from + 1) count)) in
+          (omega (arith, here, shifted from count, grows (from + 1) count)) in
           ap (λ ys. told_of from ∷ ys) (more ∙ ap (λ j. take (k - 1) (drop j told)) at)
           ∙
-              (ap (λ ys. take (suc (k - 1)) ys) (sym cons)
-                ∙ ap (λ c. take c (drop i told)) (sym one_left))
+          (ap (λ ys. take (suc (k - 1)) ys) (sym cons)
+          ∙ ap (λ c. take c (drop i told)) (sym one_left))
       first again false h =
           let here = further false h in
           let same : places p (from + 1) ≡ places p from = omega (arith, here) in
@@ -101,7 +101,7 @@ map_passing {Y} q f g (u ∷ us) same = first (q u) refl (map_passing q f g us s
   where
     first : (b : Bool) → q u ≡ b → map f (filter q us) ≡ map g (filter q us)
         → map f (cond b (u ∷ filter q us) (filter q us))
-          ≡ map g (cond b (u ∷ filter q us) (filter q us))
+        ≡ map g (cond b (u ∷ filter q us) (filter q us))
     first true h rest = ap (λ y. y ∷ map f (filter q us)) (same u h) ∙ ap (λ ys. g u ∷ ys) rest
     first false h rest = rest
 
@@ -129,9 +129,14 @@ module _ {X : Type 0} (none : X) (told : List X) (p : ℕ → Bool) (w : X → O
     pub told_long : length (told_values from k) ≡ k
     told_long =
         length-map (take k (drop (places p from) told)) w
-        ∙ omega
-          (arith, length-take k (drop (places p from) told), length-drop (places p from) told,
-            grows none told p from count, e, within)
+        ∙ omega (
+          arith,
+          length-take k (drop (places p from) told),
+          length-drop (places p from) told,
+          grows none told p from count,
+          e,
+          within,
+        )
 
     us : List ℕ
     us = range_with_len from count
@@ -140,10 +145,10 @@ module _ {X : Type 0} (none : X) (told : List X) (p : ℕ → Bool) (w : X → O
     unfolding us
     liars_values =
         map_passing p heard_value (λ u. w (told_of none told p u)) us
-            (λ u h. ap (λ b. if b then w (told_of none told p u) else true_value u) h)
+        (λ u h. ap (λ b. if b then w (told_of none told p u) else true_value u) h)
         ∙
-            (sym (map-map w (told_of none told p) (filter p us))
-              ∙ ap (map w) (told_stretch none told p count from k e within))
+        (sym (map-map w (told_of none told p) (filter p us))
+        ∙ ap (map w) (told_stretch none told p count from k e within))
 
     others_values : map heard_value (filter (λ u. not (p u)) us) ≡ true_values from count
     unfolding us
@@ -155,7 +160,7 @@ module _ {X : Type 0} (none : X) (told : List X) (p : ℕ → Bool) (w : X → O
     -- what the liars tell.
     pub heard_counts : (z : Option ℕ)
         → count_of (heard_values from count) z
-          ≡ count_of (true_values from count) z + count_of (told_values from k) z
+        ≡ count_of (true_values from count) z + count_of (told_values from k) z
     unfolding us
     heard_counts z =
         let parted = count_of_parted heard_value z p us in

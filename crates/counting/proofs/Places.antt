@@ -19,9 +19,11 @@ pub overlap : (p q r : ℕ → Bool) (n : ℕ) → ((i : ℕ) → i < n → p i 
     → places p n + places q n ≤ n + places r n
 overlap p q r zero h = omega arith
 overlap p q r (suc n) h =
-    omega
-    (arith, overlap_step (p n) (q n) (r n) (h n (omega arith)),
-      overlap p q r n (λ i lt. h i (omega arith)))
+    omega (
+      arith,
+      overlap_step (p n) (q n) (r n) (h n (omega arith)),
+      overlap p q r n (λ i lt. h i (omega arith)),
+    )
 
 apart_step : (a b : Bool) → (a ≡ true → b ≡ true → ⊥)
     → (if a then 1 else 0) + (if b then 1 else 0) ≤ 1
@@ -51,9 +53,11 @@ pub cover : (p q r : ℕ → Bool) (n : ℕ)
     → places p n ≤ places q n + places r n
 cover p q r zero h = omega arith
 cover p q r (suc n) h =
-    omega
-    (arith, cover_step (p n) (q n) (r n) (h n (omega arith)),
-      cover p q r n (λ i lt. h i (omega arith)))
+    omega (
+      arith,
+      cover_step (p n) (q n) (r n) (h n (omega arith)),
+      cover p q r n (λ i lt. h i (omega arith)),
+    )
 
 all_step : (b c : Bool) → (b ≡ true) ⊎ (c ≡ true) → 1 ≤ (if b then 1 else 0) + (if c then 1 else 0)
 all_step true c h = omega arith
@@ -105,7 +109,7 @@ some_place_by p n (inr a) (inl s) = inl (s.0, omega arith, s.2)
 some_place_by p n (inr a) (inr s) =
     inr
     (λ i lt. ⊎_elim (λ g. s i g) (λ g. let e : n ≡ i = omega arith in subst (λ j. p j ≡ false) e a)
-      (cases_lt i n))
+    (cases_lt i n))
 
 -- a place below n that passes, or all fail
 pub some_place : (p : ℕ → Bool) (n : ℕ)
@@ -164,6 +168,9 @@ pub count_by_places : {X : Type 0} (q : X → Bool) (xs : List X) (d : X)
     → count_by q xs ≡ places (λ i. q (get_or xs i d)) (length xs)
 count_by_places q [] d = refl
 count_by_places q (x ∷ xs) d =
-    omega
-    (arith, sum_by-cons (λ x. if q x then 1 else 0) x xs, count_by_places q xs d,
-      first_apart (λ i. q (get_or (x ∷ xs) i d)) (length xs))
+    omega (
+      arith,
+      sum_by-cons (λ x. if q x then 1 else 0) x xs,
+      count_by_places q xs d,
+      first_apart (λ i. q (get_or (x ∷ xs) i d)) (length xs),
+    )

@@ -29,7 +29,7 @@ same_least f xs ys same = by_least (least_above f ys) refl
     by_least : (o : Option ℕ) → least_above f ys ≡ o → least_above f xs ≡ least_above f ys
     by_least (Some j) e =
         least_from f xs j (omega (arith, same j, least_has f ys j e))
-          (λ z lt. omega (arith, same z, few_below f ys j z e lt))
+        (λ z lt. omega (arith, same z, few_below f ys j z e lt))
         ∙ sym e
     by_least None e = no_least f xs (λ z. omega (arith, same z, least_above_none f ys z e)) ∙ sym e
 
@@ -46,9 +46,14 @@ pub no_majority_stays : (more : ℕ) (values : List (Option ℕ))
     → MajorityStays more values None
 no_majority_stays more values h rest long =
     no_majority (values ++ rest)
-    (λ z. omega
-      (arith, h z, long, length-append values rest, count_of-append values rest (Some z),
-        count_of-le rest (Some z)))
+    (λ z. omega (
+      arith,
+      h z,
+      long,
+      length-append values rest,
+      count_of-append values rest (Some z),
+      count_of-le rest (Some z),
+    ))
 
 -- where no number below the least can come above f, the least stays
 pub least_stays : (f more : ℕ) (values : List (Option ℕ))
@@ -62,11 +67,11 @@ least_stays f more values h rest long = by_least (least_above f values) refl h
     by_least (Some j) e h = least_from f (values ++ rest) j
         (omega (arith, least_has f values j e, count_of-append values rest (Some j)))
         (λ z lt. omega
-            (arith, h z lt, long, count_of-append values rest (Some z), count_of-le rest (Some z)))
+        (arith, h z lt, long, count_of-append values rest (Some z), count_of-le rest (Some z)))
     by_least None e h =
         no_least f (values ++ rest)
         (λ z. omega
-          (arith, h z tt, long, count_of-append values rest (Some z), count_of-le rest (Some z)))
+        (arith, h z tt, long, count_of-append values rest (Some z), count_of-le rest (Some z)))
 
 -- a count to which at most so many are added passes a test in any case, or in none
 pub test_closed : (need known some other more : ℕ) → some ≤ more → other ≤ more

@@ -13,9 +13,11 @@ use Rattle.firing.specs.Firings.{fire_layer, fires}
 
 abbrev plan : Plan
 plan =
-    record
-    { version = 1; base = 2304;
-      levels = record { blocks = 4; spares = 0; faults = 1; modulus = 12 } ∷ [] }
+    record {
+      version = 1;
+      base = 2304;
+      levels = record { blocks = 4; spares = 0; faults = 1; modulus = 12 } ∷ [];
+    }
 
 abbrev infinite : Reg
 infinite = record { a = None; d = false }
@@ -28,10 +30,11 @@ tell t u v config = record { x = 7; registers = locked_at 3 ∷ loaded 0 ∷ [] 
 
 abbrev rest : Scene Fire
 rest =
-    record
-    { states = map (λ v. record { x = 5; registers = locked_at 5 ∷ infinite ∷ [] })
-        (range_with_len 0 4);
-      kept = map (λ v. record { round = 0; fired = false }) (range_with_len 0 4) }
+    record {
+      states = map (λ v. record { x = 5; registers = locked_at 5 ∷ infinite ∷ [] })
+          (range_with_len 0 4);
+      kept = map (λ v. record { round = 0; fired = false }) (range_with_len 0 4);
+    }
 
 abbrev fire_scene : List Request → ℕ → Scene Fire
 fire_scene requests x = scene_after plan (fire_layer plan requests) (3 ∷ []) tell 5 rest x

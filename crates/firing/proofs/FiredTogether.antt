@@ -38,7 +38,7 @@ undecided n f i v input output x heard rest lt =
     let turn : ℕ = output % slot_length f in
     let r : Reg = agreed_in_turn n f i v turn heard in
     ap (λ (b : Bool). (turned b input r).decided)
-        (ne_eqb (turn + 1) (slot_length f) (λ e. omega (arith, e, rest, lt)))
+    (ne_eqb (turn + 1) (slot_length f) (λ e. omega (arith, e, rest, lt)))
 
 pub fires_together : EveryRunFiresTogether
 fires_together plan accepted whole requests faulty borne first run is t lo hi begins =
@@ -47,8 +47,8 @@ fires_together plan accepted whole requests faulty borne first run is t lo hi be
     let q : ℕ = slot_length (plan_faults plan) in
     let here : t - 1 + q + 1 ≡ t + q = omega arith in
     let slot = slot_decides plan accepted layer
-        (record { nodes = refl; modulus = refl; depth = refl }) (input requests)
-        (agreeing plan requests) whole faulty borne first run is (t - 1) (omega arith) (omega arith)
+    (record { nodes = refl; modulus = refl; depth = refl }) (input requests)
+    (agreeing plan requests) whole faulty borne first run is (t - 1) (omega arith) (omega arith)
     (subst (λ y. AllAre plan faulty (scene run y).states q 0) e begins) in
     let fired_by : Option ℕ → Bool = λ decided. option_eq nat_eq decided (Some 1) in
     record {
@@ -59,7 +59,7 @@ fires_together plan accepted whole requests faulty borne first run is t lo hi be
           ∙ (ap (λ (k : Fire). k.fired) d.steps.kept ∙ ap fired_by d.decided);
       valid =
           λ common all. ap (λ x. fired_by (Some x))
-            (slot.valid (bit common) (λ v vlt ok. ap bit (all v vlt ok)))
+          (slot.valid (bit common) (λ v vlt ok. ap bit (all v vlt ok)))
           ∙ one_is common;
       quiet = λ x v some xlt vlt ok.
           let r : ℕ = t + (x - 1) in
@@ -68,16 +68,16 @@ fires_together plan accepted whole requests faulty borne first run is t lo hi be
           let quorum = quorum_of plan accepted in
           let counts = counts_of plan layer accepted faulty borne first run is in
           let zero = common_rest plan layer faulty first run is counts q t 0 (omega arith)
-              (omega arith) (omega arith) begins in
+          (omega arith) (omega arith) begins in
           let steps = node_steps plan layer faulty first run is r v (omega arith) vlt ok in
           let kept : Fire = layer.begun (first + r) (kept_of layer (scene run r) v) in
           let rest = ap (λ st. shown (plan_depth plan) st % q) (steps.honest v vlt ok)
-              ∙ shows_rest plan layer faulty first run is counts q t (x - 1) v whole (omega arith)
-                zero (omega arith) (omega arith) vlt ok in
+          ∙ shows_rest plan layer faulty first run is counts q t (x - 1) v whole (omega arith)
+          zero (omega arith) (omega arith) vlt ok in
           ap (λ y. fires (scene run y) v) (sym there)
           ∙ (ap (λ (k : Fire). k.fired) steps.steps.kept
           ∙ ap fired_by
-              (undecided (plan_nodes plan) (plan_faults plan) (plan_depth plan) v
-                (input requests v kept) (shown (plan_depth plan) (state_of steps.heard v)) (x - 1)
-                steps.heard rest (omega arith)));
+          (undecided (plan_nodes plan) (plan_faults plan) (plan_depth plan) v
+          (input requests v kept) (shown (plan_depth plan) (state_of steps.heard v)) (x - 1)
+          steps.heard rest (omega arith)));
     }

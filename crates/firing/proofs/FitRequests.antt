@@ -91,7 +91,7 @@ module _ (plan : Plan) where
   stepped : (s : FireSoFar) (line : List ℕ) (begun : Bool) → s.begun ≡ begun → FitSoFar plan s
       → Goes (if begun
       then
-          (if bytes_eq line (codes "end") then ends s.requests else goes_with s (request_in s line))
+      (if bytes_eq line (codes "end") then ends s.requests else goes_with s (request_in s line))
       else head_step s line)
   stepped s line true e fit = ended s (bytes_eq line (codes "end")) line e fit
   stepped s line false e fit = headed s (bytes_eq line (codes "fire 1")) s.whole refl fit

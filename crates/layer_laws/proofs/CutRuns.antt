@@ -30,27 +30,27 @@ cut_choice d false s t = refl
 pub new_front : {Kept : Type 0} (plan : Plan) (layer : Layer Kept) (at : ℕ) (kept : Kept) (v : ℕ)
     (heard : List State)
     → cut (plan_depth plan) (new_state (plan_meaning plan) layer at kept v heard)
-        ≡ step_of plan v heard
+    ≡ step_of plan v heard
 new_front plan layer at kept v heard =
     let step : State = step_of plan v heard in
     ap (λ (registers : List Reg). let s : State = record { x = step.x; registers = registers } in s)
     (take_at step.registers (layer_step (plan_meaning plan) layer at kept v heard).registers
-        (plan_depth plan) (length-step_in plan.base plan.levels v heard))
+    (plan_depth plan) (length-step_in plan.base plan.levels v heard))
 
 -- and a register behind it is one of the layer's
 pub layer_register : {Kept : Type 0} (plan : Plan) (layer : Layer Kept) (place at : ℕ) (kept : Kept)
     (v : ℕ) (heard : List State)
     → register_at (plan_depth plan + place) (new_state (plan_meaning plan) layer at kept v heard)
-        ≡ get_or (layer_step (plan_meaning plan) layer at kept v heard).registers place
-          zero_register
+    ≡ get_or (layer_step (plan_meaning plan) layer at kept v heard).registers place
+    zero_register
 layer_register plan layer place at kept v heard =
     let front : List Reg = (step_of plan v heard).registers in
     ap
-        (λ d. get_or (front ++ (layer_step (plan_meaning plan) layer at kept v heard).registers)
-          (d + place) zero_register)
-        (sym (length-step_in plan.base plan.levels v heard))
+    (λ d. get_or (front ++ (layer_step (plan_meaning plan) layer at kept v heard).registers)
+    (d + place) zero_register)
+    (sym (length-step_in plan.base plan.levels v heard))
     ∙ get_or-append-add front (layer_step (plan_meaning plan) layer at kept v heard).registers place
-        zero_register
+    zero_register
 
 module _ {Kept : Type 0} (plan : Plan) (layer : Layer Kept) (faulty : List ℕ) where
   abbrev d : ℕ
@@ -73,7 +73,7 @@ module _ {Kept : Type 0} (plan : Plan) (layer : Layer Kept) (faulty : List ℕ) 
     states =
         All-map (IsState plan u) (cut d) told
         (All-weaker (IsLayerState plan layer u) (λ s. IsState plan u (cut d s))
-          (λ s state. state.front) told is.states);
+        (λ s state. state.front) told is.states);
   }
 
   row_cut : (lies : List (List State)) → IsLayerTable plan layer lies → (u : ℕ)
@@ -102,7 +102,7 @@ module _ {Kept : Type 0} (plan : Plan) (layer : Layer Kept) (faulty : List ℕ) 
 
     one_cut : (u : ℕ) → u < plan_nodes plan
         → heard_of faulty (cut_config old) (map cut_config lies) v u
-          ≡ cut d (heard_of faulty old lies v u)
+        ≡ cut d (heard_of faulty old lies v u)
     one_cut u ult =
         let test : Bool = u == v || not (is_in faulty u) in
         ap₂ (λ (s t : State). cond test s t) (state_of-cut d old u) (told_cut u ult)
@@ -118,8 +118,8 @@ module _ {Kept : Type 0} (plan : Plan) (layer : Layer Kept) (faulty : List ℕ) 
         let long : length all ≡ n = length-map-range_with_len g 0 n in
         sym (fill_by_all f (cut_config all) n (zero_state 0) (length-map all (cut d) ∙ long)
         (λ u ult. state_of-cut d all u
-            ∙ (ap (cut d) (get_or-map-range_with_len g 0 n u u (zero_state 0) ult (omega arith))
-              ∙ sym (one_cut u ult))))
+        ∙ (ap (cut d) (get_or-map-range_with_len g 0 n u u (zero_state 0) ult (omega arith))
+        ∙ sym (one_cut u ult))))
 
   module _ (first : ℕ) (run : List (Scene Kept)) (is : LayerRun plan layer faulty first run) where
     pub configuration_at : (t : ℕ) → t < length run
@@ -136,7 +136,7 @@ module _ {Kept : Type 0} (plan : Plan) (layer : Layer Kept) (faulty : List ℕ) 
 
     next_is : (t : ℕ) → t + 1 < length run
         → IsNext plan faulty (cut_config (scene run t).states)
-          (cut_config (scene run (t + 1)).states)
+        (cut_config (scene run (t + 1)).states)
     next_is t lt =
         let next = is.rounds t lt in
         let old : List State = (scene run t).states in
@@ -152,23 +152,23 @@ module _ {Kept : Type 0} (plan : Plan) (layer : Layer Kept) (faulty : List ℕ) 
                 ∙ (new_front plan layer (first + t) (kept_of layer (scene run t) v) v heard
                 ∙ (sym (step_of-cut plan v heard)
                 ∙ ap (step_of plan v)
-                    (sym
-                      (heard_cut old next.lies v (configuration_at t (omega arith)) next.round.table
-                        vlt)))));
+                (sym
+                (heard_cut old next.lies v (configuration_at t (omega arith)) next.round.table
+                vlt)))));
           };
         }
 
     pub cut_run : Run plan faulty (without_layer plan run)
     cut_run =
         let size : length (without_layer plan run)
-            ≡ length run = length-map run (λ (s : Scene Kept). cut_config s.states) in
+        ≡ length run = length-map run (λ (s : Scene Kept). cut_config s.states) in
         record {
           some = let some = is.some in omega (arith, size);
           configurations =
               All-map (IsConfiguration plan) (λ (s : Scene Kept). cut_config s.states) run
               (All-weaker (λ (s : Scene Kept). IsLayerConfiguration plan layer s.states)
-                  (λ s. IsConfiguration plan (cut_config s.states))
-                  (λ s config. cut_is s.states config) run is.configurations);
+              (λ s. IsConfiguration plan (cut_config s.states))
+              (λ s config. cut_is s.states config) run is.configurations);
           rounds = λ t lt.
               let lt' : t + 1 < length run = omega (arith, size) in
               rw (cut_at t (omega arith), cut_at (t + 1) lt') (next_is t lt');

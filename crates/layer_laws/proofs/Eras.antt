@@ -76,10 +76,10 @@ module _ {Kept : Type 0} (layer : Layer Kept) (plan : Plan) (accepted : IsAccept
       placed (IsLayerState plan layer) (heard_of faulty config lies v) n (λ u ult.
       let row : IsLayerTold plan layer u (get_or lies u []) = table.rows u ult in
       choice_is (IsLayerState plan layer u) (eqb u v || not (is_in faulty u)) (state_of config u)
-          (state_of (get_or lies u []) v)
+      (state_of (get_or lies u []) v)
       (is.states u ult)
       (All-get_or (IsLayerState plan layer u) (get_or lies u []) v (zero_state 0)
-          (let s = row.size in omega (arith, vlt, s)) row.states))
+      (let s = row.size in omega (arith, vlt, s)) row.states))
 
   -- what a state of a node shows is below the modulus
   pub shows_below : (v : ℕ) (s : State) → v < n → IsLayerState plan layer v s
@@ -87,21 +87,21 @@ module _ {Kept : Type 0} (layer : Layer Kept) (plan : Plan) (accepted : IsAccept
   shows_below v s vlt is =
       let some = positive plan.base plan.levels accepted.levels in
       subst (λ y. y < plan_modulus plan)
-          (shown_of_cut (plan_depth plan) (plan_depth plan) (omega arith) s)
+      (shown_of_cut (plan_depth plan) (plan_depth plan) (omega arith) s)
       ((plan_sizes plan accepted).shown v (cut (plan_depth plan) s) vlt
-          (range_of_state plan some.0 some.1 v (cut (plan_depth plan) s) is.front))
+      (range_of_state plan some.0 some.1 v (cut (plan_depth plan) s) is.front))
 
   -- the layer's new registers
   may_hear : (t : ℕ) (config : List State) (v : ℕ) → v < n → IsLayerConfiguration plan layer config
       → SameNumbers layer (plan_meaning plan)
       → MayHear layer v
-          (shown (plan_depth plan) (state_of (heard_in plan layer faulty lie t config v) v))
-          (heard_in plan layer faulty lie t config v)
+      (shown (plan_depth plan) (state_of (heard_in plan layer faulty lie t config v) v))
+      (heard_in plan layer faulty lie t config v)
   may_hear t config v vlt is same =
       let heard = heard_in plan layer faulty lie t config v in
       let long : length heard
-          ≡ n = length-map-range_with_len
-            (heard_of faulty config (lies_in plan layer faulty lie t config) v) 0 n in
+      ≡ n = length-map-range_with_len
+      (heard_of faulty config (lies_in plan layer faulty lie t config) v) 0 n in
       let states = heard_is t config v vlt is in
       let nodes = same.nodes in
       let modulus = same.modulus in
@@ -121,17 +121,17 @@ module _ {Kept : Type 0} (layer : Layer Kept) (plan : Plan) (accepted : IsAccept
   are_new : (t : ℕ) (kept : Kept) (config : List State) (v : ℕ) → v < n
       → IsLayerConfiguration plan layer config
       → AreNew layer
-          (layer_step (plan_meaning plan) layer t kept v
-            (heard_in plan layer faulty lie t config v)).registers
+      (layer_step (plan_meaning plan) layer t kept v
+      (heard_in plan layer faulty lie t config v)).registers
   are_new t kept config v vlt is =
       let heard = heard_in plan layer faulty lie t config v in
       keeps v (shown (plan_depth plan) (state_of heard v)) (layer.begun t kept) heard
-          (λ some. may_hear t config v vlt is (over some))
+      (λ some. may_hear t config v vlt is (over some))
 
   new_is : (t : ℕ) (kept : Kept) (config : List State) (v : ℕ) → v < n
       → IsLayerConfiguration plan layer config
       → IsLayerState plan layer v
-          (new_state (plan_meaning plan) layer t kept v (heard_in plan layer faulty lie t config v))
+      (new_state (plan_meaning plan) layer t kept v (heard_in plan layer faulty lie t config v))
   new_is t kept config v vlt is =
       let heard = heard_in plan layer faulty lie t config v in
       let moduli = positive plan.base plan.levels accepted.levels in
@@ -150,14 +150,14 @@ module _ {Kept : Type 0} (layer : Layer Kept) (plan : Plan) (accepted : IsAccept
             let size = are.size in
             let same = over (omega (arith, lt)) in
             subst (λ (r : Reg). IfSome r.a (λ a. a < layer.values))
-                (sym
-                  (ap
-                      (λ d. register_at (d + i)
-                        (new_state (plan_meaning plan) layer t kept v heard))
-                      same.depth
-                    ∙ layer_register plan layer i t kept v heard))
+            (sym
+            (ap
+            (λ d. register_at (d + i)
+            (new_state (plan_meaning plan) layer t kept v heard))
+            same.depth
+            ∙ layer_register plan layer i t kept v heard))
             (All-get_or (λ (r : Reg). IfSome r.a (λ a. a < layer.values)) new i zero_register
-                (omega (arith, lt, size)) below);
+            (omega (arith, lt, size)) below);
       }
 
   -- ---- what is kept
@@ -165,15 +165,15 @@ module _ {Kept : Type 0} (layer : Layer Kept) (plan : Plan) (accepted : IsAccept
   -- of each node, what its step leaves
   kept_is : (t : ℕ) (scene : Scene Kept) → IsKeptFor n scene.kept → (v : ℕ) → v < n
       → kept_of layer (next_scene plan layer faulty lie t scene) v
-          ≡ (layer_step (plan_meaning plan) layer t (kept_of layer scene v) v
-            (heard_in plan layer faulty lie t scene.states v)).kept
+      ≡ (layer_step (plan_meaning plan) layer t (kept_of layer scene v) v
+      (heard_in plan layer faulty lie t scene.states v)).kept
   kept_is t scene (inl one) v lt = one _ _
   kept_is t scene (inr many) v lt =
       let step : Kept =
-          (layer_step (plan_meaning plan) layer t (kept_of layer scene v) v
-            (heard_in plan layer faulty lie t scene.states v)).kept in
+      (layer_step (plan_meaning plan) layer t (kept_of layer scene v) v
+      (heard_in plan layer faulty lie t scene.states v)).kept in
       get_or-map-range_with_len (kept_after plan layer faulty lie t scene) 0 (length scene.kept) v v
-          layer.first (omega (arith, lt, many)) (omega arith)
+      layer.first (omega (arith, lt, many)) (omega arith)
       ∙ ap (λ b. cond b step (kept_of layer scene v)) (lt-ltb v n lt)
 
   kept_for : (t : ℕ) (scene : Scene Kept) → IsKeptFor n scene.kept
@@ -182,8 +182,8 @@ module _ {Kept : Type 0} (layer : Layer Kept) (plan : Plan) (accepted : IsAccept
   kept_for t scene (inr many) =
       inr
       (let long = length-map-range_with_len (kept_after plan layer faulty lie t scene) 0
-          (length scene.kept) in
-        omega (arith, long, many))
+      (length scene.kept) in
+      omega (arith, long, many))
 
   module _ (first : ℕ) (start : Scene Kept) (starts : IsLayerConfiguration plan layer start.states)
       (kept : IsKeptFor n start.kept) where
@@ -196,12 +196,12 @@ module _ {Kept : Type 0} (layer : Layer Kept) (plan : Plan) (accepted : IsAccept
     after_is (suc t) =
         let before = scene_after plan layer faulty lie first start t in
         let f : ℕ → State = state_after plan layer faulty lie (first + t) before in
-        record
-            { size = length-map-range_with_len f 0 n;
-              states = placed (IsLayerState plan layer) f n
-                (λ v vlt. new_is (first + t) (kept_of layer before v) before.states v vlt
-                  (after_is t))
-                }
+        record {
+          size = length-map-range_with_len f 0 n;
+          states = placed (IsLayerState plan layer) f n
+              (λ v vlt. new_is (first + t) (kept_of layer before v) before.states v vlt
+              (after_is t));
+        }
 
     after_kept : (t : ℕ) → IsKeptFor n (after t).kept
     unfolding after
@@ -216,9 +216,9 @@ module _ {Kept : Type 0} (layer : Layer Kept) (plan : Plan) (accepted : IsAccept
         let f : ℕ → Scene Kept = scene_after plan layer faulty lie first start in
         let size = length-map-range_with_len f 0 (rounds + 1) in
         let at : (t : ℕ) → t < rounds + 1
-            → scene (era_from plan layer faulty lie first start rounds) t
-              ≡ f t = λ t lt. get_or-map-range_with_len f 0 (rounds + 1) t t
-                (record { states = []; kept = [] }) lt (omega arith) in
+        → scene (era_from plan layer faulty lie first start rounds) t
+        ≡ f t = λ t lt. get_or-map-range_with_len f 0 (rounds + 1) t t
+        (record { states = []; kept = [] }) lt (omega arith) in
         record {
           some = omega (arith, size);
           configurations =

@@ -50,7 +50,7 @@ last_rest : (c period o : ℕ) → 0 < period → c % period ≡ 0 → (o + 1) %
     → o % period + 1 ≡ period
 last_rest c period o some whole rest =
     let here : (o % period + 1) % period ≡ 0 = mod-add-mod o period 1
-        ∙ (sym (mod-mod_of_dvd period (o + 1) (dvd_of_mod-eq-zero period whole)) ∙ rest) in
+    ∙ (sym (mod-mod_of_dvd period (o + 1) (dvd_of_mod-eq-zero period whole)) ∙ rest) in
     elim (cases_lt (o % period + 1) period) [
       | inl lt ↦ absurd (let same = sym (mod-eq_of_lt lt) ∙ here in omega (arith, same))
       | inr le ↦ (let below = mod-lt o some in omega (arith, below, le))
@@ -65,7 +65,7 @@ module _ {Kept : Type 0} (plan : Plan) (layer : Layer Kept) (faulty : List ℕ) 
       let next = is.rounds t lt in
       let old : List State = (scene run t).states in
       let own : IsLayerConfiguration plan layer old = configuration_at plan layer faulty first run
-          is t (omega arith) in
+      is t (omega arith) in
       let f : ℕ → State = heard_of faulty old next.lies v in
       record {
         heard = heard_by n faulty old next.lies v;
@@ -74,20 +74,20 @@ module _ {Kept : Type 0} (plan : Plan) (layer : Layer Kept) (faulty : List ℕ) 
             let row : List State = get_or next.lies u [] in
             let told : IsLayerTold plan layer u row = next.round.table.rows u ult in
             subst (IsLayerState plan layer u)
-                (sym (get_or-map-range_with_len f 0 n u u (zero_state 0) ult (omega arith)))
+            (sym (get_or-map-range_with_len f 0 n u u (zero_state 0) ult (omega arith)))
             (choice_is (IsLayerState plan layer u) (eqb u v || not (is_in faulty u))
-                (state_of old u) (state_of row v)
+            (state_of old u) (state_of row v)
             (own.states u ult)
             (All-get_or (IsLayerState plan layer u) row v (zero_state 0)
-                (let s = told.size in omega (arith, vlt, s)) told.states));
+            (let s = told.size in omega (arith, vlt, s)) told.states));
         honest = λ u ult uok. get_or-map-range_with_len f 0 n u u (zero_state 0) ult (omega arith)
             ∙
-                (ap
-                  (λ b. cond (eqb u v || not b) (state_of old u)
-                    (state_of (get_or next.lies u []) v))
-                  uok
+            (ap
+            (λ b. cond (eqb u v || not b) (state_of old u)
+            (state_of (get_or next.lies u []) v))
+            uok
             ∙ ap (λ b. cond b (state_of old u) (state_of (get_or next.lies u []) v))
-                (or-true (eqb u v)));
+            (or-true (eqb u v)));
         steps = next.round.steps v vlt correct;
       }
 
@@ -100,13 +100,13 @@ module _ {Kept : Type 0} (plan : Plan) (layer : Layer Kept) (faulty : List ℕ) 
     shown_at t v lo lt vlt correct =
         let long : length (without_layer plan run) ≡ length run = length_is in
         sym
-            (shown_of_cut (plan_depth plan) (plan_depth plan) (omega arith)
-              (state_of (scene run t).states v))
+        (shown_of_cut (plan_depth plan) (plan_depth plan) (omega arith)
+        (state_of (scene run t).states v))
         ∙
-            (ap (shown (plan_depth plan))
-              (sym
-                (ap (λ (c : List State). state_of c v) (cut_at plan layer faulty first run is t lt)
-                  ∙ state_of-cut (plan_depth plan) (scene run t).states v))
+        (ap (shown (plan_depth plan))
+        (sym
+        (ap (λ (c : List State). state_of c v) (cut_at plan layer faulty first run is t lt)
+        ∙ state_of-cut (plan_depth plan) (scene run t).states v))
         ∙ counts.shows t lo (omega (arith, lt, long)) v vlt correct)
       where
         length_is : length (without_layer plan run) ≡ length run
@@ -122,14 +122,14 @@ module _ {Kept : Type 0} (plan : Plan) (layer : Layer Kept) (faulty : List ℕ) 
         let e : t + suc x ≡ t + x + 1 = omega arith in
         let s : x + 1 ≡ suc x = omega arith in
         let long : length (without_layer plan run)
-            ≡ length run = length-map run
-              (λ (s : Scene Kept). map (cut (plan_depth plan)) s.states) in
+        ≡ length run = length-map run
+        (λ (s : Scene Kept). map (cut (plan_depth plan)) s.states) in
         ap (λ y. counts.output y % period) e
         ∙ (ap (λ y. y % period) (counts.grows (t + x) (omega arith) (omega (arith, lt, long)))
         ∙
-            (next_rest (plan_modulus plan) period (counts.output (t + x)) x whole
-                (rest_at period t whole lo begins x (omega arith) (omega arith)) (omega arith)
-              ∙ s))
+        (next_rest (plan_modulus plan) period (counts.output (t + x)) x whole
+        (rest_at period t whole lo begins x (omega arith) (omega arith)) (omega arith)
+        ∙ s))
 
     -- and the output before the slot has the last one
     pub rest_before : (period t : ℕ) → 0 < period → plan_modulus plan % period ≡ 0
@@ -138,17 +138,17 @@ module _ {Kept : Type 0} (plan : Plan) (layer : Layer Kept) (faulty : List ℕ) 
     rest_before period t some whole lo lt begins =
         let e : t - 1 + 1 ≡ t = omega arith in
         let long : length (without_layer plan run)
-            ≡ length run = length-map run
-              (λ (s : Scene Kept). map (cut (plan_depth plan)) s.states) in
+        ≡ length run = length-map run
+        (λ (s : Scene Kept). map (cut (plan_depth plan)) s.states) in
         last_rest (plan_modulus plan) period (counts.output (t - 1)) some whole
         (ap (λ y. y % period) (sym (counts.grows (t - 1) (omega arith) (omega (arith, lt, long))))
-            ∙ (ap (λ y. counts.output y % period) e ∙ begins))
+        ∙ (ap (λ y. counts.output y % period) e ∙ begins))
 
     -- the remainder of the output of a correct node
     pub shows_rest : (period t x v : ℕ) → plan_modulus plan % period ≡ 0 → plan_bound plan ≤ t
         → counts.output t % period ≡ 0 → x < period → t + x < length run
         → v < plan_nodes plan → is_in faulty v ≡ false
-            → shown (plan_depth plan) (state_of (scene run (t + x)).states v) % period ≡ x
+        → shown (plan_depth plan) (state_of (scene run (t + x)).states v) % period ≡ x
     shows_rest period t x v whole lo begins xlt lt vlt correct =
         ap (λ y. y % period) (shown_at (t + x) v (omega arith) lt vlt correct)
         ∙ rest_at period t whole lo begins x xlt lt

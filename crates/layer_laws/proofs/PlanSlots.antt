@@ -43,12 +43,12 @@ slots_agree layer plan accepted same period from place has whole faulty borne fi
     let few = few_of plan faulty borne in
     let counts = counts_of plan layer accepted faulty borne first run is in
     let zero = common_rest plan layer faulty first run is counts period t 0 (omega arith) lo
-        (omega arith) begins in
+    (omega arith) begins in
     let room = has.room in
     slot_agrees plan layer same period from place has faulty quorum few first run is (t + from)
-        (omega arith)
+    (omega arith)
     (λ x v xlt vlt ok.
     let e : t + (from + x) ≡ t + from + x = omega arith in
     subst (λ y. shown (plan_depth plan) (state_of (scene run y).states v) % period ≡ from + x) e
     (shows_rest plan layer faulty first run is counts period t (from + x) v whole lo zero
-        (omega arith) (omega arith) vlt ok))
+    (omega arith) (omega arith) vlt ok))

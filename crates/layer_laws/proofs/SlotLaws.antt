@@ -74,145 +74,149 @@ module _ {Kept : Type 0} (plan : Plan) (layer : Layer Kept)
     (same : SameNumbers layer (plan_meaning plan)) (period from place : ℕ)
     (has : HasSlots layer (plan_faults plan) period from place)
     (faulty : List ℕ) (quorum : 3 * plan_faults plan < plan_nodes plan)
-        (few : places (is_in faulty) (plan_nodes plan) ≤ plan_faults plan)
+    (few : places (is_in faulty) (plan_nodes plan) ≤ plan_faults plan)
     (first : ℕ) (run : List (Scene Kept)) (is : LayerRun plan layer faulty first run)
     (s : ℕ) (room : s + slot_length (plan_faults plan) < length run)
     (turns : (x v : ℕ) → x < slot_length (plan_faults plan) → v < plan_nodes plan
-          → is_in faulty v ≡ false
-          → shown (plan_depth plan) (state_of (scene run (s + x)).states v) % period ≡ from + x)
-        where
-  abbrev n : ℕ
-  n = plan_nodes plan
+    → is_in faulty v ≡ false
+    → shown (plan_depth plan) (state_of (scene run (s + x)).states v) % period ≡ from + x)
+  where
+    abbrev n : ℕ
+    n = plan_nodes plan
 
-  abbrev f : ℕ
-  f = plan_faults plan
+    abbrev f : ℕ
+    f = plan_faults plan
 
-  -- the register's index in a state
-  abbrev i : ℕ
-  i = plan_depth plan + place
+    -- the register's index in a state
+    abbrev i : ℕ
+    i = plan_depth plan + place
 
-  abbrev value_of : State → Option ℕ
-  value_of state = (register_at i state).a
+    abbrev value_of : State → Option ℕ
+    value_of state = (register_at i state).a
 
-  abbrev register : ℕ → ℕ → Reg
-  register x v = register_at i (state_of (scene run (s + x)).states v)
+    abbrev register : ℕ → ℕ → Reg
+    register x v = register_at i (state_of (scene run (s + x)).states v)
 
-  hears : (x v : ℕ) (steps : NodeSteps plan layer faulty first run (s + x) v)
-      → Hears n (is_in faulty) (register x) (map value_of steps.heard)
-  hears x v steps = record {
-    size = length-map steps.heard value_of ∙ steps.size;
-    honest =
-        λ u lt ok. get_or-map value_of steps.heard u (zero_state 0) None
+    hears : (x v : ℕ) (steps : NodeSteps plan layer faulty first run (s + x) v)
+        → Hears n (is_in faulty) (register x) (map value_of steps.heard)
+    hears x v steps = record {
+      size = length-map steps.heard value_of ∙ steps.size;
+      honest =
+          λ u lt ok. get_or-map value_of steps.heard u (zero_state 0) None
           (let long = steps.size in omega (arith, lt))
-        ∙ ap value_of (steps.honest u lt ok);
-  }
+          ∙ ap value_of (steps.honest u lt ok);
+    }
 
-  obeys_of : (x v : ℕ) → v < n → is_in faulty v ≡ false
-      → (steps : NodeSteps plan layer faulty first run (s + x) v) → (r : Reg)
-      → r ≡ agreed_in_turn n f i v x steps.heard
-      → Obeys n f (λ a. a) (is_in faulty) (register x) (x % 3) (x / 3) (register x v) r
-  obeys_of x v lt ok steps r e = record {
-    heard = map value_of steps.heard;
-    hears = hears x v steps;
-    step =
-        e
-        ∙ ap (λ own. instructed n f (λ a. a) (x % 3) own (map value_of steps.heard) (x / 3))
+    obeys_of : (x v : ℕ) → v < n → is_in faulty v ≡ false
+        → (steps : NodeSteps plan layer faulty first run (s + x) v) → (r : Reg)
+        → r ≡ agreed_in_turn n f i v x steps.heard
+        → Obeys n f (λ a. a) (is_in faulty) (register x) (x % 3) (x / 3) (register x v) r
+    obeys_of x v lt ok steps r e = record {
+      heard = map value_of steps.heard;
+      hears = hears x v steps;
+      step =
+          e
+          ∙ ap (λ own. instructed n f (λ a. a) (x % 3) own (map value_of steps.heard) (x / 3))
           (ap (register_at i) (steps.honest v lt ok));
-  }
+    }
 
-  -- a turn that is not the last one
-  turn : (x v : ℕ) → x + 1 < slot_length f → v < n → is_in faulty v ≡ false
-      → Obeys n f (λ a. a) (is_in faulty) (register x) (x % 3) (x / 3) (register x v)
+    -- a turn that is not the last one
+    turn : (x v : ℕ) → x + 1 < slot_length f → v < n → is_in faulty v ≡ false
+        → Obeys n f (λ a. a) (is_in faulty) (register x) (x % 3) (x / 3) (register x v)
         (register (x + 1) v)
-  turn x v lt vlt ok =
-      let steps = node_steps plan layer faulty first run is (s + x) v (omega (arith, room, lt)) vlt
-          ok in
-      let kept : Kept = kept_of layer (scene run (s + x)) v in
-      let own = steps.honest v vlt ok in
-      let e : s + (x + 1) ≡ s + x + 1 = omega arith in
-      let nodes = same.nodes in
-      obeys_of x v vlt ok steps (register (x + 1) v)
-      (ap (λ t. register_at i (state_of (scene run t).states v)) e
-      ∙ (ap (register_at i) steps.steps.state
-      ∙ (layer_register plan layer place (first + (s + x)) kept v steps.heard
-      ∙
-          (has.turns v x (shown (plan_depth plan) (state_of steps.heard v))
-            (layer.begun (first + (s + x)) kept) steps.heard (omega (arith, vlt, nodes)) lt
-      (ap (λ st. shown (plan_depth plan) st % period) own ∙ turns x v (omega arith) vlt ok)
-      ∙ (ap (λ k. agreed_in_turn k f (layer.depth + place) v x steps.heard) same.nodes
-      ∙ ap (λ d. agreed_in_turn n f (d + place) v x steps.heard) same.depth)))))
-
-  -- the last turn, and its result
-  abbrev last : ℕ
-  last = 3 * f + 2
-
-  Ends : ℕ → Reg → Type 0
-  Ends v r =
-      (steps : NodeSteps plan layer faulty first run (s + last) v)
-      × (r ≡ agreed_in_turn n f i v last steps.heard)
-
-  each_ends : (v : ℕ) → v < n → is_in faulty v ≡ false → (r : Reg) × Ends v r
-  unfolding Ends
-  each_ends v lt ok =
-      let steps = node_steps plan layer faulty first run is (s + last) v (omega (arith, room)) lt
+    turn x v lt vlt ok =
+        let steps = node_steps plan layer faulty first run is (s + x) v
+        (omega (arith, room, lt)) vlt
         ok in
-      (agreed_in_turn n f i v last steps.heard, (steps, refl))
+        let kept : Kept = kept_of layer (scene run (s + x)) v in
+        let own = steps.honest v vlt ok in
+        let e : s + (x + 1) ≡ s + x + 1 = omega arith in
+        let nodes = same.nodes in
+        obeys_of x v vlt ok steps (register (x + 1) v)
+        (ap (λ t. register_at i (state_of (scene run t).states v)) e
+        ∙ (ap (register_at i) steps.steps.state
+        ∙ (layer_register plan layer place (first + (s + x)) kept v steps.heard
+        ∙
+        (has.turns v x (shown (plan_depth plan) (state_of steps.heard v))
+        (layer.begun (first + (s + x)) kept) steps.heard (omega (arith, vlt, nodes)) lt
+        (ap (λ st. shown (plan_depth plan) st % period) own ∙ turns x v (omega arith) vlt ok)
+        ∙ (ap (λ k. agreed_in_turn k f (layer.depth + place) v x steps.heard) same.nodes
+        ∙ ap (λ d. agreed_in_turn n f (d + place) v x steps.heard) same.depth)))))
 
-  result : ℕ → Reg
-  result = chosen n (is_in faulty) Ends each_ends
+    -- the last turn, and its result
+    abbrev last : ℕ
+    last = 3 * f + 2
 
-  abbrev registers : ℕ → ℕ → Reg
-  registers = ends_with (slot_length f) register result
+    Ends : ℕ → Reg → Type 0
+    Ends v r =
+        (steps : NodeSteps plan layer faulty first run (s + last) v)
+        × (r ≡ agreed_in_turn n f i v last steps.heard)
 
-  slot_by : (x : ℕ) → x < slot_length f → (x + 1 < slot_length f) ⊎ (slot_length f ≤ x + 1)
-      → AllObey n f (λ a. a) (is_in faulty) (x % 3) (x / 3) (registers x) (registers (x + 1))
-  unfolding Ends result
-  slot_by x lt (inl less) =
-      rw
-          (before_end (slot_length f) register result x lt,
-            before_end (slot_length f) register result (x + 1) less)
-          (λ v vlt ok. turn x v less vlt ok)
-  slot_by x lt (inr le) =
-      let e : x ≡ last = omega arith in
-      let e' : x + 1 ≡ slot_length f = omega arith in
-      rw
-          (before_end (slot_length f) register result x lt, ap registers e',
-            at_end (slot_length f) register result)
-      (λ v vlt ok. let end = chosen_is n (is_in faulty) Ends each_ends v vlt ok in
-      subst
-          (λ y. Obeys n f (λ a. a) (is_in faulty) (register y) (y % 3) (y / 3) (register y v)
-            (result v))
-          (sym e) (obeys_of last v vlt ok end.0 (result v) end.1))
+    each_ends : (v : ℕ) → v < n → is_in faulty v ≡ false → (r : Reg) × Ends v r
+    unfolding Ends
+    each_ends v lt ok =
+        let steps = node_steps plan layer faulty first run is (s + last) v (omega (arith, room)) lt
+        ok in
+        (agreed_in_turn n f i v last steps.heard, (steps, refl))
 
-  is_slot : IsSlot n f (is_in faulty) registers
-  is_slot x lt = slot_by x lt (cases_lt (x + 1) (slot_length f))
+    result : ℕ → Reg
+    result = chosen n (is_in faulty) Ends each_ends
 
-  pub slot_agrees : SlotAgrees plan layer place faulty first run s
-  unfolding Ends result
-  slot_agrees =
-      let a = agrees n f (is_in faulty) quorum few registers is_slot in
-      record {
-        value = a.value;
-        last = λ v lt ok.
-            let end = chosen_is n (is_in faulty) Ends each_ends v lt ok in
-            let steps = end.0 in
-            record {
-              heard = steps.heard;
-              own = steps.honest v lt ok;
-              steps =
-                  subst
-                  (λ (k : ℕ). StepsAs plan layer k (scene run (s + last)) steps.heard v
+    abbrev registers : ℕ → ℕ → Reg
+    registers = ends_with (slot_length f) register result
+
+    slot_by : (x : ℕ) → x < slot_length f → (x + 1 < slot_length f) ⊎ (slot_length f ≤ x + 1)
+        → AllObey n f (λ a. a) (is_in faulty) (x % 3) (x / 3) (registers x) (registers (x + 1))
+    unfolding Ends result
+    slot_by x lt (inl less) =
+        rw (
+          before_end (slot_length f) register result x lt,
+          before_end (slot_length f) register result (x + 1) less,
+        )
+        (λ v vlt ok. turn x v less vlt ok)
+    slot_by x lt (inr le) =
+        let e : x ≡ last = omega arith in
+        let e' : x + 1 ≡ slot_length f = omega arith in
+        rw (
+          before_end (slot_length f) register result x lt,
+          ap registers e',
+          at_end (slot_length f) register result,
+        )
+        (λ v vlt ok. let end = chosen_is n (is_in faulty) Ends each_ends v vlt ok in
+        subst
+        (λ y. Obeys n f (λ a. a) (is_in faulty) (register y) (y % 3) (y / 3) (register y v)
+        (result v))
+        (sym e) (obeys_of last v vlt ok end.0 (result v) end.1))
+
+    is_slot : IsSlot n f (is_in faulty) registers
+    is_slot x lt = slot_by x lt (cases_lt (x + 1) (slot_length f))
+
+    pub slot_agrees : SlotAgrees plan layer place faulty first run s
+    unfolding Ends result
+    slot_agrees =
+        let a = agrees n f (is_in faulty) quorum few registers is_slot in
+        record {
+          value = a.value;
+          last = λ v lt ok.
+              let end = chosen_is n (is_in faulty) Ends each_ends v lt ok in
+              let steps = end.0 in
+              record {
+                heard = steps.heard;
+                own = steps.honest v lt ok;
+                steps =
+                    subst
+                    (λ (k : ℕ). StepsAs plan layer k (scene run (s + last)) steps.heard v
                     (scene run (s + last + 1)))
-                  refl steps.steps;
-              locked =
-                  sym end.1
-                  ∙ (sym (ap (λ (rs : ℕ → Reg). rs v) (at_end (slot_length f) register result))
+                    refl steps.steps;
+                locked =
+                    sym end.1
+                    ∙ (sym (ap (λ (rs : ℕ → Reg). rs v) (at_end (slot_length f) register result))
                     ∙ a.locked v lt ok);
-            };
-        valid = λ common all. a.valid common (λ v lt ok.
-            ap (λ (rs : ℕ → Reg). (rs v).a)
-                (before_end (slot_length f) register result 0 (omega arith))
-            ∙
-                (ap (λ t. (register_at i (state_of (scene run t).states v)).a) (add-zero s)
-                  ∙ all v lt ok));
-      }
+              };
+          valid = λ common all. a.valid common (λ v lt ok.
+              ap (λ (rs : ℕ → Reg). (rs v).a)
+              (before_end (slot_length f) register result 0 (omega arith))
+              ∙
+              (ap (λ t. (register_at i (state_of (scene run t).states v)).a) (add-zero s)
+              ∙ all v lt ok));
+        }

@@ -39,7 +39,7 @@ keeps_pointer beat m i o x whole lt =
 pub next_leader : NextIntervalHasNextLeader
 next_leader beat m i o p q =
     ap (λ y. y % m) (add-div_right o (interval_pos beat m i p q))
-        ∙ sym (mod-add-mod (o / interval_of beat m i) m 1)
+    ∙ sym (mod-add-mod (o / interval_of beat m i) m 1)
 
 -- a quotient's remainder by m is that of m divisors more
 period_of : (d m o : ℕ) → (o + m * d) / d % m ≡ o / d % m
@@ -66,9 +66,9 @@ turn_free d m n z x pos e =
     let f : z * (x / z) ≡ d * m * n * (x / z) = ap (λ y. y * (x / z)) e in
     let g : x ≡ d * (m * (n * (x / z))) + x % z = sym (div-add-mod x z) ∙ (omega arith) in
     sym
-        (ap (λ y. y / d % m) g
-          ∙ (ap (λ y. y % m) (mul-add-div pos (m * (n * (x / z))) (x % z))
-            ∙ mul-add-mod_self_left m (n * (x / z)) (x % z / d)))
+    (ap (λ y. y / d % m) g
+    ∙ (ap (λ y. y % m) (mul-add-div pos (m * (n * (x / z))) (x % z))
+    ∙ mul-add-mod_self_left m (n * (x / z)) (x % z / d)))
 
 whole_turns : (s d m n modulus : ℕ) → s ≡ d * m * n → modulus % s ≡ 0
     → modulus ≡ d * m * (n * (modulus / s))
@@ -82,7 +82,7 @@ pub pointer_unseen : (beat m k modulus o i : ℕ) → 1 ≤ beat → 1 ≤ m
 pointer_unseen beat m k modulus o i p q whole lt =
     let n = turns beat m k i lt in
     turn_free (interval_of beat m i) m (n.0 * (modulus / interval_of beat m k)) modulus o
-        (interval_pos beat m i p q)
+    (interval_pos beat m i p q)
     (whole_turns (interval_of beat m k) (interval_of beat m i) m n.0 modulus n.1 whole)
 
 pub part_unseen : (beat m k modulus o : ℕ) → modulus % interval_of beat m k ≡ 0
@@ -90,7 +90,7 @@ pub part_unseen : (beat m k modulus o : ℕ) → modulus % interval_of beat m k 
 part_unseen beat m k modulus o h =
     mod-mod_of_dvd beat o
     (dvd_trans beat (dvd_of_mod-eq-zero beat (mul-mod_right beat ((2 * m) ^ k)))
-      (dvd_of_mod-eq-zero (interval_of beat m k) h))
+    (dvd_of_mod-eq-zero (interval_of beat m k) h))
 
 pub unseen : ModulusIsUnseen
 unseen beat m k modulus o p q whole = record {

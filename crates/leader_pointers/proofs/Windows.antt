@@ -28,10 +28,13 @@ aligned d m b y pos h =
     let q = reach m (y / d + 1) b h in
     let up : d * (y / d + 1) ≤ d * q.0 = mul-le-mul_left d q.1 in
     let down : d * (q.0 + 1) ≤ d * (y / d + 1 + m) = mul-le-mul_left d (omega arith) in
-    let room : d * 1 ≤ d * m = mul-le-mul_left d (omega arith) in
-    (q.0 * d, omega arith, omega arith,
-          λ z lo hi. ap (λ k. k % m) (div-eq_of_lt-le {k = q.0} d {m = z} lo (omega arith))
-        ∙ q.3)
+    let room : d * 1 ≤ d * m = mul-le-mul_left d (omega arith) in (
+      q.0 * d,
+      omega arith,
+      omega arith,
+      λ z lo hi. ap (λ k. k % m) (div-eq_of_lt-le {k = q.0} d {m = z} lo (omega arith))
+          ∙ q.3,
+    )
 
 -- the window from s on where the blocks below h are looked at, and block i has the output c i + x
 -- at x
@@ -39,7 +42,7 @@ Meeting : (beat m b : ℕ) (sound : ℕ → Bool) (c : ℕ → ℕ) (h s : ℕ) 
 Meeting beat m b sound c h s =
     (w : ℕ) × (s ≤ w) × (w + beat ≤ s + interval_of beat m h)
     × ((i : ℕ) → i < h → (x : ℕ) → sound i ≡ true → w ≤ x → x < w + beat
-      → pointer_of beat m i (c i + x) ≡ b)
+    → pointer_of beat m i (c i + x) ≡ b)
 
 -- one block more, sound or not
 with_block : (beat m b : ℕ) (sound : ℕ → Bool) (c : ℕ → ℕ) (h s : ℕ) → 1 ≤ beat → b < m
@@ -48,28 +51,27 @@ with_block : (beat m b : ℕ) (sound : ℕ → Bool) (c : ℕ → ℕ) (h s : �
 unfolding Meeting
 with_block beat m b sound c h s p q (inl f) all =
     let a = aligned (interval_of beat m h) m b (c h + s) (interval_pos beat m h p (omega arith))
-        q in
+    q in
     let w = all (a.0 - c h) in (
       w.0,
       omega arith,
       omega (arith, interval_suc beat m h),
       below_suc
           (λ i. (x : ℕ) → sound i ≡ true → w.0 ≤ x → x < w.0 + beat
-            → pointer_of beat m i (c i + x) ≡ b)
+          → pointer_of beat m i (c i + x) ≡ b)
           h w.3
           (λ x g lo hi. a.3 (c h + x) (omega arith) (omega arith)),
     )
 with_block beat m b sound c h s p q (inr f) all =
     let w = all s in
     let room : interval_of beat m h * 1
-          ≤ interval_of beat m h * (2 * m) = mul-le-mul_left (interval_of beat m h) (omega arith) in
-        (
+    ≤ interval_of beat m h * (2 * m) = mul-le-mul_left (interval_of beat m h) (omega arith) in (
       w.0,
       omega arith,
       omega (arith, interval_suc beat m h),
       below_suc
           (λ i. (x : ℕ) → sound i ≡ true → w.0 ≤ x → x < w.0 + beat
-            → pointer_of beat m i (c i + x) ≡ b)
+          → pointer_of beat m i (c i + x) ≡ b)
           h w.3
           (λ x g lo hi. absurd (true≢false (sym g ∙ f))),
     )

@@ -28,10 +28,10 @@ module _ (a : Meaning) (in_range : State → Type 0) where
         range =
             All-map in_range (cut a.depth) s.heard
             (All-weaker in_range (λ s. in_range (cut a.depth s)) ignores.into_cut s.heard
-              s.hears.range);
+            s.hears.range);
         honest =
             λ u ult uok. get_or-map (cut a.depth) s.heard u (zero_state 0) (zero_state 0)
-              (let e = s.hears.size in omega arith)
+            (let e = s.hears.size in omega arith)
             ∙ ap (cut a.depth) (s.hears.honest u ult uok);
       };
       step =
@@ -45,7 +45,7 @@ module _ (a : Meaning) (in_range : State → Type 0) where
     block_step : (faulty : ℕ → Bool) (old : ℕ → State) (i j : ℕ) (new : State) → i < level.blocks
         → j < a.nodes
         → StepsByPlace (boosted a level) (BoostedRange in_range a.depth modulus) faulty old
-            (i * a.nodes + j) new
+        (i * a.nodes + j) new
         → StepsByPlace a in_range (λ j. faulty (i * a.nodes + j)) (λ j. old (i * a.nodes + j)) j new
     block_step faulty old i j new ilt jlt s =
         let room = block_room level.blocks a.nodes i ilt in
@@ -59,7 +59,7 @@ module _ (a : Meaning) (in_range : State → Type 0) where
             range =
                 All-block in_range a.nodes i s.heard
                 (All-weaker (BoostedRange in_range a.depth modulus) in_range (λ s r. r.0) s.heard
-                  s.hears.range);
+                s.hears.range);
             honest =
                 λ u ult ok. get_or-block a.nodes i u s.heard (zero_state 0) ult
                 ∙ s.hears.honest (i * a.nodes + u) (omega arith) ok;
@@ -70,15 +70,15 @@ module _ (a : Meaning) (in_range : State → Type 0) where
               (level_register a level v s.heard) deep
               ∙ (inner_is_next a level v s.heard (omega arith)
               ∙
-                  (ap (λ u. a.next u (block a.nodes (v / a.nodes) s.heard))
-                    (mod-mul-add i a.nodes j jlt)
+              (ap (λ u. a.next u (block a.nodes (v / a.nodes) s.heard))
+              (mod-mul-add i a.nodes j jlt)
               ∙ ap (λ u. a.next j (block a.nodes u s.heard)) (div-mul-add i a.nodes j jlt)))));
         }
 
     pub block_run : (faulty : ℕ → Bool) (last : ℕ) (run : ℕ → ℕ → State) (i : ℕ) → i < level.blocks
         → RunByPlace (boosted a level) (BoostedRange in_range a.depth modulus) faulty last run
         → RunByPlace a in_range (λ j. faulty (i * a.nodes + j)) last
-            (λ t j. run t (i * a.nodes + j))
+        (λ t j. run t (i * a.nodes + j))
     block_run faulty last run i ilt is =
         let room = block_room level.blocks a.nodes i ilt in
         record {
@@ -92,4 +92,4 @@ module _ (a : Meaning) (in_range : State → Type 0) where
       → BlockLaw a in_range level
   block_law sizes ignores level faulty last run i ilt is =
       cut_run ignores (λ j. faulty (i * a.nodes + j)) last (λ t j. run t (i * a.nodes + j))
-          (block_run level sizes level.modulus faulty last run i ilt is)
+      (block_run level sizes level.modulus faulty last run i ilt is)

@@ -24,7 +24,7 @@ unsound_blocks n f faulty zero = omega arith
 unsound_blocks n f faulty (suc k) =
     let m = faults_in n faulty k in
     rw (suc-mul, stretches faulty (k * n) n)
-        (omega (arith, unsound_blocks n f faulty k, unsound_step (nat_le m f) f m refl))
+    (omega (arith, unsound_blocks n f faulty k, unsound_step (nat_le m f) f m refl))
 
 module _ (level : Level) (n f modulus : ℕ) (faulty : ℕ → Bool)
     (stands : StandsOver level n f modulus)
@@ -41,8 +41,10 @@ module _ (level : Level) (n f modulus : ℕ) (faulty : ℕ → Bool)
   sound_leader =
       let h = stands.blocks in
       let x = one_fails (λ i. not (sound n f faulty i)) (leaders_of level)
-          (omega
-            (arith, few_unsound,
-              shorter (λ i. not (sound n f faulty i)) (leaders_of level) level.blocks
-                (omega arith))) in
+      (omega (
+        arith,
+        few_unsound,
+        shorter (λ i. not (sound n f faulty i)) (leaders_of level) level.blocks
+            (omega arith),
+      )) in
       (x.0, x.1, not-false (sound n f faulty x.0) x.2)

@@ -95,11 +95,11 @@ module _ (a : Meaning) (in_range : State → Type 0) (level : Level) (sizes : Si
       let three = on.stands.blocks in
       let some = sizes.some in
       let n : 3 * a.nodes
-          ≤ level.blocks * a.nodes = mul-le 3 a.nodes level.blocks a.nodes three (omega arith) in
+      ≤ level.blocks * a.nodes = mul-le 3 a.nodes level.blocks a.nodes three (omega arith) in
       let two = sizes.two in
       let most = sizes.modulus in
       let whole = whole_by (span_of level) a.modulus on.stands.multiple (omega arith)
-          (cases_lt a.modulus (span_of level)) in
+      (cases_lt a.modulus (span_of level)) in
       record {
         some = omega arith;
         most = on.most_nodes;
@@ -146,10 +146,10 @@ module _ (a : Meaning) (in_range : State → Type 0) (level : Level) (sizes : Si
       let d = a.depth in (
         ignores.from_cut (zero_state (d + 1))
             (subst in_range
-              (sym
-                (ap (λ rs. record { x = 0; registers = rs })
-                  (take-replicate d (d + 1) zero_register (omega arith))))
-              zero),
+            (sym
+            (ap (λ rs. record { x = 0; registers = rs })
+            (take-replicate d (d + 1) zero_register (omega arith))))
+            zero),
         subst (λ (r : Reg). IfSome r.a (λ a. a < level.modulus))
             (sym (get_or-replicate (d + 1) d zero_register zero_register (omega arith)))
             (omega arith),

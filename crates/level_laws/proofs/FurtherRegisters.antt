@@ -50,12 +50,12 @@ module _ (a : Meaning) (in_range : State → Type 0) (level : Level) (sizes : Si
       let u : ℕ = v % a.nodes in
       let own = block a.nodes (v / a.nodes) heard in
       let size : length own
-          ≡ a.nodes = length-block level.blocks a.nodes (v / a.nodes) heard e p.0 in
+      ≡ a.nodes = length-block level.blocks a.nodes (v / a.nodes) heard e p.0 in
       ap (a.next u) (block-map (cut (a.depth + 1)) a.nodes (v / a.nodes) heard)
       ∙
-          (sym
-            (ignores.next u (map (cut (a.depth + 1)) own) p.1
-              (length-map own (cut (a.depth + 1)) ∙ size))
+      (sym
+      (ignores.next u (map (cut (a.depth + 1)) own) p.1
+      (length-map own (cut (a.depth + 1)) ∙ size))
       ∙ (ap (a.next u) (map_over (cut a.depth) (cut a.depth) (cut (a.depth + 1)) cut_more own)
       ∙ ignores.next u own p.1 size))
 
@@ -72,11 +72,11 @@ module _ (a : Meaning) (in_range : State → Type 0) (level : Level) (sizes : Si
       let n : ℕ = level.blocks * a.nodes in
       let by : ℕ → ℕ = λ u. a.shows (u % a.nodes) (state_of (more heard) u) in
       fill_by_all (λ u. a.shows (u % a.nodes) (state_of heard u))
-          (outputs_heard a level (more heard)) n 0 (length-map-range_with_len by 0 n)
+      (outputs_heard a level (more heard)) n 0 (length-map-range_with_len by 0 n)
       (λ u lt. get_or-map-range_with_len by 0 n u u 0 lt (omega arith)
       ∙
-          (ap (a.shows (u % a.nodes)) (state_more heard u (omega arith))
-            ∙ shows_more (u % a.nodes) (state_of heard u) (omega arith)))
+      (ap (a.shows (u % a.nodes)) (state_more heard u (omega arith))
+      ∙ shows_more (u % a.nodes) (state_of heard u) (omega arith)))
 
   values_more : (heard : List State) → values_heard a (more heard) ≡ values_heard a heard
   unfolding more
@@ -95,18 +95,18 @@ module _ (a : Meaning) (in_range : State → Type 0) (level : Level) (sizes : Si
       → level_register a level v (more heard) ≡ level_register a level v heard
   register_more v heard lt e =
       ap
-          (λ own. register_after a.nodes level own (outputs_heard a level (more heard))
-            (values_heard a (more heard)))
-          (own_more v heard (omega arith))
+      (λ own. register_after a.nodes level own (outputs_heard a level (more heard))
+      (values_heard a (more heard)))
+      (own_more v heard (omega arith))
       ∙
-          (ap
-            (λ outputs. register_after a.nodes level (register_at a.depth (state_of heard v))
-              outputs (values_heard a (more heard)))
-            (outputs_more heard e)
+      (ap
+      (λ outputs. register_after a.nodes level (register_at a.depth (state_of heard v))
+      outputs (values_heard a (more heard)))
+      (outputs_more heard e)
       ∙ ap
-          (register_after a.nodes level (register_at a.depth (state_of heard v))
-            (outputs_heard a level heard))
-          (values_more heard))
+      (register_after a.nodes level (register_at a.depth (state_of heard v))
+      (outputs_heard a level heard))
+      (values_more heard))
 
   pub boosted_ignores_further : (modulus : ℕ)
       → IgnoresFurther (boosted a level) (BoostedRange in_range a.depth modulus)

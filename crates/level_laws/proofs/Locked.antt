@@ -20,7 +20,7 @@ module _ (level : Level) (n : ℕ) (next : ℕ → ℕ) (faulty : ℕ → Bool)
     (quorum : 3 * level.faults < group_size level n)
     (few : places faulty (group_size level n) ≤ level.faults) (t last : ℕ)
     (outputs : ℕ → ℕ → ℕ) (registers : ℕ → ℕ → Reg)
-        (steps : RegistersStep level n next faulty t last outputs registers) where
+    (steps : RegistersStep level n next faulty t last outputs registers) where
   stays : (s z : ℕ) → t ≤ s → AllLocked (group_size level n) faulty (registers s) z → (y : ℕ)
       → s + y ≤ last → AllLocked (group_size level n) faulty (registers (s + y)) (after next y z)
   unfolding after

@@ -28,8 +28,8 @@ module _ (capacity : ℕ) (values : List (Option ℕ)) (counts : List Count)
   each_number P none each z = ⊎_elim
       (λ s. let at = s.1 in
       let e : (count_at counts s.0).places
-            ≡ count_of values (Some z) = sym (places_at s.0 at.in_range)
-          ∙ ap (λ y. count_of values (Some y)) at.has_value in
+      ≡ count_of values (Some z) = sym (places_at s.0 at.in_range)
+      ∙ ap (λ y. count_of values (Some y)) at.has_value in
       subst P e (each s.0 at.in_range))
       (λ e. subst P (sym e ∙ kept.places z) none)
       (counted_or_none counts z)
@@ -41,7 +41,7 @@ module _ (capacity : ℕ) (values : List (Option ℕ)) (counts : List Count)
 
   -- where no number has them, there is no majority
   pub majority_absent :
-        ((i : ℕ) → i < length counts → (count_at counts i).places ≤ length values / 2)
+      ((i : ℕ) → i < length counts → (count_at counts i).places ≤ length values / 2)
       → majority_of values ≡ None
   majority_absent few =
       no_majority values
@@ -53,12 +53,12 @@ module _ (capacity : ℕ) (values : List (Option ℕ)) (counts : List Count)
   below_count f i lt before z less = ⊎_elim
       (λ s. let at = s.1 in
       let e : (count_at counts s.0).places
-            ≡ count_of values (Some z) = sym (places_at s.0 at.in_range)
-          ∙ ap (λ y. count_of values (Some y)) at.has_value in
+      ≡ count_of values (Some z) = sym (places_at s.0 at.in_range)
+      ∙ ap (λ y. count_of values (Some y)) at.has_value in
       let earlier : s.0 < i = ⊎_elim (λ lt. lt) (λ ge. ⊎_elim
       (λ later. absurd (omega (arith, kept.rising i s.0 later at.in_range, at.has_value)))
       (λ le. let same : s.0 ≡ i = omega arith in
-          absurd (omega (arith, ap (value_at counts) same, at.has_value)))
+      absurd (omega (arith, ap (value_at counts) same, at.has_value)))
       (cases_lt i s.0)) (cases_lt s.0 i) in
       omega (arith, e, before s.0 earlier))
       (λ none. omega (arith, none, kept.places z))
@@ -96,7 +96,7 @@ module _ (capacity : ℕ) (values : List (Option ℕ)) (counts : List Count)
   no_majority_known more most few h =
       no_majority_stays more values
       (each_number (λ n. 2 * (n + more) ≤ length values + more) (omega arith)
-        (λ i lt. omega (arith, few i lt)))
+      (λ i lt. omega (arith, few i lt)))
 
   -- where no count before that of the least can come above f, the least stays
   pub least_known : (f more i : ℕ) → more ≤ f → i < length counts → f < (count_at counts i).places
@@ -104,10 +104,10 @@ module _ (capacity : ℕ) (values : List (Option ℕ)) (counts : List Count)
       → LeastStays f more values (least_above f values)
   least_known f more i fit lt h before =
       let is : least_above f values
-          ≡ Some (value_at counts i) = least_found f i lt h (λ k kl. omega (arith, before k kl)) in
+      ≡ Some (value_at counts i) = least_found f i lt h (λ k kl. omega (arith, before k kl)) in
       least_stays f more values
-          (subst (λ (o : Option ℕ). (z : ℕ) → IsBelow z o → count_of values (Some z) + more ≤ f)
-            (sym is) (λ z less. omega (arith, below_count (f - more) i lt before z less)))
+      (subst (λ (o : Option ℕ). (z : ℕ) → IsBelow z o → count_of values (Some z) + more ≤ f)
+      (sym is) (λ z less. omega (arith, below_count (f - more) i lt before z less)))
 
   -- the same where there is no least
   pub no_least_known : (f more : ℕ) → more ≤ f

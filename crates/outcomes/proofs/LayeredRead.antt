@@ -165,7 +165,7 @@ pub fires_to_play : (input : List ℕ) → IfOk (firing_of input) (IsToPlay fire
 fires_to_play input =
     so _ (input_read part.Fire fire.part_of fire_shape fire.AreFor requests_fit
     (λ plan requests accepted fits. further_sound plan 2 1 accepted (omega arith) (omega arith))
-        input)
+    input)
     (λ l. to_play fire_shape fire.AreFor fire_layer l
     (λ lt. record { nodes = refl; modulus = refl; depth = refl }) refl)
 

@@ -16,7 +16,7 @@ module _ (n f : ℕ) (next : ℕ → ℕ) (own : Reg) (xs ys : List (Option ℕ)
     where
       by_value : (a : Option ℕ) → a ≡ None → (b : Bool)
           → incremented next (record { a = cond b a None; d = own.d })
-            ≡ record { a = None; d = own.d }
+          ≡ record { a = None; d = own.d }
       by_value None e true = refl
       by_value None e false = refl
       by_value (Some a) e b = absurd (cc)
@@ -43,10 +43,10 @@ module _ (n f : ℕ) (next : ℕ → ℕ) (own : Reg) (xs ys : List (Option ℕ)
       → instructed n f next 2 own xs king ≡ record { a = Some (next z); d = true }
   marked_stays z value mark =
       ap
-          (λ a. incremented next
-            (record { a = Some (own_or_kings a own.d (slice_index_or xs king None)); d = true }))
-          value
+      (λ a. incremented next
+      (record { a = Some (own_or_kings a own.d (slice_index_or xs king None)); d = true }))
+      value
       ∙ ap
-          (λ d. incremented next
-            (record { a = Some (own_or_kings (Some z) d (slice_index_or xs king None)); d = true }))
-          mark
+      (λ d. incremented next
+      (record { a = Some (own_or_kings (Some z) d (slice_index_or xs king None)); d = true }))
+      mark

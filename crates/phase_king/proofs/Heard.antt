@@ -24,7 +24,7 @@ module _ (n f : ℕ) (faulty : ℕ → Bool) (few : places faulty n ≤ f) (old 
     in_places heard z h,
     cover_all faulty (holds_at heard z) n
         (λ i lt. ⊎_elim inl (λ ok. inr (holds_from heard z i (h.honest i lt ok ∙ all i lt ok)))
-            (cases_Bool (faulty i))),
+        (cases_Bool (faulty i))),
   )
 
   -- different values in the lists of two nodes share only faulty places
@@ -36,9 +36,9 @@ module _ (n f : ℕ) (faulty : ℕ → Bool) (few : places faulty n ≤ f) (old 
     in_places other z k,
     overlap (holds_at one y) (holds_at other z) faulty n
         (λ i lt p q. true_from_ne_false (faulty i)
-            (λ ok. ne
-              (sym (holds_is one y i p)
-                ∙ (h.honest i lt ok ∙ (sym (k.honest i lt ok) ∙ holds_is other z i q))))),
+        (λ ok. ne
+        (sym (holds_is one y i p)
+        ∙ (h.honest i lt ok ∙ (sym (k.honest i lt ok) ∙ holds_is other z i q))))),
   )
 
   -- what one node hears, each node hears, but for faulty places
@@ -50,10 +50,10 @@ module _ (n f : ℕ) (faulty : ℕ → Bool) (few : places faulty n ≤ f) (old 
     in_places other z k,
     cover (holds_at one z) faulty (holds_at other z) n
         (λ i lt p. ⊎_elim inl
-            (λ ok. inr
-              (holds_from other z i
-                (k.honest i lt ok ∙ (sym (h.honest i lt ok) ∙ holds_is one z i p))))
-            (cases_Bool (faulty i))),
+        (λ ok. inr
+        (holds_from other z i
+        (k.honest i lt ok ∙ (sym (h.honest i lt ok) ∙ holds_is one z i p))))
+        (cases_Bool (faulty i))),
   )
 
   -- what more than f places hold, some correct node has
@@ -68,7 +68,7 @@ module _ (n f : ℕ) (faulty : ℕ → Bool) (few : places faulty n ≤ f) (old 
         in_places heard z h,
         fewer (holds_at heard z) faulty n
             (λ i lt p. true_from_ne_false (faulty i)
-                (λ ok. false≢true
-                  (sym (s i lt) ∙ and_from (not (faulty i)) (holds_at heard z i) (ap not ok) p))),
+            (λ ok. false≢true
+            (sym (s i lt) ∙ and_from (not (faulty i)) (holds_at heard z i) (ap not ok) p))),
       )))
       (some_place (λ i. not (faulty i) && holds_at heard z i) n)

@@ -31,9 +31,9 @@ module _ (first n f : ℕ) (liars : ℕ → Bool) (registers : ℕ → Reg) (val
   -- the step of any register that is locked at the group's value
   pub locked_goes_on : (next : ℕ → ℕ) (kind king : ℕ)
       → instructed n f next kind (locked_at value) (values_heard first n liars registers told) king
-        ≡ locked_at (next value)
+      ≡ locked_at (next value)
   locked_goes_on next kind king =
       locked_on n f next (λ i. liars (first + i)) group.quorum group.few
-          (λ i. registers (first + i)) value
-          (λ i lt ok. group.locked (first + i) (omega arith) (omega arith) ok) kind king
-          (values_heard first n liars registers told) heard
+      (λ i. registers (first + i)) value
+      (λ i lt ok. group.locked (first + i) (omega arith) (omega arith) ok) kind king
+      (values_heard first n liars registers told) heard

@@ -61,7 +61,7 @@ module _ (n f : ℕ) (next : ℕ → ℕ) (faulty : ℕ → Bool) (quorum : 3 * 
       → AllHave n faulty old z → least_above f heard ≡ Some z
   least_one old z heard h all =
       let l = least_is f heard z
-          (omega (arith, most_hold n f faulty few old heard (Some z) h all)) in
+      (omega (arith, most_hold n f faulty few old heard (Some z) h all)) in
       let w = correct_source n f faulty few old heard (Some l.0) h (least_has f heard l.0 l.1) in
       l.1 ∙ (sym w.3 ∙ all w.0 w.1 w.2)
 
@@ -70,8 +70,8 @@ module _ (n f : ℕ) (next : ℕ → ℕ) (faulty : ℕ → Bool) (quorum : 3 * 
       → faulty v ≡ false → Obeys n f next faulty old 0 king (old v) new → new.a ≡ Some (next z)
   kept old z king v new all lt ok o =
       ap (λ r. r.a) o.step
-          ∙ (ap (λ y. option_map next (cond (leb (n - f) (count_of o.heard y)) y None))
-            (all v lt ok)
+      ∙ (ap (λ y. option_map next (cond (leb (n - f) (count_of o.heard y)) y None))
+      (all v lt ok)
       ∙ ap (λ b. option_map next (cond b (Some z) None)) (enough old z o.heard o.hears all))
 
   -- kind 1 locks it
@@ -79,15 +79,15 @@ module _ (n f : ℕ) (next : ℕ → ℕ) (faulty : ℕ → Bool) (quorum : 3 * 
       → faulty v ≡ false → Obeys n f next faulty old 1 king (old v) new → new ≡ locked_at (next z)
   marked old z king v new all lt ok o =
       o.step
-          ∙ (ap
-            (λ y. incremented next
-              (record { a = least_above f o.heard; d = leb (n - f) (count_of o.heard y) }))
-            (all v lt ok)
+      ∙ (ap
+      (λ y. incremented next
+      (record { a = least_above f o.heard; d = leb (n - f) (count_of o.heard y) }))
+      (all v lt ok)
       ∙
-          (ap (λ b. incremented next (record { a = least_above f o.heard; d = b }))
-            (enough old z o.heard o.hears all)
+      (ap (λ b. incremented next (record { a = least_above f o.heard; d = b }))
+      (enough old z o.heard o.hears all)
       ∙ ap (λ y. incremented next (record { a = y; d = true }))
-          (least_one old z o.heard o.hears all)))
+      (least_one old z o.heard o.hears all)))
 
   -- where it is locked, each kind keeps it so
   pub locked_on : (old : ℕ → Reg) (z : ℕ) → AllLocked n faulty old z
@@ -95,12 +95,12 @@ module _ (n f : ℕ) (next : ℕ → ℕ) (faulty : ℕ → Bool) (quorum : 3 * 
       → instructed n f next kind (locked_at z) heard king ≡ locked_at (next z)
   locked_on old z all zero king heard h =
       ap (λ b. incremented next (record { a = cond b (Some z) None; d = true }))
-          (enough old z heard h (λ u lt ok. ap (λ r. r.a) (all u lt ok)))
+      (enough old z heard h (λ u lt ok. ap (λ r. r.a) (all u lt ok)))
   locked_on old z all (suc zero) king heard h =
       ap (λ b. incremented next (record { a = least_above f heard; d = b }))
-          (enough old z heard h (λ u lt ok. ap (λ r. r.a) (all u lt ok)))
+      (enough old z heard h (λ u lt ok. ap (λ r. r.a) (all u lt ok)))
       ∙ ap (λ o. incremented next (record { a = o; d = true }))
-          (least_one old z heard h (λ u lt ok. ap (λ r. r.a) (all u lt ok)))
+      (least_one old z heard h (λ u lt ok. ap (λ r. r.a) (all u lt ok)))
   locked_on old z all (suc (suc _)) king heard h = refl
 
   -- persistence, for one node
@@ -109,7 +109,7 @@ module _ (n f : ℕ) (next : ℕ → ℕ) (faulty : ℕ → Bool) (quorum : 3 * 
       → new ≡ locked_at (next z)
   persists old z kind king v new all lt ok o =
       o.step ∙ ap (λ r. instructed n f next kind r o.heard king) (all v lt ok)
-          ∙ locked_on old z all kind king o.heard o.hears
+      ∙ locked_on old z all kind king o.heard o.hears
 
   pub persistence : (old new : ℕ → Reg) (z : ℕ) (kinds kings : ℕ → ℕ) → AllLocked n faulty old z
       → EachObeys n f next faulty kinds kings old new → AllLocked n faulty new (next z)
@@ -122,8 +122,8 @@ module _ (n f : ℕ) (next : ℕ → ℕ) (faulty : ℕ → Bool) (quorum : 3 * 
       → AllLocked n faulty end (next (next z))
   unanimity start middle end z kings later_kings has zeroth first =
       λ v lt ok. marked middle (next z) (later_kings v) v (end v)
-          (λ u u_lt u_ok. kept start z (kings u) u (middle u) has u_lt u_ok (zeroth u u_lt u_ok)) lt
-          ok (first v lt ok)
+      (λ u u_lt u_ok. kept start z (kings u) u (middle u) has u_lt u_ok (zeroth u u_lt u_ok)) lt
+      ok (first v lt ok)
 
   -- ---- the phase under a common king
 
@@ -141,9 +141,9 @@ module _ (n f : ℕ) (next : ℕ → ℕ) (faulty : ℕ → Bool) (quorum : 3 * 
       let p = all u u_lt u_ok in
       let q = all v v_lt v_ok in
       let s = kept_some next (leb (n - f) (count_of p.heard (old u).a)) (old u).a x
-          (sym (ap (λ r. r.a) p.step) ∙ u_has) in
+      (sym (ap (λ r. r.a) p.step) ∙ u_has) in
       let t = kept_some next (leb (n - f) (count_of q.heard (old v).a)) (old v).a y
-          (sym (ap (λ r. r.a) q.step) ∙ v_has) in
+      (sym (ap (λ r. r.a) q.step) ∙ v_has) in
       ⊎_elim (λ e. sym s.3 ∙ (ap next e ∙ t.3))
       (λ ne. absurd (omega (
         arith,
@@ -182,7 +182,7 @@ module _ (n f : ℕ) (next : ℕ → ℕ) (faulty : ℕ → Bool) (quorum : 3 * 
 
   -- kind 1 takes the least value
   takes_least : (old : ℕ → Reg) (king : ℕ) (own new : Reg)
-        (o : Obeys n f next faulty old 1 king own new) (j y : ℕ)
+      (o : Obeys n f next faulty old 1 king own new) (j y : ℕ)
       → least_above f o.heard ≡ Some j → next j ≡ y → new.a ≡ Some y
   takes_least old king own new o j y least e =
       ap (λ r. r.a) o.step ∙ (ap (option_map next) least ∙ ap Some e)
@@ -199,14 +199,14 @@ module _ (n f : ℕ) (next : ℕ → ℕ) (faulty : ℕ → Bool) (quorum : 3 * 
       let more = least_has f p.heard s.0 s.1 in
       let w = correct_source n f faulty few old p.heard (Some s.0) p.hears more in
       let most_own : n - f
-          ≤ count_of p.heard (old u).a = leb-true _ _ (sym (ap (λ r. r.d) p.step) ∙ u_marked) in
+      ≤ count_of p.heard (old u).a = leb-true _ _ (sym (ap (λ r. r.d) p.step) ∙ u_marked) in
       let own = own_is old u p.heard s.0 p.hears most_own more
-          (λ x e. one u w.0 x s.0 u_lt u_ok w.1 w.2 e w.3) (old u).a refl in
+      (λ x e. one u w.0 x s.0 u_lt u_ok w.1 w.2 e w.3) (old u).a refl in
       let most : n - f
-          ≤ count_of p.heard (Some s.0) = subst (λ o. n - f ≤ count_of p.heard o) own most_own in
+      ≤ count_of p.heard (Some s.0) = subst (λ o. n - f ≤ count_of p.heard o) own most_own in
       let l = carried_least old p.heard q.heard s.0 p.hears q.hears most in
       takes_least old king (old v) (new v) q l.0 y l.1
-          (ap next (one_least old q.heard p.heard l.0 s.0 one q.hears p.hears l.1 s.1) ∙ s.2)
+      (ap next (one_least old q.heard p.heard l.0 s.0 one q.hears p.hears l.1 s.1) ∙ s.2)
 
   -- kind 2, where all correct nodes have one value
   third_from_one : (king : ℕ) (old new : ℕ → Reg) (y : ℕ) → king < n → faulty king ≡ false
@@ -215,8 +215,8 @@ module _ (n f : ℕ) (next : ℕ → ℕ) (faulty : ℕ → Bool) (quorum : 3 * 
   third_from_one king old new y king_lt king_ok has all v lt ok =
       let q = all v lt ok in
       q.step
-          ∙ ap (λ x. record { a = Some (next x); d = true })
-            (either_way (old v).a (old v).d (get_or q.heard king None) y (has v lt ok)
+      ∙ ap (λ x. record { a = Some (next x); d = true })
+      (either_way (old v).a (old v).d (get_or q.heard king None) y (has v lt ok)
       (ap (λ o. unwrap_or o 0) (q.hears.honest king king_lt king_ok ∙ has king king_lt king_ok)))
 
   -- kind 2, where no correct node is locked
@@ -227,28 +227,29 @@ module _ (n f : ℕ) (next : ℕ → ℕ) (faulty : ℕ → Bool) (quorum : 3 * 
   third_from_none king old new king_lt king_ok none all v lt ok =
       let q = all v lt ok in
       q.step
-          ∙ ap (λ x. record { a = Some (next x); d = true })
-            (unmarked (old v).a (old v).d (get_or q.heard king None) (none v lt ok)
+      ∙ ap (λ x. record { a = Some (next x); d = true })
+      (unmarked (old v).a (old v).d (get_or q.heard king None) (none v lt ok)
       ∙ ap (λ o. unwrap_or o 0) (q.hears.honest king king_lt king_ok))
 
   -- after kind 2, where all have the value of each that is locked
   pub third_round : (king : ℕ) (old new : ℕ → Reg) → king < n → faulty king ≡ false
       → ((u y : ℕ) → u < n → faulty u ≡ false → (old u).a ≡ Some y → (old u).d ≡ true
-        → AllHave n faulty old y)
+      → AllHave n faulty old y)
       → AllObey n f next faulty 2 king old new → (z : ℕ) × AllLocked n faulty new z
   third_round king old new king_lt king_ok same all = ⊎_elim
       (λ s. let e = and_parts (not (faulty s.0)) (is_some (old s.0).a && (old s.0).d) s.2 in
       let g = and_parts (is_some (old s.0).a) (old s.0).d e.1 in
-      let y = finite (old s.0).a g.0 in
-      (next y.0,
-          third_from_one king old new y.0 king_lt king_ok
-            (same s.0 y.0 s.1 (not-true (faulty s.0) e.0) y.1 g.1) all))
+      let y = finite (old s.0).a g.0 in (
+        next y.0,
+        third_from_one king old new y.0 king_lt king_ok
+            (same s.0 y.0 s.1 (not-true (faulty s.0) e.0) y.1 g.1) all,
+      ))
       (λ s. (
         next (unwrap_or (old king).a 0),
         third_from_none king old new king_lt king_ok
             (λ v lt ok. ⊎_elim (λ e. absurd (true≢false (sym (ap not ok) ∙ e))) (λ e. e)
-                  (and_cases (not (faulty v)) (is_some (old v).a && (old v).d) (s v lt)))
-                all,
+            (and_cases (not (faulty v)) (is_some (old v).a && (old v).d) (s v lt)))
+            all,
       ))
       (some_place (λ i. not (faulty i) && (is_some (old i).a && (old i).d)) n)
 
@@ -258,5 +259,5 @@ module _ (n f : ℕ) (next : ℕ → ℕ) (faulty : ℕ → Bool) (quorum : 3 * 
       → AllObey n f next faulty 2 king after_one end → (z : ℕ) × AllLocked n faulty end z
   convergence king start after_zero after_one end king_lt king_ok zeroth first second =
       third_round king after_one end king_lt king_ok
-          (second_round king after_zero after_one (first_round king start after_zero zeroth) first)
-          second
+      (second_round king after_zero after_one (first_round king start after_zero zeroth) first)
+      second

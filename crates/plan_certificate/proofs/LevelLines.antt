@@ -39,7 +39,7 @@ module _ (plan : Plan) (i : ℕ) (nums : LevelNums)
   here =
       get_or-enumerate_from 1 (level_numbers plan) i (0, nums) inside
       ∙ ap (λ (x : LevelNums). (1 + i, x))
-          (get_or_from_slice_get (level_numbers plan) i nums nums at)
+      (get_or_from_slice_get (level_numbers plan) i nums nums at)
 
   -- one more line is written
   pub wrote_level : (s t u : Told) → Wrote (first_lines plan i) s t

@@ -99,7 +99,7 @@ begun_by : (version base : ℕ) (line : List ℕ) (premise : Option Premise) →
     → base_premise base ≡ premise → base_of base ≡ line
     → Leads (Begun version) line
     (goes_with
-        (unless_premise premise (Ok (record { version = version; base = base; levels = [] }))))
+    (unless_premise premise (Ok (record { version = version; base = base; levels = [] }))))
 unfolding stage_lines built_lines
 begun_by version base line (Some p) known e is = tt
 begun_by version base line None known e is = (
@@ -130,7 +130,7 @@ level_made : (plan : Plan) (line ns : List ℕ) (same : Bool) → IsAccepted pla
     → joined (level_words plan.version ns) ≡ line
     → (plan.version ≡ 1 → slice_index ns 10 ≡ 0)
     → Leads (Built plan) line
-        (goes_with (if same then Ok (with_level plan (level_in ns)) else Err cause.Value))
+    (goes_with (if same then Ok (with_level plan (level_in ns)) else Err cause.Value))
 unfolding stage_lines built_lines
 level_made plan line ns false sound none e is fits = tt
 level_made plan line ns true sound none e is fits =
@@ -152,7 +152,7 @@ level_leads_by : (plan : Plan) (line ns : List ℕ) (premise : Option Premise) �
     → (plan.version ≡ 1 → slice_index ns 10 ≡ 0)
     → Leads (Built plan) line (goes_with (unless_premise premise
     (if same_numbers ns (values_over plan (level_in ns)) then Ok (with_level plan (level_in ns))
-        else Err cause.Value)))
+    else Err cause.Value)))
 level_leads_by plan line ns (Some p) sound e is fits = tt
 level_leads_by plan line ns None sound e is fits =
     level_made plan line ns (same_numbers ns (values_over plan (level_in ns))) sound e refl is fits
@@ -200,7 +200,7 @@ line_leads (Begun version) line sound =
     base_leads version line (numbers_after (codes "base") 1 (words_of line)) sound refl
 line_leads (Built plan) line sound =
     built_leads plan line (level_stated plan.version (words_of line)) (plan_stated (words_of line))
-        sound refl refl
+    sound refl refl
 line_leads (Stated plan) line sound = end_by plan line (bytes_eq line (codes "end")) sound refl
 
 -- ---- all lines
@@ -222,12 +222,12 @@ read_one : (s : TableStage) (line : List ℕ) (lines : List (List ℕ)) (taken n
     (found : Found Plan)
     (next : Next TableStage Plan Cause) → table_step s line ≡ next → Leads s line next
     →
-        ((t : TableStage) → IsSound t → read t (taken + 1) (number + 1) lines ≡ Ok found
-          → IsRead t lines found)
+    ((t : TableStage) → IsSound t → read t (taken + 1) (number + 1) lines ≡ Ok found
+    → IsRead t lines found)
     → read s taken number (line ∷ lines) ≡ Ok found → IsRead s (line ∷ lines) found
 read_one s line lines taken number found (refuses r) is leads more e =
     let no : read s taken number (line ∷ lines)
-        ≡ Err (record { line = number; rule = r }) = rw (part_from, is) refl in
+    ≡ Err (record { line = number; rule = r }) = rw (part_from, is) refl in
     absurd (not_both _ _ (sym no ∙ e))
 read_one s line lines taken number found (ends plan) is leads more e =
     let made : Ok (record { value = plan; taken = taken + 1; behind = lines }) ≡ Ok found =
@@ -276,7 +276,7 @@ only_by text plan (Err at) is e = absurd cc
 only_by text plan (Ok found) is e =
     let h = read_all (whole_lines text) Unread 0 1 found tt is in
     let (none, closed, same) = alone_by found.behind (open_rest text) found.value plan found.taken
-        e in
+    e in
     let lines : whole_lines text ≡ table_lines found.value =
     h.cut ∙ ap (λ l. h.front ++ l) none ∙ append-nil h.front ∙ sym h.are in
     subst (λ p. IsAccepted p × (text ≡ table_text p)) same (

@@ -113,14 +113,14 @@ built_text version base (level ∷ below) known =
     let first = version_line (codes "table ") version in
     text_push (built_lines version base below) (level_of_table version (length below + 1) nums)
     ∙ ap (λ t. t ++ ended (level_of_table version (length below + 1) nums))
-        (built_text version base below known)
+    (built_text version base below known)
     ∙ append_assoc first (base_line base ++ lower)
-        (ended (level_of_table version (length below + 1) nums))
+    (ended (level_of_table version (length below + 1) nums))
     ∙ ap (λ t. first ++ t)
-        (append_assoc (base_line base) lower
-          (ended (level_of_table version (length below + 1) nums)))
+    (append_assoc (base_line base) lower
+    (ended (level_of_table version (length below + 1) nums)))
     ∙ ap (λ t. first ++ (base_line base ++ (lower ++ t)))
-        (level_text_is version (length below + 1) nums known)
+    (level_text_is version (length below + 1) nums known)
     ∙ ap (λ t. first ++ (base_line base ++ t)) (sym line)
 
 -- the text of all lines is the table text
@@ -133,7 +133,7 @@ table_text_is plan known =
     text_push (built ++ whole_of plan ∷ []) (codes "end")
     ∙ ap (λ t. t ++ codes "end\n") (text_push built (whole_of plan))
     ∙ ap (λ t. (t ++ ended (whole_of plan)) ++ codes "end\n")
-        (built_text plan.version plan.base plan.levels known)
+    (built_text plan.version plan.base plan.levels known)
     ∙ ap (λ t. ((first ++ (base_line plan.base ++ level_lines plan)) ++ t) ++ codes "end\n")
-        (whole_text_is plan)
+    (whole_text_is plan)
     ∙ simp (append_assoc, append-nil)

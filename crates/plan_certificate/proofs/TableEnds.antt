@@ -74,7 +74,7 @@ module _ (text : List ℕ) (s : TableStage) (number : ℕ) (rest : List ℕ)
     followed : (lines : List (List ℕ)) (more : List ℕ) (plan : Plan)
         → 0 < length (text_of lines ++ more)
         → unless_followed lines more plan number
-            ≡ Err (record { line = number + 1; rule = Premise Form })
+        ≡ Err (record { line = number + 1; rule = Premise Form })
     followed [] [] plan lt = absurd (omega arith)
     followed [] (b ∷ more) plan lt = refl
     followed (l ∷ lines) more plan lt = refl

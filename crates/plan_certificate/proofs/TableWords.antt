@@ -51,13 +51,13 @@ named_back (name ∷ names) [] numbers e = absurd cc
 named_back (name ∷ names) (w ∷ []) numbers e = absurd cc
 named_back (name ∷ names) (w ∷ v ∷ ws) numbers e =
     back_by (bytes_eq w name) name w v names ws (number_of v) (numbers_named names ws) numbers refl
-        refl
+    refl
     (λ more is. named_back names ws more is) e
 
 -- and their words are read
 pub named_there : (names : List (List ℕ)) (numbers : List ℕ) → length numbers ≡ length names
     → AllByRecursion IsShort numbers
-        → numbers_named names (named_words names numbers) ≡ Some numbers
+    → numbers_named names (named_words names numbers) ≡ Some numbers
 unfolding named_words
 named_there [] [] size short = refl
 named_there [] (n ∷ numbers) size short = absurd (omega (arith, size))
@@ -103,13 +103,15 @@ spares_back words None ns f e = absurd cc
 spares_back words (Some m) ns f e =
     let parts : m ++ 0 ∷ [] ≡ ns = cc in
     let size = length_named level_names words m f in
-    subst (λ xs. (words_by true xs ≡ words) × (slice_index xs 10 ≡ 0)) parts
-    (ap (named_words level_names) (front_again m size)
-        ∙ named_back level_names words m f, last_zero m 10 size)
+    subst (λ xs. (words_by true xs ≡ words) × (slice_index xs 10 ≡ 0)) parts (
+      ap (named_words level_names) (front_again m size)
+          ∙ named_back level_names words m f,
+      last_zero m 10 size,
+    )
 
 level_by : (first : Bool) (words : List (List ℕ)) (ns : List ℕ)
     → cond first (without_spares (numbers_named level_names words))
-        (numbers_named spare_level_names words)
+    (numbers_named spare_level_names words)
     ≡ Some ns → (words_by first ns ≡ words) × (first ≡ true → slice_index ns 10 ≡ 0)
 unfolding words_by
 level_by true words ns e =
@@ -127,14 +129,14 @@ level_back version words ns e =
 there_by : (first : Bool) (index : ℕ) (nums : LevelNums)
     → AllByRecursion IsShort (level_values index nums) → (first ≡ true → nums.spares ≡ 0)
     → cond first
-        (without_spares (numbers_named level_names (words_by first (level_values index nums))))
+    (without_spares (numbers_named level_names (words_by first (level_values index nums))))
     (numbers_named spare_level_names (words_by first (level_values index nums)))
     ≡ Some (level_values index nums)
 unfolding words_by
 there_by true index nums (a, (b, (c, (d, (f, (g, (h, (i, (j, (k, l)))))))))) none =
     let ten = take 10 (level_values index nums) in
     ap without_spares
-        (named_there level_names ten refl (a, (b, (c, (d, (f, (g, (h, (i, (j, (k, tt)))))))))))
+    (named_there level_names ten refl (a, (b, (c, (d, (f, (g, (h, (i, (j, (k, tt)))))))))))
     ∙ ap (λ z. Some (ten ++ z ∷ [])) (sym (none refl))
 there_by false index nums short none =
     named_there spare_level_names (level_values index nums) refl short
@@ -197,7 +199,7 @@ plan_by false key words ns s e = absurd cc
 plan_by true key words ns s e =
     let key_is = (bytes_eq-Decides key (codes "plan")).0 s in
     ap (λ ws. codes "plan" ∷ ws) (named_back plan_names words ns e)
-        ∙ ap (λ k. k ∷ words) (sym key_is)
+    ∙ ap (λ k. k ∷ words) (sym key_is)
 
 pub plan_back : (words : List (List ℕ)) (ns : List ℕ) → plan_stated words ≡ Some ns
     → plan_words ns ≡ words

@@ -21,8 +21,8 @@ top_is base (level ∷ below) nums some stands =
     let place : length (level ∷ below) - 1 ≡ length (numbers_of base below) = omega (arith, size) in
     let same : length (level ∷ below) ≡ length below + 1 = omega arith in
     let is : get_or (numbers_of base below ++ top ∷ []) (length (numbers_of base below)) nums
-        ≡ nums =
+    ≡ nums =
     get_or_from_slice_get (numbers_of base (level ∷ below)) (length (numbers_of base below)) nums
-        nums (rw (← place) stands) in
+    nums (rw (← place) stands) in
     let last : nums ≡ top = sym is ∙ get_or-append_seam (numbers_of base below) top [] nums in
     rw (same, last) refl

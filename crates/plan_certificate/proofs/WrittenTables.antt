@@ -67,9 +67,9 @@ base_goes : (version base : ℕ) → base_premise base ≡ None
 unfolding built
 base_goes version base none =
     let words = words_there (codes "base") (decimal base ∷ [])
-        (base_solid base (base_short base none)) in
+    (base_solid base (base_short base none)) in
     let numbers : numbers_after (codes "base") 1 (codes "base" ∷ decimal base ∷ [])
-        ≡ Some (base ∷ []) =
+    ≡ Some (base ∷ []) =
     rw (number_there base (base_short base none)) refl in
     let plan : Plan = record { version = version; base = base; levels = [] } in
     ap (λ ws. goes_with (based version (numbers_after (codes "base") 1 ws))) words
@@ -81,7 +81,7 @@ base_goes version base none =
 below_small : (base : ℕ) (below : List Level) (level : Level) → LevelsAccepted base below
     → first_premise (below_of base below) level ≡ None
     → AllByRecursion IsShort
-        (level_values (length below + 1) (numbers_over (below_of base below) level))
+    (level_values (length below + 1) (numbers_over (below_of base below) level))
 below_small base below level accepted none =
     let deep = accepted_depth base below accepted in
     let met = meets (below_of base below) level none in
@@ -89,8 +89,7 @@ below_small base below level accepted none =
     let spares : level.spares ≤ 256 = omega (arith, met.most_nodes) in
     let b = s.below in
     let bound : (numbers_over (below_of base below) level).bound
-          < 256 * 2 ^ 40 = bound_most _ _ b.most b.bound in
-        (
+    < 256 * 2 ^ 40 = bound_most _ _ b.most b.bound in (
       omega (arith, deep),
       (
         omega (arith, s.most_blocks),
@@ -135,18 +134,18 @@ level_goes version base below level accepted none fits =
     let line = level_of_table version (length below + 1) nums in
     let words : words_of line ≡ level_words version values =
     again (level_words version values) (level_solid version (length below + 1) nums small)
-        (some_words version (length below + 1) nums) in
+    (some_words version (length below + 1) nums) in
     let stated : level_stated version (words_of line) ≡ Some values =
     ap (level_stated version) words ∙ level_there version (length below + 1) nums small fits in
     let same : same_numbers values (values_over plan level)
-        ≡ true = (bytes_eq-Decides values values).1 refl in
+    ≡ true = (bytes_eq-Decides values values).1 refl in
     ap (λ ns. built_by plan ns (plan_stated (words_of line))) stated
     ∙ ap
-        (λ premise. goes_with
-          (unless_premise premise
-            (if same_numbers values (values_over plan level) then Ok (with_level plan level)
-              else Err cause.Value)))
-        none
+    (λ premise. goes_with
+    (unless_premise premise
+    (if same_numbers values (values_over plan level) then Ok (with_level plan level)
+    else Err cause.Value)))
+    none
     ∙ ap (λ b. goes_with (if b then Ok (with_level plan level) else Err cause.Value)) same where
       again : (words : List (List ℕ)) → AllByRecursion IsWord words → 0 < length words
           → words_of (joined words) ≡ words
@@ -161,20 +160,20 @@ levels_read : (version base : ℕ) (levels : List Level) (rest : List (List ℕ)
 unfolding built_lines
 levels_read version base [] rest known accepted fit =
     read_goes Unread (Begun version) (first_of version) (base_of base ∷ rest) 0 1
-        (first_goes version known)
+    (first_goes version known)
     ∙ read_goes (Begun version) (built version base []) (base_of base) rest 1 2
-        (base_goes version base accepted)
+    (base_goes version base accepted)
 levels_read version base (level ∷ below) rest known accepted fit =
     let line = level_of_table version (length below + 1)
-        (numbers_over (below_of base below) level) in
+    (numbers_over (below_of base below) level) in
     let a : length below + 2 + 1 ≡ length (level ∷ below) + 2 = omega arith in
     let b : length below + 3 + 1 ≡ length (level ∷ below) + 3 = omega arith in
     ap (read Unread 0 1) (append_assoc (built_lines version base below) (line ∷ []) rest)
     ∙ levels_read version base below (line ∷ rest) known accepted.0
-        (All-tail (FitsVersion version) level below fit)
+    (All-tail (FitsVersion version) level below fit)
     ∙ read_goes (built version base below) (built version base (level ∷ below)) line rest _ _
     (level_goes version base below level accepted.0 accepted.1
-        (All-head (FitsVersion version) level below fit))
+    (All-head (FitsVersion version) level below fit))
     ∙ rw (a, b) refl
 
 -- ---- the whole plan
@@ -191,8 +190,10 @@ plan_small plan accepted =
         omega (arith, most, quorum),
         (
           omega (arith, s.most_modulus),
-          (omega (arith, bound),
-              (omega (arith, bits, most), (bytes_small _ (omega (arith, bits, most)), tt))),
+          (
+            omega (arith, bound),
+            (omega (arith, bits, most), (bytes_small _ (omega (arith, bits, most)), tt)),
+          ),
         ),
       ),
     ) where
@@ -208,7 +209,7 @@ whole_goes plan accepted =
     let small = plan_small plan accepted in
     let values = plan_values plan in
     let words : words_of (whole_of plan)
-        ≡ plan_words values = words_there _ _ (plan_solid values small) in
+    ≡ plan_words values = words_there _ _ (plan_solid values small) in
     let level : level_stated plan.version (words_of (whole_of plan)) ≡ None =
     ap (level_stated plan.version) words ∙ no_level plan.version values in
     let stated : plan_stated (words_of (whole_of plan)) ≡ Some values =
@@ -236,36 +237,39 @@ all_read plan accepted =
     let n = length plan.levels in
     ap (read Unread 0 1) (append_assoc lines (whole_of plan ∷ []) (codes "end" ∷ []))
     ∙ levels_read plan.version plan.base plan.levels (whole_of plan ∷ codes "end" ∷ []) known
-        accepted.levels accepted.fits
+    accepted.levels accepted.fits
     ∙ read_goes (Built plan) (Stated plan) (whole_of plan) (codes "end" ∷ []) (n + 2) (n + 3)
-        (whole_goes plan accepted)
+    (whole_goes plan accepted)
 
 -- ---- lines have no newline
 
 one_line : (version base : ℕ) (levels : List Level) → IsVersion version → LevelsAccepted base levels
     → AllByRecursion IsOneLine (built_lines version base levels)
 unfolding built_lines
-one_line version base [] known accepted =
-    (first_one version known,
-          (joined_is_one (codes "base" ∷ decimal base ∷ [])
-              (base_solid base (base_short base accepted)),
-            tt))
-        where
-      first_one : (version : ℕ) → IsVersion version → IsOneLine (first_of version)
-      first_one version (inl one) = rw (one, decimal_digit 1 (omega arith)) refl
-      first_one version (inr two) = rw (two, decimal_digit 2 (omega arith)) refl
+one_line version base [] known accepted = (
+  first_one version known,
+  (
+    joined_is_one (codes "base" ∷ decimal base ∷ [])
+        (base_solid base (base_short base accepted)),
+    tt,
+  ),
+)
+  where
+    first_one : (version : ℕ) → IsVersion version → IsOneLine (first_of version)
+    first_one version (inl one) = rw (one, decimal_digit 1 (omega arith)) refl
+    first_one version (inr two) = rw (two, decimal_digit 2 (omega arith)) refl
 one_line version base (level ∷ below) known accepted =
     let nums = numbers_over (below_of base below) level in
     let small = below_small base below level accepted.0 accepted.1 in
     push_all (built_lines version base below) _ (one_line version base below known accepted.0)
     (joined_is_one (level_words version (level_values (length below + 1) nums))
-          (level_solid version (length below + 1) nums small))
-        where
-      push_all : (lines : List (List ℕ)) (line : List ℕ) → AllByRecursion IsOneLine lines
-          → IsOneLine line
-          → AllByRecursion IsOneLine (lines ++ line ∷ [])
-      push_all [] line all one = (one, tt)
-      push_all (l ∷ lines) line all one = (all.0, push_all lines line all.1 one)
+    (level_solid version (length below + 1) nums small))
+  where
+    push_all : (lines : List (List ℕ)) (line : List ℕ) → AllByRecursion IsOneLine lines
+        → IsOneLine line
+        → AllByRecursion IsOneLine (lines ++ line ∷ [])
+    push_all [] line all one = (one, tt)
+    push_all (l ∷ lines) line all one = (all.0, push_all lines line all.1 one)
 
 all_one : (plan : Plan) → IsAccepted plan → AllByRecursion IsOneLine (table_lines plan)
 unfolding table_lines
@@ -274,10 +278,10 @@ all_one plan accepted =
     let known = version_known plan accepted in
     push_all (lines ++ whole_of plan ∷ []) (codes "end")
     (push_all lines (whole_of plan)
-        (one_line plan.version plan.base plan.levels known accepted.levels)
+    (one_line plan.version plan.base plan.levels known accepted.levels)
     (joined_is_one (plan_words (plan_values plan))
-          (plan_solid (plan_values plan) (plan_small plan accepted))))
-        refl where
+    (plan_solid (plan_values plan) (plan_small plan accepted))))
+    refl where
       push_all : (lines : List (List ℕ)) (line : List ℕ) → AllByRecursion IsOneLine lines
           → IsOneLine line
           → AllByRecursion IsOneLine (lines ++ line ∷ [])
@@ -293,6 +297,6 @@ tables_are_read plan accepted =
     let cut = cut_again (table_lines plan) [] (all_one plan accepted) refl in
     ap table_of (sym text)
     ∙ ap (λ lines. alone (open_rest (text_of (table_lines plan) ++ [])) (read Unread 0 1 lines))
-        cut.0
+    cut.0
     ∙ ap (λ rest. alone rest (read Unread 0 1 (table_lines plan))) cut.1
     ∙ ap (alone []) (all_read plan accepted)

@@ -34,9 +34,9 @@ plan_for f c most None plan none built =
 plan_for f c most (Some best) plan is (same, accepted) =
     subst (IsPlanFor f c most) (sym same)
     (least_plan c most f (levels_in best) is.member.path is.member.faults
-        (omega (arith, is.member.nodes)) accepted
+    (omega (arith, is.member.nodes)) accepted
     (λ other path faults few less. is.least other
-        (record { path = path; faults = faults; nodes = omega (arith, few) }) less))
+    (record { path = path; faults = faults; nodes = omega (arith, few) }) less))
 
 -- ---- the costs
 
@@ -47,17 +47,18 @@ module _ (most : ℕ) (some : 1 ≤ most) (pots : List Pot) (are : AreLeastCosts
   known_path levels path =
       let there = are.complete levels path in
       let pot : Pot = record
-          { nodes = nodes_of levels; faults = faults_of levels; value = there.0 } in
+      { nodes = nodes_of levels; faults = faults_of levels; value = there.0 } in
       let least : IsLeastCost most pot = All-contains (IsLeastCost most) pots pot are.costs
-            there.1 in
-          (
+      there.1 in (
         there.1.0,
         pot,
         there.1.1,
         there.1.2,
-        record
-            { nodes = refl; faults = refl;
-              most = least.least levels (record { path = path; nodes = refl; faults = refl }) },
+        record {
+          nodes = refl;
+          faults = refl;
+          most = least.least levels (record { path = path; nodes = refl; faults = refl });
+        },
       )
 
   step_known : (pot : Pot) → IsLeastCost most pot → StepsAreKnown most pots pot
@@ -67,11 +68,10 @@ module _ (most : ℕ) (some : 1 ≤ most) (pots : List Pot) (are : AreLeastCosts
       let top : Level = record { blocks = k; faults = g; modulus = 0; spares = 0 } in
       let moved : IsStep most (nodes_of levels) (faults_of levels) k g =
       subst (λ n. IsStep most n (faults_of levels) k g) (sym reaches.nodes)
-          (subst (λ f. IsStep most pot.nodes f k g) (sym reaches.faults) step) in
+      (subst (λ f. IsStep most pot.nodes f k g) (sym reaches.faults) step) in
       let known = known_path (top ∷ levels) (reaches.path, refl, moved) in
       let at : IsAtMost (k * nodes_of levels + 0) g (bound_of levels + cost_of k g) known.1 =
-            known.4 in
-          (
+      known.4 in (
         known.0,
         known.1,
         known.2,
@@ -88,7 +88,7 @@ module _ (most : ℕ) (some : 1 ≤ most) (pots : List Pot) (are : AreLeastCosts
       let there = are.complete [] tt in
       let pot : Pot = record { nodes = 1; faults = 0; value = there.0 } in
       let least : IsLeastCost most pot = All-contains (IsLeastCost most) pots pot are.costs
-          there.1 in
+      there.1 in
       let none : there.0 ≤ 0 = least.least [] (record { path = tt; nodes = refl; faults = refl }) in
       let zero_value : there.0 ≡ 0 = omega (arith, none) in
       subst (λ v. Contains pots (record { nodes = 1; faults = 0; value = v })) zero_value there.1
@@ -101,9 +101,12 @@ module _ (most : ℕ) (some : 1 ≤ most) (pots : List Pot) (are : AreLeastCosts
       let reaches : Reaches most pot.nodes pot.faults levels = least.reached.1 in
       subst (λ p. KeepsBound f (bound_in p) pot) (sym built)
       (λ same. none levels
-          (record
-            { path = reaches.path; faults = reaches.faults
-              ∙ same; nodes = omega (arith, path_few most levels some reaches.path) }))
+      (record {
+        path = reaches.path;
+        faults = reaches.faults
+            ∙ same;
+        nodes = omega (arith, path_few most levels some reaches.path);
+      }))
   keeps f c (Some best) plan is (same, accepted) pot least =
       let levels : List Level = least.reached.0 in
       let reaches : Reaches most pot.nodes pot.faults levels = least.reached.1 in
@@ -111,10 +114,13 @@ module _ (most : ℕ) (some : 1 ≤ most) (pots : List Pot) (are : AreLeastCosts
       (λ faults. elim (cases_lt (bound_of levels) (bound_of (levels_in best))) [
         | inl lt ↦ absurd
             (is.least levels
-              (record
-                { path = reaches.path; faults = reaches.faults
-                  ∙ faults; nodes = omega (arith, path_few most levels some reaches.path) })
-              (inl lt))
+            (record {
+              path = reaches.path;
+              faults = reaches.faults
+                  ∙ faults;
+              nodes = omega (arith, path_few most levels some reaches.path);
+            })
+            (inl lt))
         | inr le ↦ omega (arith, le, bound_counting c (levels_in best), least.reached.2)
       ])
 

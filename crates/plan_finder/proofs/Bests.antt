@@ -33,7 +33,7 @@ numbers_from_top : (steps : List Step) → steps_of (map level_by steps) ≡ num
 numbers_from_top [] = refl
 numbers_from_top (step ∷ steps) =
     let turned : reverse (step ∷ steps)
-        ≡ reverse steps ++ step ∷ [] = reverse-append (step ∷ []) steps in
+    ≡ reverse steps ++ step ∷ [] = reverse-append (step ∷ []) steps in
     ap (λ ns. ns ++ (step.blocks ∷ step.faults ∷ [])) (numbers_from_top steps)
     ∙ (sym (numbers_by_push (reverse steps) step) ∙ ap numbers_by (sym turned))
 
@@ -41,23 +41,28 @@ pub rank_is : (best : Best) → IsKept best → rank_in best ≡ rank_of (levels
 rank_is best kept =
     let steps : List Step = steps_in best in
     let deep : best.depth ≡ length (levels_in best) =
-    omega
-        (arith, length-map (reverse steps) level_by, length-reverse steps,
-          length-take best.depth best.steps, kept.room, kept.few) in
+    omega (
+      arith,
+      length-map (reverse steps) level_by,
+      length-reverse steps,
+      length-take best.depth best.steps,
+      kept.room,
+      kept.few,
+    ) in
     let numbers : numbers_by steps ≡ steps_of (levels_in best) =
     sym (numbers_from_top (reverse steps) ∙ ap numbers_by (reverse-reverse steps)) in
     ap (λ x. x ∷ best.nodes ∷ best.depth ∷ numbers_by steps) kept.value
     ∙ (ap (λ x. bound_of (levels_in best) ∷ x ∷ best.depth ∷ numbers_by steps) kept.nodes
     ∙ (ap (λ x. bound_of (levels_in best) ∷ nodes_of (levels_in best) ∷ x ∷ numbers_by steps) deep
     ∙ ap
-        (λ xs. bound_of (levels_in best) ∷ nodes_of (levels_in best) ∷ length (levels_in best) ∷ xs)
-        numbers))
+    (λ xs. bound_of (levels_in best) ∷ nodes_of (levels_in best) ∷ length (levels_in best) ∷ xs)
+    numbers))
 
 -- ---- sets
 
 pub same_set : (P Q : List Level → Type 0) → ((levels : List Level) → P levels → Q levels)
     → ((levels : List Level) → Q levels → P levels) → (cell : Option Best) → IsBestOf P cell
-        → IsBestOf Q cell
+    → IsBestOf Q cell
 same_set P Q to from None none = λ other in_q. none other (from other in_q)
 same_set P Q to from (Some best) is = record {
   kept = is.kept;
@@ -88,22 +93,22 @@ together P R Q left right parts None (Some other) result none is same =
 together P R Q left right parts (Some best) (Some other) result was is (inl (same, less)) =
     let earlier : IsLess (rank_of (levels_in other)) (rank_of (levels_in best)) =
     subst (λ r. IsLess r (rank_of (levels_in best))) (rank_is other is.kept)
-        (subst (IsLess (rank_in other)) (rank_is best was.kept) less) in
+    (subst (IsLess (rank_in other)) (rank_is best was.kept) less) in
     subst (IsBestOf Q) (sym same) (record {
       kept = is.kept;
       member = right (levels_in other) is.member;
       least = λ more in_q under. elim (parts more in_q) [
         | inl in_p ↦ was.least more in_p
             (less_then (rank_of more) (rank_of (levels_in other)) (rank_of (levels_in best)) under
-              earlier)
+            earlier)
         | inr in_r ↦ is.least more in_r under
       ];
     })
 together P R Q left right parts (Some best) (Some other) result was is (inr (same, not_less)) =
     let not_earlier : ¬ IsLess (rank_of (levels_in other)) (rank_of (levels_in best)) =
     λ less. not_less
-        (subst (λ r. IsLess r (rank_in best)) (sym (rank_is other is.kept))
-          (subst (IsLess (rank_of (levels_in other))) (sym (rank_is best was.kept)) less)) in
+    (subst (λ r. IsLess r (rank_in best)) (sym (rank_is other is.kept))
+    (subst (IsLess (rank_of (levels_in other))) (sym (rank_is best was.kept)) less)) in
     subst (IsBestOf Q) (sym same) (record {
       kept = was.kept;
       member = left (levels_in best) was.member;
@@ -111,7 +116,7 @@ together P R Q left right parts (Some best) (Some other) result was is (inr (sam
         | inl in_p ↦ was.least more in_p under
         | inr in_r ↦ is.least more in_r
             (less_below (rank_of more) (rank_of (levels_in best)) (rank_of (levels_in other)) under
-              not_earlier)
+            not_earlier)
       ];
     })
 
@@ -166,33 +171,33 @@ module _ (most n f k g : ℕ) (front new : Best) (is : IsBest (Reaches most n f)
       let xs : List ℕ = steps_of below in
       let by : (k' g' s' : ℕ) → Type 0 =
       λ k' g' s'. IsLess
-          ((bound_of below + cost_of k' g') ∷ (k' * nodes_of below + s') ∷ suc (length below)
-            ∷ (xs ++ (k' ∷ g' ∷ [])))
+      ((bound_of below + cost_of k' g') ∷ (k' * nodes_of below + s') ∷ suc (length below)
+      ∷ (xs ++ (k' ∷ g' ∷ [])))
       (ranked (cost_of k g) (nodes_of lower) k g (bound_of lower) (length lower)
-          (steps_of lower)) in
+      (steps_of lower)) in
       let one : by level.blocks level.faults level.spares = less in
       let two : by k level.faults level.spares = subst (λ z. by z level.faults level.spares) blocks
-          one in
+      one in
       let three : by k g level.spares = subst (λ z. by k z level.spares) faults two in
       let four : by k g 0 = subst (λ z. by k g z) spares three in
       let same : nodes_of below ≡ nodes_of lower = reaches.nodes ∙ sym is.member.nodes in
       let five : IsLess
-          (ranked (cost_of k g) (nodes_of lower) k g (bound_of below) (length below) xs)
-          (ranked (cost_of k g) (nodes_of lower) k g (bound_of lower) (length lower)
-            (steps_of lower)) =
+      (ranked (cost_of k g) (nodes_of lower) k g (bound_of below) (length below) xs)
+      (ranked (cost_of k g) (nodes_of lower) k g (bound_of lower) (length lower)
+      (steps_of lower)) =
       subst
-          (λ m. IsLess
-            ((bound_of below + cost_of k g) ∷ (k * m + 0) ∷ suc (length below)
-              ∷ (xs ++ (k ∷ g ∷ [])))
-            (ranked (cost_of k g) (nodes_of lower) k g (bound_of lower) (length lower)
-              (steps_of lower)))
-          same four in
+      (λ m. IsLess
+      ((bound_of below + cost_of k g) ∷ (k * m + 0) ∷ suc (length below)
+      ∷ (xs ++ (k ∷ g ∷ [])))
+      (ranked (cost_of k g) (nodes_of lower) k g (bound_of lower) (length lower)
+      (steps_of lower)))
+      same four in
       not_less_over (cost_of k g) (nodes_of lower) k g (bound_of lower) (length lower)
-          (bound_of below) (length below) (steps_of lower) xs
+      (bound_of below) (length below) (steps_of lower) xs
       (length-steps_of lower) (length-steps_of below)
       (λ under. is.least below reaches
-          (subst (λ m. IsLess (bound_of below ∷ m ∷ length below ∷ xs) (rank_of lower)) (sym same)
-            under))
+      (subst (λ m. IsLess (bound_of below ∷ m ∷ length below ∷ xs) (rank_of lower)) (sym same)
+      under))
       five
 
   pub over_best : IsBest (AreOver most n f k g) new

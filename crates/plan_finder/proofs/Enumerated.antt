@@ -50,30 +50,30 @@ plain_same [] (other ∷ others) plain plain' deep same = absurd (omega (arith, 
 plain_same (level ∷ below) [] plain plain' deep same = absurd (omega (arith, deep))
 plain_same (level ∷ below) (other ∷ others) (is, plain) (is', plain') deep same =
     let long : length (steps_of below)
-        ≡ length (steps_of others) = omega
-          (arith, length-steps_of below, length-steps_of others, deep) in
+    ≡ length (steps_of others) = omega
+    (arith, length-steps_of below, length-steps_of others, deep) in
     let parts = last_same (steps_of below) (steps_of others) level.blocks level.faults other.blocks
-        other.faults same long in
+    other.faults same long in
     let rest = plain_same below others plain plain' (omega (arith, deep)) parts.0 in
     let top : level ≡ other =
     sym is
-        ∙ (ap (λ k. line k level.faults 0 0) parts.1
-          ∙ (ap (λ g. line other.blocks g 0 0) parts.2 ∙ is')) in
+    ∙ (ap (λ k. line k level.faults 0 0) parts.1
+    ∙ (ap (λ g. line other.blocks g 0 0) parts.2 ∙ is')) in
     ap (λ l. l ∷ below) top ∙ ap (λ ls. other ∷ ls) rest
 
 -- plain levels neither of which is before the other are the same
 plain_tie : (levels others : List Level) → IsPlain levels → IsPlain others
     → ¬ IsLess (rank_of levels) (rank_of others) → ¬ IsLess (rank_of others) (rank_of levels)
-        → levels ≡ others
+    → levels ≡ others
 plain_tie levels others plain plain' first second =
     elim (less_or_not (rank_of levels) (rank_of others)) [
-  | inl less ↦ absurd (first less)
-  | inr (inr less) ↦ absurd (second less)
-  | inr (inl same) ↦
-      let deep : length levels ≡ length others = cc in
-      let steps : steps_of levels ≡ steps_of others = cc in
-      plain_same levels others plain plain' deep steps
-]
+      | inl less ↦ absurd (first less)
+      | inr (inr less) ↦ absurd (second less)
+      | inr (inl same) ↦
+          let deep : length levels ≡ length others = cc in
+          let steps : steps_of levels ≡ steps_of others = cc in
+          plain_same levels others plain plain' deep steps
+    ]
 
 -- ---- the tests
 
@@ -105,7 +105,7 @@ pub path_true : (most : ℕ) (levels : List Level) → IsPath most levels → is
 path_true most [] path = refl
 path_true most (level ∷ below) (path, spares, step) =
     and_from (is_path most below)
-        (is_step most (nodes_of below) (faults_of below) level.blocks level.faults)
+    (is_step most (nodes_of below) (faults_of below) level.blocks level.faults)
     (path_true most below path)
     (step_true most (nodes_of below) (faults_of below) level.blocks level.faults step)
 
@@ -124,8 +124,7 @@ pub path_from : (most : ℕ) (levels : List Level) → IsPlain levels → AreFew
 path_from most [] plain few holds = tt
 path_from most (level ∷ below) (is, plain) (blocks, faults, few) holds =
     let parts = and_parts (is_path most below)
-          (is_step most (nodes_of below) (faults_of below) level.blocks level.faults) holds in
-        (
+    (is_step most (nodes_of below) (faults_of below) level.blocks level.faults) holds in (
       path_from most below plain few parts.0,
       sym (ap (λ l. l.spares) is),
       step_from most (nodes_of below) (faults_of below) level.blocks level.faults blocks faults
@@ -139,12 +138,12 @@ in_over : (level : Level) (below : List Level) → line level.blocks level.fault
     → IsIn (level ∷ below) (levels_over below)
 in_over level below is blocks faults =
     let here : IsIn (line level.blocks level.faults 0 0 ∷ below)
-        (map (λ g. line level.blocks g 0 0 ∷ below) (range_with_len 0 86)) =
+    (map (λ g. line level.blocks g 0 0 ∷ below) (range_with_len 0 86)) =
     in_map (λ g. line level.blocks g 0 0 ∷ below) level.faults (range_with_len 0 86)
-        (in_range level.faults 0 86 (omega arith) (omega (arith, faults))) in
+    (in_range level.faults 0 86 (omega arith) (omega (arith, faults))) in
     subst (λ l. IsIn (l ∷ below) (levels_over below)) is
     (in_flat_map (λ k. map (λ g. line k g 0 0 ∷ below) (range_with_len 0 86)) level.blocks
-        (line level.blocks level.faults 0 0 ∷ below) (range_with_len 0 17)
+    (line level.blocks level.faults 0 0 ∷ below) (range_with_len 0 17)
     (in_range level.blocks 0 17 (omega arith) (omega (arith, blocks))) here)
 
 pub in_all : (depth : ℕ) (levels : List Level) → IsPlain levels → AreFew levels
@@ -168,14 +167,14 @@ from_over : (levels below : List Level) → IsPlain below → AreFew below
     → IsIn levels (levels_over below) → IsPlain levels × AreFew levels
 from_over levels below plain few is =
     let outer = from_flat_map (λ k. map (λ g. line k g 0 0 ∷ below) (range_with_len 0 86)) levels
-        (range_with_len 0 17) is in
+    (range_with_len 0 17) is in
     let k : ℕ = outer.0 in
     let inner = from_map (λ g. line k g 0 0 ∷ below) levels (range_with_len 0 86) outer.2 in
     let g : ℕ = inner.0 in
     let blocks = below_range k 0 17 outer.1 in
     let faults = below_range g 0 86 inner.1 in
     subst (λ ls. IsPlain ls × AreFew ls) inner.2
-        ((refl, plain), (omega (arith, blocks), omega (arith, faults), few))
+    ((refl, plain), (omega (arith, blocks), omega (arith, faults), few))
 
 pub from_all : (depth : ℕ) (levels : List Level) → IsIn levels (all_levels depth)
     → IsPlain levels × AreFew levels
@@ -200,7 +199,7 @@ true_less [] (y ∷ ys) less = refl
 true_less (x ∷ xs) (y ∷ ys) (inl lt) = ap (λ b. b || (x == y && is_less xs ys)) (lt-ltb x y lt)
 true_less (x ∷ xs) (y ∷ ys) (inr (e, less)) =
     or_right (nat_lt x y) (x == y && is_less xs ys)
-        (and_from (x == y) (is_less xs ys) (eq-eqb x y e) (true_less xs ys less))
+    (and_from (x == y) (is_less xs ys) (eq-eqb x y e) (true_less xs ys less))
 
 less_true : (xs ys : List ℕ) → is_less xs ys ≡ true → IsLess xs ys
 less_true xs [] holds = absurd (true≢false (sym holds))
@@ -229,14 +228,13 @@ first_by levels other others true test (is, least) =
       λ y is_in less. elim is_in [
         | inl same ↦ less_irreflexive (rank_of other)
             (less_then (rank_of other) (rank_of levels) (rank_of other) earlier
-              (subst (λ ls. IsLess (rank_of ls) (rank_of other)) (sym same) less))
+            (subst (λ ls. IsLess (rank_of ls) (rank_of other)) (sym same) less))
         | inr behind ↦ least y behind less
       ],
     )
 first_by levels other others false test (is, least) =
     let not_earlier : ¬ IsLess (rank_of other) (rank_of levels) = λ less. true≢false
-          (sym (true_less (rank_of other) (rank_of levels) less) ∙ test) in
-        (
+    (sym (true_less (rank_of other) (rank_of levels) less) ∙ test) in (
       inl refl,
       λ y is_in less. elim is_in [
         | inl same ↦ not_itself levels y same less
@@ -269,41 +267,43 @@ module _ (most : ℕ) (some : 1 ≤ most) (limit : most ≤ 256) (set : List Lev
     (path : (levels : List Level) → set levels → IsPath most levels)
     (holds : (levels : List Level) → set levels → test levels ≡ true)
     (from : (levels : List Level) → IsPlain levels → AreFew levels → test levels ≡ true
-          → set levels)
-        where
-  listed : (best : Best) → set (levels_in best) → IsIn (levels_in best) (filter test (all_levels 5))
-  listed best in_set =
-      let is : IsPath most (levels_in best) = path (levels_in best) in_set in
-      let deep : length (levels_in best) ≤ 5 =
-      depth_most (length (levels_in best)) (nodes_of (levels_in best))
-          (path_deep most (levels_in best) is)
-          (omega (arith, path_few most (levels_in best) some is, limit)) in
-      in_filter test (levels_in best) (all_levels 5) (holds (levels_in best) in_set)
-      (in_all 5 (levels_in best) (plain_down (reverse (steps_in best)))
-          (few_path most (levels_in best) is) deep)
+    → set levels)
+  where
+    listed : (best : Best) → set (levels_in best)
+        → IsIn (levels_in best) (filter test (all_levels 5))
+    listed best in_set =
+        let is : IsPath most (levels_in best) = path (levels_in best) in_set in
+        let deep : length (levels_in best) ≤ 5 =
+        depth_most (length (levels_in best)) (nodes_of (levels_in best))
+        (path_deep most (levels_in best) is)
+        (omega (arith, path_few most (levels_in best) some is, limit)) in
+        in_filter test (levels_in best) (all_levels 5) (holds (levels_in best) in_set)
+        (in_all 5 (levels_in best) (plain_down (reverse (steps_in best)))
+        (few_path most (levels_in best) is) deep)
 
-  pub in_set_of : (levels : List Level) → IsIn levels (filter test (all_levels 5)) → set levels
-  in_set_of levels is =
-      let parts = from_filter test levels (all_levels 5) is in
-      let all = from_all 5 levels parts.1 in
-      from levels all.0 all.1 parts.0
+    pub in_set_of : (levels : List Level) → IsIn levels (filter test (all_levels 5)) → set levels
+    in_set_of levels is =
+        let parts = from_filter test levels (all_levels 5) is in
+        let all = from_all 5 levels parts.1 in
+        from levels all.0 all.1 parts.0
 
-  found_by : (cell : Option Best) (o : Option (List Level)) → IsBestOf set cell
-      → IsLeastIn (filter test (all_levels 5)) o
-      → option_map levels_in cell ≡ o
-  found_by None None none least = refl
-  found_by None (Some levels) none least = absurd (none levels (in_set_of levels least.0))
-  found_by (Some best) None is least = absurd (least (levels_in best) (listed best is.member))
-  found_by (Some best) (Some levels) is least =
-      let parts = from_filter test levels (all_levels 5) least.0 in
-      let all = from_all 5 levels parts.1 in
-      ap Some (plain_tie (levels_in best) levels (plain_down (reverse (steps_in best))) all.0
-      (least.1 (levels_in best) (listed best is.member))
-      (is.least levels (in_set_of levels least.0)))
+    found_by : (cell : Option Best) (o : Option (List Level)) → IsBestOf set cell
+        → IsLeastIn (filter test (all_levels 5)) o
+        → option_map levels_in cell ≡ o
+    found_by None None none least = refl
+    found_by None (Some levels) none least = absurd (none levels (in_set_of levels least.0))
+    found_by (Some best) None is least = absurd (least (levels_in best) (listed best is.member))
+    found_by (Some best) (Some levels) is least =
+        let parts = from_filter test levels (all_levels 5) least.0 in
+        let all = from_all 5 levels parts.1 in
+        ap Some (plain_tie (levels_in best) levels (plain_down (reverse (steps_in best))) all.0
+        (least.1 (levels_in best) (listed best is.member))
+        (is.least levels (in_set_of levels least.0)))
 
-  pub found_least : (cell : Option Best) → IsBestOf set cell
-      → option_map levels_in cell ≡ least_levels test
-  found_least cell is = found_by cell (least_levels test) is (least_is (filter test (all_levels 5)))
+    pub found_least : (cell : Option Best) → IsBestOf set cell
+        → option_map levels_in cell ≡ least_levels test
+    found_least cell is =
+        found_by cell (least_levels test) is (least_is (filter test (all_levels 5)))
 
 -- ---- the plan, and the pairs
 
@@ -319,9 +319,11 @@ module _ (most : ℕ) (some : 1 ≤ most) (limit : most ≤ 256) (f : ℕ) where
   faults_from levels plain few holds =
       let parts = and_parts (is_path most levels) (faults_of levels == f) holds in
       let is = path_from most levels plain few parts.0 in
-      record
-          { path = is; faults = eqb-true (faults_of levels) f parts.1;
-            nodes = omega (arith, path_few most levels some is) }
+      record {
+        path = is;
+        faults = eqb-true (faults_of levels) f parts.1;
+        nodes = omega (arith, path_few most levels some is);
+      }
 
   built_plan : (c : ℕ) (best : Option Best) (plan : Option Plan) → IsBuilt c best plan
       → plan ≡ option_map (plan_with c) (option_map levels_in best)
@@ -334,34 +336,35 @@ module _ (most : ℕ) (some : 1 ≤ most) (limit : most ≤ 256) (f : ℕ) where
   plan_found c best plan is built =
       built_plan c best plan built
       ∙ ap (option_map (plan_with c))
-          (found_least most some limit (HasFaults most f (most + 1)) (has_faults most f)
-            (λ levels has. has.path) faults_yes faults_from best is)
+      (found_least most some limit (HasFaults most f (most + 1)) (has_faults most f)
+      (λ levels has. has.path) faults_yes faults_from best is)
 
 module _ (most : ℕ) (some : 1 ≤ most) (limit : most ≤ 256) (n f : ℕ) where
   pub reaches_yes : (levels : List Level) → Reaches most n f levels → reaches most n f levels ≡ true
   reaches_yes levels has =
       and_from (is_path most levels) ((nodes_of levels == n) && (faults_of levels == f))
-          (path_true most levels has.path)
+      (path_true most levels has.path)
       (and_from (nodes_of levels == n) (faults_of levels == f)
-          (eq-eqb (nodes_of levels) n has.nodes) (eq-eqb (faults_of levels) f has.faults))
+      (eq-eqb (nodes_of levels) n has.nodes) (eq-eqb (faults_of levels) f has.faults))
 
   pub reaches_from : (levels : List Level) → IsPlain levels → AreFew levels
       → reaches most n f levels ≡ true → Reaches most n f levels
   reaches_from levels plain few holds =
       let parts = and_parts (is_path most levels)
-          ((nodes_of levels == n) && (faults_of levels == f)) holds in
+      ((nodes_of levels == n) && (faults_of levels == f)) holds in
       let both = and_parts (nodes_of levels == n) (faults_of levels == f) parts.1 in
-      record
-          { path = path_from most levels plain few parts.0;
-            nodes = eqb-true (nodes_of levels) n both.0;
-            faults = eqb-true (faults_of levels) f both.1 }
+      record {
+        path = path_from most levels plain few parts.0;
+        nodes = eqb-true (nodes_of levels) n both.0;
+        faults = eqb-true (faults_of levels) f both.1;
+      }
 
   pub pair_found : (cell : Option Best) → IsBestOf (Reaches most n f) cell
       → pot_if n f (option_map levels_in cell) ≡ pots_at most n f
   pair_found cell is =
       ap (pot_if n f)
-          (found_least most some limit (Reaches most n f) (reaches most n f)
-            (λ levels has. has.path) reaches_yes reaches_from cell is)
+      (found_least most some limit (Reaches most n f) (reaches most n f)
+      (λ levels has. has.path) reaches_yes reaches_from cell is)
 
 -- ---- the pairs, row by row
 
@@ -369,13 +372,13 @@ pub row_push : (most n f : ℕ) → flat_map (pots_at most n) (range_with_len 0 
     ≡ flat_map (pots_at most n) (range_with_len 0 f) ++ pots_at most n f
 row_push most n f =
     let next : range_with_len 0 (f + 1)
-          ≡ range_with_len 0 f ++ (0 + f) ∷ [] = ap (range_with_len 0) (add-one f)
-        ∙ range_push 0 f in
+    ≡ range_with_len 0 f ++ (0 + f) ∷ [] = ap (range_with_len 0) (add-one f)
+    ∙ range_push 0 f in
     ap (flat_map (pots_at most n)) next
     ∙ (flat_map-append (pots_at most n) (range_with_len 0 f) ((0 + f) ∷ [])
     ∙
-        (ap (λ xs. flat_map (pots_at most n) (range_with_len 0 f) ++ xs)
-          (append-nil (pots_at most n (0 + f)))
+    (ap (λ xs. flat_map (pots_at most n) (range_with_len 0 f) ++ xs)
+    (append-nil (pots_at most n (0 + f)))
     ∙ ap (λ g. flat_map (pots_at most n) (range_with_len 0 f) ++ pots_at most n g) (zero-add f)))
 
 -- the pairs of all rows before one
@@ -388,8 +391,8 @@ pub rows_push : (most width n : ℕ) → rows_before most width (n + 1)
 rows_push most width n =
     let row : ℕ → List Pot = λ m. flat_map (pots_at most m) (range_with_len 0 width) in
     let next : range_with_len 0 (n + 1)
-          ≡ range_with_len 0 n ++ (0 + n) ∷ [] = ap (range_with_len 0) (add-one n)
-        ∙ range_push 0 n in
+    ≡ range_with_len 0 n ++ (0 + n) ∷ [] = ap (range_with_len 0) (add-one n)
+    ∙ range_push 0 n in
     ap (flat_map row) next
     ∙ (flat_map-append row (range_with_len 0 n) ((0 + n) ∷ [])
     ∙ (ap (λ xs. flat_map row (range_with_len 0 n) ++ xs) (append-nil (row (0 + n)))
@@ -398,9 +401,9 @@ rows_push most width n =
 -- one pair more in a row
 pub row_more : (most width n f : ℕ) (pots more : List Pot)
     → pots ≡ rows_before most width n ++ flat_map (pots_at most n) (range_with_len 0 f)
-        → more ≡ pots_at most n f
+    → more ≡ pots_at most n f
     → pots ++ more
-        ≡ rows_before most width n ++ flat_map (pots_at most n) (range_with_len 0 (f + 1))
+    ≡ rows_before most width n ++ flat_map (pots_at most n) (range_with_len 0 (f + 1))
 row_more most width n f pots more before is =
     let rows = rows_before most width n in
     let row = flat_map (pots_at most n) (range_with_len 0 f) in

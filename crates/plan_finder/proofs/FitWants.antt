@@ -33,8 +33,8 @@ by_tests : (f c most : ℕ) (large small : Bool)
     → (nat_lt 85 f || nat_lt (2 ^ 40) c || nat_lt 256 most) ≡ large
     → (nat_lt c 2 || nat_lt most 1) ≡ small
     → FitsResult
-        (cond large (Err Limit)
-          (cond small (Err Range) (Ok (record { faults = f; modulus = c; most = most }))))
+    (cond large (Err Limit)
+    (cond small (Err Range) (Ok (record { faults = f; modulus = c; most = most }))))
 by_tests f c most true small e e' = tt
 by_tests f c most false true e e' = tt
 by_tests f c most false false e e' =
@@ -82,16 +82,16 @@ line_fits stage line fits =
     if_fits (nat_lt 4096 (length line)) (refuses Form) _ tt
     (if_fits (is_skipped line) (goes stage) _ fits
     (if_fits (is_well_parted line) (find_step stage line) (refuses Form) (step_fits stage line fits)
-        tt))
+    tt))
 
 part_fits_by : (next : Next FindStage Want Rule) (taken number : ℕ) (lines : List (List ℕ))
     (found : Found Want)
     → FitsNext next
     →
-        ((stage : FindStage) → FitsStage stage
-          → part_from (with_skips find_step Form) Form stage (taken + 1) (number + 1) lines
-            ≡ Ok found
-          → IsFit found.value)
+    ((stage : FindStage) → FitsStage stage
+    → part_from (with_skips find_step Form) Form stage (taken + 1) (number + 1) lines
+    ≡ Ok found
+    → IsFit found.value)
     → ◌≡◌ {A = Result (Found Want) (At Rule)} (elim next [
       | goes t ↦ part_from (with_skips find_step Form) Form t (taken + 1) (number + 1) lines
       | ends v ↦ Ok (record { value = v; taken = taken + 1; behind = lines })
@@ -106,9 +106,9 @@ part_fits_by (refuses rule) taken number lines found fits rest is = absurd (cc)
 pub part_fits : (stage : FindStage) (taken number : ℕ) (lines : List (List ℕ)) (found : Found Want)
     → FitsStage stage
     → part_from (with_skips find_step Form) Form stage taken number lines ≡ Ok found
-        → IsFit found.value
+    → IsFit found.value
 part_fits stage taken number [] found fits is = absurd (cc)
 part_fits stage taken number (line ∷ lines) found fits is =
     part_fits_by (with_skips find_step Form stage line) taken number lines found
-        (line_fits stage line fits)
+    (line_fits stage line fits)
     (λ next next_fits. part_fits next (taken + 1) (number + 1) lines found next_fits) is

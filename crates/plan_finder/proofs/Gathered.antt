@@ -57,9 +57,9 @@ module _ (most n f : ℕ) (pots : List Pot) (are : AreCostsBefore most n f pots)
         (λ pot before. later n f pot.nodes pot.faults before) pots are.before;
     complete =
         λ levels path before. elim (at_pair n f (nodes_of levels) (faults_of levels) before) [
-      | inl old ↦ are.complete levels path old
-      | inr at ↦ absurd (none levels (record { path = path; nodes = at.0; faults = at.1 }))
-    ];
+          | inl old ↦ are.complete levels path old
+          | inr at ↦ absurd (none levels (record { path = path; nodes = at.0; faults = at.1 }))
+        ];
   }
 
   module _ (best : Best) (is : IsBest (Reaches most n f) best) where
@@ -81,23 +81,24 @@ module _ (most n f : ℕ) (pots : List Pot) (are : AreCostsBefore most n f pots)
     pot_complete : (levels : List Level) → IsPath most levels
         → IsPairBefore n (f + 1) (nodes_of levels) (faults_of levels)
         → (value : ℕ)
-            × Contains (pots ++ pot_at ∷ [])
-              (record { nodes = nodes_of levels; faults = faults_of levels; value = value })
+        × Contains (pots ++ pot_at ∷ [])
+        (record { nodes = nodes_of levels; faults = faults_of levels; value = value })
     pot_complete levels path before =
         elim (at_pair n f (nodes_of levels) (faults_of levels) before) [
-      | inl old ↦
-          let there = are.complete levels path old in
-          (there.0,
-              Contains-append_left pots (pot_at ∷ [])
-                (record { nodes = nodes_of levels; faults = faults_of levels; value = there.0 })
-                there.1)
-      | inr at ↦
-          let same : pot_at
+          | inl old ↦
+              let there = are.complete levels path old in (
+                there.0,
+                Contains-append_left pots (pot_at ∷ [])
+                    (record { nodes = nodes_of levels; faults = faults_of levels; value = there.0 })
+                    there.1,
+              )
+          | inr at ↦
+              let same : pot_at
               ≡ record { nodes = nodes_of levels; faults = faults_of levels; value = best.value } =
-                same_pot n (nodes_of levels) f (faults_of levels) best.value (sym at.0)
-                (sym at.1) in
-          (best.value, subst (Contains (pots ++ pot_at ∷ [])) same (Contains-push pots pot_at))
-    ]
+              same_pot n (nodes_of levels) f (faults_of levels) best.value (sym at.0)
+              (sym at.1) in
+              (best.value, subst (Contains (pots ++ pot_at ∷ [])) same (Contains-push pots pot_at))
+        ]
 
     pub costs_push : AreCostsBefore most n (f + 1) (pots ++ pot_at ∷ [])
     costs_push = record {
@@ -105,8 +106,8 @@ module _ (most n f : ℕ) (pots : List Pot) (are : AreCostsBefore most n f pots)
       costs = All-push (IsLeastCost most) pots pot_at are.costs pot_least;
       before = All-push (λ pot. IsPairBefore n (f + 1) pot.nodes pot.faults) pots pot_at
           (All-weaker (λ pot. IsPairBefore n f pot.nodes pot.faults)
-              (λ pot. IsPairBefore n (f + 1) pot.nodes pot.faults)
-              (λ pot before. later n f pot.nodes pot.faults before) pots are.before)
+          (λ pot. IsPairBefore n (f + 1) pot.nodes pot.faults)
+          (λ pot before. later n f pot.nodes pot.faults before) pots are.before)
           (inr (refl, omega arith));
       complete = pot_complete;
     }
@@ -128,8 +129,8 @@ costs_row most n width pots some wide are = record {
       (λ pot before. next_row n width pot.nodes pot.faults before) pots are.before;
   complete = λ levels path before.
       let narrow : faults_of levels
-          < width = omega
-            (arith, path_sized most levels path, path_few most levels some path, wide) in
+      < width = omega
+      (arith, path_sized most levels path, path_few most levels some path, wide) in
       elim before [
         | inl lt ↦ elim (cases_lt (nodes_of levels) n) [
           | inl less ↦ are.complete levels path (inl less)

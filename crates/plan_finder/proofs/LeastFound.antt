@@ -44,7 +44,7 @@ module _ (most : ℕ) (some : 1 ≤ most) (limit : most ≤ 256) (set : List Lev
     (path : (levels : List Level) → set levels → IsPath most levels)
     (holds : (levels : List Level) → set levels → test levels ≡ true)
     (from : (levels : List Level) → IsPlain levels → AreFew levels → test levels ≡ true
-        → set levels)
+    → set levels)
     (plainly : (levels : List Level) → set levels → set (plain_of levels)) where
   deep : (levels : List Level) → set levels → length levels ≤ 5
   deep levels in_set =
@@ -132,7 +132,7 @@ module _ (most : ℕ) (some : 1 ≤ most) (limit : most ≤ 256) where
     best_pair : IsBestOf (Reaches most n f) (option_map best_from (least_levels (reaches most n f)))
     best_pair = best_of_all most some limit (Reaches most n f) (reaches most n f)
         (λ levels has. has.path) (reaches_yes most some limit n f)
-            (reaches_from most some limit n f)
+        (reaches_from most some limit n f)
         reaches_plainly
 
     pair_by : (pots : List Pot) (o : Option (List Level))
@@ -160,9 +160,9 @@ module _ (most : ℕ) (some : 1 ≤ most) (limit : most ≤ 256) where
         let more : (rows ++ row) ++ pots_at most n f
         ≡ rows ++ flat_map (pots_at most n) (range_with_len 0 (f + 1)) =
         append_assoc rows row (pots_at most n f)
-            ∙ ap (λ xs. rows ++ xs) (sym (row_push most n f)) in
+        ∙ ap (λ xs. rows ++ xs) (sym (row_push most n f)) in
         subst
-            (λ g. AreCostsBefore most n g (rows ++ flat_map (pots_at most n) (range_with_len 0 g)))
+        (λ g. AreCostsBefore most n g (rows ++ flat_map (pots_at most n) (range_with_len 0 g)))
         (add-one f)
         (subst (AreCostsBefore most n (f + 1)) more
         (pair_more n f (rows ++ row) (row_is n are f)))

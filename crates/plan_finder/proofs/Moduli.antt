@@ -65,17 +65,17 @@ modulus_counting c (level ∷ below) = refl
 pub rank_counting : (c : ℕ) (levels : List Level) → rank_of (counting_by c levels) ≡ rank_of levels
 rank_counting c levels =
     ap
-        (λ x. x ∷ nodes_of (counting_by c levels) ∷ length (counting_by c levels)
-          ∷ steps_of (counting_by c levels))
-        (bound_counting c levels)
+    (λ x. x ∷ nodes_of (counting_by c levels) ∷ length (counting_by c levels)
+    ∷ steps_of (counting_by c levels))
+    (bound_counting c levels)
     ∙
-        (ap
-          (λ x. bound_of levels ∷ x ∷ length (counting_by c levels)
-            ∷ steps_of (counting_by c levels))
-          (nodes_counting c levels)
+    (ap
+    (λ x. bound_of levels ∷ x ∷ length (counting_by c levels)
+    ∷ steps_of (counting_by c levels))
+    (nodes_counting c levels)
     ∙
-        (ap (λ x. bound_of levels ∷ nodes_of levels ∷ x ∷ steps_of (counting_by c levels))
-          (length-counting_by c levels)
+    (ap (λ x. bound_of levels ∷ nodes_of levels ∷ x ∷ steps_of (counting_by c levels))
+    (length-counting_by c levels)
     ∙ ap (λ xs. bound_of levels ∷ nodes_of levels ∷ length levels ∷ xs) (steps_counting c levels)))
 
 -- ---- no accepted levels of the same steps have lesser moduli
@@ -107,18 +107,18 @@ least_moduli c base (level ∷ below) (other ∷ others) (accepted, none) deep s
     let long : length (steps_of others) ≡ length (steps_of below) =
     omega (arith, length-steps_of others, length-steps_of below, deep) in
     let parts = last_same (steps_of others) (steps_of below) other.blocks other.faults level.blocks
-        level.faults same long in
+    level.faults same long in
     let met = meets (below_of base others) other none in
     let sized = accepted_sized base others accepted in
     let most : span_of other ≤ modulus_of base others =
     divisor_most (modulus_of base others) (span_of other) (omega (arith, sized.least_modulus))
-        met.multiple in
+    met.multiple in
     let span : span_of other ≡ span_of level = span_same other level parts.1 parts.2 in
     at_most_push (moduli_of (base_under (span_of level) below) (counting_by (span_of level) below))
-        (moduli_of base others) c other.modulus
+    (moduli_of base others) c other.modulus
     (least_moduli (span_of level) base below others accepted (omega (arith, deep)) parts.0
-          (subst (λ s. s ≤ modulus_of base others) span most))
-        le
+    (subst (λ s. s ≤ modulus_of base others) span most))
+    le
 
 -- ---- the plan of the best levels is the least
 
@@ -127,52 +127,52 @@ module _ (c most f : ℕ) (levels : List Level) (path : IsPath most levels)
     (faults : faults_of levels ≡ f)
     (few : nodes_of levels ≤ most) (accepted : IsAccepted (plan_with c levels))
     (least : (other : List Level) → IsPath most other → faults_of other ≡ f → nodes_of other ≤ most
-          → ¬ IsLess (rank_of other) (rank_of levels))
-        where
-  plan_meets : MeetsWants f c most (plan_with c levels)
-  plan_meets = record {
-    accepted = accepted;
-    version = refl;
-    faults = faults_counting c levels ∙ faults;
-    modulus = modulus_counting c levels;
-    nodes = omega (arith, nodes_counting c levels, few);
-  }
+    → ¬ IsLess (rank_of other) (rank_of levels))
+  where
+    plan_meets : MeetsWants f c most (plan_with c levels)
+    plan_meets = record {
+      accepted = accepted;
+      version = refl;
+      faults = faults_counting c levels ∙ faults;
+      modulus = modulus_counting c levels;
+      nodes = omega (arith, nodes_counting c levels, few);
+    }
 
-  -- a plan whose levels have a rank that is not less is not before this one
-  moduli_after : (base : ℕ) (others : List Level) → LevelsAccepted base others
-      → modulus_of base others ≡ c
-      → ¬ IsLess (rank_of others) (rank_of levels)
-      → ¬ IsLess (rank_of others ++ moduli_of base others)
-          (rank_of levels ++ moduli_of (base_under c levels) (counting_by c levels))
-  moduli_after base others are counts not_less (inl lt) = not_less (inl lt)
-  moduli_after base others are counts not_less (inr (e, inl lt)) = not_less (inr (e, inl lt))
-  moduli_after base others are counts not_less (inr (e, inr (e', inl lt))) =
-      not_less (inr (e, inr (e', inl lt)))
-  moduli_after base others are counts not_less (inr (e, inr (e', inr (deep, less)))) =
-      elim
-          (less_split (steps_of others) (steps_of levels) (moduli_of base others)
-            (moduli_of (base_under c levels) (counting_by c levels))
-      (omega (arith, length-steps_of others, length-steps_of levels, deep)) less) [
-        | inl front ↦ not_less (inr (e, inr (e', inr (deep, front))))
-        | inr (same, rest) ↦
-            at_most_not_less (moduli_of (base_under c levels) (counting_by c levels))
-                (moduli_of base others)
-            (least_moduli c base levels others are deep same (omega (arith, counts))) rest
-      ]
+    -- a plan whose levels have a rank that is not less is not before this one
+    moduli_after : (base : ℕ) (others : List Level) → LevelsAccepted base others
+        → modulus_of base others ≡ c
+        → ¬ IsLess (rank_of others) (rank_of levels)
+        → ¬ IsLess (rank_of others ++ moduli_of base others)
+        (rank_of levels ++ moduli_of (base_under c levels) (counting_by c levels))
+    moduli_after base others are counts not_less (inl lt) = not_less (inl lt)
+    moduli_after base others are counts not_less (inr (e, inl lt)) = not_less (inr (e, inl lt))
+    moduli_after base others are counts not_less (inr (e, inr (e', inl lt))) =
+        not_less (inr (e, inr (e', inl lt)))
+    moduli_after base others are counts not_less (inr (e, inr (e', inr (deep, less)))) =
+        elim
+        (less_split (steps_of others) (steps_of levels) (moduli_of base others)
+        (moduli_of (base_under c levels) (counting_by c levels))
+        (omega (arith, length-steps_of others, length-steps_of levels, deep)) less) [
+          | inl front ↦ not_less (inr (e, inr (e', inr (deep, front))))
+          | inr (same, rest) ↦
+              at_most_not_less (moduli_of (base_under c levels) (counting_by c levels))
+              (moduli_of base others)
+              (least_moduli c base levels others are deep same (omega (arith, counts))) rest
+        ]
 
-  pub least_plan : IsLeastPlan f c most (plan_with c levels)
-  least_plan = record {
-    meets = plan_meets;
-    least = λ other meets before.
-        let not_less : ¬ IsLess (rank_of other.levels) (rank_of levels) =
-        least other.levels (plan_path most other meets.accepted meets.version meets.nodes)
-            meets.faults meets.nodes in
-        moduli_after other.base other.levels meets.accepted.levels meets.modulus not_less
-        (subst
-            (λ r. IsLess (rank_of other.levels ++ moduli_of other.base other.levels)
-              (r ++ moduli_of (base_under c levels) (counting_by c levels)))
-            (rank_counting c levels) before);
-  }
+    pub least_plan : IsLeastPlan f c most (plan_with c levels)
+    least_plan = record {
+      meets = plan_meets;
+      least = λ other meets before.
+          let not_less : ¬ IsLess (rank_of other.levels) (rank_of levels) =
+          least other.levels (plan_path most other meets.accepted meets.version meets.nodes)
+          meets.faults meets.nodes in
+          moduli_after other.base other.levels meets.accepted.levels meets.modulus not_less
+          (subst
+          (λ r. IsLess (rank_of other.levels ++ moduli_of other.base other.levels)
+          (r ++ moduli_of (base_under c levels) (counting_by c levels)))
+          (rank_counting c levels) before);
+    }
 
 -- ---- the plan grows level by level
 
@@ -185,13 +185,13 @@ pushed c steps i step lt is =
     let next : ℕ = modulus_under c (drop (i + 1) steps) in
     let here : modulus_under c (drop i steps) ≡ cost_of step.blocks step.faults =
     ap (modulus_under c) (drop_more steps i step lt)
-        ∙ ap (λ s. cost_of s.blocks s.faults) (sym is) in
+    ∙ ap (λ s. cost_of s.blocks s.faults) (sym is) in
     let more : take (i + 1) steps ≡ take i steps ++ step ∷ [] =
     take_more steps i step lt ∙ ap (λ s. take i steps ++ s ∷ []) (sym is) in
     ap
-        (λ m. with_level (plan_with m (levels_by (take i steps)))
-          (line step.blocks step.faults next 0))
-        here
+    (λ m. with_level (plan_with m (levels_by (take i steps)))
+    (line step.blocks step.faults next 0))
+    here
     ∙ sym (ap (λ ls. plan_with next ls) (ap levels_by more ∙ levels_by_push (take i steps) step))
 
 -- ---- the steps of a path are usable
@@ -200,25 +200,28 @@ usable_down : (most : ℕ) (steps : List Step) → IsPath most (map level_by ste
 usable_down most [] path = All-nil IsUsable
 usable_down most (step ∷ steps) (path, spares, is) =
     All-cons IsUsable step steps
-    (record
-        { least_blocks = is.least_blocks; most_blocks = is.most_blocks;
-          most_faults = is.most_faults; most_cost = is.most_cost })
+    (record {
+      least_blocks = is.least_blocks;
+      most_blocks = is.most_blocks;
+      most_faults = is.most_faults;
+      most_cost = is.most_cost;
+    })
     (usable_down most steps path)
 
 all_reverse : (steps : List Step) → All IsUsable steps → All IsUsable (reverse steps)
 all_reverse [] all = all
 all_reverse (step ∷ steps) all =
     let turned : reverse (step ∷ steps)
-        ≡ reverse steps ++ step ∷ [] = reverse-append (step ∷ []) steps in
+    ≡ reverse steps ++ step ∷ [] = reverse-append (step ∷ []) steps in
     subst (All IsUsable) (sym turned)
-        (All-push IsUsable (reverse steps) step
-          (all_reverse steps (All-tail IsUsable step steps all)) (All-head IsUsable step steps all))
+    (All-push IsUsable (reverse steps) step
+    (all_reverse steps (All-tail IsUsable step steps all)) (All-head IsUsable step steps all))
 
 pub path_usable : (most : ℕ) (steps : List Step) → IsPath most (levels_by steps)
     → All IsUsable steps
 path_usable most steps path =
     subst (All IsUsable) (reverse-reverse steps)
-        (all_reverse (reverse steps) (usable_down most (reverse steps) path))
+    (all_reverse (reverse steps) (usable_down most (reverse steps) path))
 
 -- ---- each push is accepted
 
@@ -231,8 +234,8 @@ module _ (most : ℕ) (limit : most ≤ 256) (c : ℕ) (least_c : 2 ≤ c) (most
     (path : IsPath most (level ∷ below)) where
   -- a level of a path may stand on the plan of those below it
   pub accepts : first_premise
-        (below_of (base_under (span_of level) below) (counting_by (span_of level) below))
-        (line level.blocks level.faults c 0)
+      (below_of (base_under (span_of level) below) (counting_by (span_of level) below))
+      (line level.blocks level.faults c 0)
       ≡ None
   accepts =
       let span : ℕ = span_of level in
@@ -241,9 +244,9 @@ module _ (most : ℕ) (limit : most ≤ 256) (c : ℕ) (least_c : 2 ≤ c) (most
       let faults = faults_counting span below in
       let counts = modulus_counting span below in
       let size : level.blocks * nodes_of (counting_by span below)
-          ≡ level.blocks * nodes_of below = ap (λ n. level.blocks * n) nodes in
+      ≡ level.blocks * nodes_of below = ap (λ n. level.blocks * n) nodes in
       meets_none (below_of (base_under span below) (counting_by span below))
-          (line level.blocks level.faults c 0)
+      (line level.blocks level.faults c 0)
       (record {
         most_blocks = step.most_blocks;
         most_faults = step.most_faults;
@@ -266,12 +269,12 @@ path_front : (most n : ℕ) (steps : List Step) → IsPath most (levels_by steps
     → IsPath most (levels_by (take n steps))
 path_front most n steps path =
     let parts : levels_by steps
-        ≡ map level_by (reverse (drop n steps)) ++ levels_by (take n steps) =
+    ≡ map level_by (reverse (drop n steps)) ++ levels_by (take n steps) =
     ap levels_by (sym (take-append-drop n steps))
     ∙ (ap (map level_by) (reverse-append (take n steps) (drop n steps))
     ∙ map-append level_by (reverse (drop n steps)) (reverse (take n steps))) in
     path_below most (map level_by (reverse (drop n steps))) (levels_by (take n steps))
-        (subst (IsPath most) parts path)
+    (subst (IsPath most) parts path)
 
 -- a cost is six at least
 pub cost_some : (k g : ℕ) → 3 ≤ k → 6 ≤ cost_of k g
@@ -301,25 +304,25 @@ module _ (most : ℕ) (limit : most ≤ 256) (c : ℕ) (least_c : 2 ≤ c) (most
 
   pub push_fits : (i : ℕ) (d step : Step) → i < length steps → step ≡ get_or steps i d
       → first_premise
-          (numbers_below (plan_with (modulus_under c (drop i steps)) (levels_by (take i steps))))
+      (numbers_below (plan_with (modulus_under c (drop i steps)) (levels_by (take i steps))))
       (line step.blocks step.faults (modulus_under c (drop (i + 1) steps)) 0) ≡ None
   push_fits i d step lt is =
       let next : ℕ = modulus_under c (drop (i + 1) steps) in
       let lower : List Level = levels_by (take i steps) in
       let here : modulus_under c (drop i steps) ≡ cost_of step.blocks step.faults =
       ap (modulus_under c) (drop_more steps i d lt)
-          ∙ ap (λ s. cost_of s.blocks s.faults) (sym is) in
+      ∙ ap (λ s. cost_of s.blocks s.faults) (sym is) in
       let more : take (i + 1) steps ≡ take i steps ++ step ∷ [] =
       take_more steps i d lt ∙ ap (λ s. take i steps ++ s ∷ []) (sym is) in
       let front : IsPath most (level_by step ∷ lower) =
       subst (IsPath most) (ap levels_by more ∙ levels_by_push (take i steps) step)
-          (path_front most (i + 1) steps path) in
+      (path_front most (i + 1) steps path) in
       let fits = modulus_fits c (drop (i + 1) steps)
-          (All-drop IsUsable (i + 1) steps (path_usable most steps path)) least_c most_c in
+      (All-drop IsUsable (i + 1) steps (path_usable most steps path)) least_c most_c in
       ap
-          (λ m. first_premise (numbers_below (plan_with m lower))
-            (line step.blocks step.faults next 0))
-          here
+      (λ m. first_premise (numbers_below (plan_with m lower))
+      (line step.blocks step.faults next 0))
+      here
       ∙ accepts most limit next fits.0 fits.1 (level_by step) lower front
 
 -- the level of a step, with a modulus

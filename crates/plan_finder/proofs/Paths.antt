@@ -20,8 +20,7 @@ accepted_path most base (level ∷ below) (accepted, none) fits few =
     let spares : level.spares ≡ 0 = All-head (FitsVersion 1) level below fits refl in
     let one : 1 ≤ level.blocks = omega (arith, met.blocks) in
     let blocks : 1 * nodes_of below
-          ≤ level.blocks * nodes_of below = mul-le-mul_right (nodes_of below) one in
-        (
+    ≤ level.blocks * nodes_of below = mul-le-mul_right (nodes_of below) one in (
       accepted_path most base below accepted (All-tail (FitsVersion 1) level below fits)
           (omega (arith, few, blocks)),
       spares,
@@ -40,11 +39,13 @@ pub plan_path : (most : ℕ) (plan : Plan) → IsAccepted plan → plan.version 
     → nodes_of plan.levels ≤ most → IsPath most plan.levels
 plan_path most plan accepted version few =
     accepted_path most plan.base plan.levels accepted.levels
-        (subst (λ v. All (FitsVersion v) plan.levels) version accepted.fits) few
+    (subst (λ v. All (FitsVersion v) plan.levels) version accepted.fits) few
 
 pub length-steps_of : (levels : List Level) → length (steps_of levels) ≡ 2 * length levels
 length-steps_of [] = refl
 length-steps_of (level ∷ below) =
-    omega
-        (arith, length-append (steps_of below) (level.blocks ∷ level.faults ∷ []),
-          length-steps_of below)
+    omega (
+      arith,
+      length-append (steps_of below) (level.blocks ∷ level.faults ∷ []),
+      length-steps_of below,
+    )

@@ -63,8 +63,8 @@ rank_plain most levels path =
     ∙ (ap (λ x. bound_of levels ∷ x ∷ length (plain_of levels) ∷ steps_of (plain_of levels))
     (nodes_plain most levels path)
     ∙
-        (ap (λ x. bound_of levels ∷ nodes_of levels ∷ x ∷ steps_of (plain_of levels))
-          (length_plain levels)
+    (ap (λ x. bound_of levels ∷ nodes_of levels ∷ x ∷ steps_of (plain_of levels))
+    (length_plain levels)
     ∙ ap (λ xs. bound_of levels ∷ nodes_of levels ∷ length levels ∷ xs) (steps_plain levels)))
 
 pub path_plain : (most : ℕ) (levels : List Level) → IsPath most levels
@@ -140,8 +140,8 @@ module _ (most : ℕ) (limit : most ≤ 256) where
       let some : 6 * 1 ≤ 3 * (level.faults + 2) * (2 * div_ceil level.blocks 2) ^ level.blocks =
       mul-le 6 1 (3 * (level.faults + 2)) ((2 * div_ceil level.blocks 2) ^ level.blocks)
       (omega arith) (turns_some level.blocks step.least_blocks) in
-      let lower = below_of (base_under (span_of level) below) (counting_by (span_of level) below) in
-          (
+      let lower = below_of (base_under (span_of level) below)
+      (counting_by (span_of level) below) in (
         levels_accepted (span_of level) below (omega (arith, some)) step.most_cost path,
         ap (λ s. first_premise lower (line level.blocks level.faults c s)) spares
             ∙ accepts most limit c least_c most_c level below (path, spares, step),

@@ -18,10 +18,11 @@ pub rising_push : (pots : List Pot) (last : Pot) → IsRising pots
     → IsRising (pots ++ last ∷ [])
 rising_push [] last rising below = tt
 rising_push (pot ∷ []) last rising below = (All-head (λ p. IsBelow p last) pot [] below, tt)
-rising_push (pot ∷ (next ∷ pots)) last (first, rest) below =
-    (first,
-        rising_push (next ∷ pots) last rest
-          (All-tail (λ p. IsBelow p last) pot (next ∷ pots) below))
+rising_push (pot ∷ (next ∷ pots)) last (first, rest) below = (
+  first,
+  rising_push (next ∷ pots) last rest
+      (All-tail (λ p. IsBelow p last) pot (next ∷ pots) below),
+)
 
 -- what holds below a number, and at it, holds below the next
 pub one_more : (P : ℕ → Type 0) (i : ℕ) → ((j : ℕ) → j < i → P j) → P i → (j : ℕ) → j < i + 1 → P j

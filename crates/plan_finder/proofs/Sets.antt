@@ -25,7 +25,7 @@ path_sized most (level ∷ below) (path, spares, step) =
     let lower = path_sized most below path in
     let one : 1 ≤ level.blocks = omega (arith, step.least_blocks) in
     let more : 1 * nodes_of below
-        ≤ level.blocks * nodes_of below = mul-le-mul_right (nodes_of below) one in
+    ≤ level.blocks * nodes_of below = mul-le-mul_right (nodes_of below) one in
     (omega (arith, lower.0, more), omega (arith, step.quorum))
 
 pub path_few : (most : ℕ) (levels : List Level) → 1 ≤ most → IsPath most levels
@@ -84,7 +84,7 @@ pub path_deep : (most : ℕ) (levels : List Level) → IsPath most levels
 path_deep most [] path = omega arith
 path_deep most (level ∷ below) (path, spares, step) =
     let three : 3 * nodes_of below
-        ≤ level.blocks * nodes_of below = mul-le-mul_right (nodes_of below) step.least_blocks in
+    ≤ level.blocks * nodes_of below = mul-le-mul_right (nodes_of below) step.least_blocks in
     rw (pow-succ' 3 (length below)) (omega (arith, path_deep most below path, three))
 
 pub path_cost : (most : ℕ) (levels : List Level) → IsPath most levels
@@ -92,7 +92,7 @@ pub path_cost : (most : ℕ) (levels : List Level) → IsPath most levels
 path_cost most [] path = omega arith
 path_cost most (level ∷ below) (path, spares, step) =
     let three : 3 * nodes_of below
-        ≤ level.blocks * nodes_of below = mul-le-mul_right (nodes_of below) step.least_blocks in
+    ≤ level.blocks * nodes_of below = mul-le-mul_right (nodes_of below) step.least_blocks in
     omega (arith, path_cost most below path, three, step.most_cost, path_sized most below path)
 
 pub over_step : (most n f k g : ℕ) (levels : List Level) → AreOver most n f k g levels
@@ -198,33 +198,33 @@ module _ (most n k g : ℕ) where
 
   module _ (f : ℕ)
       (fewer : (level : Level) (below : List Level) → Reaches most n g (level ∷ below)
-        → level.blocks ≡ k → faults_of below < f)
-      where
-    next_back : (levels : List Level) → IsTried most n g (k + 1) 0 levels
-        → IsTried most n g k f levels
-    next_back [] is = absurd is.tried
-    next_back (level ∷ below) is = elim is.tried [
-      | inl lt ↦ elim (cases_lt level.blocks k) [
-        | inl less ↦ record { reaches = is.reaches; tried = inl less }
-        | inr le ↦
-            let same : level.blocks ≡ k = omega (arith, le, lt) in
-            record { reaches = is.reaches; tried = inr (same, fewer level below is.reaches same) }
+      → level.blocks ≡ k → faults_of below < f)
+    where
+      next_back : (levels : List Level) → IsTried most n g (k + 1) 0 levels
+          → IsTried most n g k f levels
+      next_back [] is = absurd is.tried
+      next_back (level ∷ below) is = elim is.tried [
+        | inl lt ↦ elim (cases_lt level.blocks k) [
+          | inl less ↦ record { reaches = is.reaches; tried = inl less }
+          | inr le ↦
+              let same : level.blocks ≡ k = omega (arith, le, lt) in
+              record { reaches = is.reaches; tried = inr (same, fewer level below is.reaches same) }
+        ]
+        | inr at ↦ absurd (omega (arith, at.1))
       ]
-      | inr at ↦ absurd (omega (arith, at.1))
-    ]
 
-    -- where levels of k blocks are over fewer than f faults, all by k blocks are tried
-    pub next_known : (known : Option Best) → IsBestOf (IsTried most n g k f) known
-        → IsBestOf (IsTried most n g (k + 1) 0) known
-    next_known =
-        same_set (IsTried most n g k f) (IsTried most n g (k + 1) 0) (next_left f) next_back
+      -- where levels of k blocks are over fewer than f faults, all by k blocks are tried
+      pub next_known : (known : Option Best) → IsBestOf (IsTried most n g k f) known
+          → IsBestOf (IsTried most n g (k + 1) 0) known
+      next_known =
+          same_set (IsTried most n g k f) (IsTried most n g (k + 1) 0) (next_left f) next_back
 
 -- a step costs too much
 pub too_dear : (most n k g : ℕ) → 2 ^ 40 < cost_of k g → (level : Level) (below : List Level)
     → Reaches most n g (level ∷ below) → level.blocks ≡ k → faults_of below < 0
 too_dear most n k g dear level below reaches blocks =
     let step = moved most (nodes_of below) (faults_of below) level.blocks level.faults
-        (nodes_of below) (faults_of below) k g refl refl blocks reaches.faults reaches.path.2 in
+    (nodes_of below) (faults_of below) k g refl refl blocks reaches.faults reaches.path.2 in
     absurd (omega (arith, dear, step.most_cost))
 
 -- all faults below are fewer than the width
@@ -233,16 +233,16 @@ pub all_narrow : (most n k g width : ℕ) → most < 3 * width → 1 ≤ most
     → Reaches most n g (level ∷ below) → level.blocks ≡ k → faults_of below < width
 all_narrow most n k g width wide some level below reaches blocks =
     omega
-        (arith, path_sized most below reaches.path.0, path_few most below some reaches.path.0, wide)
+    (arith, path_sized most below reaches.path.0, path_few most below some reaches.path.0, wide)
 
 -- the blocks do not part the nodes
 pub not_parted : (most n k g : ℕ) → 3 ≤ k → ¬ (n % k ≡ 0) → (level : Level) (below : List Level)
     → Reaches most n g (level ∷ below) → level.blocks ≡ k → faults_of below < 0
 not_parted most n k g some not_zero level below reaches blocks =
     let e : n
-        ≡ k
-          * nodes_of below = omega
-            (arith, sym reaches.nodes, reaches.path.1, ap (λ b. b * nodes_of below) blocks) in
+    ≡ k
+    * nodes_of below = omega
+    (arith, sym reaches.nodes, reaches.path.1, ap (λ b. b * nodes_of below) blocks) in
     absurd (not_zero (ap (λ m. m % k) e ∙ mul-mod_right k (nodes_of below)))
 
 -- no levels have a top one of fewer than three blocks
@@ -281,45 +281,45 @@ module _ (most n f k : ℕ) (best : Best) (is : IsBest (Reaches most n f) best) 
   pub front_room : best.depth < 5
   front_room =
       let deep : 3 ^ length (levels_in best)
-          ≤ nodes_of (levels_in best) = path_deep most (levels_in best) is.member.path in
+      ≤ nodes_of (levels_in best) = path_deep most (levels_in best) is.member.path in
       let deep' : 3 ^ best.depth
-          ≤ n = subst (λ d. 3 ^ d ≤ n) (depth_is best is.kept)
-            (subst (λ m. 3 ^ length (levels_in best) ≤ m) is.member.nodes deep) in
+      ≤ n = subst (λ d. 3 ^ d ≤ n) (depth_is best is.kept)
+      (subst (λ m. 3 ^ length (levels_in best) ≤ m) is.member.nodes deep) in
       let three : 3 * n ≤ k * n = mul-le-mul_right n some in
       room_left best.depth n (k * n) deep' three (omega (arith, few, limit))
 
   pub front_value : best.value ≤ n * 2 ^ 40
   front_value =
       let cost : bound_of (levels_in best)
-          ≤ nodes_of (levels_in best) * 2 ^ 40 = path_cost most (levels_in best) is.member.path in
+      ≤ nodes_of (levels_in best) * 2 ^ 40 = path_cost most (levels_in best) is.member.path in
       let cost' : bound_of (levels_in best)
-          ≤ n * 2 ^ 40 = subst (λ m. bound_of (levels_in best) ≤ m * 2 ^ 40) is.member.nodes cost in
+      ≤ n * 2 ^ 40 = subst (λ m. bound_of (levels_in best) ≤ m * 2 ^ 40) is.member.nodes cost in
       omega (arith, is.kept.value, cost')
 
 -- ---- the cells, with one more
 
 module _ (most width n g : ℕ) (cells : List (Option Best)) (best : Option Best) (narrow : g < width)
     (size : length cells ≡ n * width + g) (are : AreBest most width cells)
-        (is : IsBestOf (Reaches most n g) best) where
+    (is : IsBestOf (Reaches most n g) best) where
   pub cells_more : AreBest most width (cells ++ best ∷ [])
   cells_more = record {
     best = λ m f lt inside. elim (cases_lt (m * width + f) (length cells)) [
       | inl old ↦
           subst (IsBestOf (Reaches most m f))
-              (sym (get_or_append_left cells (best ∷ []) None (m * width + f) old))
-              (are.best m f lt old)
+          (sym (get_or_append_left cells (best ∷ []) None (m * width + f) old))
+          (are.best m f lt old)
       | inr le ↦
           let at : m * width + f
-              ≡ n * width + g = omega (arith, le, inside, size, length_push cells best) in
+          ≡ n * width + g = omega (arith, le, inside, size, length_push cells best) in
           let row : m ≡ n = sym (div-mul-add m width f lt)
-              ∙ (ap (λ x. x / width) at ∙ div-mul-add n width g narrow) in
+          ∙ (ap (λ x. x / width) at ∙ div-mul-add n width g narrow) in
           let place : f ≡ g = sym (mod-mul-add m width f lt)
-              ∙ (ap (λ x. x % width) at ∙ mod-mul-add n width g narrow) in
+          ∙ (ap (λ x. x % width) at ∙ mod-mul-add n width g narrow) in
           let last : get_or (cells ++ best ∷ []) (m * width + f) None ≡ best =
           get_or_at cells best [] None (m * width + f) (size ∙ sym at) in
           subst (IsBestOf (Reaches most m f)) (sym last)
           (subst (λ x. IsBestOf (Reaches most x f) best) (sym row)
-              (subst (λ x. IsBestOf (Reaches most n x) best) (sym place) is))
+          (subst (λ x. IsBestOf (Reaches most n x) best) (sym place) is))
     ];
   }
 

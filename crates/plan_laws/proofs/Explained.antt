@@ -52,7 +52,7 @@ module _ (m : Meaning) (base : ℕ) (level : Level) (below : List Level) (e : Ex
     -- the register of the top level
     top_register : (v : ℕ) (heard : List State) → length heard ≡ group_size level (nodes_of below)
         → level_register m level v heard
-            ≡ new_register (length below) (nodes_of below) level v heard
+        ≡ new_register (length below) (nodes_of below) level v heard
     top_register v heard size =
         let by : ℕ → ℕ → List ℕ → Reg =
         λ n d outputs.

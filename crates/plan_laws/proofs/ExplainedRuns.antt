@@ -37,9 +37,9 @@ explained_runs_lock below level accepted faulty run borne is t b s k why =
     let top = explains base (level ∷ levels) in
     let some = is.some in
     let nested = nested_run plan accepted faulty run some
-        (counter_run plan accepted faulty run is) in
+    (counter_run plan accepted faulty run is) in
     let few = few_places (meaning_of base (level ∷ levels)) base (level ∷ levels) top faulty
-        borne.few in
+    borne.few in
     let why' : Explains level m.nodes m.faults (is_in faulty) (length run - 1)
     (λ t u. m.shows (u % m.nodes) (state_of (configuration run t) u)) t b s k =
     subst₂ (λ n f. Explains level n f (is_in faulty) (length run - 1)
@@ -67,9 +67,9 @@ bound_is_explained below level accepted faulty run borne is long =
     let top = explains base (level ∷ levels) in
     let some = is.some in
     let nested = nested_run plan accepted faulty run some
-        (counter_run plan accepted faulty run is) in
+    (counter_run plan accepted faulty run is) in
     let few = few_places (meaning_of base (level ∷ levels)) base (level ∷ levels) top faulty
-        borne.few in
+    borne.few in
     let bound = e.bound in
     let why = top_is_explained m (NestedRange base levels) level
     (nested_sizes base levels accepted.levels.0) (is_in faulty) (length run - 1)

@@ -51,10 +51,11 @@ module _ (c : Option Command) (input : List ℕ) (left : Option (List ℕ)) (bef
       → HasOutcome (defined c input) s old new
   answered_outcome s h =
       let is = told (manner c) s input left h.input h.read in
-      record
-          { status = rw is h.status;
-            wrote = rw is
-              (wrote_if (comes_to_write (manner c) s) (defined c h.input).text old new h.wrote) }
+      record {
+        status = rw is h.status;
+        wrote = rw is
+            (wrote_if (comes_to_write (manner c) s) (defined c h.input).text old new h.wrote);
+      }
 
   as_defined : (s : Status) → Answered (manner c) (defined c) s (Some input) left before now old new
       → HasDefined c input s old new
@@ -77,9 +78,9 @@ module _ (c : Option Command) (input : List ℕ) (left : Option (List ℕ)) (bef
   whichever status.ReadFault h unread uncut =
       absurd
       (unread
-        (no_reads (manner c)
-          (ReadFailed (manner c) (IsPending c) (so_far c) (Some input) left before now old new)
-          h).cause)
+      (no_reads (manner c)
+      (ReadFailed (manner c) (IsPending c) (so_far c) (Some input) left before now old new)
+      h).cause)
   whichever status.WriteFault h unread uncut = absurd (uncut h)
   whichever status.NoMemory h unread uncut = inr (wants c h)
   whichever status.Ok h unread uncut = as_defined status.Ok h
@@ -112,9 +113,9 @@ room_is_defined c s input rest sink new does unlisted room =
     whichever c input (Some rest) 0 0 (memory_told sink) new s does never_counted (λ h.
     let is = told (manner c) status.WriteFault input (Some rest) h.input h.read in
     let certain : (memory_told sink).certain
-        ≡ suc (sink.room - length sink.taken) = ap
-          (λ (fails : List ℕ). cond (eqb (length fails) 0) (suc (sink.room - length sink.taken)) 0)
-          unlisted in
+    ≡ suc (sink.room - length sink.taken) = ap
+    (λ (fails : List ℕ). cond (eqb (length fails) 0) (suc (sink.room - length sink.taken)) 0)
+    unlisted in
     let cut : (memory_told sink).certain ≤ length (defined c input).text = rw is h.cut.uncertain in
     omega (arith, certain, cut, room))
 
@@ -135,8 +136,11 @@ pub cuts_are_unseen : CutsAreUnseen
 cuts_are_unseen c input s old new one some other first last two some_too =
     let here = outcome c input s old new some (undisturbed_is_defined c s input old new one) in
     let there = outcome c input other first last some_too
-        (undisturbed_is_defined c other input first last two) in
-    record
-        { status = here.status
-          ∙ sym there.status; text = (defined c input).text; wrote = here.wrote;
-            wrote_too = there.wrote }
+    (undisturbed_is_defined c other input first last two) in
+    record {
+      status = here.status
+          ∙ sym there.status;
+      text = (defined c input).text;
+      wrote = here.wrote;
+      wrote_too = there.wrote;
+    }

@@ -244,7 +244,7 @@ demo_is_accepted seed =
 answered_by : (liars : Liars) (scripted : Result Scripted Refusal)
     → MatchResult scripted (IsDemo liars) (λ refusal. ⊥)
     → (outcome_of (text_by (λ (s : Scripted). run_text s.plan s.script) scripted)).status
-        ≡ status.Ok
+    ≡ status.Ok
 answered_by liars (Ok scripted) h = refl
 answered_by liars (Err refusal) h = absurd h
 

@@ -36,7 +36,7 @@ use Rattle.promises.specs.LayerPromises.{EntriesAreKept}
 pub played : {Said Kept : Type 0} {Fits : Plan → Said → Type 0}
     {layer_of : Plan → Said → Layer Kept}
     (l : Layered Said) → IsToPlay Fits layer_of l
-        → IsReadFor l.plan (layer_of l.plan l.said) l.script
+    → IsReadFor l.plan (layer_of l.plan l.said) l.script
 played l is = record {
   accepted = is.accepted;
   right = is.right;

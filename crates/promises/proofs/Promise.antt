@@ -48,21 +48,21 @@ module _ (plan : Plan) (script : Script) (read : IsReadFor plan script) (j : ℕ
       (lock_played plan script j)
   locked_first = subst (IsFirstLocked plan script (played_at plan script) j script.rounds) same_lock
       (first_is_locked plan script (played_at plan script) read.whole j script.rounds among
-          (omega arith))
+      (omega arith))
 
   -- it is locked, so from it on it stays locked, and the outputs count
   from_locked : EachIsOfOneEra → ErasStayLocked → (w : ℕ) → lock_played plan script j ≡ Some w
       → EraStaysLocked plan script j w
   from_locked each stays w is =
       let first = subst (IsFirstLocked plan script (played_at plan script) j script.rounds) is
-          locked_first in
+      locked_first in
       let within = first.0 in
       let here : j
-          ≡ era_of script w = (each script read.whole w (omega (arith, within))).only j among
-            first.1.from first.1.before in
+      ≡ era_of script w = (each script read.whole w (omega (arith, within))).only j among
+      first.1.from first.1.before in
       let locked : IsLocked plan (faulty_at script w) (played_at plan script w) =
       subst (λ (era : ℕ). IsLocked plan (faulty_of_era script era) (played_at plan script w)) here
-          first.1.locked in
+      first.1.locked in
       stays plan script read j among w first.1.from first.1.before locked
 
 module _ (plays : PlainScriptsArePlayed) (each : EachIsOfOneEra) (runs : ErasAreRuns)

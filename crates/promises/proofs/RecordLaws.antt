@@ -21,7 +21,7 @@ module _ (check : CheckIsExact) (records : RecordsAreTrue) (runs : RecordsAreOfR
       let true_one = records s.plan s.script read.for read.eras in
       let last = length s.script.eras in
       let same = first_listed (era_locked s.plan s.script (played_at s.plan s.script) last)
-          s.script.rounds in
+      s.script.rounds in
       let comes = true_one.verdict ∙ ap (verdict.True (s.script.rounds + 1)) same in
       record {
         is = true_one.is;

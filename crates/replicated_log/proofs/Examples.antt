@@ -16,9 +16,11 @@ use Rattle.replicated_log.specs.Logs.{log_layer, log_of}
 
 abbrev plan : Plan
 plan =
-    record
-    { version = 1; base = 2304;
-      levels = record { blocks = 4; spares = 0; faults = 1; modulus = 56 } ∷ [] }
+    record {
+      version = 1;
+      base = 2304;
+      levels = record { blocks = 4; spares = 0; faults = 1; modulus = 56 } ∷ [];
+    }
 
 abbrev infinite : Reg
 infinite = record { a = None; d = false }
@@ -48,10 +50,11 @@ lie t u (suc v) config = record { x = 1; registers = infinite ∷ infinite ∷ l
 
 abbrev start : Scene (List Entry)
 start =
-    record
-    { states = map (λ v. record { x = 13; registers = locked_at 13 ∷ infinite ∷ infinite ∷ [] })
-        (range_with_len 0 4);
-      kept = [] ∷ [] ∷ [] ∷ [] ∷ [] }
+    record {
+      states = map (λ v. record { x = 13; registers = locked_at 13 ∷ infinite ∷ infinite ∷ [] })
+          (range_with_len 0 4);
+      kept = [] ∷ [] ∷ [] ∷ [] ∷ [];
+    }
 
 abbrev log_scene : ℕ → Scene (List Entry)
 log_scene x = scene_after plan (log_layer plan said) (3 ∷ []) lie 0 start x

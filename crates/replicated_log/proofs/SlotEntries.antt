@@ -53,47 +53,47 @@ agrees_on n f depth v output x heard rest =
     let p : ℕ = output % entry_length f in
     let e : p - 1 ≡ x = omega (arith, rest) in
     ap
-        (λ (b : Bool). if b
-          then loaded
-            (unwrap_or (register_at (depth + 1) (state_of heard (owner_at n f output))).a 0)
-          else agreed_in_turn n f depth v (p - 1) heard)
-        (ne_eqb p 0 (λ z. omega (arith, z, rest)))
+    (λ (b : Bool). if b
+    then loaded
+    (unwrap_or (register_at (depth + 1) (state_of heard (owner_at n f output))).a 0)
+    else agreed_in_turn n f depth v (p - 1) heard)
+    (ne_eqb p 0 (λ z. omega (arith, z, rest)))
     ∙ ap (λ y. agreed_in_turn n f depth v y heard) e
 
 hears_owner : (n f depth v output : ℕ) (heard : List State) → output % entry_length f ≡ 0
     → agreement_after n f depth v output heard
-        ≡ loaded (unwrap_or (register_at (depth + 1) (state_of heard (owner_at n f output))).a 0)
+    ≡ loaded (unwrap_or (register_at (depth + 1) (state_of heard (owner_at n f output))).a 0)
 hears_owner n f depth v output heard rest =
     let p : ℕ = output % entry_length f in
     ap
-        (λ (b : Bool). if b
-          then loaded
-            (unwrap_or (register_at (depth + 1) (state_of heard (owner_at n f output))).a 0)
-          else agreed_in_turn n f depth v (p - 1) heard)
-        (eq-eqb p 0 rest)
+    (λ (b : Bool). if b
+    then loaded
+    (unwrap_or (register_at (depth + 1) (state_of heard (owner_at n f output))).a 0)
+    else agreed_in_turn n f depth v (p - 1) heard)
+    (eq-eqb p 0 rest)
 
 pub keeps_log : (f keep output x : ℕ) (agreement : Reg) (log : List Entry)
     → output % entry_length f ≡ x → x + 1 < entry_length f
     → log_after f keep output agreement log ≡ log
 keeps_log f keep output x agreement log rest lt =
     ap
-        (λ (b : Bool). if b
-          then take keep
-            (record { slot = output - slot_length f; value = unwrap_or agreement.a 0 } ∷ log)
-          else log)
+    (λ (b : Bool). if b
+    then take keep
+    (record { slot = output - slot_length f; value = unwrap_or agreement.a 0 } ∷ log)
+    else log)
     (ne_eqb (output % entry_length f + 1) (entry_length f) (λ e. omega (arith, e, rest, lt)))
 
 puts_entry : (f keep output : ℕ) (agreement : Reg) (log : List Entry)
     → output % entry_length f + 1 ≡ entry_length f
     → log_after f keep output agreement log
-        ≡ take keep
-          (record { slot = output - slot_length f; value = unwrap_or agreement.a 0 } ∷ log)
+    ≡ take keep
+    (record { slot = output - slot_length f; value = unwrap_or agreement.a 0 } ∷ log)
 puts_entry f keep output agreement log rest =
     ap
-        (λ (b : Bool). if b
-          then take keep
-            (record { slot = output - slot_length f; value = unwrap_or agreement.a 0 } ∷ log)
-          else log)
+    (λ (b : Bool). if b
+    then take keep
+    (record { slot = output - slot_length f; value = unwrap_or agreement.a 0 } ∷ log)
+    else log)
     (eq-eqb (output % entry_length f + 1) (entry_length f) rest)
 
 has_slots : (plan : Plan) (said : LogSaid)
@@ -104,12 +104,12 @@ has_slots plan said = record {
   turns = λ v x output log heard vlt xlt rest.
       agrees_on (plan_nodes plan) (plan_faults plan) (plan_depth plan) v output x heard rest
       ∙ ap (λ d. agreed_in_turn (plan_nodes plan) (plan_faults plan) d v x heard)
-          (sym (add-zero (plan_depth plan)));
+      (sym (add-zero (plan_depth plan)));
 }
 
 module _ (plan : Plan) (accepted : IsAccepted plan) (multiple : HasEntries plan)
     (said : LogSaid) (faulty : List ℕ) (borne : IsBorne plan faulty) (first : ℕ)
-        (run : List (Scene (List Entry)))
+    (run : List (Scene (List Entry)))
     (is : LayerRun plan (log_layer plan said) faulty first run) where
   abbrev n : ℕ
   n = plan_nodes plan
@@ -135,12 +135,12 @@ module _ (plan : Plan) (accepted : IsAccepted plan) (multiple : HasEntries plan)
       let front = (config.states v vlt).front in
       let some = positive plan.base plan.levels accepted.levels in
       subst (λ y. y < plan_modulus plan)
-          (shown_of_cut (plan_depth plan) (plan_depth plan) (omega arith)
-            (state_of (scene run t).states v))
+      (shown_of_cut (plan_depth plan) (plan_depth plan) (omega arith)
+      (state_of (scene run t).states v))
       ((plan_sizes plan accepted).shown v (cut (plan_depth plan) (state_of (scene run t).states v))
-          vlt
-          (range_of_state plan some.0 some.1 v
-            (cut (plan_depth plan) (state_of (scene run t).states v)) front))
+      vlt
+      (range_of_state plan some.0 some.1 v
+      (cut (plan_depth plan) (state_of (scene run t).states v)) front))
 
   module _ (t : ℕ) (lo : plan_bound plan ≤ t) (hi : t + e < length run)
       (begins : AllAre plan faulty (scene run t).states e 0) where
@@ -155,7 +155,7 @@ module _ (plan : Plan) (accepted : IsAccepted plan) (multiple : HasEntries plan)
         let few = few_of plan faulty borne in
         let q = quorum in
         common_rest plan layer faulty first run is counts e t 0 (omega arith) lo (omega arith)
-          begins
+        begins
 
     room : counts.output t + e ≤ plan_modulus plan
     room =
@@ -164,8 +164,8 @@ module _ (plan : Plan) (accepted : IsAccepted plan) (multiple : HasEntries plan)
         let v = one_fails (is_in faulty) n (omega arith) in
         step_below e (counts.output t) (plan_modulus plan) (omega arith) zero_rest whole
         (subst (λ y. y < plan_modulus plan)
-            (shown_at plan layer faulty first run is counts t v.0 lo (omega arith) v.1 v.2)
-            (output_below t v.0 (omega arith) v.1))
+        (shown_at plan layer faulty first run is counts t v.0 lo (omega arith) v.1 v.2)
+        (output_below t v.0 (omega arith) v.1))
 
     long : length (without_layer plan run) ≡ length run
     long = length-map run (λ (s : Scene (List Entry)). map (cut (plan_depth plan)) s.states)
@@ -195,12 +195,12 @@ module _ (plan : Plan) (accepted : IsAccepted plan) (multiple : HasEntries plan)
         let steps = node_steps plan layer faulty first run is (t + x) v (omega arith) vlt ok in
         let o : ℕ = shown (plan_depth plan) (state_of steps.heard v) in
         let here : o % e ≡ x = ap (λ st. shown (plan_depth plan) st % e) (steps.honest v vlt ok)
-            ∙ rest x v (omega arith) vlt ok in
+        ∙ rest x v (omega arith) vlt ok in
         ap (λ y. log_of (scene run y) v) s
         ∙ (steps.steps.kept
         ∙
-            (keeps_log f said.keep o x (agreement_after n f (plan_depth plan) v o steps.heard)
-              (log_of (scene run (t + x)) v) here (omega arith)
+        (keeps_log f said.keep o x (agreement_after n f (plan_depth plan) v o steps.heard)
+        (log_of (scene run (t + x)) v) here (omega arith)
         ∙ quiet x v (omega arith) vlt ok))
 
     slot : SlotAgrees plan layer 0 faulty first run (t + 1)
@@ -218,42 +218,42 @@ module _ (plan : Plan) (accepted : IsAccepted plan) (multiple : HasEntries plan)
         let there : t + 1 + (3 * f + 2) ≡ t + q = omega arith in
         let end : t + q + 1 ≡ t + e = omega arith in
         let last = subst (λ r. TakesLast plan layer 0 first run r v slot.value) there
-            (slot.last v vlt ok) in
+        (slot.last v vlt ok) in
         let o : ℕ = shown (plan_depth plan) (state_of last.heard v) in
         let shows : o ≡ counts.output t + q = ap (shown (plan_depth plan)) last.own
-            ∙ (shown_at plan layer faulty first run is counts (t + q) v (omega arith) (omega arith)
-                vlt ok
-              ∙ exact q (omega arith)) in
+        ∙ (shown_at plan layer faulty first run is counts (t + q) v (omega arith) (omega arith)
+        vlt ok
+        ∙ exact q (omega arith)) in
         let here : o % e ≡ q = ap (λ st. shown (plan_depth plan) st % e) last.own
-            ∙ rest q v (omega arith) vlt ok in
+        ∙ rest q v (omega arith) vlt ok in
         let number : o - q ≡ counts.output t = omega (arith, shows) in
         let result : agreement_after n f (plan_depth plan) v o last.heard ≡ locked_at slot.value = (
         agrees_on n f (plan_depth plan) v o (3 * f + 2) last.heard (omega (arith, here))
         ∙
-            (ap (λ d. agreed_in_turn n f d v (3 * f + 2) last.heard)
-                (sym (add-zero (plan_depth plan)))
-              ∙ last.locked)) in
+        (ap (λ d. agreed_in_turn n f d v (3 * f + 2) last.heard)
+        (sym (add-zero (plan_depth plan)))
+        ∙ last.locked)) in
         ap (λ y. log_of (scene run y) v) (sym end)
         ∙ (last.steps.kept
         ∙
-            (puts_entry f said.keep o (agreement_after n f (plan_depth plan) v o last.heard)
-              (log_of (scene run (t + q)) v) (omega (arith, here))
+        (puts_entry f said.keep o (agreement_after n f (plan_depth plan) v o last.heard)
+        (log_of (scene run (t + q)) v) (omega (arith, here))
         ∙
-            (ap
-              (λ (r : Reg). take said.keep
-                (record { slot = o - q; value = unwrap_or r.a 0 } ∷ log_of (scene run (t + q)) v))
-              result
+        (ap
+        (λ (r : Reg). take said.keep
+        (record { slot = o - q; value = unwrap_or r.a 0 } ∷ log_of (scene run (t + q)) v))
+        result
         ∙
-            (ap
-              (λ k. take said.keep
-                (record { slot = k; value = slot.value } ∷ log_of (scene run (t + q)) v))
-              number
+        (ap
+        (λ k. take said.keep
+        (record { slot = k; value = slot.value } ∷ log_of (scene run (t + q)) v))
+        number
         ∙ ap (λ log. take said.keep (entry ∷ log)) (quiet q v (omega arith) vlt ok)))))
 
     -- the command register of a correct node holds its command at the output
     commands_hold : plan_bound plan < t → (u : ℕ) → u < n → is_in faulty u ≡ false
         → (register_at (plan_depth plan + 1) (state_of (scene run t).states u)).a
-          ≡ Some (command_at n f said.commands u (counts.output t))
+        ≡ Some (command_at n f said.commands u (counts.output t))
     commands_hold after u ult ok =
         let b : ℕ = t - 1 in
         let s : b + 1 ≡ t = omega arith in
@@ -261,21 +261,21 @@ module _ (plan : Plan) (accepted : IsAccepted plan) (multiple : HasEntries plan)
         let o : ℕ = shown (plan_depth plan) (state_of steps.heard u) in
         let grown : (o + 1) % plan_modulus plan ≡ counts.output t = (
         ap (λ y. (y + 1) % plan_modulus plan)
-            (ap (shown (plan_depth plan)) (steps.honest u ult ok)
-              ∙ shown_at plan layer faulty first run is counts b u (omega arith) (omega arith) ult
-                ok)
+        (ap (shown (plan_depth plan)) (steps.honest u ult ok)
+        ∙ shown_at plan layer faulty first run is counts b u (omega arith) (omega arith) ult
+        ok)
         ∙ (sym (counts.grows b (omega arith) (omega (arith, long))) ∙ ap counts.output s)) in
         ap (λ y. (register_at (plan_depth plan + 1) (state_of (scene run y).states u)).a) (sym s)
         ∙ (ap (λ st. (register_at (plan_depth plan + 1) st).a) steps.steps.state
         ∙
-            (ap (λ (r : Reg). r.a)
-              (layer_register plan layer 1 (first + b) (kept_of layer (scene run b) u) u
-                steps.heard)
+        (ap (λ (r : Reg). r.a)
+        (layer_register plan layer 1 (first + b) (kept_of layer (scene run b) u) u
+        steps.heard)
         ∙ ap (λ y. Some (command_at n f said.commands u y)) grown))
 
     commanded : plan_bound plan < t → is_in faulty (owner_at n f (counts.output t)) ≡ false
         → slot.value
-          ≡ command_at n f said.commands (owner_at n f (counts.output t)) (counts.output t)
+        ≡ command_at n f said.commands (owner_at n f (counts.output t)) (counts.output t)
     commanded after correct =
         let owner : ℕ = owner_at n f (counts.output t) in
         let inside : owner < n = (let q = quorum in mod-lt (counts.output t / e) (omega arith)) in
@@ -283,33 +283,33 @@ module _ (plan : Plan) (accepted : IsAccepted plan) (multiple : HasEntries plan)
         let steps = node_steps plan layer faulty first run is t v (omega arith) vlt ok in
         let o : ℕ = shown (plan_depth plan) (state_of steps.heard v) in
         let same : o ≡ counts.output t = ap (shown (plan_depth plan)) (steps.honest v vlt ok)
-            ∙ shown_at plan layer faulty first run is counts t v lo (omega arith) vlt ok in
+        ∙ shown_at plan layer faulty first run is counts t v lo (omega arith) vlt ok in
         ap (λ d. (register_at d (state_of (scene run (t + 1)).states v)).a)
-            (add-zero (plan_depth plan))
+        (add-zero (plan_depth plan))
         ∙ (ap (λ st. (register_at (plan_depth plan) st).a) steps.steps.state
         ∙
-            (ap
-              (λ d.
-                (register_at d
-                  (new_state (plan_meaning plan) layer (first + t) (kept_of layer (scene run t) v) v
-                    steps.heard)).a)
-              (sym (add-zero (plan_depth plan)))
+        (ap
+        (λ d.
+        (register_at d
+        (new_state (plan_meaning plan) layer (first + t) (kept_of layer (scene run t) v) v
+        steps.heard)).a)
+        (sym (add-zero (plan_depth plan)))
         ∙
-            (ap (λ (r : Reg). r.a)
-              (layer_register plan layer 0 (first + t) (kept_of layer (scene run t) v) v
-                steps.heard)
+        (ap (λ (r : Reg). r.a)
+        (layer_register plan layer 0 (first + t) (kept_of layer (scene run t) v) v
+        steps.heard)
         ∙
-            (ap (λ (r : Reg). r.a)
-              (hears_owner n f (plan_depth plan) v o steps.heard (ap (λ y. y % e) same ∙ zero_rest))
+        (ap (λ (r : Reg). r.a)
+        (hears_owner n f (plan_depth plan) v o steps.heard (ap (λ y. y % e) same ∙ zero_rest))
         ∙
-            (ap
-              (λ y. Some
-                (unwrap_or
-                  (register_at (plan_depth plan + 1) (state_of steps.heard (owner_at n f y))).a 0))
-              same
+        (ap
+        (λ y. Some
+        (unwrap_or
+        (register_at (plan_depth plan + 1) (state_of steps.heard (owner_at n f y))).a 0))
+        same
         ∙
-            (ap (λ st. Some (unwrap_or (register_at (plan_depth plan + 1) st).a 0))
-              (steps.honest owner inside correct)
+        (ap (λ st. Some (unwrap_or (register_at (plan_depth plan + 1) st).a 0))
+        (steps.honest owner inside correct)
         ∙ ap (λ a. Some (unwrap_or a 0)) (commands_hold after owner inside correct))))))))
 
     pub puts_one : PutsOne plan said faulty run t

@@ -73,7 +73,7 @@ module _ {O Kept : Type 0} (layer : O → Layer Kept) (kept : O → List Kept) (
       subst (λ (lock : Option ℕ). unwrap_or lock r.script.rounds ≤ r.at)
       (known_at_end layer kept r whole within last (omega arith) began plays knows)
       (reached lock (known_first layer kept r whole within last (omega arith) began plays) refl
-          knows)
+      knows)
 
   -- and where it is not, in the last era, it lies ahead
   ahead : (lock : Option ℕ) → IsFirstLocked r.plan r.script (configuration_of layer began r) last

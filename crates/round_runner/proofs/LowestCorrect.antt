@@ -26,21 +26,21 @@ module _ (p : ℕ → Bool) (n : ℕ) where
       → position p numbers ≡ Some v
   found v lt before is =
       let place : position_or_len p numbers
-          ≡ v = position_or_len_is p numbers v 0 (omega (arith, lt, size))
+      ≡ v = position_or_len_is p numbers v 0 (omega (arith, lt, size))
       (λ k klt. at k (omega (arith, klt, lt)) ∙ before k klt) (λ _. at v lt ∙ is) in
       ap (λ (i : ℕ). cond (nat_lt i (length numbers)) (Some i) None) place
       ∙ ap (λ (b : Bool). cond b (Some v) None)
-          (lt-ltb v (length numbers) (omega (arith, lt, size)))
+      (lt-ltb v (length numbers) (omega (arith, lt, size)))
 
   none_found : ((u : ℕ) → u < n → p u ≡ false) → position p numbers ≡ None
   none_found fails =
       let place : position_or_len p numbers
-          ≡ length numbers = position_or_len_is p numbers (length numbers) 0 (omega arith)
+      ≡ length numbers = position_or_len_is p numbers (length numbers) 0 (omega arith)
       (λ k lt. at k (omega (arith, lt, size)) ∙ fails k (omega (arith, lt, size)))
-          (λ lt. absurd (omega (arith, lt))) in
+      (λ lt. absurd (omega (arith, lt))) in
       ap (λ (i : ℕ). cond (nat_lt i (length numbers)) (Some i) None) place
       ∙ ap (λ (b : Bool). cond b (Some (length numbers)) None)
-          (le-ltb (length numbers) (length numbers) (omega arith))
+      (le-ltb (length numbers) (length numbers) (omega arith))
 
 -- all nodes before v are faulty
 abbrev pub AreFaulty : (faulty : List ℕ) (v : ℕ) → Type 0
@@ -85,7 +85,7 @@ search_from n faulty w lt is (suc left) v sum before false e =
     here n faulty v (omega (arith, lt, sum)) before e
 search_from n faulty w lt is (suc left) v sum before true e =
     search_from n faulty w lt is left (v + 1) (omega (arith, sum)) (faulty_more faulty v before e)
-        (is_in faulty (v + 1)) refl
+    (is_in faulty (v + 1)) refl
 
 pub lowest_among : (n : ℕ) (faulty : List ℕ) (w : ℕ) → w < n → is_in faulty w ≡ false
     → (lowest_correct n faulty < n) × (is_in faulty (lowest_correct n faulty) ≡ false)

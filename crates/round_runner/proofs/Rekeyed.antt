@@ -95,7 +95,7 @@ module _ (script : Script) (key : List ℕ) where
   kept_anew plan layer room noise out states now locks begun at era other same kept is deep shape
       size long =
       subst
-          (λ (s : Script). IsKept plan s layer (record room { noise = noise; out = out }) now begun
+      (λ (s : Script). IsKept plan s layer (record room { noise = noise; out = out }) now begun
       0 0) (sym same)
       (kept_at_first plan layer room noise out states now locks begun at era kept is deep shape size
       long)

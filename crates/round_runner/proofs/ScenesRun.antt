@@ -173,7 +173,7 @@ module _ {Kept : Type 0} (plan : Plan) (script : Script) (layer : Layer Kept)
         subst (λ (shape : Shape). HasFront u (fitted (fields_at shape u)
         (state_of (states_at t) w)))
         (sym right.shape)
-            (fitted_is plan layer accepted further u inside (state_of (states_at t) w)))
+        (fitted_is plan layer accepted further u inside (state_of (states_at t) w)))
 
     lies_are : (t : ℕ) → IsTable plan (cut_lies t)
     lies_are t =

@@ -31,9 +31,10 @@ use Rattle.run_certificates.proofs.Good.{good_reach, end_from}
 plain_lines : (items : List Item) → All HasLine items
     → AllByRecursion IsOneLine (map item_line items)
 plain_lines [] h = tt
-plain_lines (item ∷ items) h =
-    (joined_is_one (item_words item) (item_is_words item (All-head HasLine item items h).words),
-    plain_lines items (All-tail HasLine item items h))
+plain_lines (item ∷ items) h = (
+  joined_is_one (item_words item) (item_is_words item (All-head HasLine item items h).words),
+  plain_lines items (All-tail HasLine item items h),
+)
 
 -- ---- the text of a certificate is answered by what follows from it
 
@@ -65,8 +66,8 @@ reach_then [] more s t e = let same : s ≡ t = cc in ap (λ u. accepts u more) 
 reach_then (item ∷ items) more s t e = by (step s item) e (λ u f. reach_then items more u t f) where
   by : (next : Onward)
       → (elim next as (λ _. Option Stage)
-          [ goes u ↦ reaches u items | ends v ↦ None | refuses r ↦ None ])
-        ≡ Some t
+      [ goes u ↦ reaches u items | ends v ↦ None | refuses r ↦ None ])
+      ≡ Some t
       → ((u : Stage) → reaches u items ≡ Some t → accepts u (items ++ more) ≡ accepts t more)
       → following next (items ++ more) ≡ accepts t more
   by (goes u) e rest = rest u e
@@ -77,17 +78,20 @@ begin_by : (items more : List Item) (v : Verdict) → accepts unread (items ++ m
     → All HasLine (items ++ more) → AreFirstLines (map item_line items)
 begin_by items more v e lines =
     let r = read_whole (items ++ more) v e in
-    record
-        { certificate = r.certificate; is = r.is lines; rest = map item_line more;
-            parts = ap (map item_line) (sym r.items_are)
-          ∙ map-append item_line items more }
+    record {
+      certificate = r.certificate;
+      is = r.is lines;
+      rest = map item_line more;
+      parts = ap (map item_line) (sym r.items_are)
+          ∙ map-append item_line items more;
+    }
 
 stage_begins : (items : List Item) (t : Stage) → reaches unread items ≡ Some t → All HasLine items
     → AreFirstLines (map item_line items)
 stage_begins items t e lines =
     let end = end_from t (good_reach items unread t tt e) in
     begin_by items end.items end.verdict (reach_then items end.items unread t e ∙ end.read)
-        (All-append HasLine items end.items lines end.lines)
+    (All-append HasLine items end.items lines end.lines)
 
 whole_begins : (items : List Item) (v : Verdict) → accepts unread items ≡ Some v → All HasLine items
     → AreFirstLines (map item_line items)
@@ -104,37 +108,37 @@ later_line : (lines : List (List ℕ)) (s : Stage) (taken number : ℕ) (at : At
     → read_lines s taken number lines ≡ Err at → number ≤ at.line
 later_line lines s taken number at e =
     by (read_lines s taken number lines) (lines_taken lines s taken number) e where
-  by : (answer : Answer) → Read s taken number lines answer → answer ≡ Err at → number ≤ at.line
-  by (Ok found) r e = absurd cc
-  by (Err stopped) r e =
-      let same : stopped.line
-        ≡ at.line = ap (λ (a : Answer). elim a as (λ _. ℕ) [ Ok x ↦ 0 | Err x ↦ x.line ]) e in
-      omega (arith, r.count)
+      by : (answer : Answer) → Read s taken number lines answer → answer ≡ Err at → number ≤ at.line
+      by (Ok found) r e = absurd cc
+      by (Err stopped) r e =
+          let same : stopped.line
+          ≡ at.line = ap (λ (a : Answer). elim a as (λ _. ℕ) [ Ok x ↦ 0 | Err x ↦ x.line ]) e in
+          omega (arith, r.count)
 
 same_refusal : (front : List (List ℕ)) (line : List ℕ) (x y : List (List ℕ)) (s : Stage)
-      (taken number : ℕ) (at : At (Unit {0}))
+    (taken number : ℕ) (at : At (Unit {0}))
     → at.line ≡ number + length front
     → read_lines s taken number (front ++ line ∷ x) ≡ Err at
-        → (b : At (Unit {0})) × (read_lines s taken number (front ++ line ∷ y) ≡ Err b)
+    → (b : At (Unit {0})) × (read_lines s taken number (front ++ line ∷ y) ≡ Err b)
 same_refusal [] line x y s taken number at here e = by (line_step s line) e where
   by : (next : Onward) → lines_following next taken number x ≡ Err at
       → (b : At (Unit {0})) × (lines_following next taken number y ≡ Err b)
   by (goes t) e =
       absurd
       (let l : number + 1 ≤ at.line = later_line x t (taken + 1) (number + 1) at e in
-        omega (arith, here))
+      omega (arith, here))
   by (ends v) e = absurd cc
   by (refuses r) e = (record { line = number; rule = r }, refl)
 same_refusal (f ∷ fs) line x y s taken number at here e =
     by (line_step s f) e
     (λ t h. same_refusal fs line x y t (taken + 1) (number + 1) at (omega (arith, here)) h) where
-  by : (next : Onward) → lines_following next taken number (fs ++ line ∷ x) ≡ Err at
-      → ((t : Stage) → read_lines t (taken + 1) (number + 1) (fs ++ line ∷ x) ≡ Err at
-        → (b : At (Unit {0})) × (read_lines t (taken + 1) (number + 1) (fs ++ line ∷ y) ≡ Err b))
-      → (b : At (Unit {0})) × (lines_following next taken number (fs ++ line ∷ y) ≡ Err b)
-  by (goes t) e more = more t e
-  by (ends v) e more = absurd cc
-  by (refuses r) e more = (record { line = number; rule = r }, refl)
+      by : (next : Onward) → lines_following next taken number (fs ++ line ∷ x) ≡ Err at
+          → ((t : Stage) → read_lines t (taken + 1) (number + 1) (fs ++ line ∷ x) ≡ Err at
+          → (b : At (Unit {0})) × (read_lines t (taken + 1) (number + 1) (fs ++ line ∷ y) ≡ Err b))
+          → (b : At (Unit {0})) × (lines_following next taken number (fs ++ line ∷ y) ≡ Err b)
+      by (goes t) e more = more t e
+      by (ends v) e more = absurd cc
+      by (refuses r) e more = (record { line = number; rule = r }, refl)
 
 regroup : (front : List (List ℕ)) (line : List ℕ) (rest : List (List ℕ))
     → front ++ line ∷ [] ++ rest ≡ front ++ line ∷ rest
@@ -146,29 +150,29 @@ stops_at : (front : List (List ℕ)) (line : List ℕ) (x : List (List ℕ)) (at
 stops_at front line x at here e f =
     let (b, other) = same_refusal front line x f.rest unread 0 1 at here e in
     absurd
-        (ok_err _ _
-          (sym (certificate_lines f.certificate f.is)
-            ∙ ap (read_lines unread 0 1) (f.parts ∙ regroup front line f.rest) ∙ other))
-        where
-      ok_err : (found : Found Verdict) (at : At (Unit {0})) → Ok found ≡ Err at → ⊥
-      ok_err found at e = absurd cc
+    (ok_err _ _
+    (sym (certificate_lines f.certificate f.is)
+    ∙ ap (read_lines unread 0 1) (f.parts ∙ regroup front line f.rest) ∙ other))
+  where
+    ok_err : (found : Found Verdict) (at : At (Unit {0})) → Ok found ≡ Err at → ⊥
+    ok_err found at e = absurd cc
 
 ends_at : (items : List Item) (v : Verdict) (line : List ℕ) → accepts unread items ≡ Some v
     → All HasLine items → AreFirstLines (map item_line items ++ line ∷ []) → ⊥
 ends_at items v line e lines f =
     absurd
-        (not_none (line ∷ f.rest) line f.rest refl
-          (behind_same _ _
-            (sym (certificate_lines f.certificate f.is)
-              ∙ ap (read_lines unread 0 1) (f.parts ∙ regroup (map item_line items) line f.rest)
-              ∙ lines_read items unread 0 1 (line ∷ f.rest) v lines e)))
-        where
-      behind_same : (a b : Found Verdict) → ◌≡◌ {A = Answer} (Ok a) (Ok b) → a.behind ≡ b.behind
-      behind_same a b e =
-          ap (λ (r : Answer). elim r as (λ _. List (List ℕ)) [ Ok x ↦ x.behind | Err x ↦ [] ]) e
+    (not_none (line ∷ f.rest) line f.rest refl
+    (behind_same _ _
+    (sym (certificate_lines f.certificate f.is)
+    ∙ ap (read_lines unread 0 1) (f.parts ∙ regroup (map item_line items) line f.rest)
+    ∙ lines_read items unread 0 1 (line ∷ f.rest) v lines e)))
+  where
+    behind_same : (a b : Found Verdict) → ◌≡◌ {A = Answer} (Ok a) (Ok b) → a.behind ≡ b.behind
+    behind_same a b e =
+        ap (λ (r : Answer). elim r as (λ _. List (List ℕ)) [ Ok x ↦ x.behind | Err x ↦ [] ]) e
 
-      not_none : (l : List (List ℕ)) (x : List ℕ) (xs : List (List ℕ)) → l ≡ x ∷ xs → [] ≡ l → ⊥
-      not_none l x xs a b = absurd cc
+    not_none : (l : List (List ℕ)) (x : List ℕ) (xs : List (List ℕ)) → l ≡ x ∷ xs → [] ≡ l → ⊥
+    not_none l x xs a b = absurd cc
 
 -- ---- the answer
 
@@ -180,8 +184,8 @@ no_certificate : (text : List ℕ) (number : ℕ) → checked text ≡ Err numbe
     → IsCertificate c → text ≡ certificate_text c → ⊥
 no_certificate text number e c is same =
     ok_err _ _ (sym (certificates_checked c is) ∙ ap checked (sym same) ∙ e) where
-  ok_err : (v : Verdict) (n : ℕ) → ◌≡◌ {A = Result Verdict ℕ} (Ok v) (Err n) → ⊥
-  ok_err v n e = absurd cc
+      ok_err : (v : Verdict) (n : ℕ) → ◌≡◌ {A = Result Verdict ℕ} (Ok v) (Err n) → ⊥
+      ok_err v n e = absurd cc
 
 -- the lines were refused
 stopped_answer : (text : List ℕ) (at : At (Unit {0}))
@@ -227,8 +231,8 @@ whole_answer text found r behind rest =
     let c = read_whole r.items found.value r.read in
     let is : IsCertificate c.certificate = c.is r.has in
     let lines : whole_lines text ≡ map item_line (items_of c.certificate) = r.is
-        ∙ ap (λ l. map item_line r.items ++ l) behind ∙ append-nil (map item_line r.items)
-        ∙ ap (map item_line) c.items_are in
+    ∙ ap (λ l. map item_line r.items ++ l) behind ∙ append-nil (map item_line r.items)
+    ∙ ap (map item_line) c.items_are in
     record {
       certificate = c.certificate;
       is = is;

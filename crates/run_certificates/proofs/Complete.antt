@@ -93,38 +93,38 @@ at_behind k told (Some era) row = at_put_all (renewed k era.faulty told) era.sta
 -- ---- each section is passed
 
 pub puts_read : (k : Known) (unknown : List ℕ) (from : ℕ) (puts : List Put) (row : List (Option ℕ))
-      (rest : List Item)
+    (rest : List Item)
     → PutsPass k unknown from puts row
     → accepts (putting k unknown from) (map start_of puts ++ (row_item k.at row ∷ rest))
-        ≡ accepts (telling (compared (put_all k puts) row) []) rest
+    ≡ accepts (telling (compared (put_all k puts) row) []) rest
 puts_read k unknown from [] row rest p =
     passes (first_row_fits k unknown from k.at row) (telling (compared k row) []) rest p
 puts_read k unknown from (put ∷ puts) row rest p =
     passes (start_fits k unknown from put.node put.digits)
-        (putting (put_state k put.node put.digits) unknown (put.node + 1)) _ p.0
+    (putting (put_state k put.node put.digits) unknown (put.node + 1)) _ p.0
     ∙ puts_read (put_state k put.node put.digits) unknown (put.node + 1) puts row rest p.1
 
 pub lies_read : (k : Known) (told : List State) (lies : List Lie) (rest : List Item)
     → LiesPass k told lies
     → accepts (telling k told) (map lie_of lies ++ rest)
-        ≡ accepts (telling k (all_lies k told lies)) rest
+    ≡ accepts (telling k (all_lies k told lies)) rest
 lies_read k told [] rest p = refl
 lies_read k told (lie ∷ lies) rest p =
     passes (lie_fits k told lie.sender lie.receiver lie.digits)
-        (telling k (told ++ lie_state k lie ∷ [])) _ p.0
+    (telling k (told ++ lie_state k lie ∷ [])) _ p.0
     ∙ lies_read k (told ++ lie_state k lie ∷ []) lies rest p.1
 
 pub behind_read : (k : Known) (told : List State) (era : Option Era) (row : List (Option ℕ))
-      (rest : List Item)
+    (rest : List Item)
     → BehindPass k told era row
     → accepts (telling k told) (era_items (k.at + 1) era ++ (row_item (k.at + 1) row ∷ rest))
-        ≡ accepts (telling (behind k told era row) []) rest
+    ≡ accepts (telling (behind k told era row) []) rest
 behind_read k told None row rest p =
     passes (next_row_fits k told (k.at + 1) row)
     (telling (compared (moved k k.stand.faulty told) row) []) rest p
 behind_read k told (Some era) row rest p =
     passes (era_fits k told (k.at + 1) era.faulty)
-        (putting (renewed k era.faulty told) k.stand.faulty 0) _ p.0
+    (putting (renewed k era.faulty told) k.stand.faulty 0) _ p.0
     ∙ puts_read (renewed k era.faulty told) k.stand.faulty 0 era.starts row rest p.1
 
 pub turns_pass : (k : Known) (turns : List Turn) → TurnsPass k turns
@@ -134,5 +134,5 @@ turns_pass k (turn ∷ turns) p =
     lies_read k [] turn.lies _ p.0
     ∙ behind_read k (all_lies k [] turn.lies) turn.era turn.row _ p.1
     ∙ ap (λ t. accepts (telling (turned k turn) []) (turns_items (t + 1) turns))
-        (sym (at_behind k (all_lies k [] turn.lies) turn.era turn.row))
+    (sym (at_behind k (all_lies k [] turn.lies) turn.era turn.row))
     ∙ turns_pass (turned k turn) turns p.2

@@ -33,8 +33,8 @@ none_begun t f [] h lt = begun_more t f [] ∙ rw (lt-leb f t lt) refl
 none_begun t f (g ∷ gs) h lt =
     let next : f < g = h 0 (omega arith) in
     begun_more t f (g ∷ gs)
-        ∙ rw (lt-leb f t lt)
-          (omega (arith, none_begun t g gs (tail_rises f (g ∷ gs) h) (omega arith)))
+    ∙ rw (lt-leb f t lt)
+    (omega (arith, none_begun t g gs (tail_rises f (g ∷ gs) h) (omega arith)))
 
 first_least : (f : ℕ) (fs : List ℕ) (j : ℕ) → IsStrictlyIncreasing (f ∷ fs) → j ≤ length fs
     → f ≤ get_or (f ∷ fs) j 0
@@ -43,7 +43,7 @@ first_least f [] (suc j) h le = absurd (omega arith)
 first_least f (g ∷ gs) (suc j) h le =
     let next : f < g = h 0 (omega arith) in
     let rest : g
-      ≤ get_or (g ∷ gs) j 0 = first_least g gs j (tail_rises f (g ∷ gs) h) (omega arith) in
+    ≤ get_or (g ∷ gs) j 0 = first_least g gs j (tail_rises f (g ∷ gs) h) (omega arith) in
     omega arith
 
 pub count_is : (a : ℕ) (fs : List ℕ) (t j : ℕ) → IsStrictlyIncreasing (a ∷ fs) → j ≤ length fs
@@ -55,7 +55,7 @@ count_is a (f ∷ fs) t (suc j) h le low high =
     let rises = tail_rises a (f ∷ fs) h in
     let here : f ≤ t = let l = first_least f fs j rises (omega arith) in omega (arith, low) in
     let rest : begun t fs
-        ≡ j = count_is f fs t j rises (omega arith) low (λ lt. high (omega arith)) in
+    ≡ j = count_is f fs t j rises (omega arith) low (λ lt. high (omega arith)) in
     begun_more t f fs ∙ rw (le-leb f t here) (omega arith)
 
 mark : ℕ → ℕ → ℕ
@@ -87,7 +87,7 @@ unfolding mark
 mark_other t f e =
     ⊎_elim
     (λ (lt : t < f). rw (lt-leb f t lt, lt-leb f (t + 1) (omega (arith, eqb-false f (t + 1) e)))
-      refl)
+    refl)
     (λ le. rw (le-leb f t le, le-leb f (t + 1) (omega arith)) refl) (cases_lt t f)
 
 found_parts : (here : Bool) (era other : Era) (more : Option Era)
@@ -106,10 +106,13 @@ pub same_begun : (t : ℕ) (eras : List Era) → find (first_is (t + 1)) eras �
 same_begun t [] e = refl
 same_begun t (era ∷ eras) e =
     let p = missed_parts (eqb era.first (t + 1)) era (find (first_is (t + 1)) eras) e in
-    omega
-        (arith, begun_marks (t + 1) era.first (firsts_of eras),
-          begun_marks t era.first (firsts_of eras), mark_other t era.first p.0,
-          same_begun t eras p.1)
+    omega (
+      arith,
+      begun_marks (t + 1) era.first (firsts_of eras),
+      begun_marks t era.first (firsts_of eras),
+      mark_other t era.first p.0,
+      same_begun t eras p.1,
+    )
 
 found_above : (f x : ℕ) (eras : List Era) (era : Era) → IsStrictlyIncreasing (f ∷ firsts_of eras)
     → find (first_is x) eras ≡ Some era → f < x
@@ -117,10 +120,10 @@ found_above f x [] era h e = absurd cc
 found_above f x (next ∷ eras) era h e =
     let lt : f < next.first = h 0 (omega arith) in
     ⊎_elim (λ p. let here : next.first ≡ x = eqb-true next.first x p.0 in omega (arith, lt))
-        (λ p. let more : next.first
-            < x = found_above next.first x eras era (tail_rises f (firsts_of (next ∷ eras)) h)
-              p.1 in
-          omega (arith, lt))
+    (λ p. let more : next.first
+    < x = found_above next.first x eras era (tail_rises f (firsts_of (next ∷ eras)) h)
+    p.1 in
+    omega (arith, lt))
     (found_parts (eqb next.first x) next era (find (first_is x) eras) e)
 
 none_behind : (x : ℕ) (eras : List Era) → IsStrictlyIncreasing (x ∷ firsts_of eras)
@@ -133,34 +136,34 @@ none_behind x (era ∷ eras) h =
 pub found_faulty : (a x : ℕ) (before : List ℕ) (eras : List Era) (era : Era)
     → IsStrictlyIncreasing (a ∷ firsts_of eras) → find (first_is x) eras ≡ Some era
     → get_or (before ∷ map (λ (era : Era). era.faulty) eras) (begun x (firsts_of eras)) []
-      ≡ era.faulty
+    ≡ era.faulty
 found_faulty a x before [] era h e = absurd cc
 found_faulty a x before (next ∷ eras) era h e =
     elim (found_parts (eqb next.first x) next era (find (first_is x) eras) e) [
-  | inl p ↦
-      let here : next.first ≡ x = eqb-true next.first x p.0 in
-      let rises : IsStrictlyIncreasing (x ∷ firsts_of eras) = subst
+      | inl p ↦
+          let here : next.first ≡ x = eqb-true next.first x p.0 in
+          let rises : IsStrictlyIncreasing (x ∷ firsts_of eras) = subst
           (λ f. IsStrictlyIncreasing (f ∷ firsts_of eras)) here
           (tail_rises a (firsts_of (next ∷ eras)) h) in
-      let one : begun x (firsts_of (next ∷ eras)) ≡ 1 = begun_more x next.first (firsts_of eras)
+          let one : begun x (firsts_of (next ∷ eras)) ≡ 1 = begun_more x next.first (firsts_of eras)
           ∙ rw (le-leb next.first x (omega arith)) (omega (arith, none_behind x eras rises)) in
-      ap (λ i. get_or (before ∷ next.faulty ∷ map (λ (era : Era). era.faulty) eras) i []) one
+          ap (λ i. get_or (before ∷ next.faulty ∷ map (λ (era : Era). era.faulty) eras) i []) one
           ∙ ap (λ (era : Era). era.faulty) p.1
-  | inr p ↦
-      let rises = tail_rises a (firsts_of (next ∷ eras)) h in
-      let above : next.first < x = found_above next.first x eras era rises p.1 in
-      let more : begun x (firsts_of (next ∷ eras))
-            ≡ suc (begun x (firsts_of eras)) = begun_more x next.first (firsts_of eras)
+      | inr p ↦
+          let rises = tail_rises a (firsts_of (next ∷ eras)) h in
+          let above : next.first < x = found_above next.first x eras era rises p.1 in
+          let more : begun x (firsts_of (next ∷ eras))
+          ≡ suc (begun x (firsts_of eras)) = begun_more x next.first (firsts_of eras)
           ∙ rw (le-leb next.first x (omega arith)) (omega arith) in
-      ap (λ i. get_or (before ∷ next.faulty ∷ map (λ (era : Era). era.faulty) eras) i []) more
+          ap (λ i. get_or (before ∷ next.faulty ∷ map (λ (era : Era). era.faulty) eras) i []) more
           ∙ found_faulty next.first x next.faulty eras era rises p.1
-]
+    ]
 
 -- ---- how many have begun
 
 found_more : (here : Bool) (t f : ℕ) (fs : List ℕ) → eqb f (t + 1) ≡ here
     → (here ≡ false → begun t fs + 1 ≤ begun (t + 1) fs)
-        → begun t (f ∷ fs) + 1 ≤ begun (t + 1) (f ∷ fs)
+    → begun t (f ∷ fs) + 1 ≤ begun (t + 1) (f ∷ fs)
 found_more true t f fs e more =
     let m = mark_here t f (eqb-true f (t + 1) e) in
     omega (arith, m.0, m.1, begun_marks t f fs, begun_marks (t + 1) f fs, more_begun t fs)

@@ -106,7 +106,7 @@ good_step (begun version) (base_item base) t h e =
 good_step (planned version plan) (level_item k f c spares) t h e =
     let level : Level = line k f c (unwrap_or spares 0) in
     let p = onward (level_fits version plan k f c spares) (planned version (with_level plan level))
-        t e in
+    t e in
     let ok = and_parts _ _ p.0 in
     let said = back_by version (version == 3) spares refl ok.0 in
     let fits : FitsVersion plan.version level = λ one. said.1 (sym h.2 ∙ one) in
@@ -122,41 +122,45 @@ good_step (planned version plan) (level_item k f c spares) t h e =
     )
 good_step (planned version plan) (faulty_item ids) t h e =
     let p = onward (is_borne plan ids)
-        (putting (nothing_known version plan ids) (range_with_len 0 (plan_nodes plan)) 0) t e in
-    subst IsGood p.1
-        (record { accepted = h.1; ids = (borne_declared plan ids p.0).ids; most = omega arith },
-          omega arith)
+    (putting (nothing_known version plan ids) (range_with_len 0 (plan_nodes plan)) 0) t e in
+    subst IsGood p.1 (
+      record { accepted = h.1; ids = (borne_declared plan ids p.0).ids; most = omega arith },
+      omega arith,
+    )
 good_step (putting k unknown from) (start_item v digits) t h e =
     let p = onward (start_fits k unknown from v digits)
-        (putting (put_state k v digits) unknown (v + 1)) t e in
+    (putting (put_state k v digits) unknown (v + 1)) t e in
     let below : v
-        < plan_nodes k.plan = ltb-true _ _
-          (and_parts _ _ (and_parts _ _ (and_parts _ _ (and_parts _ _ p.0).0).0).0).1 in
+    < plan_nodes k.plan = ltb-true _ _
+    (and_parts _ _ (and_parts _ _ (and_parts _ _ (and_parts _ _ p.0).0).0).0).1 in
     subst IsGood p.1 (alive_again k (put_state k v digits) refl refl h.0.most h.0, omega arith)
 good_step (putting k unknown from) (row_item n row) t h e =
     let p = onward (first_row_fits k unknown from n row) (telling (compared k row) []) t e in
     subst IsGood p.1
-        (after_row (compared k row) (alive_again k (compared k row) refl refl h.0.most h.0))
+    (after_row (compared k row) (alive_again k (compared k row) refl refl h.0.most h.0))
 good_step (telling k told) (lie_item u v digits) t h e =
     let state : State = read_text (fields_of k.plan u) digits in
     let p = onward (lie_fits k told u v digits) (telling k (told ++ state ∷ [])) t e in
     let q = and_parts _ _ (and_parts _ _ p.0).0 in
     let more : length told
-        < length (pairs_of (plan_nodes k.plan) k.stand.faulty) = next_there u v (length told) _
-          q.1 in
+    < length (pairs_of (plan_nodes k.plan) k.stand.faulty) = next_there u v (length told) _
+    q.1 in
     subst IsGood p.1 (h.0, omega (arith, more, length_push told state), inr q.0)
 good_step (telling k told) (era_item n ids) t h e =
     let p = onward (era_fits k told n ids) (putting (renewed k ids told) k.stand.faulty 0) t e in
     let a = and_parts _ _ p.0 in
     let all = and_parts _ _ (and_parts _ _ (and_parts _ _ a.0).0).0 in
-    subst IsGood p.1
-        (record
-            { accepted = h.0.accepted; ids = (borne_declared k.plan ids a.1).ids;
-              most = next_round k all.0 },
-          omega arith)
+    subst IsGood p.1 (
+      record {
+        accepted = h.0.accepted;
+        ids = (borne_declared k.plan ids a.1).ids;
+        most = next_round k all.0;
+      },
+      omega arith,
+    )
 good_step (telling k told) (row_item n row) t h e =
     let p = onward (next_row_fits k told n row)
-        (telling (compared (moved k k.stand.faulty told) row) []) t e in
+    (telling (compared (moved k k.stand.faulty told) row) []) t e in
     let all = and_parts _ _ (and_parts _ _ p.0).0 in
     let next = compared (moved k k.stand.faulty told) row in
     subst IsGood p.1 (after_row next (alive_again k next refl refl (next_round k all.0) h.0))
@@ -169,14 +173,14 @@ pub good_reach : (items : List Item) (stage t : Stage) → IsGood stage → reac
 good_reach [] stage t h e = let same : stage ≡ t = cc in subst IsGood same h
 good_reach (item ∷ items) stage t h e =
     by (step stage item) refl e (λ next good more. good_reach items next t good more) where
-  by : (next : Onward) → step stage item ≡ next
-      → (elim next as (λ _. Option Stage)
+      by : (next : Onward) → step stage item ≡ next
+          → (elim next as (λ _. Option Stage)
           [ goes u ↦ reaches u items | ends v ↦ None | refuses r ↦ None ])
-        ≡ Some t
-      → ((u : Stage) → IsGood u → reaches u items ≡ Some t → IsGood t) → IsGood t
-  by (goes u) s e more = more u (good_step stage item u h s) e
-  by (ends v) s e more = absurd cc
-  by (refuses r) s e more = absurd cc
+          ≡ Some t
+          → ((u : Stage) → IsGood u → reaches u items ≡ Some t → IsGood t) → IsGood t
+      by (goes u) s e more = more u (good_step stage item u h s) e
+      by (ends v) s e more = absurd cc
+      by (refuses r) s e more = absurd cc
 
 -- ---- and from each an end can be read
 
@@ -184,9 +188,13 @@ ends_after : (stage next : Stage) (item : Item) → HasLine item
     → ((items : List Item) → accepts stage (item ∷ items) ≡ accepts next items) → Ends next
     → Ends stage
 ends_after stage next item has same end =
-    record
-    { items = item ∷ end.items; verdict = end.verdict; read = same end.items
-      ∙ end.read; lines = All-cons HasLine item end.items has end.lines }
+    record {
+      items = item ∷ end.items;
+      verdict = end.verdict;
+      read = same end.items
+          ∙ end.read;
+      lines = All-cons HasLine item end.items has end.lines;
+    }
 
 no_faulty_line : HasLine (faulty_item [])
 no_faulty_line = record { words = All-nil IsShort; short = omega arith }
@@ -196,23 +204,25 @@ end_in_plan version plan h =
     let ids : List ℕ = range_with_len 0 (plan_nodes plan) in
     let first : Stage = putting (nothing_known version plan []) ids 0 in
     ends_after (planned version plan) first (faulty_item []) no_faulty_line
-        (λ items. passes (is_borne plan []) first items (le-leb 0 (plan_faults plan) (omega arith)))
+    (λ items. passes (is_borne plan []) first items (le-leb 0 (plan_faults plan) (omega arith)))
     (end_in_starts (nothing_known version plan []) ids 0
-        (record { accepted = h; ids = All-nil (λ id. id < plan_nodes plan); most = omega arith })
-        (omega arith))
+    (record { accepted = h; ids = All-nil (λ id. id < plan_nodes plan); most = omega arith })
+    (omega arith))
 
 digit_line : (key : List ℕ) → length (join_with_byte 32 (key ∷ decimal 2 ∷ [])) ≤ length key + 16
 digit_line key =
-    omega
-    (arith, length-append key (32 ∷ decimal 2),
-      length-decimal-le 15 2 (omega arith) (omega arith) (omega arith))
+    omega (
+      arith,
+      length-append key (32 ∷ decimal 2),
+      length-decimal-le 15 2 (omega arith) (omega arith) (omega arith),
+    )
 
 end_in_base : (version : ℕ) → Ends (begun version)
 unfolding bare
 end_in_base version =
     ends_after (begun version) (planned version (bare version 2)) (base_item 2)
-        (record { words = omega arith; short = omega (arith, digit_line (codes "base")) })
-        (λ items. refl) (end_in_plan version (bare version 2) (bare_accepted version 2 refl))
+    (record { words = omega arith; short = omega (arith, digit_line (codes "base")) })
+    (λ items. refl) (end_in_plan version (bare version 2) (bare_accepted version 2 refl))
 
 end_in_head : Ends unread
 end_in_head =

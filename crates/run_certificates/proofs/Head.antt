@@ -82,23 +82,23 @@ back_by version false (Some s) e fit = absurd (true≢false (sym fit ∙ e))
 level_fit : (version : ℕ) (plan : Plan) (level : Level) → FitsVersion (plan_version version) level
     → first_premise (numbers_below plan) level ≡ None
     → level_fits version plan level.blocks level.faults level.modulus
-          (spares_said version level.spares)
-        ≡ true
+    (spares_said version level.spares)
+    ≡ true
 level_fit version plan level fits none =
     let same = said_by (version == 3) level.spares fits in
     and_from _ _ (fit_by version level.spares (version == 3) refl)
     (ap
-        (λ s. not
-          (is_some
-            (first_premise (numbers_below plan) (line level.blocks level.faults level.modulus s))))
-        same
+    (λ s. not
+    (is_some
+    (first_premise (numbers_below plan) (line level.blocks level.faults level.modulus s))))
+    same
     ∙ ap (λ p. not (is_some p)) none)
 
 -- ---- levels are read from the lowest up
 
 levels_items : (version : ℕ) (level : Level) (levels : List Level) (rest : List Item)
     → map (level_of version) (reverse (level ∷ levels)) ++ rest
-      ≡ map (level_of version) (reverse levels) ++ (level_of version level ∷ rest)
+    ≡ map (level_of version) (reverse levels) ++ (level_of version level ∷ rest)
 levels_items version level levels rest =
     ap (λ l. map (level_of version) l ++ rest) (reverse-append (level ∷ []) levels)
     ∙ ap (λ l. l ++ rest) (map-append (level_of version) (reverse levels) (level ∷ []))
@@ -108,20 +108,20 @@ levels_pass : (version base : ℕ) (levels : List Level) (rest : List Item)
     → LevelsAccepted base levels
     → All (FitsVersion (plan_version version)) levels
     → accepts (planned version (base_plan version base))
-        (map (level_of version) (reverse levels) ++ rest)
+    (map (level_of version) (reverse levels) ++ rest)
     ≡ accepts (planned version (planned_of version base levels)) rest
 levels_pass version base [] rest h fit = refl
 levels_pass version base (level ∷ levels) rest h fit =
     let fits : FitsVersion (plan_version version) level = All-head
-        (FitsVersion (plan_version version)) level levels fit in
+    (FitsVersion (plan_version version)) level levels fit in
     let plan = planned_of version base levels in
     let said = spares_said version level.spares in
     let put : ℕ → Plan = λ s. with_level plan (line level.blocks level.faults level.modulus s) in
     ap (accepts (planned version (base_plan version base))) (levels_items version level levels rest)
     ∙ levels_pass version base levels (level_of version level ∷ rest) h.0
-        (All-tail (FitsVersion (plan_version version)) level levels fit)
+    (All-tail (FitsVersion (plan_version version)) level levels fit)
     ∙ passes (level_fits version plan level.blocks level.faults level.modulus said)
-        (planned version (put (unwrap_or said 0))) rest (level_fit version plan level fits h.1)
+    (planned version (put (unwrap_or said 0))) rest (level_fit version plan level fits h.1)
     ∙ ap (λ s. accepts (planned version (put s)) rest) (said_by (version == 3) level.spares fits)
 
 base_accepted : (base : ℕ) (levels : List Level) → LevelsAccepted base levels
@@ -144,56 +144,56 @@ certificate_read c is =
     let rows : List Item = turns_items 1 c.turns in
     let states : List Item = map start_of c.starts ++ (row_item 0 c.row ∷ rows) in
     let levels : List Item = map (level_of c.version) (reverse c.plan.levels)
-        ++ (faulty_item c.faulty ∷ states) in
+    ++ (faulty_item c.faulty ∷ states) in
     passes (leb 1 c.version && leb c.version 3) (begun c.version) (base_item c.plan.base ∷ levels)
-        (and_from _ _ (le-leb _ _ is.version.0) (le-leb _ _ is.version.1))
+    (and_from _ _ (le-leb _ _ is.version.0) (le-leb _ _ is.version.1))
     ∙ passes_not (is_some (base_premise c.plan.base))
-        (planned c.version (base_plan c.version c.plan.base)) levels
-        (ap is_some (base_accepted c.plan.base c.plan.levels is.accepted.levels))
+    (planned c.version (base_plan c.version c.plan.base)) levels
+    (ap is_some (base_accepted c.plan.base c.plan.levels is.accepted.levels))
     ∙ levels_pass c.version c.plan.base c.plan.levels (faulty_item c.faulty ∷ states)
-        is.accepted.levels
+    is.accepted.levels
     (subst (λ v. All (FitsVersion v) c.plan.levels) is.plan_is is.accepted.fits)
     ∙ ap
-        (λ v. accepts
-          (planned c.version (record { version = v; base = c.plan.base; levels = c.plan.levels }))
-          (faulty_item c.faulty ∷ states))
-        (sym is.plan_is)
+    (λ v. accepts
+    (planned c.version (record { version = v; base = c.plan.base; levels = c.plan.levels }))
+    (faulty_item c.faulty ∷ states))
+    (sym is.plan_is)
     ∙ passes (is_borne c.plan c.faulty) (putting known (all_ids c.plan) 0) states
-        (borne_tested c.plan c.faulty is.borne)
+    (borne_tested c.plan c.faulty is.borne)
     ∙ puts_read known (all_ids c.plan) 0 c.starts c.row rows
-        (puts_fit known (all_ids c.plan) 0 c.starts c.row
-          (starts_fit c.plan (all_ids c.plan) c.faulty c.starts is.starts)
-          (row_tested c.plan c.faulty c.row is.row))
+    (puts_fit known (all_ids c.plan) 0 c.starts c.row
+    (starts_fit c.plan (all_ids c.plan) c.faulty c.starts is.starts)
+    (row_tested c.plan c.faulty c.row is.row))
     ∙ ap (λ t. accepts (telling (opened c) []) (turns_items (t + 1) c.turns)) (sym at_is)
     ∙ turns_pass (opened c) c.turns (turns_tested (opened c) c.turns
     (subst (λ p. AreTurns p placed.stand.faulty c.turns) (sym plan_is)
-        (subst (λ f. AreTurns c.plan f c.turns) (sym (faulty_put_all known c.starts)) is.turns))
+    (subst (λ f. AreTurns c.plan f c.turns) (sym (faulty_put_all known c.starts)) is.turns))
     (omega (arith, at_is, is.rounds))
     (subst (λ v. placed.eras + era_count c.turns ≤ most_eras v)
-        (sym (version_put_all known c.starts))
-        (omega (arith, eras_put_all known c.starts, is.eras))))
+    (sym (version_put_all known c.starts))
+    (omega (arith, eras_put_all known c.starts, is.eras))))
 
 -- ---- and back
 
 -- behind the base line: further levels from the lowest up, and all that follows
 record ReadPlan (version base : ℕ) (below : List Level) (items : List Item) (v : Verdict) : Type 0
-    where
-  levels : List Level
-  more : List Level
-  join : levels ≡ more ++ below
-  accepted : LevelsAccepted base levels
-  fits : All (FitsVersion (plan_version version)) levels
-  faulty : List ℕ
-  borne : is_borne (planned_of version base levels) faulty ≡ true
-  rest : List Item
-  puts : ReadPuts (nothing_known version (planned_of version base levels) faulty)
-      (all_ids (planned_of version base levels)) 0 rest v
-  items_are : items ≡ map (level_of version) (reverse more) ++ (faulty_item faulty ∷ rest)
+  where
+    levels : List Level
+    more : List Level
+    join : levels ≡ more ++ below
+    accepted : LevelsAccepted base levels
+    fits : All (FitsVersion (plan_version version)) levels
+    faulty : List ℕ
+    borne : is_borne (planned_of version base levels) faulty ≡ true
+    rest : List Item
+    puts : ReadPuts (nothing_known version (planned_of version base levels) faulty)
+        (all_ids (planned_of version base levels)) 0 rest v
+    items_are : items ≡ map (level_of version) (reverse more) ++ (faulty_item faulty ∷ rest)
 
 level_before : (version base : ℕ) (levels : List Level) (level : Level) (items : List Item)
     (v : Verdict)
     → ReadPlan version base (level ∷ levels) items v
-        → ReadPlan version base levels (level_of version level ∷ items) v
+    → ReadPlan version base levels (level_of version level ∷ items) v
 level_before version base levels level items v r = record {
   levels = r.levels;
   more = r.more ++ level ∷ [];
@@ -207,31 +207,31 @@ level_before version base levels level items v r = record {
   items_are =
       ap (λ l. level_of version level ∷ l) r.items_are
       ∙ ap (λ l. map (level_of version) l ++ (faulty_item r.faulty ∷ r.rest))
-        (sym (reverse-append r.more (level ∷ [])));
+      (sym (reverse-append r.more (level ∷ [])));
 }
 
 read_plan : (items : List Item) (version base : ℕ) (levels : List Level) (v : Verdict)
     → LevelsAccepted base levels
     → All (FitsVersion (plan_version version)) levels
     → accepts (planned version (planned_of version base levels)) items ≡ Some v
-        → ReadPlan version base levels items v
+    → ReadPlan version base levels items v
 read_plan [] version base levels v h fit e = absurd cc
 read_plan (level_item k f c spares ∷ items) version base levels v h fit e =
     let plan = planned_of version base levels in
     let level : Level = line k f c (unwrap_or spares 0) in
     let p = passed (level_fits version plan k f c spares) (planned version (with_level plan level))
-        items v e in
+    items v e in
     let ok = and_parts _ _ p.0 in
     let said = back_by version (version == 3) spares refl ok.0 in
     let none : first_premise (below_of base levels) level ≡ None = none_is _ (not-true _ ok.1) in
     let more = read_plan items version base (level ∷ levels) v (h, none)
-        (All-cons (FitsVersion (plan_version version)) level levels said.1 fit) p.1 in
+    (All-cons (FitsVersion (plan_version version)) level levels said.1 fit) p.1 in
     subst (λ s. ReadPlan version base levels (level_item k f c s ∷ items) v) said.0
     (level_before version base levels level items v more)
 read_plan (faulty_item ids ∷ items) version base levels v h fit e =
     let plan = planned_of version base levels in
     let p = passed (is_borne plan ids) (putting (nothing_known version plan ids) (all_ids plan) 0)
-        items v e in
+    items v e in
     record {
       levels = levels;
       more = [];
@@ -273,29 +273,37 @@ written_as version base items v least most r =
     let p = r.puts in
     let placed = put_all known p.puts in
     let back = puts_back known (all_ids plan) 0 p.puts p.row p.puts_pass in
-    let c : Certificate = record
-        { version = version; plan = plan; faulty = r.faulty; starts = p.puts; row = p.row;
-          turns = p.turns } in
+    let c : Certificate = record {
+      version = version;
+      plan = plan;
+      faulty = r.faulty;
+      starts = p.puts;
+      row = p.row;
+      turns = p.turns;
+    } in
     let turns = turns_declared (compared placed p.row) p.turns
-        (omega (arith, at_put_all known p.puts)) (omega (arith, eras_put_all known p.puts))
-        p.turns_pass in
+    (omega (arith, at_put_all known p.puts)) (omega (arith, eras_put_all known p.puts))
+    p.turns_pass in
     let same : r.levels ≡ r.more = r.join ∙ append-nil r.more in
     let items_are : run_item version ∷ base_item base ∷ items ≡ items_of c =
     ap (λ l. run_item version ∷ base_item base ∷ l)
-        (r.items_are
-          ∙ ap (λ l. map (level_of version) (reverse l) ++ (faulty_item r.faulty ∷ r.rest))
-            (sym same)
-          ∙ ap (λ l. map (level_of version) (reverse r.levels) ++ (faulty_item r.faulty ∷ l))
-            p.items_are) in
+    (r.items_are
+    ∙ ap (λ l. map (level_of version) (reverse l) ++ (faulty_item r.faulty ∷ r.rest))
+    (sym same)
+    ∙ ap (λ l. map (level_of version) (reverse r.levels) ++ (faulty_item r.faulty ∷ l))
+    p.items_are) in
     record {
       certificate = c;
       is = λ lines. record {
         version = (least, most);
         plan_is = refl;
         accepted =
-            record
-            { oldest = least_plan (version == 3); newest = most_plan (version == 3); fits = r.fits;
-              levels = r.accepted };
+            record {
+              oldest = least_plan (version == 3);
+              newest = most_plan (version == 3);
+              fits = r.fits;
+              levels = r.accepted;
+            };
         borne = borne_declared plan r.faulty r.borne;
         starts = starts_declared plan (all_ids plan) r.faulty p.puts back.0;
         row = row_declared plan r.faulty p.row back.1;
@@ -305,8 +313,8 @@ written_as version base items v least most r =
         rounds = omega (arith, turns.rounds, at_put_all known p.puts);
         eras =
             let x : placed.eras + era_count p.turns
-              ≤ most_eras version = subst (λ m. placed.eras + era_count p.turns ≤ most_eras m)
-                (version_put_all known p.puts) turns.eras in
+            ≤ most_eras version = subst (λ m. placed.eras + era_count p.turns ≤ most_eras m)
+            (version_put_all known p.puts) turns.eras in
             omega (arith, eras_put_all known p.puts);
         lines = subst (All HasLine) items_are lines;
       };
@@ -322,11 +330,11 @@ read_whole (run_item version ∷ []) v e =
 read_whole (run_item version ∷ base_item base ∷ items) v e =
     let p = passed (leb 1 version && leb version 3) (begun version) (base_item base ∷ items) v e in
     let q = passed_not (is_some (base_premise base)) (planned version (base_plan version base))
-        items v p.1 in
+    items v p.1 in
     let ok = and_parts _ _ p.0 in
     written_as version base items v (leb-true _ _ ok.0) (leb-true _ _ ok.1)
-        (read_plan items version base [] v (none_is _ q.0)
-          (All-nil (FitsVersion (plan_version version))) q.1)
+    (read_plan items version base [] v (none_is _ q.0)
+    (All-nil (FitsVersion (plan_version version))) q.1)
 read_whole (run_item version ∷ item ∷ items) v e =
     absurd
     (none_some v (passed (leb 1 version && leb version 3) (begun version) (item ∷ items) v e).1)

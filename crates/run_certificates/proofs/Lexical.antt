@@ -68,10 +68,13 @@ item_is_words (run_item n) h = (refl, (decimal_word n h, tt))
 item_is_words (base_item n) h = (refl, (decimal_word n h, tt))
 item_is_words (level_item k f c None) h =
     (refl, (decimal_word k h.0, (decimal_word f h.1, (decimal_word c h.2, tt))))
-item_is_words (level_item k f c (Some s)) h =
-    (refl,
-        (decimal_word k h.0,
-          (decimal_word f h.1, (decimal_word c h.2, (refl, (decimal_word s h.3, tt))))))
+item_is_words (level_item k f c (Some s)) h = (
+  refl,
+  (
+    decimal_word k h.0,
+    (decimal_word f h.1, (decimal_word c h.2, (refl, (decimal_word s h.3, tt)))),
+  ),
+)
 item_is_words (faulty_item ids) h = (refl, numbers_words ids h)
 item_is_words (start_item v digits) h = (refl, (decimal_word v h.0, (hex_word digits h.1, tt)))
 item_is_words (row_item t row) h = (refl, (decimal_word t h.0, rows_words row h.1))
@@ -101,9 +104,10 @@ values_there : (row : List (Option ℕ)) → All IsShortValue row
     → values_said (map row_word row) ≡ Some row
 values_there [] h = refl
 values_there (o ∷ row) h =
-    rw
-    (value_there o (All-head IsShortValue o row h),
-      values_there row (All-tail IsShortValue o row h))
+    rw (
+      value_there o (All-head IsShortValue o row h),
+      values_there row (All-tail IsShortValue o row h),
+    )
     refl
 
 pub item_there : (item : Item) → HasWords item → item_of (item_words item) ≡ Some item
@@ -161,9 +165,11 @@ numbers_back [] (n ∷ ns) e = absurd cc
 numbers_back (w ∷ ws) ns e =
     let (n, ms, a, b, c) = onto_parts (number_of w) (numbers_in ws) ns e in
     let x = number_back w n a in
-    let y = numbers_back ws ms b in
-    (ap (map decimal) (sym c) ∙ ap (λ v. v ∷ map decimal ms) x.0
-        ∙ ap (λ l. w ∷ l) y.0, subst (All IsShort) c (All-cons IsShort n ms x.1 y.1))
+    let y = numbers_back ws ms b in (
+      ap (map decimal) (sym c) ∙ ap (λ v. v ∷ map decimal ms) x.0
+          ∙ ap (λ l. w ∷ l) y.0,
+      subst (All IsShort) c (All-cons IsShort n ms x.1 y.1),
+    )
 
 value_by_star : (star : Bool) (w : List ℕ) (found : Option ℕ) (o : Option ℕ)
     → bytes_eq w (codes "*") ≡ star → number_of w ≡ found
@@ -192,9 +198,11 @@ values_back [] (n ∷ ns) e = absurd cc
 values_back (w ∷ ws) ns e =
     let (n, ms, a, b, c) = row_parts (value_said w) (values_said ws) ns e in
     let x = value_back w n a in
-    let y = values_back ws ms b in
-    (ap (map row_word) (sym c) ∙ ap (λ v. v ∷ map row_word ms) x.0
-        ∙ ap (λ l. w ∷ l) y.0, subst (All IsShortValue) c (All-cons IsShortValue n ms x.1 y.1))
+    let y = values_back ws ms b in (
+      ap (map row_word) (sym c) ∙ ap (λ v. v ∷ map row_word ms) x.0
+          ∙ ap (λ l. w ∷ l) y.0,
+      subst (All IsShortValue) c (All-cons IsShortValue n ms x.1 y.1),
+    )
 
 one_back : (f : ℕ → Item) (words : List (List ℕ)) (item : Item) → one_said f words ≡ Some item
     → (w : List ℕ) × (n : ℕ) × (words ≡ w ∷ []) × (decimal n ≡ w) × (n < 10 ^ 15) × (f n ≡ item)
@@ -211,16 +219,16 @@ run_back : (words : List (List ℕ)) (item : Item) → one_said run_item words �
 run_back words item e =
     let (w, n, a, b, c, d) = one_back run_item words item e in
     subst (λ i. Says i (codes "run" ∷ words)) d
-      (record
-        { is = ap (λ v. codes "run" ∷ v ∷ []) b ∙ ap (λ l. codes "run" ∷ l) (sym a); words = c })
+    (record
+    { is = ap (λ v. codes "run" ∷ v ∷ []) b ∙ ap (λ l. codes "run" ∷ l) (sym a); words = c })
 
 base_back : (words : List (List ℕ)) (item : Item) → one_said base_item words ≡ Some item
     → Says item (codes "base" ∷ words)
 base_back words item e =
     let (w, n, a, b, c, d) = one_back base_item words item e in
     subst (λ i. Says i (codes "base" ∷ words)) d
-      (record
-        { is = ap (λ v. codes "base" ∷ v ∷ []) b ∙ ap (λ l. codes "base" ∷ l) (sym a); words = c })
+    (record
+    { is = ap (λ v. codes "base" ∷ v ∷ []) b ∙ ap (λ l. codes "base" ∷ l) (sym a); words = c })
 
 -- three numbers behind the key, or four with a word before the last
 spare_back : (a b c key w : List ℕ) (item : Item)
@@ -228,7 +236,7 @@ spare_back : (a b c key w : List ℕ) (item : Item)
     → Says item (codes "level" ∷ a ∷ b ∷ c ∷ key ∷ w ∷ [])
 spare_back a b c key w item e =
     by (bytes_eq key (codes "spare")) (number_of a) (number_of b) (number_of c) (number_of w) refl
-        refl refl refl refl e where
+    refl refl refl refl e where
       by : (same : Bool) (x y z s : Option ℕ) → bytes_eq key (codes "spare") ≡ same
           → number_of a ≡ x
           → number_of b ≡ y → number_of c ≡ z → number_of w ≡ s
@@ -255,15 +263,15 @@ level_back (a ∷ b ∷ c ∷ d ∷ w ∷ []) item e = spare_back a b c d w item
 level_back (a ∷ b ∷ c ∷ d ∷ w ∷ v ∷ ws) item e = absurd cc
 level_back (a ∷ b ∷ c ∷ []) item e =
     by (number_of a) (number_of b) (number_of c) refl refl refl e where
-  by : (x y z : Option ℕ) → number_of a ≡ x → number_of b ≡ y → number_of c ≡ z
-      → with_three (λ k f c. level_item k f c None) x y z ≡ Some item
+      by : (x y z : Option ℕ) → number_of a ≡ x → number_of b ≡ y → number_of c ≡ z
+          → with_three (λ k f c. level_item k f c None) x y z ≡ Some item
           → Says item (codes "level" ∷ a ∷ b ∷ c ∷ [])
-  by None y z p q r h = absurd cc
-  by (Some x) None z p q r h = absurd cc
-  by (Some x) (Some y) None p q r h = absurd cc
-  by (Some x) (Some y) (Some z) p q r h =
-      let i = number_back a x p in let j = number_back b y q in let k = number_back c z r in
-      subst (λ i. Says i (codes "level" ∷ a ∷ b ∷ c ∷ [])) (same_Some _ _ h)
+      by None y z p q r h = absurd cc
+      by (Some x) None z p q r h = absurd cc
+      by (Some x) (Some y) None p q r h = absurd cc
+      by (Some x) (Some y) (Some z) p q r h =
+          let i = number_back a x p in let j = number_back b y q in let k = number_back c z r in
+          subst (λ i. Says i (codes "level" ∷ a ∷ b ∷ c ∷ [])) (same_Some _ _ h)
           (record { is = rw (i.0, j.0, k.0) refl; words = (i.1, j.1, k.1, tt) })
 
 start_back : (words : List (List ℕ)) (item : Item) → start_said words ≡ Some item
@@ -273,15 +281,15 @@ start_back (a ∷ []) item e = absurd cc
 start_back (a ∷ b ∷ c ∷ ws) item e = absurd cc
 start_back (a ∷ digits ∷ []) item e =
     by (list_all is_lower_digit digits) (number_of a) refl refl e where
-  by : (hex : Bool) (x : Option ℕ) → list_all is_lower_digit digits ≡ hex → number_of a ≡ x
-      → cond hex (option_map (λ v. start_item v digits) x) None ≡ Some item
-      → Says item (codes "start" ∷ a ∷ digits ∷ [])
-  by false x p q h = absurd cc
-  by true None p q h = absurd cc
-  by true (Some x) p q h =
-      let i = number_back a x q in
-      subst (λ i. Says i (codes "start" ∷ a ∷ digits ∷ [])) (same_Some _ _ h)
-        (record { is = rw i.0 refl; words = (i.1, p) })
+      by : (hex : Bool) (x : Option ℕ) → list_all is_lower_digit digits ≡ hex → number_of a ≡ x
+          → cond hex (option_map (λ v. start_item v digits) x) None ≡ Some item
+          → Says item (codes "start" ∷ a ∷ digits ∷ [])
+      by false x p q h = absurd cc
+      by true None p q h = absurd cc
+      by true (Some x) p q h =
+          let i = number_back a x q in
+          subst (λ i. Says i (codes "start" ∷ a ∷ digits ∷ [])) (same_Some _ _ h)
+          (record { is = rw i.0 refl; words = (i.1, p) })
 
 lie_back : (words : List (List ℕ)) (item : Item) → lie_said words ≡ Some item
     → Says item (codes "lie" ∷ words)
@@ -291,15 +299,15 @@ lie_back (a ∷ b ∷ []) item e = absurd cc
 lie_back (a ∷ b ∷ c ∷ d ∷ ws) item e = absurd cc
 lie_back (a ∷ b ∷ digits ∷ []) item e =
     by (list_all is_lower_digit digits) (number_of a) (number_of b) refl refl refl e where
-  by : (hex : Bool) (x y : Option ℕ) → list_all is_lower_digit digits ≡ hex → number_of a ≡ x
-      → number_of b ≡ y → cond hex (with_two (λ u v. lie_item u v digits) x y) None ≡ Some item
-      → Says item (codes "lie" ∷ a ∷ b ∷ digits ∷ [])
-  by false x y p q r h = absurd cc
-  by true None y p q r h = absurd cc
-  by true (Some x) None p q r h = absurd cc
-  by true (Some x) (Some y) p q r h =
-      let i = number_back a x q in let j = number_back b y r in
-      subst (λ i. Says i (codes "lie" ∷ a ∷ b ∷ digits ∷ [])) (same_Some _ _ h)
+      by : (hex : Bool) (x y : Option ℕ) → list_all is_lower_digit digits ≡ hex → number_of a ≡ x
+          → number_of b ≡ y → cond hex (with_two (λ u v. lie_item u v digits) x y) None ≡ Some item
+          → Says item (codes "lie" ∷ a ∷ b ∷ digits ∷ [])
+      by false x y p q r h = absurd cc
+      by true None y p q r h = absurd cc
+      by true (Some x) None p q r h = absurd cc
+      by true (Some x) (Some y) p q r h =
+          let i = number_back a x q in let j = number_back b y r in
+          subst (λ i. Says i (codes "lie" ∷ a ∷ b ∷ digits ∷ [])) (same_Some _ _ h)
           (record { is = rw (i.0, j.0) refl; words = (i.1, j.1, p) })
 
 row_back : (words : List (List ℕ)) (item : Item) → row_said words ≡ Some item
@@ -313,7 +321,7 @@ row_back (a ∷ ws) item e = by (number_of a) (values_said ws) refl refl e where
   by (Some x) (Some y) p q h =
       let i = number_back a x p in let j = values_back ws y q in
       subst (λ i. Says i (codes "row" ∷ a ∷ ws)) (same_Some _ _ h)
-          (record { is = rw (i.0, j.0) refl; words = (i.1, j.1) })
+      (record { is = rw (i.0, j.0) refl; words = (i.1, j.1) })
 
 era_back : (words : List (List ℕ)) (item : Item) → era_said words ≡ Some item
     → Says item (codes "era" ∷ words)
@@ -326,7 +334,7 @@ era_back (a ∷ ws) item e = by (number_of a) (numbers_in ws) refl refl e where
   by (Some x) (Some y) p q h =
       let i = number_back a x p in let j = numbers_back ws y q in
       subst (λ i. Says i (codes "era" ∷ a ∷ ws)) (same_Some _ _ h)
-          (record { is = rw (i.0, j.0) refl; words = (i.1, j.1) })
+      (record { is = rw (i.0, j.0) refl; words = (i.1, j.1) })
 
 faulty_back : (words : List (List ℕ)) (item : Item)
     → option_map faulty_item (numbers_in words) ≡ Some item → Says item (codes "faulty" ∷ words)
@@ -337,7 +345,7 @@ faulty_back ws item e = by (numbers_in ws) refl e where
   by (Some y) q h =
       let j = numbers_back ws y q in
       subst (λ i. Says i (codes "faulty" ∷ ws)) (same_Some _ _ h)
-        (record { is = rw j.0 refl; words = j.1 })
+      (record { is = rw j.0 refl; words = j.1 })
 
 end_back : (words : List (List ℕ)) (item : Item) → end_said words ≡ Some item
     → Says item (codes "end" ∷ words)
@@ -364,12 +372,12 @@ item_back (key ∷ ws) item e =
     ⊎_elim (λ p. keyed key _ ws item p.0 (base_back ws item p.1)) (λ e.
     ⊎_elim (λ p. keyed key _ ws item p.0 (run_back ws item p.1)) (λ e. absurd (cc))
     (chosen (bytes_eq key (codes "run")) _ _ _ e)) (chosen (bytes_eq key (codes "base")) _ _ _ e))
-          (chosen (bytes_eq key (codes "level")) _ _ _ e))
-        (chosen (bytes_eq key (codes "faulty")) _ _ _ e))
+    (chosen (bytes_eq key (codes "level")) _ _ _ e))
+    (chosen (bytes_eq key (codes "faulty")) _ _ _ e))
     (chosen (bytes_eq key (codes "end")) _ _ _ e)) (chosen (bytes_eq key (codes "era")) _ _ _ e))
-            (chosen (bytes_eq key (codes "start")) _ _ _ e))
-          (chosen (bytes_eq key (codes "lie")) _ _ _ e))
-        (chosen (bytes_eq key (codes "row")) _ _ _ e)
+    (chosen (bytes_eq key (codes "start")) _ _ _ e))
+    (chosen (bytes_eq key (codes "lie")) _ _ _ e))
+    (chosen (bytes_eq key (codes "row")) _ _ _ e)
 
 -- a line that says an item is the item's line
 pub record IsLineOf (item : Item) (line : List ℕ) : Type 0 where
@@ -382,10 +390,11 @@ said_by false line item s e = absurd cc
 said_by true line item s e =
     let h = item_back (words_of line) item e in
     let is : item_line item ≡ line = ap joined h.is ∙ words_back line in
-    record
-        { is = is;
-          has = record
-            { words = h.words; short = subst (λ l. length l ≤ 4096) (sym is) (leb-true _ _ s) } }
+    record {
+      is = is;
+      has = record
+          { words = h.words; short = subst (λ l. length l ≤ 4096) (sym is) (leb-true _ _ s) };
+    }
 
 pub said_back : (line : List ℕ) (item : Item) → said line ≡ Some item → IsLineOf item line
 said_back line item e = said_by (leb (length line) 4096) line item refl e

@@ -54,7 +54,7 @@ all_zeros (suc n) = all_zeros n
 zeros_fit : (plan : Plan) (v : ℕ) → is_state_text (fields_of plan v) (zeros plan v) ≡ true
 zeros_fit plan v =
     and_from _ _ (eq-eqb _ _ (length-replicate {A = ℕ} (2 * bytes_in (fields_of plan v)) 48))
-        (all_zeros (2 * bytes_in (fields_of plan v)))
+    (all_zeros (2 * bytes_in (fields_of plan v)))
 
 eighth : (n m : ℕ) → n ≤ 8 * m → div_ceil n 8 ≤ m + 1
 eighth n m le = omega arith
@@ -73,27 +73,35 @@ registers_small : (cs : List ℕ) → All (λ c. c ≤ 2 ^ 40) cs → registers_
 unfolding registers_bits
 registers_small [] limits = omega arith
 registers_small (c ∷ cs) limits =
-    omega
-        (arith, sum_by-cons register_bits c cs,
-          register_small (c == 0) c (All-head (λ c. c ≤ 2 ^ 40) c cs limits),
-          registers_small cs (All-tail (λ c. c ≤ 2 ^ 40) c cs limits))
+    omega (
+      arith,
+      sum_by-cons register_bits c cs,
+      register_small (c == 0) c (All-head (λ c. c ≤ 2 ^ 40) c cs limits),
+      registers_small cs (All-tail (λ c. c ≤ 2 ^ 40) c cs limits),
+    )
 
 pub few_bits : (plan : Plan) (v : ℕ) → IsAccepted plan → bits_in (fields_of plan v) ≤ 251
 few_bits plan v h =
     let shape = shape_of plan in
     let limits = fields_limited shape v (shape_of_accepted plan h) in
     let deep = accepted_depth plan.base plan.levels h.levels in
-    omega
-        (arith, width_small (fields_of plan v).base (omega (arith, limits.most)),
-          registers_small (fields_of plan v).moduli limits.moduli, depth_at shape v,
-          depth_of_shape plan, deep)
+    omega (
+      arith,
+      width_small (fields_of plan v).base (omega (arith, limits.most)),
+      registers_small (fields_of plan v).moduli limits.moduli,
+      depth_at shape v,
+      depth_of_shape plan,
+      deep,
+    )
 
 few_digits : (plan : Plan) (v : ℕ) → IsAccepted plan → length (zeros plan v) ≤ 2700
 few_digits plan v h =
     let all : bits_in (fields_of plan v) ≤ 8 * 1344 = omega (arith, few_bits plan v h) in
-    omega
-        (arith, length-replicate {A = ℕ} (2 * bytes_in (fields_of plan v)) 48,
-          eighth (bits_in (fields_of plan v)) 1344 all)
+    omega (
+      arith,
+      length-replicate {A = ℕ} (2 * bytes_in (fields_of plan v)) 48,
+      eighth (bits_in (fields_of plan v)) 1344 all,
+    )
 
 -- ---- lines are short
 
@@ -108,10 +116,14 @@ lie_line plan u v h a b =
     record {
       words = (omega (arith, n), omega (arith, n), all_zeros (2 * bytes_in (fields_of plan u)));
       short =
-          omega
-          (arith, length-append (decimal u) (32 ∷ (decimal v ++ 32 ∷ zeros plan u)),
-            length-append (decimal v) (32 ∷ zeros plan u), short_number u (omega (arith, n)),
-            short_number v (omega (arith, n)), d);
+          omega (
+            arith,
+            length-append (decimal u) (32 ∷ (decimal v ++ 32 ∷ zeros plan u)),
+            length-append (decimal v) (32 ∷ zeros plan u),
+            short_number u (omega (arith, n)),
+            short_number v (omega (arith, n)),
+            d,
+          );
     }
 
 start_line : (plan : Plan) (v : ℕ) → IsAccepted plan → v < plan_nodes plan
@@ -119,12 +131,15 @@ start_line : (plan : Plan) (v : ℕ) → IsAccepted plan → v < plan_nodes plan
 start_line plan v h b =
     let n = few_nodes plan h in
     let d = few_digits plan v h in
-    record
-        { words = (omega (arith, n), all_zeros (2 * bytes_in (fields_of plan v)));
-          short = omega
-            (arith, length-append (decimal v) (32 ∷ zeros plan v),
-              short_number v (omega (arith, n)), d)
-            }
+    record {
+      words = (omega (arith, n), all_zeros (2 * bytes_in (fields_of plan v)));
+      short = omega (
+        arith,
+        length-append (decimal v) (32 ∷ zeros plan v),
+        short_number v (omega (arith, n)),
+        d,
+      );
+    }
 
 abbrev zero_word : List ℕ → ℕ → Option ℕ
 zero_word faulty v = if is_in faulty v then None else Some 0
@@ -148,13 +163,15 @@ some_word false = refl
 
 joined_length : (w : List ℕ) (faulty : List ℕ) (vs : List ℕ)
     → length (join_with_byte 32 (w ∷ map row_word (map (zero_word faulty) vs)))
-      ≤ length w + 2 * length vs
+    ≤ length w + 2 * length vs
 joined_length w faulty [] = omega arith
 joined_length w faulty (v ∷ vs) =
-    omega
-        (arith,
-          length-append w (32 ∷ join_with_byte 32 (map row_word (map (zero_word faulty) (v ∷ vs)))),
-          one_byte (is_in faulty v), joined_length (row_word (zero_word faulty v)) faulty vs)
+    omega (
+      arith,
+      length-append w (32 ∷ join_with_byte 32 (map row_word (map (zero_word faulty) (v ∷ vs)))),
+      one_byte (is_in faulty v),
+      joined_length (row_word (zero_word faulty v)) faulty vs,
+    )
 
 zero_row_is : (plan : Plan) (faulty : List ℕ) → IsRow plan faulty (zero_row plan faulty)
 zero_row_is plan faulty = record { size = marks (range_with_len 0 (plan_nodes plan)) } where
@@ -168,14 +185,19 @@ zero_row_line : (plan : Plan) (faulty : List ℕ) (t : ℕ) → IsAccepted plan 
 zero_row_line plan faulty t h few =
     let n = few_nodes plan h in
     record {
-      words =
-          (omega arith,
-          All-map (λ w. IfSome w IsShort) (zero_word faulty) (range_with_len 0 (plan_nodes plan))
-            (λ i d l. zero_word_short (is_in faulty _)));
+      words = (
+        omega arith,
+        All-map (λ w. IfSome w IsShort) (zero_word faulty) (range_with_len 0 (plan_nodes plan))
+            (λ i d l. zero_word_short (is_in faulty _)),
+      );
       short =
-          omega
-          (arith, joined_length (decimal t) faulty (range_with_len 0 (plan_nodes plan)),
-            length-range_with_len 0 (plan_nodes plan), short_number t (omega arith), n);
+          omega (
+            arith,
+            joined_length (decimal t) faulty (range_with_len 0 (plan_nodes plan)),
+            length-range_with_len 0 (plan_nodes plan),
+            short_number t (omega arith),
+            n,
+          );
     }
 
 end_line : HasLine end_item
@@ -199,7 +221,7 @@ All-flat_map P f Q h (x ∷ xs) q =
 pub below_range : (n : ℕ) → All (λ v. v < n) (range_with_len 0 n)
 below_range n =
     λ i d l. let is = get_or-range_with_len 0 n i d
-      (subst (λ m. i < m) (length-range_with_len 0 n) l) in
+    (subst (λ m. i < m) (length-range_with_len 0 n) l) in
     omega (arith, is, l, length-range_with_len 0 n)
 
 pub pairs_are_ids : (plan : Plan) (faulty : List ℕ) → All (λ id. id < plan_nodes plan) faulty
@@ -208,10 +230,11 @@ pairs_are_ids plan faulty below =
     All-flat_map (AreIds plan) (λ u. map (λ v. (u, v)) (correct_nodes (plan_nodes plan) faulty))
     (λ u. u < plan_nodes plan)
     (λ u small. All-map (AreIds plan) (λ v. (u, v)) (correct_nodes (plan_nodes plan) faulty)
-        (λ i d l.
-          (small,
-            All-filter (λ v. not (is_in faulty v)) (λ v. v < plan_nodes plan)
-              (range_with_len 0 (plan_nodes plan)) (below_range (plan_nodes plan)) i d l)))
+    (λ i d l. (
+      small,
+      All-filter (λ v. not (is_in faulty v)) (λ v. v < plan_nodes plan)
+          (range_with_len 0 (plan_nodes plan)) (below_range (plan_nodes plan)) i d l,
+    )))
     faulty below
 
 pairs_of_lies : (plan : Plan) (ps : List (ℕ × ℕ))
@@ -221,7 +244,7 @@ pairs_of_lies plan (p ∷ ps) = ap (λ l. p ∷ l) (pairs_of_lies plan ps)
 
 texts_of_lies : (plan : Plan) (ps : List (ℕ × ℕ))
     → All (λ (l : Lie). is_state_text (fields_of plan l.sender) l.digits ≡ true)
-      (map (lie_at plan) ps)
+    (map (lie_at plan) ps)
 texts_of_lies plan ps =
     All-map (λ (l : Lie). is_state_text (fields_of plan l.sender) l.digits ≡ true) (lie_at plan) ps
     (λ i d l. zeros_fit plan _)
@@ -232,8 +255,8 @@ lines_of_lies plan h [] ids = All-nil HasLine
 lines_of_lies plan h (p ∷ ps) ids =
     let here = All-head (AreIds plan) p ps ids in
     All-cons HasLine (lie_of (lie_at plan p)) (map lie_of (map (lie_at plan) ps))
-        (lie_line plan p.0 p.1 h here.0 here.1)
-        (lines_of_lies plan h ps (All-tail (AreIds plan) p ps ids))
+    (lie_line plan p.0 p.1 h here.0 here.1)
+    (lines_of_lies plan h ps (All-tail (AreIds plan) p ps ids))
 
 -- items that are read from a stage to a verdict, each of which has a line
 pub record Ends (stage : Stage) : Type 0 where
@@ -250,9 +273,12 @@ pub record IsAlive (k : Known) : Type 0 where
 
 pub end_after_row : (k : Known) → Ends (telling k [])
 end_after_row k =
-    record
-    { items = end_item ∷ []; verdict = verdict_now k; read = refl;
-      lines = All-cons HasLine end_item [] end_line (All-nil HasLine) }
+    record {
+      items = end_item ∷ [];
+      verdict = verdict_now k;
+      read = refl;
+      lines = All-cons HasLine end_item [] end_line (All-nil HasLine);
+    }
 
 -- where some states were told, there is a round, and no more than all were
 pub end_in_round : (k : Known) (told : List State) → IsAlive k → has_round k ≡ true
@@ -263,10 +289,14 @@ end_in_round k told alive round few =
     let row = zero_row k.plan k.stand.faulty in
     let next : k.at + 1 ≤ 1000000 = let x : k.at < 1000000 = ltb-true _ _ round in omega arith in
     let size : length (all_lies k told lies)
-        ≡ length (pairs_of (plan_nodes k.plan) k.stand.faulty) =
-    omega
-        (arith, count_told k told lies, length-map ps (lie_at k.plan),
-          length-drop (length told) (pairs_of (plan_nodes k.plan) k.stand.faulty), few) in
+    ≡ length (pairs_of (plan_nodes k.plan) k.stand.faulty) =
+    omega (
+      arith,
+      count_told k told lies,
+      length-map ps (lie_at k.plan),
+      length-drop (length told) (pairs_of (plan_nodes k.plan) k.stand.faulty),
+      few,
+    ) in
     let all : all_told k (all_lies k told lies) ≡ true = and_from _ _ round (eq-eqb _ _ size) in
     record {
       items = map lie_of lies ++ (row_item (k.at + 1) row ∷ end_item ∷ []);
@@ -275,16 +305,16 @@ end_in_round k told alive round few =
           lies_read k told lies (row_item (k.at + 1) row ∷ end_item ∷ [])
           (lies_fit k told lies round (pairs_of_lies k.plan ps) (texts_of_lies k.plan ps))
           ∙ behind_read k (all_lies k told lies) None row (end_item ∷ [])
-              (and_from _ _ all
-                (and_from _ _ (eq-eqb (k.at + 1) (k.at + 1) refl)
-                  (row_tested k.plan k.stand.faulty row (zero_row_is k.plan k.stand.faulty))));
+          (and_from _ _ all
+          (and_from _ _ (eq-eqb (k.at + 1) (k.at + 1) refl)
+          (row_tested k.plan k.stand.faulty row (zero_row_is k.plan k.stand.faulty))));
       lines = All-append HasLine (map lie_of lies) (row_item (k.at + 1) row ∷ end_item ∷ [])
           (lines_of_lies k.plan alive.accepted ps
-              (All-drop (AreIds k.plan) (length told) (pairs_of (plan_nodes k.plan) k.stand.faulty)
-                (pairs_are_ids k.plan k.stand.faulty alive.ids)))
+          (All-drop (AreIds k.plan) (length told) (pairs_of (plan_nodes k.plan) k.stand.faulty)
+          (pairs_are_ids k.plan k.stand.faulty alive.ids)))
           (All-cons HasLine (row_item (k.at + 1) row) (end_item ∷ [])
-              (zero_row_line k.plan k.stand.faulty (k.at + 1) alive.accepted next)
-              (All-cons HasLine end_item [] end_line (All-nil HasLine)));
+          (zero_row_line k.plan k.stand.faulty (k.at + 1) alive.accepted next)
+          (All-cons HasLine end_item [] end_line (All-nil HasLine)));
     }
 
 -- ---- the rest of the states that are needed
@@ -300,14 +330,14 @@ module _ (plan : Plan) (accepted : IsAccepted plan) (unknown faulty : List ℕ) 
       → needs_state unknown faulty from to ≡ false
   gap from to here none = no_needs plan unknown faulty from to (λ v low high need.
       ⊎_elim (λ same. true≢false (sym need ∙ ap (needs plan unknown faulty) same ∙ here))
-            (λ more. none_needed plan unknown faulty (from + 1) to v none (omega arith) high need)
-            (order v low))
-          where
-        order : (v : ℕ) → from ≤ v → (v ≡ from) ⊎ (from < v)
-        order v low =
-            ⊎_elim (λ s. inl s)
-            (λ other. inr (⊎_elim (λ (less : v < from). absurd (omega arith)) (λ more. more) other))
-            (cases_order v from)
+      (λ more. none_needed plan unknown faulty (from + 1) to v none (omega arith) high need)
+      (order v low))
+    where
+      order : (v : ℕ) → from ≤ v → (v ≡ from) ⊎ (from < v)
+      order v low =
+          ⊎_elim (λ s. inl s)
+          (λ other. inr (⊎_elim (λ (less : v < from). absurd (omega arith)) (λ more. more) other))
+          (cases_order v from)
 
   fits_sooner : (from : ℕ) (puts : List Put) → needs plan unknown faulty from ≡ false
       → AllFit plan unknown faulty (from + 1) puts → AllFit plan unknown faulty from puts
@@ -317,19 +347,21 @@ module _ (plan : Plan) (accepted : IsAccepted plan) (unknown faulty : List ℕ) 
       let b = and_parts _ _ a.0 in
       let c = and_parts _ _ b.0 in
       let d = and_parts _ _ c.0 in
-      let low : from + 1 ≤ put.node = leb-true _ _ d.0 in
-      (and_from _ _
+      let low : from + 1 ≤ put.node = leb-true _ _ d.0 in (
+        and_from _ _
             (and_from _ _ (and_from _ _ (and_from _ _ (le-leb _ _ (omega arith)) d.1) c.1)
-              (ap not (gap from put.node here (not-true _ b.1))))
+            (ap not (gap from put.node here (not-true _ b.1))))
             a.1,
-          h.1)
+        h.1,
+      )
 
   pub fill : (left from : ℕ) → from + left ≡ plan_nodes plan → Fills plan unknown faulty from
   fill zero from e =
-      record
-      { puts = [];
+      record {
+        puts = [];
         fit = no_needs plan unknown faulty from (plan_nodes plan) (λ v low high need. omega arith);
-        lines = All-nil HasLine }
+        lines = All-nil HasLine;
+      }
   fill (suc left) from e =
       let rest = fill left (from + 1) (omega arith) in
       elim (cases_Bool (needs plan unknown faulty from)) [
@@ -337,16 +369,17 @@ module _ (plan : Plan) (accepted : IsAccepted plan) (unknown faulty : List ℕ) 
             let p = and_parts _ _ need in
             record {
               puts = record { node = from; digits = zeros plan from } ∷ rest.puts;
-              fit =
-                  (and_from _ _
+              fit = (
+                and_from _ _
                     (and_from _ _
-                      (and_from _ _
-                        (and_from _ _ (le-leb from from (omega arith)) (lt-ltb _ _ (omega arith)))
-                        p.1)
-                      (ap not
-                        (no_needs plan unknown faulty from from (λ v low high need. omega arith))))
+                    (and_from _ _
+                    (and_from _ _ (le-leb from from (omega arith)) (lt-ltb _ _ (omega arith)))
+                    p.1)
+                    (ap not
+                    (no_needs plan unknown faulty from from (λ v low high need. omega arith))))
                     (zeros_fit plan from),
-                  rest.fit);
+                rest.fit,
+              );
               lines =
                   All-cons HasLine (start_item from (zeros plan from)) (map start_of rest.puts)
                   (start_line plan from accepted (omega arith)) rest.lines;
@@ -359,7 +392,7 @@ pub end_in_starts : (k : Known) (unknown : List ℕ) (from : ℕ) → IsAlive k 
     → Ends (putting k unknown from)
 end_in_starts k unknown from alive low =
     let f = fill k.plan alive.accepted unknown k.stand.faulty (plan_nodes k.plan - from) from
-        (omega arith) in
+    (omega arith) in
     let row = zero_row k.plan k.stand.faulty in
     record {
       items = map start_of f.puts ++ (row_item k.at row ∷ end_item ∷ []);
@@ -367,9 +400,9 @@ end_in_starts k unknown from alive low =
       read =
           puts_read k unknown from f.puts row (end_item ∷ [])
           (puts_fit k unknown from f.puts row f.fit
-            (row_tested k.plan k.stand.faulty row (zero_row_is k.plan k.stand.faulty)));
+          (row_tested k.plan k.stand.faulty row (zero_row_is k.plan k.stand.faulty)));
       lines = All-append HasLine (map start_of f.puts) (row_item k.at row ∷ end_item ∷ []) f.lines
           (All-cons HasLine (row_item k.at row) (end_item ∷ [])
-              (zero_row_line k.plan k.stand.faulty k.at alive.accepted alive.most)
-              (All-cons HasLine end_item [] end_line (All-nil HasLine)));
+          (zero_row_line k.plan k.stand.faulty k.at alive.accepted alive.most)
+          (All-cons HasLine end_item [] end_line (All-nil HasLine)));
     }

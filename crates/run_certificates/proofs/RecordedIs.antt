@@ -33,15 +33,17 @@ use Rattle.run_certificates.proofs.RecordedTrue.{is_in_filter, is_in_range}
 below_range : (n : ℕ) → All (λ v. v < n) (range_with_len 0 n)
 below_range n =
     λ i d l. let is = get_or-range_with_len 0 n i d
-      (subst (λ m. i < m) (length-range_with_len 0 n) l) in
+    (subst (λ m. i < m) (length-range_with_len 0 n) l) in
     omega (arith, is, l, length-range_with_len 0 n)
 
 rising_range : (n : ℕ) → IsStrictlyIncreasing (range_with_len 0 n)
 rising_range n =
     λ k l. let size = length-range_with_len 0 n in
-    omega
-      (arith, get_or-range_with_len 0 n k 0 (omega (arith, size)),
-        get_or-range_with_len 0 n (k + 1) 0 (omega (arith, size)))
+    omega (
+      arith,
+      get_or-range_with_len 0 n k 0 (omega (arith, size)),
+      get_or-range_with_len 0 n (k + 1) 0 (omega (arith, size)),
+    )
 
 module _ (plan : Plan) (s : Script) (is : IsReadFor plan s) where
   mark : (liar : Bool) (o : ℕ) → is_some {T = ℕ} (cond liar None (Some o)) ≡ not liar
@@ -50,21 +52,21 @@ module _ (plan : Plan) (s : Script) (is : IsReadFor plan s) where
 
   marks : (x : Stand) (vs : List ℕ)
       → map is_some
-          (map
-            (λ v. cond (is_in x.faulty v) None
-              (Some (shown (plan_depth plan) (state_of x.config v))))
-            vs)
-        ≡ map (λ v. not (is_in x.faulty v)) vs
+      (map
+      (λ v. cond (is_in x.faulty v) None
+      (Some (shown (plan_depth plan) (state_of x.config v))))
+      vs)
+      ≡ map (λ v. not (is_in x.faulty v)) vs
   marks x [] = refl
   marks x (v ∷ vs) =
       ap
-        (λ b. b
-          ∷ map is_some
-            (map
-              (λ v. cond (is_in x.faulty v) None
-                (Some (shown (plan_depth plan) (state_of x.config v))))
-              vs))
-        (mark (is_in x.faulty v) (shown (plan_depth plan) (state_of x.config v)))
+      (λ b. b
+      ∷ map is_some
+      (map
+      (λ v. cond (is_in x.faulty v) None
+      (Some (shown (plan_depth plan) (state_of x.config v))))
+      vs))
+      (mark (is_in x.faulty v) (shown (plan_depth plan) (state_of x.config v)))
       ∙ ap (λ l. not (is_in x.faulty v) ∷ l) (marks x vs)
 
   pub row_is : (x : Stand) → IsRow plan x.faulty (shown_row plan x)
@@ -79,22 +81,22 @@ module _ (plan : Plan) (s : Script) (is : IsReadFor plan s) where
       → ((v : ℕ) → p v ≡ true → is_in (faulty_at s t) v ≡ false)
       → ((v : ℕ) → is_in unknown v ≡ true → is_in (faulty_at s t) v ≡ false → p v ≡ true)
       → AreStarts plan unknown (faulty_at s t)
-          (map (put_at plan s t) (filter p (range_with_len 0 (plan_nodes plan))))
+      (map (put_at plan s t) (filter p (range_with_len 0 (plan_nodes plan))))
   puts_are t unknown p correct needed =
       let vs : List ℕ = filter p (range_with_len 0 (plan_nodes plan)) in
       record {
         rising =
             subst IsStrictlyIncreasing (sym (nodes_put t vs))
             (IsStrictlyIncreasing-filter p (range_with_len 0 (plan_nodes plan))
-              (rising_range (plan_nodes plan)));
+            (rising_range (plan_nodes plan)));
         nodes =
             All-map (λ (put : Put). put.node < plan_nodes plan) (put_at plan s t) vs
             (All-filter p (λ v. v < plan_nodes plan) (range_with_len 0 (plan_nodes plan))
-              (below_range (plan_nodes plan)));
+            (below_range (plan_nodes plan)));
         correct =
             All-map (λ (put : Put). is_in (faulty_at s t) put.node ≡ false) (put_at plan s t) vs
             (All-weaker (λ v. p v ≡ true) (λ v. is_in (faulty_at s t) v ≡ false) correct vs
-              (filter_passes p (range_with_len 0 (plan_nodes plan))));
+            (filter_passes p (range_with_len 0 (plan_nodes plan))));
         needed =
             λ v lt fresh free. ap (λ l. is_in l v) (nodes_put t vs)
             ∙ is_in_filter p (range_with_len 0 (plan_nodes plan)) v
@@ -135,17 +137,17 @@ module _ (plan : Plan) (s : Script) (is : IsReadFor plan s) where
   era_is t None e = tt
   era_is t (Some era) e =
       let same : faulty_at s (t + 1)
-          ≡ era.faulty = found_faulty 0 (t + 1) s.faulty s.eras era is.whole.formed.rising e in
+      ≡ era.faulty = found_faulty 0 (t + 1) s.faulty s.eras era is.whole.formed.rising e in
       record {
         borne = subst (IsBorne plan) same (borne_at plan s is (t + 1));
         starts =
             subst
             (λ f. AreStarts plan (faulty_at s t) f
-              (map (put_at plan s (t + 1))
-                (filter (is_put plan s t) (range_with_len 0 (plan_nodes plan)))))
+            (map (put_at plan s (t + 1))
+            (filter (is_put plan s t) (range_with_len 0 (plan_nodes plan)))))
             same
             (puts_are (t + 1) (faulty_at s t) (is_put plan s t) (λ v p. put_is_correct t v p)
-                (λ v before free. and_from _ _ (ap not free) (was_faulty _ _ before)));
+            (λ v before free. and_from _ _ (ap not free) (was_faulty _ _ before)));
       }
 
   turn_is : (t : ℕ) → IsTurn plan (faulty_at s t) (turn_at plan s t)
@@ -165,8 +167,9 @@ module _ (plan : Plan) (s : Script) (is : IsReadFor plan s) where
   pub turns_are : (k t : ℕ)
       → AreTurns plan (faulty_at s t) (map (turn_at plan s) (range_with_len t k))
   turns_are zero t = tt
-  turns_are (suc k) t =
-      (turn_is t,
-      subst (λ f. AreTurns plan f (map (turn_at plan s) (range_with_len (t + 1) k)))
+  turns_are (suc k) t = (
+    turn_is t,
+    subst (λ f. AreTurns plan f (map (turn_at plan s) (range_with_len (t + 1) k)))
         (sym (faulty_next t (find (λ era. eqb era.first (t + 1)) s.eras) refl))
-        (turns_are k (t + 1)))
+        (turns_are k (t + 1)),
+  )

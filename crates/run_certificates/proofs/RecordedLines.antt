@@ -47,17 +47,19 @@ pub run_line : (version : ℕ) → version ≤ 3 → HasLine (run_item version)
 run_line version le = record {
   words = omega arith;
   short =
-      omega
-      (arith, length-append (codes "run") (32 ∷ decimal version),
-        short_number version (omega arith));
+      omega (
+        arith,
+        length-append (codes "run") (32 ∷ decimal version),
+        short_number version (omega arith),
+      );
 }
 
 pub base_line : (base : ℕ) → IsSmall base → HasLine (base_item base)
 base_line base le =
-    record
-    { words = omega arith;
-      short = omega (arith, length-append (codes "base") (32 ∷ decimal base), short_number base le)
-        }
+    record {
+      words = omega arith;
+      short = omega (arith, length-append (codes "base") (32 ∷ decimal base), short_number base le);
+    }
 
 level_line_by : (k f c : ℕ) (spares : Option ℕ) → IsSmall k → IsSmall f → IsSmall c
     → IfSome spares IsSmall
@@ -80,8 +82,8 @@ level_line_by k f c (Some s) a b d e = record {
     arith,
     length-append (codes "level")
         (32
-          ∷ (decimal k ++ 32
-            ∷ (decimal f ++ 32 ∷ (decimal c ++ 32 ∷ (codes "spare" ++ 32 ∷ decimal s))))),
+        ∷ (decimal k ++ 32
+        ∷ (decimal f ++ 32 ∷ (decimal c ++ 32 ∷ (codes "spare" ++ 32 ∷ decimal s))))),
     length-append (decimal k)
         (32 ∷ (decimal f ++ 32 ∷ (decimal c ++ 32 ∷ (codes "spare" ++ 32 ∷ decimal s)))),
     length-append (decimal f) (32 ∷ (decimal c ++ 32 ∷ (codes "spare" ++ 32 ∷ decimal s))),
@@ -173,7 +175,7 @@ module _ (plan : Plan) (accepted : IsAccepted plan) where
       let parts = and_parts _ _ text in
       let size : length digits ≡ 2 * bytes_in (fields_of plan v) = eqb-true _ _ parts.0 in
       let bytes : bytes_in (fields_of plan v)
-          ≤ 32 = eighth (bits_in (fields_of plan v)) (few_bits plan v accepted) in
+      ≤ 32 = eighth (bits_in (fields_of plan v)) (few_bits plan v accepted) in
       (omega (arith, size, bytes), parts.1) where
         eighth : (n : ℕ) → n ≤ 251 → div_ceil n 8 ≤ 32
         eighth n le = omega arith
@@ -186,9 +188,13 @@ module _ (plan : Plan) (accepted : IsAccepted plan) where
       record {
         words = (omega (arith, lt, nodes), d.1);
         short =
-            omega
-            (arith, length-append (codes "start") (32 ∷ (decimal v ++ 32 ∷ digits)),
-              length-append (decimal v) (32 ∷ digits), n, d.0);
+            omega (
+              arith,
+              length-append (codes "start") (32 ∷ (decimal v ++ 32 ∷ digits)),
+              length-append (decimal v) (32 ∷ digits),
+              n,
+              d.0,
+            );
       }
 
   pub lie_line : (u v : ℕ) (digits : List ℕ) → u < plan_nodes plan → v < plan_nodes plan
@@ -226,14 +232,14 @@ module _ (plan : Plan) (accepted : IsAccepted plan) where
 
   small_by : (base : ℕ) (levels : List Level) (v : ℕ) (state : State) → LevelsAccepted base levels
       → IsNumber (nat_le (low_of levels v) 0) base state.x
-          → HasRegisters (low_of levels v) levels state
+      → HasRegisters (low_of levels v) levels state
       → IsSmall (shown (length levels) state)
   small_by base [] v state accepted x registers =
       small_number (nat_le 0 0) base state.x (let most : base ≤ 2 ^ 40 = grind arith in most) x
   small_by base (level ∷ below) v state accepted x registers =
       let met = meets (below_of base below) level accepted.1 in
       small_register (nat_le (low_of (level ∷ below) v) (length below + 1)) level.modulus
-          (register_at (length below) state) met.most_modulus registers.1
+      (register_at (length below) state) met.most_modulus registers.1
 
   shown_small : (v : ℕ) (state : State) → IsState plan v state
       → IsSmall (shown (plan_depth plan) state)
@@ -261,9 +267,10 @@ module _ (plan : Plan) (accepted : IsAccepted plan) where
   pub row_line : (t : ℕ) (row : List (Option ℕ)) → t ≤ 1000000 → length row ≤ 256
       → All (λ o. IfSome o IsSmall) row → HasLine (row_item t row)
   row_line t row le few small = record {
-    words =
-        (omega arith,
-        All-weaker (λ o. IfSome o IsSmall) (λ o. IfSome o IsShort) short_value row small);
+    words = (
+      omega arith,
+      All-weaker (λ o. IfSome o IsSmall) (λ o. IfSome o IsShort) short_value row small,
+    );
     short = omega (
       arith,
       length-append (codes "row") (32 ∷ join_with_byte 32 (decimal t ∷ map row_word row)),
@@ -283,11 +290,11 @@ module _ (plan : Plan) (accepted : IsAccepted plan) where
       → HasLine (row_item t (shown_row plan x))
   shown_row_line t x le is =
       let word : ℕ
-          → Option ℕ = λ v. cond (is_in x.faulty v) None
-            (Some (shown (plan_depth plan) (state_of x.config v))) in
+      → Option ℕ = λ v. cond (is_in x.faulty v) None
+      (Some (shown (plan_depth plan) (state_of x.config v))) in
       let size = length-map (range_with_len 0 (plan_nodes plan)) word in
       let count = length-range_with_len 0 (plan_nodes plan) in
       row_line t (shown_row plan x) le (omega (arith, size, count, nodes))
       (each (λ o. IfSome o IsSmall) word (plan_nodes plan)
       (λ v lt. shown_word (is_in x.faulty v) _
-          (shown_small v (state_of x.config v) (is.states v lt))))
+      (shown_small v (state_of x.config v) (is.states v lt))))

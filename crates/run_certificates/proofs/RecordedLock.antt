@@ -58,7 +58,7 @@ alike_in (level ∷ below) faulty a b same =
     let n = nodes_of (level ∷ below) in
     ap are_locked (same_map (λ v. not (is_in faulty v)) (range_with_len 0 n) n
     (λ v. register_at (length below) (state_of a v))
-        (λ v. register_at (length below) (state_of b v))
+    (λ v. register_at (length below) (state_of b v))
     (below_range n) (λ v lt free. ap (register_at (length below)) (same v lt (not-true _ free))))
 
 locked_alike : (plan : Plan) (a b : Stand) → Agrees plan a b
@@ -101,7 +101,7 @@ module _ (plan : Plan) (s : Script) (is : IsReadFor plan s) where
 
   known_next : (t : ℕ)
       → known (t + 1)
-        ≡ first_of (first_locked (tested (era_of s (t + 1))) t) (locked (t + 1)) (t + 1)
+      ≡ first_of (first_locked (tested (era_of s (t + 1))) t) (locked (t + 1)) (t + 1)
   known_next t =
       let j = era_of s (t + 1) in
       ap (first_locked (tested j)) (add-one t)
@@ -110,17 +110,17 @@ module _ (plan : Plan) (s : Script) (is : IsReadFor plan s) where
 
   before_by : (t : ℕ) (found : Option scripts.Era) → era_at plan s (t + 1) ≡ found
       → cond (is_some (era_with plan s t found)) None (known t)
-          ≡ first_locked (tested (era_of s (t + 1))) t
+      ≡ first_locked (tested (era_of s (t + 1))) t
   before_by t None e = ap (λ j. first_locked (tested j) t) (sym (same_begun t s.eras e))
   before_by t (Some era) e =
       let more : era_of s t + 1 ≤ era_of s (t + 1) = begins_more t s.eras era e in
       sym
-          (none_locked (tested (era_of s (t + 1))) t
-            (λ u le. other_test (era_of s (t + 1)) u (λ same.
+      (none_locked (tested (era_of s (t + 1))) t
+      (λ u le. other_test (era_of s (t + 1)) u (λ same.
       let rest : (k : ℕ) × (u + k ≡ t) = (t - u, omega arith) in
       let grown : era_of s u
-          ≤ era_of s (u + rest.0) = begun_grows rest.0 u
-            (map (λ (era : scripts.Era). era.first) s.eras) in
+      ≤ era_of s (u + rest.0) = begun_grows rest.0 u
+      (map (λ (era : scripts.Era). era.first) s.eras) in
       let up : era_of s u ≤ era_of s t = subst (λ m. era_of s u ≤ era_of s m) rest.1 grown in
       omega (arith, more, up, same))))
 
@@ -129,7 +129,7 @@ module _ (plan : Plan) (s : Script) (is : IsReadFor plan s) where
 
   locks_on : (k t : ℕ) (x : Stand) → Agrees plan x (stand_at plan s t)
       → lock_over plan (known t) (t + 1) (turns t k) (stands_behind plan x (turns t k))
-          ≡ known (t + k)
+      ≡ known (t + k)
   locks_on zero t x agree = let same : t + 0 ≡ t = omega arith in ap known (sym same)
   locks_on (suc k) t x agree =
       let turn = turn_at plan s t in
@@ -137,10 +137,10 @@ module _ (plan : Plan) (s : Script) (is : IsReadFor plan s) where
       let agrees = agree_next plan s is t x agree in
       let rest = stands_behind plan next (turns (t + 1) k) in
       let step : first_of (cond (is_some turn.era) None (known t))
-            (is_locked plan next.faulty next.config) (t + 1)
-          ≡ known (t + 1) =
+      (is_locked plan next.faulty next.config) (t + 1)
+      ≡ known (t + 1) =
       ap (λ b. first_of (cond (is_some turn.era) None (known t)) b (t + 1))
-          (locked_alike plan next (stand_at plan s (t + 1)) agrees)
+      (locked_alike plan next (stand_at plan s (t + 1)) agrees)
       ∙ ap (λ o. first_of o (locked (t + 1)) (t + 1)) (before_by t (era_at plan s (t + 1)) refl)
       ∙ sym (known_next t) in
       let same : t + 1 + k ≡ t + suc k = omega arith in
@@ -162,10 +162,10 @@ module _ (plan : Plan) (s : Script) (is : IsReadFor plan s) where
       let same_end : 0 + s.rounds ≡ s.rounds = omega arith in
       let start : first_of None (is_locked plan first.faulty first.config) 0 ≡ known 0 =
       ap (λ b. first_of None b 0)
-          (locked_alike plan first (stand_at plan s 0) agrees ∙ sym (own_test 0)) in
+      (locked_alike plan first (stand_at plan s 0) agrees ∙ sym (own_test 0)) in
       sym
-          (locks_are c (is_locked plan first.faulty first.config) refl
-            (stands_behind plan first c.turns) refl)
+      (locks_are c (is_locked plan first.faulty first.config) refl
+      (stands_behind plan first c.turns) refl)
       ∙ ap (λ o. lock_over plan o 1 c.turns (stands_behind plan first c.turns)) start
       ∙ locks_on s.rounds 0 first agrees
       ∙ ap known same_end
@@ -177,7 +177,7 @@ module _ (plan : Plan) (s : Script) (is : IsReadFor plan s) where
   recorded_verdict =
       let c = certificate_of plan s in
       let size : length c.turns ≡ s.rounds = length-map (range_with_len 0 s.rounds) (turn_at plan s)
-          ∙ length-range_with_len 0 s.rounds in
+      ∙ length-range_with_len 0 s.rounds in
       ap (λ d. verdict_by d (length c.turns + 1) (locks_at c)) (no_difference plan s is)
       ∙ ap (λ n. verdict.True (n + 1) (locks_at c)) size
       ∙ ap (verdict.True (s.rounds + 1)) lock_is

@@ -36,7 +36,7 @@ module _ (plan : Plan) (s : Script) (is : IsReadFor plan s) where
   agrees_at t d le =
       let same : 0 + t ≡ t = omega arith in
       subst (λ u. Agrees plan (get_or (stated (certificate_of plan s)) t d) (stand_at plan s u))
-          same
+      same
       (agrees_on s.rounds 0 t (first_stand (certificate_of plan s)) d (agree_first plan s is) le)
 
 pub records_are_of_runs : RecordsAreOfRuns

@@ -77,7 +77,7 @@ module _ (plan : Plan) (state : ℕ → State) where
     by true e =
         let same : v ≡ u = eqb-true v u e in
         ap (λ w. state_of (set config w (back w)) v) (sym same)
-            ∙ get_or-set_same config v (back v) (zero_state 0) lt
+        ∙ get_or-set_same config v (back v) (zero_state 0) lt
     by false e =
         get_or-set_other config u v (back u) (zero_state 0)
         (λ same. true≢false (sym (eq-eqb v u same) ∙ e))
@@ -91,7 +91,7 @@ module _ (plan : Plan) (state : ℕ → State) where
   -- a node that is put is in its state, another one stays
   pub put_states : (vs : List ℕ) (config : List State) (v : ℕ) → v < length config
       → state_of (with_starts plan config (map put_of vs)) v
-        ≡ cond (is_in vs v) (back v) (state_of config v)
+      ≡ cond (is_in vs v) (back v) (state_of config v)
   put_states [] config v lt = refl
   put_states (u ∷ vs) config v lt =
       put_states vs (set config u (back u)) v (omega (arith, length-set config u (back u)))
@@ -114,11 +114,11 @@ module _ (plan : Plan) (state : ℕ → ℕ → State) where
     by : (here : Bool) → is_pair u v p ≡ here → (here || list_any (is_pair u v) ps) ≡ true
         → (list_any (is_pair u v) ps ≡ true → told_of plan (map told_at ps) u v ≡ state u v)
         → unwrap_or
-              (option_map (λ (t : Told). t.state)
-                (cond here (Some (told_at p))
-                  (find (λ (t : Told). eqb t.sender u && eqb t.receiver v) (map told_at ps))))
-              (zero_state (plan_depth plan))
-            ≡ state u v
+        (option_map (λ (t : Told). t.state)
+        (cond here (Some (told_at p))
+        (find (λ (t : Told). eqb t.sender u && eqb t.receiver v) (map told_at ps))))
+        (zero_state (plan_depth plan))
+        ≡ state u v
     by true is e more =
         let q = and_parts _ _ is in
         ap (λ a. state a p.1) (eqb-true p.0 u q.0) ∙ ap (λ b. state u b) (eqb-true p.1 v q.1)
@@ -139,26 +139,26 @@ any_of_row u v [] e = absurd (true≢false (sym e))
 any_of_row u v (w ∷ vs) e =
     ⊎_elim
     (λ here. in_map_range_by (eqb u u && eqb w v) _ true
-      (and_from _ _ (eq-eqb u u refl) (eq-eqb w v (sym (eqb-true v w here)))))
+    (and_from _ _ (eq-eqb u u refl) (eq-eqb w v (sym (eqb-true v w here)))))
     (λ more. or_right (eqb u u && eqb w v) _ (any_of_row u v vs more)) (or_cases _ _ e)
 
 -- each faulty node is paired with each correct one
 pub paired : (n : ℕ) (faulty us : List ℕ) (u v : ℕ) → is_in us u ≡ true
     → is_in (correct_nodes n faulty) v ≡ true
     → list_any (λ (p : ℕ × ℕ). eqb p.0 u && eqb p.1 v)
-          (flat_map (λ w. map (λ x. (w, x)) (correct_nodes n faulty)) us)
-        ≡ true
+    (flat_map (λ w. map (λ x. (w, x)) (correct_nodes n faulty)) us)
+    ≡ true
 paired n faulty [] u v e correct = absurd (true≢false (sym e))
 paired n faulty (w ∷ us) u v e correct =
     any_append (λ p. eqb p.0 u && eqb p.1 v) (map (λ x. (w, x)) (correct_nodes n faulty))
-        (flat_map (λ w. map (λ x. (w, x)) (correct_nodes n faulty)) us)
+    (flat_map (λ w. map (λ x. (w, x)) (correct_nodes n faulty)) us)
     (⊎_elim
-        (λ here. inl
-          (subst
-            (λ z. list_any (λ (p : ℕ × ℕ). eqb p.0 u && eqb p.1 v)
-                (map (λ x. (z, x)) (correct_nodes n faulty))
-              ≡ true)
-            (eqb-true u w here) (any_of_row u v (correct_nodes n faulty) correct)))
+    (λ here. inl
+    (subst
+    (λ z. list_any (λ (p : ℕ × ℕ). eqb p.0 u && eqb p.1 v)
+    (map (λ x. (z, x)) (correct_nodes n faulty))
+    ≡ true)
+    (eqb-true u w here) (any_of_row u v (correct_nodes n faulty) correct)))
     (λ more. inr (paired n faulty us u v more correct)) (or_cases _ _ e))
 
 -- ---- one round more
@@ -207,15 +207,15 @@ module _ (plan : Plan) (s : Script) (is : IsReadFor plan s) where
   -- what is written of a played state is read back
   reads_back : (t v : ℕ) → v < plan_nodes plan
       → read_text (fields_of plan v)
-            (written_text (fields_of plan v) (state_of (played_at plan s t) v))
-          ≡ state_of (played_at plan s t) v
+      (written_text (fields_of plan v) (state_of (played_at plan s t) v))
+      ≡ state_of (played_at plan s t) v
   reads_back t v lt =
       text_reads_back (fields_of plan v) _ (limited v) (played_in_range plan s is t v lt)
 
   lie_reads_back : (t u v : ℕ) → u < plan_nodes plan
       → read_text (fields_of plan u)
-            (written_text (fields_of plan u) (lie_of s t u v (played_at plan s t)))
-          ≡ lie_of s t u v (played_at plan s t)
+      (written_text (fields_of plan u) (lie_of s t u v (played_at plan s t)))
+      ≡ lie_of s t u v (played_at plan s t)
   lie_reads_back t u v lt =
       text_reads_back (fields_of plan u) _ (limited u) (told_in_range plan s is t u v lt)
 
@@ -242,98 +242,99 @@ module _ (plan : Plan) (s : Script) (is : IsReadFor plan s) where
   heard_same : (t v : ℕ) (x : Stand) → v < plan_nodes plan → Agrees plan x (stand_at plan s t)
       → is_in (faulty_at s t) v ≡ false
       → heard_by (plan_nodes plan) x.faulty x.config
-            (lies_table plan (map (told_by plan) (turn_at plan s t).lies)) v
-          ≡ heard_at s t (played_at plan s t) v
+      (lies_table plan (map (told_by plan) (turn_at plan s t).lies)) v
+      ≡ heard_at s t (played_at plan s t) v
   heard_same t v x vlt agree free =
       let n : ℕ = plan_nodes plan in
       let told : List Told = map (told_by plan) (turn_at plan s t).lies in
       same_lists _ _
-          (length-map-range_with_len (heard_of x.faulty x.config (lies_table plan told) v) 0 n
-            ∙ sym
-              (length-map-range_with_len
-                  (heard_of (faulty_at s t) (played_at plan s t) (lies_at s t (played_at plan s t))
-                    v)
-                  0 s.nodes
-                ∙ is.right.nodes))
+      (length-map-range_with_len (heard_of x.faulty x.config (lies_table plan told) v) 0 n
+      ∙ sym
+      (length-map-range_with_len
+      (heard_of (faulty_at s t) (played_at plan s t) (lies_at s t (played_at plan s t))
+      v)
+      0 s.nodes
+      ∙ is.right.nodes))
       (λ u d l.
       let lt : u
-          < n = omega
-            (arith,
-              length-map-range_with_len (heard_of x.faulty x.config (lies_table plan told) v) 0
-                n) in
+      < n = omega (
+        arith,
+        length-map-range_with_len (heard_of x.faulty x.config (lies_table plan told) v) 0
+            n,
+      ) in
       get_or-map-range_with_len (heard_of x.faulty x.config (lies_table plan told) v) 0 n u u d lt
-          (omega arith)
+      (omega arith)
       ∙ ap (λ f. heard_of f x.config (lies_table plan told) v u) agree.faulty
       ∙ each_heard u lt
       ∙ sym
+      (get_or-map-range_with_len
+      (heard_of (faulty_at s t) (played_at plan s t) (lies_at s t (played_at plan s t)) v) 0
+      s.nodes u u d (omega (arith, is.right.nodes)) (omega arith)))
+    where
+      each_heard : (u : ℕ) → u < plan_nodes plan
+          → heard_of (faulty_at s t) x.config
+          (lies_table plan (map (told_by plan) (turn_at plan s t).lies)) v u
+          ≡ heard_of (faulty_at s t) (played_at plan s t) (lies_at s t (played_at plan s t)) v u
+      each_heard u lt = by (eqb u v) (is_in (faulty_at s t) u) refl refl where
+        by : (own liar : Bool) → eqb u v ≡ own → is_in (faulty_at s t) u ≡ liar
+            → cond (own || not liar) (state_of x.config u)
+            (state_of
+            (slice_index_or (lies_table plan (map (told_by plan) (turn_at plan s t).lies)) u
+            [])
+            v)
+            ≡ cond (own || not liar) (state_of (played_at plan s t) u)
+            (state_of (slice_index_or (lies_at s t (played_at plan s t)) u []) v)
+        by true liar o f =
+            let here : u ≡ v = eqb-true u v o in
+            agree.same u lt (ap (is_in (faulty_at s t)) here ∙ free)
+        by false false o f = agree.same u lt f
+        by false true o f =
+            ap (λ row. state_of row v)
             (get_or-map-range_with_len
-              (heard_of (faulty_at s t) (played_at plan s t) (lies_at s t (played_at plan s t)) v) 0
-              s.nodes u u d (omega (arith, is.right.nodes)) (omega arith)))
-          where
-        each_heard : (u : ℕ) → u < plan_nodes plan
-            → heard_of (faulty_at s t) x.config
-                (lies_table plan (map (told_by plan) (turn_at plan s t).lies)) v u
-              ≡ heard_of (faulty_at s t) (played_at plan s t) (lies_at s t (played_at plan s t)) v u
-        each_heard u lt = by (eqb u v) (is_in (faulty_at s t) u) refl refl where
-          by : (own liar : Bool) → eqb u v ≡ own → is_in (faulty_at s t) u ≡ liar
-              → cond (own || not liar) (state_of x.config u)
-                  (state_of
-                    (slice_index_or (lies_table plan (map (told_by plan) (turn_at plan s t).lies)) u
-                      [])
-                    v)
-              ≡ cond (own || not liar) (state_of (played_at plan s t) u)
-                  (state_of (slice_index_or (lies_at s t (played_at plan s t)) u []) v)
-          by true liar o f =
-              let here : u ≡ v = eqb-true u v o in
-              agree.same u lt (ap (is_in (faulty_at s t)) here ∙ free)
-          by false false o f = agree.same u lt f
-          by false true o f =
-              ap (λ row. state_of row v)
-                  (get_or-map-range_with_len
-                    (λ u. map (λ v. told_of plan (map (told_by plan) (turn_at plan s t).lies) u v)
-                      (range_with_len 0 (plan_nodes plan)))
-                    0 (plan_nodes plan) u u [] lt (omega arith))
-              ∙ get_or-map-range_with_len
-                  (λ v. told_of plan (map (told_by plan) (turn_at plan s t).lies) u v) 0
-                  (plan_nodes plan) v v (zero_state 0) vlt (omega arith)
-              ∙ told_is t u v vlt f free
-              ∙ sym
-                  (ap (λ row. state_of row v)
-                    (get_or-map-range_with_len
-                      (λ u. map (λ v. lie_of s t u v (played_at plan s t))
-                        (range_with_len 0 s.nodes))
-                      0 s.nodes u u [] (omega (arith, is.right.nodes)) (omega arith))
-              ∙ get_or-map-range_with_len (λ v. lie_of s t u v (played_at plan s t)) 0 s.nodes v v
-                  (zero_state 0) (omega (arith, is.right.nodes)) (omega arith))
+            (λ u. map (λ v. told_of plan (map (told_by plan) (turn_at plan s t).lies) u v)
+            (range_with_len 0 (plan_nodes plan)))
+            0 (plan_nodes plan) u u [] lt (omega arith))
+            ∙ get_or-map-range_with_len
+            (λ v. told_of plan (map (told_by plan) (turn_at plan s t).lies) u v) 0
+            (plan_nodes plan) v v (zero_state 0) vlt (omega arith)
+            ∙ told_is t u v vlt f free
+            ∙ sym
+            (ap (λ row. state_of row v)
+            (get_or-map-range_with_len
+            (λ u. map (λ v. lie_of s t u v (played_at plan s t))
+            (range_with_len 0 s.nodes))
+            0 s.nodes u u [] (omega (arith, is.right.nodes)) (omega arith))
+            ∙ get_or-map-range_with_len (λ v. lie_of s t u v (played_at plan s t)) 0 s.nodes v v
+            (zero_state 0) (omega (arith, is.right.nodes)) (omega arith))
 
   -- ---- the configuration behind a round
 
   played_next : (t v : ℕ) → v < plan_nodes plan
       → state_of (played_at plan s (t + 1)) v
-        ≡ unwrap_or (hit_at s (t + 1) v) (step_of plan v (heard_at s t (played_at plan s t) v))
+      ≡ unwrap_or (hit_at s (t + 1) v) (step_of plan v (heard_at s t (played_at plan s t) v))
   played_next t v lt =
       ap (λ k. state_of (played_at plan s k) v) (add-one t)
       ∙ (get_or-map-range_with_len
-        (λ u. unwrap_or (hit_at s (t + 1) u) (step_of plan u (heard_at s t (played_at plan s t) u)))
-        0 s.nodes v v (zero_state 0) (omega (arith, is.right.nodes)) (omega arith))
+      (λ u. unwrap_or (hit_at s (t + 1) u) (step_of plan u (heard_at s t (played_at plan s t) u)))
+      0 s.nodes v v (zero_state 0) (omega (arith, is.right.nodes)) (omega arith))
 
   stepped_at : (t v : ℕ) (new : List ℕ) (x : Stand) → v < plan_nodes plan
       → Agrees plan x (stand_at plan s t) → is_in new v ≡ false → is_in (faulty_at s t) v ≡ false
       → state_of (stepped plan new x (map (told_by plan) (turn_at plan s t).lies)) v
-          ≡ step_of plan v (heard_at s t (played_at plan s t) v)
+      ≡ step_of plan v (heard_at s t (played_at plan s t) v)
   stepped_at t v new x lt agree free before =
       get_or-map-range_with_len
-          (λ u. cond (is_in new u) (zero_state (plan_depth plan))
-            (step_of plan u
-              (heard_by (plan_nodes plan) x.faulty x.config
-                (lies_table plan (map (told_by plan) (turn_at plan s t).lies)) u)))
-          0 (plan_nodes plan) v v (zero_state 0) lt (omega arith)
+      (λ u. cond (is_in new u) (zero_state (plan_depth plan))
+      (step_of plan u
+      (heard_by (plan_nodes plan) x.faulty x.config
+      (lies_table plan (map (told_by plan) (turn_at plan s t).lies)) u)))
+      0 (plan_nodes plan) v v (zero_state 0) lt (omega arith)
       ∙ ap
-          (λ b. cond b (zero_state (plan_depth plan))
-            (step_of plan v
-              (heard_by (plan_nodes plan) x.faulty x.config
-                (lies_table plan (map (told_by plan) (turn_at plan s t).lies)) v)))
-          free
+      (λ b. cond b (zero_state (plan_depth plan))
+      (step_of plan v
+      (heard_by (plan_nodes plan) x.faulty x.config
+      (lies_table plan (map (told_by plan) (turn_at plan s t).lies)) v)))
+      free
       ∙ ap (step_of plan v) (heard_same t v x lt agree before)
 
   length-stepped : (new : List ℕ) (x : Stand) (told : List Told)
@@ -341,7 +342,7 @@ module _ (plan : Plan) (s : Script) (is : IsReadFor plan s) where
   length-stepped new x told =
       length-map-range_with_len
       (λ v. cond (is_in new v) (zero_state (plan_depth plan))
-        (step_of plan v (heard_by (plan_nodes plan) x.faulty x.config (lies_table plan told) v)))
+      (step_of plan v (heard_by (plan_nodes plan) x.faulty x.config (lies_table plan told) v)))
       0 (plan_nodes plan)
 
   length-with_starts : (puts : List Put) (config : List State)
@@ -363,55 +364,56 @@ module _ (plan : Plan) (s : Script) (is : IsReadFor plan s) where
   agree_by : (t : ℕ) (x : Stand) (found : Option scripts.Era)
       → find (λ era. eqb era.first (t + 1)) s.eras ≡ found → Agrees plan x (stand_at plan s t)
       → Agrees plan
-          (record
-            { faulty = faulty_behind x.faulty (era_with plan s t found);
-              config = with_starts plan
-                (stepped plan (faulty_behind x.faulty (era_with plan s t found)) x
-                  (map (told_by plan) (turn_at plan s t).lies))
-                (starts_of (era_with plan s t found)) })
-          (stand_at plan s (t + 1))
+      (record {
+        faulty = faulty_behind x.faulty (era_with plan s t found);
+        config = with_starts plan
+            (stepped plan (faulty_behind x.faulty (era_with plan s t found)) x
+            (map (told_by plan) (turn_at plan s t).lies))
+            (starts_of (era_with plan s t found));
+      })
+      (stand_at plan s (t + 1))
   agree_by t x None e agree =
       let same_faulty : faulty_at s (t + 1)
-          ≡ faulty_at s t = ap (faulty_of_era s) (same_begun t s.eras e) in
+      ≡ faulty_at s t = ap (faulty_of_era s) (same_begun t s.eras e) in
       let no_hit : (v : ℕ) (y : State)
-          → unwrap_or (hit_at s (t + 1) v) y
-            ≡ y = λ v y. ap
-              (λ o. unwrap_or (option_and_then (λ (era : scripts.Era). start_in era.starts v) o) y)
-              e in
+      → unwrap_or (hit_at s (t + 1) v) y
+      ≡ y = λ v y. ap
+      (λ o. unwrap_or (option_and_then (λ (era : scripts.Era). start_in era.starts v) o) y)
+      e in
       record {
         faulty = agree.faulty ∙ sym same_faulty;
         size = length-stepped x.faulty x (map (told_by plan) (turn_at plan s t).lies);
         same = λ v lt free.
             let before : is_in (faulty_at s t) v ≡ false = ap (λ f. is_in f v) (sym same_faulty)
-                ∙ free in
+            ∙ free in
             stepped_at t v x.faulty x lt agree (ap (λ f. is_in f v) agree.faulty ∙ before) before
             ∙ sym
-                (played_next t v lt
-                  ∙ no_hit v (step_of plan v (heard_at s t (played_at plan s t) v)));
+            (played_next t v lt
+            ∙ no_hit v (step_of plan v (heard_at s t (played_at plan s t) v)));
       }
   agree_by t x (Some era) e agree =
       let same_faulty : faulty_at s (t + 1)
-          ≡ era.faulty = found_faulty 0 (t + 1) s.faulty s.eras era is.whole.formed.rising e in
+      ≡ era.faulty = found_faulty 0 (t + 1) s.faulty s.eras era is.whole.formed.rising e in
       let base : List State = stepped plan era.faulty x
-          (map (told_by plan) (turn_at plan s t).lies) in
+      (map (told_by plan) (turn_at plan s t).lies) in
       let size : length base
-          ≡ plan_nodes plan = length-stepped era.faulty x
-            (map (told_by plan) (turn_at plan s t).lies) in
+      ≡ plan_nodes plan = length-stepped era.faulty x
+      (map (told_by plan) (turn_at plan s t).lies) in
       let vs : List ℕ = filter (is_put plan s t) (range_with_len 0 (plan_nodes plan)) in
       record {
         faulty = sym same_faulty;
         size = length-with_starts (map (put_at plan s (t + 1)) vs) base ∙ size;
         same = λ v lt free.
             let in_list : is_in vs v
-                  ≡ is_put plan s t v = is_in_filter (is_put plan s t)
-                    (range_with_len 0 (plan_nodes plan)) v
-                ∙ ap (λ b. is_put plan s t v && b) (is_in_range (plan_nodes plan) v lt)
-                ∙ and_true (is_put plan s t v) in
+            ≡ is_put plan s t v = is_in_filter (is_put plan s t)
+            (range_with_len 0 (plan_nodes plan)) v
+            ∙ ap (λ b. is_put plan s t v && b) (is_in_range (plan_nodes plan) v lt)
+            ∙ and_true (is_put plan s t v) in
             put_states plan (λ v. state_of (played_at plan s (t + 1)) v) vs base v
-                (omega (arith, size))
+            (omega (arith, size))
             ∙ put_or_not t x v lt agree era.faulty free
-                (ap (λ f. is_in f v) (sym same_faulty) ∙ free) (is_in vs v) (is_put plan s t v)
-                in_list refl;
+            (ap (λ f. is_in f v) (sym same_faulty) ∙ free) (is_in vs v) (is_put plan s t v)
+            in_list refl;
       } where
         and_true : (b : Bool) → (b && true) ≡ b
         and_true true = refl
@@ -422,21 +424,21 @@ module _ (plan : Plan) (s : Script) (is : IsReadFor plan s) where
             → is_in (faulty_at s (t + 1)) v ≡ false → is_in new v ≡ false → (listed put : Bool)
             → listed ≡ put → is_put plan s t v ≡ put
             → cond listed
-                  (read_text (fields_of plan v)
-                    (written_text (fields_of plan v) (state_of (played_at plan s (t + 1)) v)))
-                  (state_of (stepped plan new x (map (told_by plan) (turn_at plan s t).lies)) v)
-                ≡ state_of (played_at plan s (t + 1)) v
+            (read_text (fields_of plan v)
+            (written_text (fields_of plan v) (state_of (played_at plan s (t + 1)) v)))
+            (state_of (stepped plan new x (map (told_by plan) (turn_at plan s t).lies)) v)
+            ≡ state_of (played_at plan s (t + 1)) v
         put_or_not t x v lt agree new free here true put l p = reads_back (t + 1) v lt
         put_or_not t x v lt agree new free here false put l p =
             let none = put_false (is_in (faulty_at s t) v) (is_some (hit_at s (t + 1) v))
-                (ap (λ b. not b && (is_in (faulty_at s t) v || is_some (hit_at s (t + 1) v)))
-                    (sym free)
-                  ∙ p ∙ sym l) in
+            (ap (λ b. not b && (is_in (faulty_at s t) v || is_some (hit_at s (t + 1) v)))
+            (sym free)
+            ∙ p ∙ sym l) in
             stepped_at t v new x lt agree here none.0
-                ∙ sym
-                  (played_next t v lt
-                    ∙ no_state (hit_at s (t + 1) v)
-                      (step_of plan v (heard_at s t (played_at plan s t) v)) none.1)
+            ∙ sym
+            (played_next t v lt
+            ∙ no_state (hit_at s (t + 1) v)
+            (step_of plan v (heard_at s t (played_at plan s t) v)) none.1)
 
   pub agree_next : (t : ℕ) (x : Stand) → Agrees plan x (stand_at plan s t)
       → Agrees plan (stand_behind plan x (turn_at plan s t)) (stand_at plan s (t + 1))
@@ -448,34 +450,34 @@ module _ (plan : Plan) (s : Script) (is : IsReadFor plan s) where
   agree_first =
       let vs : List ℕ = correct_nodes (plan_nodes plan) (faulty_at s 0) in
       let base : List State = unless_faulty plan (faulty_at s 0)
-          (λ v. zero_state (plan_depth plan)) in
+      (λ v. zero_state (plan_depth plan)) in
       let size : length base
-          ≡ plan_nodes plan = length-map-range_with_len
-            (λ v. cond (is_in (faulty_at s 0) v) (zero_state (plan_depth plan))
-              (zero_state (plan_depth plan)))
-            0 (plan_nodes plan) in
+      ≡ plan_nodes plan = length-map-range_with_len
+      (λ v. cond (is_in (faulty_at s 0) v) (zero_state (plan_depth plan))
+      (zero_state (plan_depth plan)))
+      0 (plan_nodes plan) in
       record {
         faulty = refl;
         size = length-with_starts (map (put_at plan s 0) vs) base ∙ size;
         same = λ v lt free.
             put_states plan (λ v. state_of (played_at plan s 0) v) vs base v (omega (arith, size))
             ∙ ap
-                (λ b. cond b
-                  (read_text (fields_of plan v)
-                    (written_text (fields_of plan v) (state_of (played_at plan s 0) v)))
-                  (state_of base v))
-                (is_correct (plan_nodes plan) (faulty_at s 0) v lt free)
+            (λ b. cond b
+            (read_text (fields_of plan v)
+            (written_text (fields_of plan v) (state_of (played_at plan s 0) v)))
+            (state_of base v))
+            (is_correct (plan_nodes plan) (faulty_at s 0) v lt free)
             ∙ reads_back 0 v lt;
       }
 
   same_word : (faulty : List ℕ) (a b : List State) (v : ℕ)
       → (is_in faulty v ≡ false → state_of a v ≡ state_of b v)
       → cond (is_in faulty v) None (Some (shown (plan_depth plan) (state_of a v)))
-          ≡ cond (is_in faulty v) None (Some (shown (plan_depth plan) (state_of b v)))
+      ≡ cond (is_in faulty v) None (Some (shown (plan_depth plan) (state_of b v)))
   same_word faulty a b v h = by (is_in faulty v) h where
     by : (liar : Bool) → (liar ≡ false → state_of a v ≡ state_of b v)
         → cond liar None (Some (shown (plan_depth plan) (state_of a v)))
-          ≡ cond liar None (Some (shown (plan_depth plan) (state_of b v)))
+        ≡ cond liar None (Some (shown (plan_depth plan) (state_of b v)))
     by true h = refl
     by false h = ap (λ x. Some (shown (plan_depth plan) x)) (h refl)
 
@@ -483,19 +485,19 @@ module _ (plan : Plan) (s : Script) (is : IsReadFor plan s) where
   row_same : (a b : Stand) → Agrees plan a b → shown_row plan b ≡ shown_row plan a
   row_same a b agree =
       let word : Stand → ℕ
-          → Option ℕ = λ x v. cond (is_in x.faulty v) None
-            (Some (shown (plan_depth plan) (state_of x.config v))) in
+      → Option ℕ = λ x v. cond (is_in x.faulty v) None
+      (Some (shown (plan_depth plan) (state_of x.config v))) in
       sym
-          (same_lists _ _
-            (length-map-range_with_len (word a) 0 (plan_nodes plan)
-              ∙ sym (length-map-range_with_len (word b) 0 (plan_nodes plan)))
+      (same_lists _ _
+      (length-map-range_with_len (word a) 0 (plan_nodes plan)
+      ∙ sym (length-map-range_with_len (word b) 0 (plan_nodes plan)))
       (λ v d l.
       let lt : v
-          < plan_nodes plan = omega
-            (arith, length-map-range_with_len (word a) 0 (plan_nodes plan)) in
+      < plan_nodes plan = omega
+      (arith, length-map-range_with_len (word a) 0 (plan_nodes plan)) in
       get_or-map-range_with_len (word a) 0 (plan_nodes plan) v v d lt (omega arith)
       ∙ ap (λ f. cond (is_in f v) None (Some (shown (plan_depth plan) (state_of a.config v))))
-          agree.faulty
+      agree.faulty
       ∙ same_word b.faulty a.config b.config v (agree.same v lt)
       ∙ sym (get_or-map-range_with_len (word b) 0 (plan_nodes plan) v v d lt (omega arith))))
 
@@ -509,35 +511,35 @@ module _ (plan : Plan) (s : Script) (is : IsReadFor plan s) where
   same_here a b agree =
       ap not
       (ap (λ r. same_rows r (shown_row plan a)) (row_same a b agree)
-        ∙ same_rows_self (shown_row plan a))
+      ∙ same_rows_self (shown_row plan a))
 
   -- no row differs
   none_differ : (k t n : ℕ) (x : Stand) → Agrees plan x (stand_at plan s t)
       → first_from (λ b. b) n
-          (differences plan (map (λ turn. turn.row) (map (turn_at plan s) (range_with_len t k)))
-            (stands_behind plan x (map (turn_at plan s) (range_with_len t k))))
-        ≡ None
+      (differences plan (map (λ turn. turn.row) (map (turn_at plan s) (range_with_len t k)))
+      (stands_behind plan x (map (turn_at plan s) (range_with_len t k))))
+      ≡ None
   none_differ zero t n x agree = refl
   none_differ (suc k) t n x agree =
       let next = agree_next t x agree in
       ap
-          (λ b. cond b (Some n)
-            (first_from (λ b. b) (n + 1)
-              (differences plan
-                (map (λ turn. turn.row) (map (turn_at plan s) (range_with_len (t + 1) k)))
-                (stands_behind plan (stand_behind plan x (turn_at plan s t))
-                  (map (turn_at plan s) (range_with_len (t + 1) k))))))
+      (λ b. cond b (Some n)
+      (first_from (λ b. b) (n + 1)
+      (differences plan
+      (map (λ turn. turn.row) (map (turn_at plan s) (range_with_len (t + 1) k)))
+      (stands_behind plan (stand_behind plan x (turn_at plan s t))
+      (map (turn_at plan s) (range_with_len (t + 1) k))))))
       (same_here (stand_behind plan x (turn_at plan s t)) (stand_at plan s (t + 1)) next)
       ∙ none_differ k (t + 1) (n + 1) (stand_behind plan x (turn_at plan s t)) next
 
   pub no_difference : first_difference (certificate_of plan s) ≡ None
   no_difference =
       ap
-          (λ b. cond b (Some 0)
-            (first_from (λ b. b) 1
-              (differences plan
-                (map (λ turn. turn.row) (map (turn_at plan s) (range_with_len 0 s.rounds)))
-                (stands_behind plan (first_stand (certificate_of plan s))
-                  (map (turn_at plan s) (range_with_len 0 s.rounds))))))
+      (λ b. cond b (Some 0)
+      (first_from (λ b. b) 1
+      (differences plan
+      (map (λ turn. turn.row) (map (turn_at plan s) (range_with_len 0 s.rounds)))
+      (stands_behind plan (first_stand (certificate_of plan s))
+      (map (turn_at plan s) (range_with_len 0 s.rounds))))))
       (same_here (first_stand (certificate_of plan s)) (stand_at plan s 0) agree_first)
       ∙ none_differ s.rounds 0 1 (first_stand (certificate_of plan s)) agree_first

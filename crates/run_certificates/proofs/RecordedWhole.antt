@@ -44,7 +44,7 @@ turned_round P [] h = All-nil P
 turned_round P (level ∷ below) h =
     subst (All P) (sym (reverse-cons level below))
     (All-push P (reverse below) level (turned_round P below (All-tail P level below h))
-        (All-head P level below h))
+    (All-head P level below h))
 
 module _ (plan : Plan) (s : Script) (is : IsReadFor plan s) where
   accepted : IsAccepted plan
@@ -78,7 +78,7 @@ module _ (plan : Plan) (s : Script) (is : IsReadFor plan s) where
   starts_lines t (v ∷ vs) below =
       All-cons HasLine (start_of (put_at plan s t v)) (map start_of (map (put_at plan s t) vs))
       (start_line plan accepted v _ (All-head (λ v. v < plan_nodes plan) v vs below)
-          (text_is_taken (fields_of plan v) _))
+      (text_is_taken (fields_of plan v) _))
       (starts_lines t vs (All-tail (λ v. v < plan_nodes plan) v vs below))
 
   lies_lines : (t : ℕ) (ps : List (ℕ × ℕ)) → All (AreIds plan) ps
@@ -101,12 +101,12 @@ module _ (plan : Plan) (s : Script) (is : IsReadFor plan s) where
   era_lines t None le e = All-nil HasLine
   era_lines t (Some era) le e =
       let same : faulty_at s (t + 1)
-          ≡ era.faulty = found_faulty 0 (t + 1) s.faulty s.eras era is.whole.formed.rising e in
+      ≡ era.faulty = found_faulty 0 (t + 1) s.faulty s.eras era is.whole.formed.rising e in
       All-cons HasLine (era_item (t + 1) era.faulty) (map start_of (puts_at plan s t))
       (era_line plan accepted (t + 1) era.faulty le
-          (subst (IsBorne plan) same (borne_at plan s is (t + 1))))
+      (subst (IsBorne plan) same (borne_at plan s is (t + 1))))
       (starts_lines (t + 1) (filter (is_put plan s t) (range_with_len 0 (plan_nodes plan)))
-          (chosen (is_put plan s t)))
+      (chosen (is_put plan s t)))
 
   end_line : HasLine end_item
   end_line = record { words = tt; short = omega arith }
@@ -120,12 +120,12 @@ module _ (plan : Plan) (s : Script) (is : IsReadFor plan s) where
       let row = row_item (t + 1) turn.row in
       All-append HasLine (map lie_of turn.lies) (era_items (t + 1) turn.era ++ (row ∷ rest))
       (lies_lines t (pairs_of (plan_nodes plan) (faulty_at s t))
-          (pairs_are_ids plan (faulty_at s t) (borne_at plan s is t).ids))
+      (pairs_are_ids plan (faulty_at s t) (borne_at plan s is t).ids))
       (All-append HasLine (era_items (t + 1) turn.era) (row ∷ rest)
       (era_lines t (era_at plan s (t + 1)) (omega arith) refl)
       (All-cons HasLine row rest
       (shown_row_line plan accepted (t + 1) (stand_at plan s (t + 1)) (omega arith)
-          (played_is plan s is (t + 1)))
+      (played_is plan s is (t + 1)))
       (turns_lines k (t + 1) (omega arith))))
 
   version_most : (two one : Bool) → cond {A = ℕ} two 3 (cond one 1 2) ≤ 3
@@ -152,18 +152,18 @@ module _ (plan : Plan) (s : Script) (is : IsReadFor plan s) where
       let behind = levels ++ (faulty_item c.faulty ∷ states) in
       let rounds = is.whole.formed.few in
       All-cons HasLine (run_item c.version) (base_item plan.base ∷ behind)
-          (run_line c.version (version_most (plan.version == 2) (s.version == 1)))
+      (run_line c.version (version_most (plan.version == 2) (s.version == 1)))
       (All-cons HasLine (base_item plan.base) behind
-          (base_line plan.base (base_small plan.base plan.levels accepted.levels))
+      (base_line plan.base (base_small plan.base plan.levels accepted.levels))
       (All-append HasLine levels (faulty_item c.faulty ∷ states)
       (All-map HasLine (level_of c.version) (reverse plan.levels)
       (turned_round (λ level. HasLine (level_of c.version level)) plan.levels
-          (levels_lines c.version plan.base plan.levels accepted.levels)))
+      (levels_lines c.version plan.base plan.levels accepted.levels)))
       (All-cons HasLine (faulty_item c.faulty) states
-          (faulty_line plan accepted c.faulty (borne_at plan s is 0))
+      (faulty_line plan accepted c.faulty (borne_at plan s is 0))
       (All-append HasLine first rows
       (starts_lines 0 (correct_nodes (plan_nodes plan) (faulty_at s 0))
-          (chosen (λ v. not (is_in (faulty_at s 0) v))))
+      (chosen (λ v. not (is_in (faulty_at s 0) v))))
       (All-cons HasLine (row_item 0 c.row) (turns_items 1 c.turns)
       (shown_row_line plan accepted 0 (stand_at plan s 0) (omega arith) (played_is plan s is 0))
       (turns_lines s.rounds 0 (omega (arith, rounds))))))))
@@ -201,15 +201,16 @@ module _ (plan : Plan) (s : Script) (is : IsReadFor plan s) where
       let c = certificate_of plan s in
       let rounds = is.whole.formed.few in
       let size : length c.turns ≡ s.rounds = length-map (range_with_len 0 s.rounds) (turn_at plan s)
-          ∙ length-range_with_len 0 s.rounds in
+      ∙ length-range_with_len 0 s.rounds in
       let zero_plus : 0 + s.rounds ≡ s.rounds = omega arith in
       let most : era_of s (0 + s.rounds)
-          ≤ most_eras c.version = rw zero_plus
-            (eras_by (plan.version == 2) (s.version == 1) has refl) in
+      ≤ most_eras c.version = rw zero_plus
+      (eras_by (plan.version == 2) (s.version == 1) has refl) in
       record {
-        version =
-            (version_least (plan.version == 2) (s.version == 1),
-            version_most (plan.version == 2) (s.version == 1));
+        version = (
+          version_least (plan.version == 2) (s.version == 1),
+          version_most (plan.version == 2) (s.version == 1),
+        );
         plan_is = plan_by (plan.version == 2) (s.version == 1) refl;
         accepted = accepted;
         borne = borne_at plan s is 0;

@@ -31,18 +31,20 @@ pub record ReadTurns (k : Known) (items : List Item) (v : Verdict) : Type 0 wher
 
 -- the lies that are left of a round, what stands behind them, and further rounds
 pub record ReadRound (k : Known) (told : List State) (items : List Item) (v : Verdict) : Type 0
-    where
-  pub lies : List Lie
-  pub era : Option Era
-  pub row : List (Option ℕ)
-  pub turns : List Turn
-  pub lies_pass : LiesPass k told lies
-  pub behind_pass : BehindPass k (all_lies k told lies) era row
-  pub turns_pass : TurnsPass (behind k (all_lies k told lies) era row) turns
-  pub items_are : items
-      ≡ map lie_of lies
-        ++ (era_items (k.at + 1) era ++ (row_item (k.at + 1) row ∷ turns_items (k.at + 1 + 1) turns))
-  pub verdict : followed (behind k (all_lies k told lies) era row) turns ≡ v
+  where
+    pub lies : List Lie
+    pub era : Option Era
+    pub row : List (Option ℕ)
+    pub turns : List Turn
+    pub lies_pass : LiesPass k told lies
+    pub behind_pass : BehindPass k (all_lies k told lies) era row
+    pub turns_pass : TurnsPass (behind k (all_lies k told lies) era row) turns
+    pub items_are : items
+        ≡ map lie_of lies
+        ++
+        (era_items (k.at + 1) era
+        ++ (row_item (k.at + 1) row ∷ turns_items (k.at + 1 + 1) turns))
+    pub verdict : followed (behind k (all_lies k told lies) era row) turns ≡ v
 
 -- states that are left to be put, a row, and rounds
 pub record ReadPuts (k : Known) (unknown : List ℕ) (from : ℕ) (items : List Item) (v : Verdict) :
@@ -80,10 +82,10 @@ turns_told k items v (inr r) = record {
 -- ---- one item more in front
 
 start_before : (k : Known) (unknown : List ℕ) (from v : ℕ) (digits : List ℕ) (items : List Item)
-      (verdict : Verdict)
+    (verdict : Verdict)
     → start_fits k unknown from v digits ≡ true
     → ReadPuts (put_state k v digits) unknown (v + 1) items verdict
-        → ReadPuts k unknown from (start_item v digits ∷ items) verdict
+    → ReadPuts k unknown from (start_item v digits ∷ items) verdict
 start_before k unknown from v digits items verdict fits r = record {
   puts = record { node = v; digits = digits } ∷ r.puts;
   row = r.row;
@@ -102,7 +104,7 @@ first_row_is : (k : Known) (unknown : List ℕ) (from t : ℕ) (row : List (Opti
 first_row_is k unknown from t row fits = row_is k t row (and_parts _ _ fits).1
 
 first_row_before : (k : Known) (unknown : List ℕ) (from t : ℕ) (row : List (Option ℕ))
-      (items : List Item) (v : Verdict)
+    (items : List Item) (v : Verdict)
     → first_row_fits k unknown from t row ≡ true
     → ReadTurns (compared k row) items v → ReadPuts k unknown from (row_item t row ∷ items) v
 first_row_before k unknown from t row items v fits r =
@@ -119,11 +121,11 @@ first_row_before k unknown from t row items v fits r =
     }
 
 lie_before : (k : Known) (told : List State) (u v : ℕ) (digits : List ℕ) (items : List Item)
-      (verdict : Verdict)
+    (verdict : Verdict)
     → lie_fits k told u v digits ≡ true
     → ReadRound k (told ++ lie_state k (record { sender = u; receiver = v; digits = digits }) ∷ [])
-          items verdict
-        → ReadRound k told (lie_item u v digits ∷ items) verdict
+    items verdict
+    → ReadRound k told (lie_item u v digits ∷ items) verdict
 lie_before k told u v digits items verdict fits r = record {
   lies = record { sender = u; receiver = v; digits = digits } ∷ r.lies;
   era = r.era;
@@ -151,10 +153,10 @@ next_row_is : (k : Known) (told : List State) (t : ℕ) (row : List (Option ℕ)
 next_row_is k told t row fits = row_is (moved k k.stand.faulty told) t row (and_parts _ _ fits).1
 
 next_row_before : (k : Known) (told : List State) (t : ℕ) (row : List (Option ℕ))
-      (items : List Item) (v : Verdict)
+    (items : List Item) (v : Verdict)
     → next_row_fits k told t row ≡ true
     → ReadTurns (compared (moved k k.stand.faulty told) row) items v
-        → ReadRound k told (row_item t row ∷ items) v
+    → ReadRound k told (row_item t row ∷ items) v
 next_row_before k told t row items v fits r =
     let is : t ≡ k.at + 1 = next_row_is k told t row fits in
     record {
@@ -176,10 +178,10 @@ era_is : (k : Known) (told : List State) (t : ℕ) (ids : List ℕ) → era_fits
 era_is k told t ids fits = eqb-true _ _ (and_parts _ _ (and_parts _ _ (and_parts _ _ fits).0).0).1
 
 era_before : (k : Known) (told : List State) (t : ℕ) (ids : List ℕ) (items : List Item)
-      (v : Verdict)
+    (v : Verdict)
     → era_fits k told t ids ≡ true
     → ReadPuts (renewed k ids told) k.stand.faulty 0 items v
-        → ReadRound k told (era_item t ids ∷ items) v
+    → ReadRound k told (era_item t ids ∷ items) v
 era_before k told t ids items v fits r =
     let is : t ≡ k.at + 1 = era_is k told t ids fits in
     record {
@@ -212,7 +214,7 @@ pub read_behind : (items : List Item) (stage : Stage) (v : Verdict) → accepts 
 read_behind [] stage v e = absurd cc
 read_behind (start_item x digits ∷ items) (putting k unknown from) v e =
     let h = passed (start_fits k unknown from x digits)
-        (putting (put_state k x digits) unknown (x + 1)) items v e in
+    (putting (put_state k x digits) unknown (x + 1)) items v e in
     start_before k unknown from x digits items v h.0 (read_behind items _ v h.1)
 read_behind (row_item t row ∷ items) (putting k unknown from) v e =
     let h = passed (first_row_fits k unknown from t row) (telling (compared k row) []) items v e in
@@ -220,15 +222,15 @@ read_behind (row_item t row ∷ items) (putting k unknown from) v e =
 read_behind (lie_item x y digits ∷ items) (telling k told) v e =
     let h = passed (lie_fits k told x y digits) _ items v e in
     inr
-        (lie_before k told x y digits items v h.0
-          (round_told k told _ items v (read_behind items _ v h.1)))
+    (lie_before k told x y digits items v h.0
+    (round_told k told _ items v (read_behind items _ v h.1)))
 read_behind (era_item t ids ∷ items) (telling k told) v e =
     let h = passed (era_fits k told t ids) (putting (renewed k ids told) k.stand.faulty 0) items v
-        e in
+    e in
     inr (era_before k told t ids items v h.0 (read_behind items _ v h.1))
 read_behind (row_item t row ∷ items) (telling k told) v e =
     let h = passed (next_row_fits k told t row)
-        (telling (compared (moved k k.stand.faulty told) row) []) items v e in
+    (telling (compared (moved k k.stand.faulty told) row) []) items v e in
     inr (next_row_before k told t row items v h.0 (turns_told _ _ _ (read_behind items _ v h.1)))
 read_behind (end_item ∷ items) (telling k told) v e = end_alone k told items v e
 read_behind (item ∷ items) unread v e = tt

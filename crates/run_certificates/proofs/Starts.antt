@@ -45,22 +45,22 @@ module _ (plan : Plan) (unknown faulty : List ℕ) where
       → needs v ≡ true → ⊥
   none_needed from to v none low high need =
       true≢false
-          (sym
-            (list_any_at needs (range_with_len from (to - from)) (v - from) 0
-              (omega (arith, length-range_with_len from (to - from)))
+      (sym
+      (list_any_at needs (range_with_len from (to - from)) (v - from) 0
+      (omega (arith, length-range_with_len from (to - from)))
       (ap needs (get_or-range_with_len from (to - from) (v - from) 0 (omega arith) ∙ (omega arith))
-            ∙ need))
-          ∙ none)
+      ∙ need))
+      ∙ none)
 
   pub no_needs : (from to : ℕ) → ((v : ℕ) → from ≤ v → v < to → needs v ≡ true → ⊥)
       → needs_state unknown faulty from to ≡ false
   no_needs from to none = list_any_none needs (range_with_len from (to - from)) (λ i d l.
       let within : i < to - from = subst (λ m. i < m) (length-range_with_len from (to - from)) l in
       let is : get_or (range_with_len from (to - from)) i d
-          ≡ from + i = get_or-range_with_len from (to - from) i d within in
+      ≡ from + i = get_or-range_with_len from (to - from) i d within in
       ap needs is
-          ∙ ⊎_elim (λ yes. absurd (none (from + i) (omega arith) (omega arith) yes)) (λ no. no)
-            (cases_Bool (needs (from + i))))
+      ∙ ⊎_elim (λ yes. absurd (none (from + i) (omega arith) (omega arith) yes)) (λ no. no)
+      (cases_Bool (needs (from + i))))
 
   -- ---- from what is declared to the tests
 
@@ -77,9 +77,11 @@ module _ (plan : Plan) (unknown faulty : List ℕ) where
       → RisesFrom (put.node + 1) puts
   unfolding RisesFrom
   rises put [] h = tt
-  rises put (next ∷ puts) h =
-      (let x : put.node < next.node = h 0 (omega arith) in
-      omega arith, rises next puts (tail_rises put.node (nodes_of (next ∷ puts)) h))
+  rises put (next ∷ puts) h = (
+    let x : put.node < next.node = h 0 (omega arith) in
+        omega arith,
+    rises next puts (tail_rises put.node (nodes_of (next ∷ puts)) h),
+  )
 
   later : (from v : ℕ) (puts : List Put) → RisesFrom from puts → is_in (nodes_of puts) v ≡ true
       → from ≤ v
@@ -88,7 +90,7 @@ module _ (plan : Plan) (unknown faulty : List ℕ) where
   later from v (put ∷ puts) h e =
       ⊎_elim (λ same. let s : v ≡ put.node = eqb-true v put.node same in omega (arith, h.0))
       (λ more. let x : put.node + 1 ≤ v = later (put.node + 1) v puts h.1 more in
-        omega (arith, h.0))
+      omega (arith, h.0))
       (or_cases _ _ e)
 
   fit_from : (from : ℕ) (puts : List Put) → RisesFrom from puts
@@ -96,33 +98,32 @@ module _ (plan : Plan) (unknown faulty : List ℕ) where
       → All (λ put. is_in faulty put.node ≡ false) puts
       → ((v : ℕ) → from ≤ v → v < plan_nodes plan → needs v ≡ true → is_in (nodes_of puts) v ≡ true)
       → All (λ put. is_state_text (fields_of plan put.node) put.digits ≡ true) puts
-          → AllFit from puts
+      → AllFit from puts
   unfolding RisesFrom
   fit_from from [] rise below correct needed states =
       no_needs from (plan_nodes plan) (λ v low high need. true≢false (sym (needed v low high need)))
   fit_from from (put ∷ puts) rise below correct needed states =
       let here : put.node
-          < plan_nodes plan = All-head (λ p. p.node < plan_nodes plan) put puts below in
+      < plan_nodes plan = All-head (λ p. p.node < plan_nodes plan) put puts below in
       let free : is_in faulty put.node
-          ≡ false = All-head (λ p. is_in faulty p.node ≡ false) put puts correct in
+      ≡ false = All-head (λ p. is_in faulty p.node ≡ false) put puts correct in
       let gap : needs_state unknown faulty from put.node
-          ≡ false = no_needs from put.node (λ v low high need.
+      ≡ false = no_needs from put.node (λ v low high need.
       let x : put.node
-              ≤ v = later put.node v (put ∷ puts) (omega arith, rise.1)
-                (needed v low (omega arith) need) in
-            omega arith) in
-          (
+      ≤ v = later put.node v (put ∷ puts) (omega arith, rise.1)
+      (needed v low (omega arith) need) in
+      omega arith) in (
         and_from _ _
             (and_from _ _
-              (and_from _ _ (and_from _ _ (le-leb _ _ rise.0) (lt-ltb _ _ here)) (ap not free))
-              (ap not gap))
+            (and_from _ _ (and_from _ _ (le-leb _ _ rise.0) (lt-ltb _ _ here)) (ap not free))
+            (ap not gap))
             (All-head (λ p. is_state_text (fields_of plan p.node) p.digits ≡ true) put puts states),
         fit_from (put.node + 1) puts rise.1
             (All-tail (λ p. p.node < plan_nodes plan) put puts below)
             (All-tail (λ p. is_in faulty p.node ≡ false) put puts correct)
             (λ v low high need. ⊎_elim
-                (λ same. absurd (let s : v ≡ put.node = eqb-true v put.node same in omega arith))
-                (λ more. more) (or_cases _ _ (needed v (omega (arith, rise.0)) high need)))
+            (λ same. absurd (let s : v ≡ put.node = eqb-true v put.node same in omega arith))
+            (λ more. more) (or_cases _ _ (needed v (omega (arith, rise.0)) high need)))
             (All-tail (λ p. is_state_text (fields_of plan p.node) p.digits ≡ true) put puts states),
       )
 
@@ -158,11 +159,13 @@ module _ (plan : Plan) (unknown faulty : List ℕ) where
   declared : (from : ℕ) (puts : List Put) → AllFit from puts → Declared from puts
   unfolding RisesFrom
   declared from [] h =
-      record
-      { rise = tt; nodes = All-nil (λ p. p.node < plan_nodes plan);
+      record {
+        rise = tt;
+        nodes = All-nil (λ p. p.node < plan_nodes plan);
         correct = All-nil (λ p. is_in faulty p.node ≡ false);
         needed = λ v low high need. absurd (none_needed from (plan_nodes plan) v h low high need);
-        states = All-nil (λ p. is_state_text (fields_of plan p.node) p.digits ≡ true) }
+        states = All-nil (λ p. is_state_text (fields_of plan p.node) p.digits ≡ true);
+      }
   declared from (put ∷ puts) h =
       let a = and_parts _ _ h.0 in
       let b = and_parts _ _ a.0 in
@@ -195,15 +198,18 @@ module _ (plan : Plan) (unknown faulty : List ℕ) where
   increasing from (put ∷ next ∷ puts) h (suc j) l =
       let e : suc j + 1 ≡ suc (j + 1) = omega arith in
       subst
-          (λ m. get_or (nodes_of (put ∷ next ∷ puts)) (suc j) 0
-            < get_or (nodes_of (put ∷ next ∷ puts)) m 0)
-          (sym e) (increasing (put.node + 1) (next ∷ puts) h.1 j (omega arith))
+      (λ m. get_or (nodes_of (put ∷ next ∷ puts)) (suc j) 0
+      < get_or (nodes_of (put ∷ next ∷ puts)) m 0)
+      (sym e) (increasing (put.node + 1) (next ∷ puts) h.1 j (omega arith))
 
   pub starts_declared : (puts : List Put) → AllFit 0 puts → AreStarts plan unknown faulty puts
   starts_declared puts h =
       let d = declared 0 puts h in
-      record
-          { rising = increasing 0 puts d.rise; nodes = d.nodes; correct = d.correct;
-            needed = λ v high is free. d.needed v (omega arith) high
-              (and_from _ _ is (ap not free));
-            states = d.states }
+      record {
+        rising = increasing 0 puts d.rise;
+        nodes = d.nodes;
+        correct = d.correct;
+        needed = λ v high is free. d.needed v (omega arith) high
+            (and_from _ _ is (ap not free));
+        states = d.states;
+      }

@@ -35,7 +35,7 @@ use Rattle.run_certificates.specs.Laws.{AreQuiet, stand_after, StretchesAreRuns}
 found_by : {X : Type 0} (P : X → Type 0) (p : X → Bool) (b : Bool) (x : X) (more : Option X)
     → p x ≡ b → P x
     → IfSome more (λ y. P y × (p y ≡ true))
-        → IfSome (cond b (Some x) more) (λ y. P y × (p y ≡ true))
+    → IfSome (cond b (Some x) more) (λ y. P y × (p y ≡ true))
 found_by P p true x more e h rest = (h, e)
 found_by P p false x more e h rest = rest
 
@@ -74,7 +74,7 @@ module _ (plan : Plan) (accepted : IsAccepted plan) where
       → IsState plan v (read_text (fields_of plan v) digits)
   read_is v lt digits =
       state_of_node plan accepted v lt _
-          (read_is_in_range (fields_of plan v) (decoded digits) (fields_sound v))
+      (read_is_in_range (fields_of plan v) (decoded digits) (fields_sound v))
 
   step_is : (v : ℕ) (heard : List State) → IsState plan v (step_of plan v heard)
   step_is v heard =
@@ -93,7 +93,7 @@ module _ (plan : Plan) (accepted : IsAccepted plan) where
       → IsConfiguration plan (unless_faulty plan faulty f)
   unless_is faulty f h = made_is (λ v. cond (is_in faulty v) (zero_state (plan_depth plan)) (f v))
       (λ v lt. either (IsState plan v) (is_in faulty v) (zero_state (plan_depth plan)) (f v)
-          (zero_is v lt) (h v lt))
+      (zero_is v lt) (h v lt))
 
   set_is : (config : List State) (v : ℕ) (state : State)
       → (v < plan_nodes plan → IsState plan v state)
@@ -107,12 +107,12 @@ module _ (plan : Plan) (accepted : IsAccepted plan) where
               let inside : v < plan_nodes plan = omega (arith, same, lt) in
               subst (λ w. IsState plan w (state_of (set config v state) w)) (sym same)
               (subst (IsState plan v)
-                  (sym
-                    (get_or-set_same config v state (zero_state 0) (omega (arith, inside, size))))
-                  (is inside))
+              (sym
+              (get_or-set_same config v state (zero_state 0) (omega (arith, inside, size))))
+              (is inside))
           | inr other ↦
               subst (IsState plan u) (sym (get_or-set_other config v u state (zero_state 0) other))
-                  (h.states u lt)
+              (h.states u lt)
         ];
       }
 
@@ -130,26 +130,26 @@ module _ (plan : Plan) (accepted : IsAccepted plan) where
   table_is lies =
       let told : List Told = map (told_by plan) lies in
       let states : All IsOwn told = All-map IsOwn (told_by plan) lies
-          (λ i d l lt. read_is _ lt _) in
+      (λ i d l lt. read_is _ lt _) in
       let row : ℕ
-          → List State = λ u. map (λ v. told_of plan told u v)
-            (range_with_len 0 (plan_nodes plan)) in
+      → List State = λ u. map (λ v. told_of plan told u v)
+      (range_with_len 0 (plan_nodes plan)) in
       record {
         size = length-map-range_with_len row 0 (plan_nodes plan);
         rows =
             λ u lt. subst (IsTold plan u)
             (sym (get_or-map-range_with_len row 0 (plan_nodes plan) u u [] lt (omega arith)))
             (record {
-          size = length-map-range_with_len (λ v. told_of plan told u v) 0 (plan_nodes plan);
-          states = each (IsState plan u) (λ v. told_of plan told u v) (plan_nodes plan) (λ v l.
-              let test : Told → Bool = λ t. eqb t.sender u && eqb t.receiver v in
-              or_has (IsState plan u) (λ t. IsOwn t × (test t ≡ true)) (find test told)
+              size = length-map-range_with_len (λ v. told_of plan told u v) 0 (plan_nodes plan);
+              states = each (IsState plan u) (λ v. told_of plan told u v) (plan_nodes plan) (λ v l.
+                  let test : Told → Bool = λ t. eqb t.sender u && eqb t.receiver v in
+                  or_has (IsState plan u) (λ t. IsOwn t × (test t ≡ true)) (find test told)
                   (zero_state (plan_depth plan))
-              (λ t h.
-              let same : t.sender ≡ u = eqb-true _ _ (and_parts _ _ h.1).0 in
-              subst (λ w. IsState plan w t.state) same (h.0 (omega (arith, same, lt))))
-              (found_has IsOwn test told states) (zero_is u lt));
-        });
+                  (λ t h.
+                  let same : t.sender ≡ u = eqb-true _ _ (and_parts _ _ h.1).0 in
+                  subst (λ w. IsState plan w t.state) same (h.0 (omega (arith, same, lt))))
+                  (found_has IsOwn test told states) (zero_is u lt));
+            });
       }
 
   stand_is : (stand : Stand) (turn : Turn)
@@ -157,10 +157,10 @@ module _ (plan : Plan) (accepted : IsAccepted plan) where
   stand_is stand turn =
       put_is (starts_of turn.era) _
       (unless_is (faulty_behind stand.faulty turn.era)
-        (λ v. step_of plan v
-          (heard_by (plan_nodes plan) stand.faulty stand.config
-            (lies_table plan (map (told_by plan) turn.lies)) v))
-        (λ v lt. step_is v _))
+      (λ v. step_of plan v
+      (heard_by (plan_nodes plan) stand.faulty stand.config
+      (lies_table plan (map (told_by plan) turn.lies)) v))
+      (λ v lt. step_is v _))
 
   correct_state : (b : Bool) (x y : State) → b ≡ false → cond b x y ≡ y
   correct_state false x y e = refl
@@ -169,21 +169,23 @@ module _ (plan : Plan) (accepted : IsAccepted plan) where
   -- behind a quiet round
   quiet_stand : (stand : Stand) (turn : Turn) → turn.era ≡ None
       → stand_behind plan stand turn
-        ≡ record
-          { faulty = stand.faulty;
-            config = stepped plan stand.faulty stand (map (told_by plan) turn.lies) }
+      ≡ record {
+        faulty = stand.faulty;
+        config = stepped plan stand.faulty stand (map (told_by plan) turn.lies);
+      }
   quiet_stand stand turn quiet = ap (λ (era : Option Era). with_era era) quiet where
     with_era : Option Era → Stand
     with_era era =
-        record
-        { faulty = faulty_behind stand.faulty era;
+        record {
+          faulty = faulty_behind stand.faulty era;
           config = with_starts plan
-            (stepped plan (faulty_behind stand.faulty era) stand (map (told_by plan) turn.lies))
-            (starts_of era) }
+              (stepped plan (faulty_behind stand.faulty era) stand (map (told_by plan) turn.lies))
+              (starts_of era);
+        }
 
   round_is : (stand : Stand) (turn : Turn) → turn.era ≡ None
       → Round plan stand.faulty stand.config (lies_table plan (map (told_by plan) turn.lies))
-        (stand_behind plan stand turn).config
+      (stand_behind plan stand turn).config
   round_is stand turn quiet =
       let told : List Told = map (told_by plan) turn.lies in
       record {
@@ -191,15 +193,15 @@ module _ (plan : Plan) (accepted : IsAccepted plan) where
         steps = λ v lt correct.
             ap (λ (s : Stand). state_of s.config v) (quiet_stand stand turn quiet)
             ∙ get_or-map-range_with_len
-                (λ u. cond (is_in stand.faulty u) (zero_state (plan_depth plan))
-                  (step_of plan u
-                    (heard_by (plan_nodes plan) stand.faulty stand.config (lies_table plan told)
-                      u)))
-                0 (plan_nodes plan) v v (zero_state 0) lt (omega arith)
+            (λ u. cond (is_in stand.faulty u) (zero_state (plan_depth plan))
+            (step_of plan u
+            (heard_by (plan_nodes plan) stand.faulty stand.config (lies_table plan told)
+            u)))
+            0 (plan_nodes plan) v v (zero_state 0) lt (omega arith)
             ∙ correct_state (is_in stand.faulty v) (zero_state (plan_depth plan))
-                (step_of plan v
-                  (heard_by (plan_nodes plan) stand.faulty stand.config (lies_table plan told) v))
-                correct;
+            (step_of plan v
+            (heard_by (plan_nodes plan) stand.faulty stand.config (lies_table plan told) v))
+            correct;
       }
 
   -- one configuration in front of a run
@@ -213,44 +215,46 @@ module _ (plan : Plan) (accepted : IsAccepted plan) where
   } where
     rounds : (t : ℕ) → t + 1 < length (old ∷ new ∷ configs)
         → IsNext plan faulty (configuration (old ∷ new ∷ configs) t)
-          (configuration (old ∷ new ∷ configs) (t + 1))
+        (configuration (old ∷ new ∷ configs) (t + 1))
     rounds zero lt = next
     rounds (suc t) lt =
         let e : suc t + 1 ≡ suc (t + 1) = omega arith in
         subst
-            (λ n. IsNext plan faulty (configuration (new ∷ configs) t)
-              (configuration (old ∷ new ∷ configs) n))
-            (sym e) (run.rounds t (omega arith))
+        (λ n. IsNext plan faulty (configuration (new ∷ configs) t)
+        (configuration (old ∷ new ∷ configs) n))
+        (sym e) (run.rounds t (omega arith))
 
   one_run : (faulty : List ℕ) (config : List State) → IsConfiguration plan config
       → Run plan faulty (config ∷ [])
   one_run faulty config is =
-      record
-      { some = omega arith;
+      record {
+        some = omega arith;
         configurations = All-cons (IsConfiguration plan) config [] is
-          (All-nil (IsConfiguration plan));
-        rounds = λ t lt. absurd (omega arith) }
+            (All-nil (IsConfiguration plan));
+        rounds = λ t lt. absurd (omega arith);
+      }
 
   stretch_is : (turns : List Turn) (stand : Stand) → IsConfiguration plan stand.config
       → AreQuiet turns
       → Run plan stand.faulty
-        (map (λ (s : Stand). s.config) (stand ∷ stands_behind plan stand turns))
+      (map (λ (s : Stand). s.config) (stand ∷ stands_behind plan stand turns))
   stretch_is [] stand is quiet = one_run stand.faulty stand.config is
   stretch_is (turn ∷ turns) stand is quiet =
       let now : turn.era ≡ None = All-head (λ (t : Turn). t.era ≡ None) turn turns quiet in
       let next : Stand = stand_behind plan stand turn in
       let same : next.faulty
-          ≡ stand.faulty = ap (λ (s : Stand). s.faulty) (quiet_stand stand turn now) in
+      ≡ stand.faulty = ap (λ (s : Stand). s.faulty) (quiet_stand stand turn now) in
       run_before stand.faulty stand.config next.config
-          (map (λ (s : Stand). s.config) (stands_behind plan next turns)) is
-      (record
-          { lies = lies_table plan (map (told_by plan) turn.lies);
-            round = round_is stand turn now })
+      (map (λ (s : Stand). s.config) (stands_behind plan next turns)) is
+      (record {
+        lies = lies_table plan (map (told_by plan) turn.lies);
+        round = round_is stand turn now;
+      })
       (subst
-          (λ f. Run plan f (map (λ (s : Stand). s.config) (next ∷ stands_behind plan next turns)))
-          same
-          (stretch_is turns next (stand_is stand turn)
-            (All-tail (λ (t : Turn). t.era ≡ None) turn turns quiet)))
+      (λ f. Run plan f (map (λ (s : Stand). s.config) (next ∷ stands_behind plan next turns)))
+      same
+      (stretch_is turns next (stand_is stand turn)
+      (All-tail (λ (t : Turn). t.era ≡ None) turn turns quiet)))
 
   after_is : (before : List Turn) (stand : Stand) → IsConfiguration plan stand.config
       → IsConfiguration plan (stand_after plan stand before).config
@@ -260,13 +264,13 @@ module _ (plan : Plan) (accepted : IsAccepted plan) where
 
   first_is : (faulty : List ℕ) (puts : List Put)
       → IsConfiguration plan
-        (with_starts plan (unless_faulty plan faulty (λ v. zero_state (plan_depth plan))) puts)
+      (with_starts plan (unless_faulty plan faulty (λ v. zero_state (plan_depth plan))) puts)
   first_is faulty puts =
       put_is puts _ (unless_is faulty (λ v. zero_state (plan_depth plan)) (λ v lt. zero_is v lt))
 
 pub stretches_are_runs : StretchesAreRuns
 stretches_are_runs c is before stretch after parts quiet =
     stretch_is c.plan is.accepted stretch (stand_after c.plan (first_stand c) before)
-        (after_is c.plan is.accepted before (first_stand c)
-          (first_is c.plan is.accepted c.faulty c.starts))
-        quiet
+    (after_is c.plan is.accepted before (first_stand c)
+    (first_is c.plan is.accepted c.faulty c.starts))
+    quiet

@@ -47,7 +47,7 @@ pub row_tested : (plan : Plan) (faulty : List ℕ) (row : List (Option ℕ)) →
     → is_row plan faulty row ≡ true
 row_tested plan faulty row h =
     ap (λ l. same_marks l (map (λ v. not (is_in faulty v)) (range_with_len 0 (plan_nodes plan))))
-      h.size
+    h.size
     ∙ same_marks_self (map (λ v. not (is_in faulty v)) (range_with_len 0 (plan_nodes plan)))
 
 pub row_declared : (plan : Plan) (faulty : List ℕ) (row : List (Option ℕ))
@@ -74,9 +74,9 @@ rising_tested (a ∷ []) h = refl
 rising_tested (a ∷ b ∷ ids) h =
     and_from _ _ (lt-ltb _ _ (h 0 (omega arith)))
     (rising_tested (b ∷ ids)
-      (λ k l. let e : suc k + 1 ≡ suc (k + 1) = omega arith in
-        subst (λ m. get_or (a ∷ b ∷ ids) (suc k) 0 < get_or (a ∷ b ∷ ids) m 0) e
-          (h (suc k) (omega arith))))
+    (λ k l. let e : suc k + 1 ≡ suc (k + 1) = omega arith in
+    subst (λ m. get_or (a ∷ b ∷ ids) (suc k) 0 < get_or (a ∷ b ∷ ids) m 0) e
+    (h (suc k) (omega arith))))
 
 rising_declared : (ids : List ℕ) → is_rising ids ≡ true → (k : ℕ) → k + 1 < length ids
     → get_or ids k 0 < get_or ids (k + 1) 0
@@ -86,7 +86,7 @@ rising_declared (a ∷ b ∷ ids) e zero l = ltb-true _ _ (and_parts _ _ e).0
 rising_declared (a ∷ b ∷ ids) e (suc j) l =
     let m : suc j + 1 ≡ suc (j + 1) = omega arith in
     subst (λ m. get_or (a ∷ b ∷ ids) (suc j) 0 < get_or (a ∷ b ∷ ids) m 0) (sym m)
-        (rising_declared (b ∷ ids) (and_parts _ _ e).1 j (omega arith))
+    (rising_declared (b ∷ ids) (and_parts _ _ e).1 j (omega arith))
 
 pub borne_tested : (plan : Plan) (ids : List ℕ) → IsBorne plan ids → is_borne plan ids ≡ true
 borne_tested plan ids h =
@@ -98,9 +98,11 @@ pub borne_declared : (plan : Plan) (ids : List ℕ) → is_borne plan ids ≡ tr
 borne_declared plan ids e =
     let p = and_parts _ _ e in
     let q = and_parts _ _ p.0 in
-    record
-      { rising = rising_declared ids q.1; ids = below_declared (plan_nodes plan) ids q.0;
-        few = leb-true _ _ p.1 }
+    record {
+      rising = rising_declared ids q.1;
+      ids = below_declared (plan_nodes plan) ids q.0;
+      few = leb-true _ _ p.1;
+    }
 
 -- ---- starts and the row behind them
 
@@ -158,7 +160,7 @@ lies_fit k told (lie ∷ lies) round is states = (
       (All-head (told_in k) lie lies states),
   lies_fit k (told ++ lie_state k lie ∷ []) lies round
       (drop_tail (length told) (pair_of lie) (map pair_of lies) (pairs k) is
-        ∙ ap (λ m. drop m (pairs k)) (sym (length_push told (lie_state k lie))))
+      ∙ ap (λ m. drop m (pairs k)) (sym (length_push told (lie_state k lie))))
       (All-tail (told_in k) lie lies states),
 )
 
@@ -179,13 +181,15 @@ lies_back k told (lie ∷ lies) size h =
     let p = and_parts _ _ h.0 in
     let (rest, is) = next_pair lie.sender lie.receiver _ (and_parts _ _ p.0).1 in
     let more = lies_back k (told ++ lie_state k lie ∷ []) lies
-        (omega (arith, size, length_push told (lie_state k lie))) h.1 in
+    (omega (arith, size, length_push told (lie_state k lie))) h.1 in
     let behind_is : rest
-        ≡ drop (length told + 1) (pairs k) = drop_tail (length told) (pair_of lie) rest (pairs k)
-          is in
-    (ap (λ l. pair_of lie ∷ l)
+    ≡ drop (length told + 1) (pairs k) = drop_tail (length told) (pair_of lie) rest (pairs k)
+    is in (
+      ap (λ l. pair_of lie ∷ l)
           (more.0 ∙ ap (λ m. drop m (pairs k)) (length_push told (lie_state k lie)) ∙ sym behind_is)
-        ∙ is, All-cons (told_in k) lie lies p.1 more.1)
+          ∙ is,
+      All-cons (told_in k) lie lies p.1 more.1,
+    )
 
 -- ---- what a round leaves as it was
 
@@ -246,7 +250,7 @@ behind_pass k told None row all is few shape =
 behind_pass k told (Some era) row all is few shape = (
   and_from _ _
       (and_from _ _ (and_from _ _ all (eq-eqb (k.at + 1) (k.at + 1) refl))
-        (lt-ltb _ _ (omega (arith, few))))
+      (lt-ltb _ _ (omega (arith, few))))
       (borne_tested k.plan era.faulty is.borne),
   puts_fit (renewed k era.faulty told) k.stand.faulty 0 era.starts row
       (starts_fit k.plan k.stand.faulty era.faulty era.starts is.starts)
@@ -264,7 +268,7 @@ turns_tested k [] h rounds eras = tt
 turns_tested k (turn ∷ turns) h rounds eras =
     let told = all_lies k [] turn.lies in
     let more : era_count (turn ∷ turns)
-        ≡ one_era turn.era + era_count turns = count_more turn turns in
+    ≡ one_era turn.era + era_count turns = count_more turn turns in
     let round : has_round k ≡ true = lt-ltb _ _ (omega (arith, rounds)) in
     let next = behind k told turn.era turn.row in (
       lies_fit k [] turn.lies round h.0.told h.0.states,
@@ -272,13 +276,13 @@ turns_tested k (turn ∷ turns) h rounds eras =
           (omega (arith, eras)) h.0.row,
       turns_tested next turns
           (subst (λ p. AreTurns p next.stand.faulty turns)
-              (sym (plan_behind k told turn.era turn.row))
-              (subst (λ f. AreTurns k.plan f turns)
-                (sym (faulty_put_behind k told turn.era turn.row)) h.1))
+          (sym (plan_behind k told turn.era turn.row))
+          (subst (λ f. AreTurns k.plan f turns)
+          (sym (faulty_put_behind k told turn.era turn.row)) h.1))
           (omega (arith, at_behind k told turn.era turn.row, rounds))
           (subst (λ v. next.eras + era_count turns ≤ most_eras v)
-              (sym (version_behind k told turn.era turn.row))
-              (omega (arith, eras_behind k told turn.era turn.row, eras))),
+          (sym (version_behind k told turn.era turn.row))
+          (omega (arith, eras_behind k told turn.era turn.row, eras))),
     )
 
 behind_told : (k : Known) (told : List State) (era : Option Era) (row : List (Option ℕ))
@@ -298,10 +302,11 @@ behind_era : (k : Known) (told : List State) (era : Option Era) (row : List (Opt
     → BehindPass k told era row → IfSome era (IsEra k.plan k.stand.faulty)
 behind_era k told None row h = tt
 behind_era k told (Some era) row h =
-    record
-    { borne = borne_declared k.plan era.faulty (and_parts _ _ h.0).1;
+    record {
+      borne = borne_declared k.plan era.faulty (and_parts _ _ h.0).1;
       starts = starts_declared k.plan k.stand.faulty era.faulty era.starts
-        (puts_back (renewed k era.faulty told) k.stand.faulty 0 era.starts row h.1).0 }
+          (puts_back (renewed k era.faulty told) k.stand.faulty 0 era.starts row h.1).0;
+    }
 
 behind_row : (k : Known) (told : List State) (era : Option Era) (row : List (Option ℕ))
     → BehindPass k told era row → IsRow k.plan (faulty_behind k.stand.faulty era) row
@@ -322,7 +327,7 @@ turns_declared k [] most few h = record { are = tt; rounds = omega arith; eras =
 turns_declared k (turn ∷ turns) most few h =
     let told = all_lies k [] turn.lies in
     let more : era_count (turn ∷ turns)
-        ≡ one_era turn.era + era_count turns = count_more turn turns in
+    ≡ one_era turn.era + era_count turns = count_more turn turns in
     let next = behind k told turn.era turn.row in
     let all = and_parts _ _ (behind_told k told turn.era turn.row h.1) in
     let below : k.at < 1000000 = ltb-true _ _ all.0 in
@@ -331,23 +336,26 @@ turns_declared k (turn ∷ turns) most few h =
     let lies = lies_back k [] turn.lies (omega (arith, size, count)) h.0 in
     let some = behind_few k told turn.era turn.row few h.1 in
     let rest = turns_declared next turns (omega (arith, at_behind k told turn.era turn.row))
-        (subst (λ v. next.eras ≤ most_eras v) (sym (version_behind k told turn.era turn.row))
-          (omega (arith, eras_behind k told turn.era turn.row, some)))
-        h.2 in
+    (subst (λ v. next.eras ≤ most_eras v) (sym (version_behind k told turn.era turn.row))
+    (omega (arith, eras_behind k told turn.era turn.row, some)))
+    h.2 in
     record {
       are = (
-        record
-            { told = lies.0; states = lies.1; era = behind_era k told turn.era turn.row h.1;
-              row = behind_row k told turn.era turn.row h.1 },
+        record {
+          told = lies.0;
+          states = lies.1;
+          era = behind_era k told turn.era turn.row h.1;
+          row = behind_row k told turn.era turn.row h.1;
+        },
         subst (λ p. AreTurns p (faulty_behind k.stand.faulty turn.era) turns)
             (plan_behind k told turn.era turn.row)
             (subst (λ f. AreTurns next.plan f turns) (faulty_put_behind k told turn.era turn.row)
-              rest.are),
+            rest.are),
       );
       rounds = omega (arith, rest.rounds, at_behind k told turn.era turn.row);
       eras =
           let x : next.eras + era_count turns
-            ≤ most_eras k.version = subst (λ v. next.eras + era_count turns ≤ most_eras v)
-              (version_behind k told turn.era turn.row) rest.eras in
+          ≤ most_eras k.version = subst (λ v. next.eras + era_count turns ≤ most_eras v)
+          (version_behind k told turn.era turn.row) rest.eras in
           omega (arith, eras_behind k told turn.era turn.row);
     }

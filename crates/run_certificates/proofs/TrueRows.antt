@@ -47,13 +47,13 @@ head_none false n more e = absurd cc
 none_differs : (plan : Plan) (rows : List (List (Option ℕ))) (stands : List Stand) (n : ℕ)
     → length rows ≡ length stands
     → first_from (λ b. b) n (differences plan rows stands) ≡ None
-        → rows ≡ map (shown_row plan) stands
+    → rows ≡ map (shown_row plan) stands
 none_differs plan [] [] n size e = refl
 none_differs plan [] (s ∷ ss) n size e = absurd (omega (arith, size))
 none_differs plan (r ∷ rs) [] n size e = absurd (omega (arith, size))
 none_differs plan (r ∷ rs) (s ∷ ss) n size e =
     let p = head_none (same_rows r (shown_row plan s)) n
-        (first_from (λ b. b) (n + 1) (differences plan rs ss)) e in
+    (first_from (λ b. b) (n + 1) (differences plan rs ss)) e in
     ap (λ x. x ∷ rs) (rows_same r (shown_row plan s) p.0)
     ∙ ap (λ xs. shown_row plan s ∷ xs) (none_differs plan rs ss (n + 1) (omega (arith, size)) p.1)
 
@@ -73,8 +73,8 @@ all_shown : (c : Certificate) (n : ℕ) (m : Option ℕ) → verdict_of c ≡ ve
 all_shown c n m e =
     none_differs c.plan (rows_of c) (stated c) 0
     (ap suc
-        (length-map c.turns (λ (turn : Turn). turn.row)
-          ∙ sym (count_stands c.plan (first_stand c) c.turns)))
+    (length-map c.turns (λ (turn : Turn). turn.row)
+    ∙ sym (count_stands c.plan (first_stand c) c.turns)))
     (true_none (first_difference c) _ _ n m e)
 
 -- ---- the configurations of a stretch
@@ -82,8 +82,8 @@ all_shown c n m e =
 after_at : (plan : Plan) (stand : Stand) (before rest : List Turn) (i : ℕ) (d : Stand)
     → get_or (stand ∷ stands_behind plan stand (before ++ rest)) (length before + i) d
     ≡ get_or
-        (stand_after plan stand before ∷ stands_behind plan (stand_after plan stand before) rest) i
-        d
+    (stand_after plan stand before ∷ stands_behind plan (stand_after plan stand before) rest) i
+    d
 after_at plan stand [] rest i d = let same : 0 + i ≡ i = omega arith in rw same refl
 after_at plan stand (turn ∷ before) rest i d =
     let same : length (turn ∷ before) + i ≡ suc (length before + i) = omega arith in
@@ -107,7 +107,7 @@ quiet_faulty plan stand [] (suc i) d quiet le = absurd (omega arith)
 quiet_faulty plan stand (turn ∷ stretch) (suc i) d quiet le =
     let none : turn.era ≡ None = quiet 0 turn (omega arith) in
     quiet_faulty plan (stand_behind plan stand turn) stretch i d
-        (λ k e lt. let up = quiet (suc k) e (omega arith) in up) (omega arith)
+    (λ k e lt. let up = quiet (suc k) e (omega arith) in up) (omega arith)
     ∙ ap (faulty_behind stand.faulty) none
 
 borne_behind : (plan : Plan) (faulty : List ℕ) (era : Option Era) → IsBorne plan faulty
@@ -118,11 +118,11 @@ borne_behind plan faulty (Some era) borne is = is.borne
 
 borne_after : (plan : Plan) (before rest : List Turn) (stand : Stand) → IsBorne plan stand.faulty
     → AreTurns plan stand.faulty (before ++ rest)
-        → IsBorne plan (stand_after plan stand before).faulty
+    → IsBorne plan (stand_after plan stand before).faulty
 borne_after plan [] rest stand borne are = borne
 borne_after plan (turn ∷ before) rest stand borne are =
     borne_after plan before rest (stand_behind plan stand turn)
-        (borne_behind plan stand.faulty turn.era borne are.0.era) are.1
+    (borne_behind plan stand.faulty turn.era borne are.0.era) are.1
 
 same_word : (liar : Bool) (o p : ℕ) → (liar ≡ false → o ≡ p)
     → cond liar None (Some o) ≡ cond liar None (Some p)
@@ -132,19 +132,19 @@ same_word false o p h = ap Some (h refl)
 row_of_one : (plan : Plan) (faulty : List ℕ) (stand : Stand) (o : ℕ) → stand.faulty ≡ faulty
     → AllShow plan faulty stand.config o
     → shown_row plan stand
-        ≡ map (λ v. cond (is_in faulty v) None (Some o)) (range_with_len 0 (plan_nodes plan))
+    ≡ map (λ v. cond (is_in faulty v) None (Some o)) (range_with_len 0 (plan_nodes plan))
 row_of_one plan faulty stand o same all =
     let word : ℕ
-        → Option ℕ = λ v. cond (is_in stand.faulty v) None
-          (Some (shown (plan_depth plan) (state_of stand.config v))) in
+    → Option ℕ = λ v. cond (is_in stand.faulty v) None
+    (Some (shown (plan_depth plan) (state_of stand.config v))) in
     let one : ℕ → Option ℕ = λ v. cond (is_in faulty v) None (Some o) in
     let n = plan_nodes plan in
     same_lists _ _ (length-map-range_with_len word 0 n ∙ sym (length-map-range_with_len one 0 n))
-        (λ v d l.
+    (λ v d l.
     let lt : v < n = omega (arith, length-map-range_with_len word 0 n) in
     get_or-map-range_with_len word 0 n v v d lt (omega arith)
     ∙ ap (λ f. cond (is_in f v) None (Some (shown (plan_depth plan) (state_of stand.config v))))
-        same
+    same
     ∙ same_word (is_in faulty v) _ o (λ free. all v lt free)
     ∙ sym (get_or-map-range_with_len one 0 n v v d lt (omega arith)))
 

@@ -27,7 +27,7 @@ use Rattle.run_certificates.proofs.Head.{opened}
 
 put_all_stand : (k : Known) (puts : List Put)
     → (put_all k puts).stand
-      ≡ record { faulty = k.stand.faulty; config = with_starts k.plan k.stand.config puts }
+    ≡ record { faulty = k.stand.faulty; config = with_starts k.plan k.stand.config puts }
 put_all_stand k [] = refl
 put_all_stand k (put ∷ puts) = put_all_stand (put_state k put.node put.digits) puts
 
@@ -51,14 +51,14 @@ attributed_are : (k : Known) (lies : List Lie)
     → attributed (plan_nodes k.plan) k.stand.faulty (all_lies k [] lies) ≡ map (told_by k.plan) lies
 attributed_are k lies is =
     ap (λ l. map joins (zip (pairs_of (plan_nodes k.plan) k.stand.faulty) l))
-      (all_lies_are k [] lies)
+    (all_lies_are k [] lies)
     ∙ ap (λ l. map joins (zip l (map (lie_state k) lies))) (sym is) ∙ attributed_to k lies
 
 stand_moved : (k : Known) (faulty : List ℕ) (lies : List Lie)
     → map pair_of lies ≡ pairs_of (plan_nodes k.plan) k.stand.faulty
     → (moved k faulty (all_lies k [] lies)).stand
-        ≡ record
-          { faulty = faulty; config = stepped k.plan faulty k.stand (map (told_by k.plan) lies) }
+    ≡ record
+    { faulty = faulty; config = stepped k.plan faulty k.stand (map (told_by k.plan) lies) }
 stand_moved k faulty lies is =
     ap
     (λ (told : List Told). record { faulty = faulty; config = stepped k.plan faulty k.stand told })
@@ -67,14 +67,14 @@ stand_moved k faulty lies is =
 stand_turned : (k : Known) (lies : List Lie) (era : Option Era) (row : List (Option ℕ))
     → map pair_of lies ≡ pairs_of (plan_nodes k.plan) k.stand.faulty
     → (behind k (all_lies k [] lies) era row).stand
-        ≡ stand_behind k.plan k.stand (record { lies = lies; era = era; row = row })
+    ≡ stand_behind k.plan k.stand (record { lies = lies; era = era; row = row })
 stand_turned k lies None row is = stand_moved k k.stand.faulty lies is
 stand_turned k lies (Some era) row is =
     put_all_stand (renewed k era.faulty (all_lies k [] lies)) era.starts
     ∙ ap
-        (λ (s : Stand). record
-          { faulty = s.faulty; config = with_starts k.plan s.config era.starts })
-        (stand_moved k era.faulty lies is)
+    (λ (s : Stand). record
+    { faulty = s.faulty; config = with_starts k.plan s.config era.starts })
+    (stand_moved k era.faulty lies is)
 
 -- ---- what is kept on the way
 
@@ -106,8 +106,8 @@ abbrev verdict_over : Plan → Stand → (differs : Option ℕ) → (locked : Op
 verdict_over plan stand differs locked at turns =
     verdict_by
     (first_or differs
-      (first_from (λ b. b) (at + 1)
-        (differences plan (rows turns) (stands_behind plan stand turns))))
+    (first_from (λ b. b) (at + 1)
+    (differences plan (rows turns) (stands_behind plan stand turns))))
     (at + 1 + length turns) (lock_over plan locked (at + 1) turns (stands_behind plan stand turns))
 
 or_none : (a : Option ℕ) → first_or a None ≡ a
@@ -124,7 +124,7 @@ locked_put_all k (put ∷ puts) = locked_put_all (put_state k put.node put.digit
 
 -- what a row comes to, where it is known what is compared
 differs_compared : (m : Known) (row : List (Option ℕ)) (plan : Plan) (stand : Stand) (at : ℕ)
-      (differs : Option ℕ)
+    (differs : Option ℕ)
     → m.plan ≡ plan → m.stand ≡ stand → m.at ≡ at → m.differs ≡ differs
     → (compared m row).differs ≡ first_of differs (not (same_rows row (shown_row plan stand))) at
 differs_compared m row plan stand at differs p s a d =
@@ -134,7 +134,7 @@ differs_compared m row plan stand at differs p s a d =
     ∙ ap (λ q. first_of q (not (same_rows row (shown_row plan stand))) at) d
 
 locked_compared : (m : Known) (row : List (Option ℕ)) (plan : Plan) (stand : Stand) (at : ℕ)
-      (locked : Option ℕ)
+    (locked : Option ℕ)
     → m.plan ≡ plan → m.stand ≡ stand → m.at ≡ at → m.locked ≡ locked
     → (compared m row).locked ≡ first_of locked (is_locked plan stand.faulty stand.config) at
 locked_compared m row plan stand at locked p s a d =
@@ -148,12 +148,12 @@ record Behind (k : Known) (turn : Turn) : Type 0 where
   stand : (turned k turn).stand ≡ stand_behind k.plan k.stand turn
   differs : (turned k turn).differs
       ≡ first_of k.differs
-        (not (same_rows turn.row (shown_row k.plan (stand_behind k.plan k.stand turn)))) (k.at + 1)
+      (not (same_rows turn.row (shown_row k.plan (stand_behind k.plan k.stand turn)))) (k.at + 1)
   locked : (turned k turn).locked
       ≡ first_of (cond (is_some turn.era) None k.locked)
-        (is_locked k.plan (stand_behind k.plan k.stand turn).faulty
-          (stand_behind k.plan k.stand turn).config)
-        (k.at + 1)
+      (is_locked k.plan (stand_behind k.plan k.stand turn).faulty
+      (stand_behind k.plan k.stand turn).config)
+      (k.at + 1)
 
 behind_is : (k : Known) (lies : List Lie) (era : Option Era) (row : List (Option ℕ))
     → map pair_of lies ≡ pairs_of (plan_nodes k.plan) k.stand.faulty
@@ -174,7 +174,7 @@ behind_is k lies (Some era) row is =
     let r = renewed k era.faulty (all_lies k [] lies) in
     let m = put_all r era.starts in
     let s : Stand = stand_behind k.plan k.stand
-        (record { lies = lies; era = Some era; row = row }) in
+    (record { lies = lies; era = Some era; row = row }) in
     let same : m.stand ≡ s = stand_turned k lies (Some era) row is in
     record {
       stand = same;
@@ -188,67 +188,67 @@ behind_is k lies (Some era) row is =
 
 -- the verdict that is kept is that over the stands
 followed_is : (turns : List Turn) (k : Known) (plan : Plan) (stand : Stand)
-      (differs locked : Option ℕ) (at : ℕ)
+    (differs locked : Option ℕ) (at : ℕ)
     → k.plan ≡ plan → k.stand ≡ stand → k.differs ≡ differs → k.locked ≡ locked → k.at ≡ at
     → AreTurns plan stand.faulty turns
     → followed k turns ≡ verdict_over plan stand differs locked at turns
 followed_is [] k plan stand differs locked at p s d l a h =
     ap (λ q. verdict_by q (k.at + 1) k.locked) (d ∙ sym (or_none differs))
-        ∙ ap (λ q. verdict_by (first_or differs None) q k.locked) (omega (arith, a))
-        ∙ ap (λ q. verdict_by (first_or differs None) (at + 1 + 0) q) l
+    ∙ ap (λ q. verdict_by (first_or differs None) q k.locked) (omega (arith, a))
+    ∙ ap (λ q. verdict_by (first_or differs None) (at + 1 + 0) q) l
 followed_is (turn ∷ turns) k plan stand differs locked at p s d l a h =
     let next : Stand = stand_behind plan stand turn in
     let told : map pair_of turn.lies ≡ pairs_of (plan_nodes k.plan) k.stand.faulty = h.0.told
-        ∙ ap (λ (x : Stand). pairs_of (plan_nodes plan) x.faulty) (sym s)
-        ∙ ap (λ x. pairs_of (plan_nodes x) k.stand.faulty) (sym p) in
+    ∙ ap (λ (x : Stand). pairs_of (plan_nodes plan) x.faulty) (sym s)
+    ∙ ap (λ x. pairs_of (plan_nodes x) k.stand.faulty) (sym p) in
     let b = behind_is k turn.lies turn.era turn.row told in
     let same : stand_behind k.plan k.stand turn ≡ next = ap (λ x. stand_behind x k.stand turn) p
-        ∙ ap (λ x. stand_behind plan x turn) s in
+    ∙ ap (λ x. stand_behind plan x turn) s in
     let differs2 : Option ℕ = first_of differs (not (same_rows turn.row (shown_row plan next)))
-        (at + 1) in
+    (at + 1) in
     let locked2 : Option ℕ = first_of (cond (is_some turn.era) None locked)
-        (is_locked plan next.faulty next.config) (at + 1) in
+    (is_locked plan next.faulty next.config) (at + 1) in
     let d2 : (turned k turn).differs ≡ differs2 =
     b.differs
-        ∙ ap (λ x. first_of k.differs (not (same_rows turn.row (shown_row k.plan x))) (k.at + 1))
-          same
-        ∙ ap (λ x. first_of k.differs (not (same_rows turn.row (shown_row x next))) (k.at + 1)) p
+    ∙ ap (λ x. first_of k.differs (not (same_rows turn.row (shown_row k.plan x))) (k.at + 1))
+    same
+    ∙ ap (λ x. first_of k.differs (not (same_rows turn.row (shown_row x next))) (k.at + 1)) p
     ∙ ap (λ x. first_of x (not (same_rows turn.row (shown_row plan next))) (k.at + 1)) d
-        ∙ ap (λ x. first_of differs (not (same_rows turn.row (shown_row plan next))) (x + 1)) a in
+    ∙ ap (λ x. first_of differs (not (same_rows turn.row (shown_row plan next))) (x + 1)) a in
     let l2 : (turned k turn).locked ≡ locked2 =
     b.locked
-        ∙ ap
-          (λ (x : Stand). first_of (cond (is_some turn.era) None k.locked)
-            (is_locked k.plan x.faulty x.config) (k.at + 1))
-          same
-        ∙ ap
-          (λ x. first_of (cond (is_some turn.era) None k.locked)
-            (is_locked x next.faulty next.config) (k.at + 1))
-          p
     ∙ ap
-          (λ x. first_of (cond (is_some turn.era) None x) (is_locked plan next.faulty next.config)
-            (k.at + 1))
-          l
-        ∙ ap
-          (λ x. first_of (cond (is_some turn.era) None locked)
-            (is_locked plan next.faulty next.config) (x + 1))
-          a in
+    (λ (x : Stand). first_of (cond (is_some turn.era) None k.locked)
+    (is_locked k.plan x.faulty x.config) (k.at + 1))
+    same
+    ∙ ap
+    (λ x. first_of (cond (is_some turn.era) None k.locked)
+    (is_locked x next.faulty next.config) (k.at + 1))
+    p
+    ∙ ap
+    (λ x. first_of (cond (is_some turn.era) None x) (is_locked plan next.faulty next.config)
+    (k.at + 1))
+    l
+    ∙ ap
+    (λ x. first_of (cond (is_some turn.era) None locked)
+    (is_locked plan next.faulty next.config) (x + 1))
+    a in
     followed_is turns (turned k turn) plan next differs2 locked2 (at + 1)
-        (plan_behind k (all_lies k [] turn.lies) turn.era turn.row ∙ p) (b.stand ∙ same) d2 l2
-        (at_behind k (all_lies k [] turn.lies) turn.era turn.row ∙ ap (λ x. x + 1) a) h.1
+    (plan_behind k (all_lies k [] turn.lies) turn.era turn.row ∙ p) (b.stand ∙ same) d2 l2
+    (at_behind k (all_lies k [] turn.lies) turn.era turn.row ∙ ap (λ x. x + 1) a) h.1
     ∙ ap
-        (λ x. verdict_by x (at + 1 + 1 + length turns)
-          (lock_over plan locked2 (at + 1 + 1) turns (stands_behind plan next turns)))
+    (λ x. verdict_by x (at + 1 + 1 + length turns)
+    (lock_over plan locked2 (at + 1 + 1) turns (stands_behind plan next turns)))
     (of_or differs (not (same_rows turn.row (shown_row plan next))) (at + 1)
-        (first_from (λ b. b) (at + 1 + 1)
-          (differences plan (rows turns) (stands_behind plan next turns))))
+    (first_from (λ b. b) (at + 1 + 1)
+    (differences plan (rows turns) (stands_behind plan next turns))))
     ∙ ap
-        (λ x. verdict_by
-          (first_or differs
-            (first_from (λ b. b) (at + 1)
-              (differences plan (rows (turn ∷ turns)) (stands_behind plan stand (turn ∷ turns)))))
-          x (lock_over plan locked2 (at + 1 + 1) turns (stands_behind plan next turns)))
-        (omega arith)
+    (λ x. verdict_by
+    (first_or differs
+    (first_from (λ b. b) (at + 1)
+    (differences plan (rows (turn ∷ turns)) (stands_behind plan stand (turn ∷ turns)))))
+    x (lock_over plan locked2 (at + 1 + 1) turns (stands_behind plan next turns)))
+    (omega arith)
 
 -- ---- the first locked one of the last era
 
@@ -274,12 +274,12 @@ some_start : (turns : List Turn) (t last : ℕ) → any_era turns ≡ true
 some_start [] t last e = absurd cc
 some_start (turn ∷ turns) t last e =
     by turn.era (any_era turns) refl e (some_start turns (t + 1) (begins_at t last turn.era)) where
-  by : (era : Option Era) (more : Bool) → any_era turns ≡ more → (is_some era || more) ≡ true
-      → (any_era turns ≡ true → t + 1 ≤ last_start_from (t + 1) (begins_at t last era) turns)
-      → t ≤ last_start_from (t + 1) (begins_at t last era) turns
-  by era true m e rest = omega (arith, rest m)
-  by None false m e rest = absurd cc
-  by (Some era) false m e rest = omega (arith, no_start turns (t + 1) t m)
+      by : (era : Option Era) (more : Bool) → any_era turns ≡ more → (is_some era || more) ≡ true
+          → (any_era turns ≡ true → t + 1 ≤ last_start_from (t + 1) (begins_at t last era) turns)
+          → t ≤ last_start_from (t + 1) (begins_at t last era) turns
+      by era true m e rest = omega (arith, rest m)
+      by None false m e rest = absurd cc
+      by (Some era) false m e rest = omega (arith, no_start turns (t + 1) t m)
 
 module _ (plan : Plan) where
   abbrev holds : Stand → Bool
@@ -288,59 +288,59 @@ module _ (plan : Plan) where
   lock_is : (turns : List Turn) (stands : List Stand) (known : Option ℕ) (t last : ℕ)
       → length stands ≡ length turns
       → lock_over plan known t turns stands
-          ≡ cond (any_era turns)
-            (first_from holds (last_start_from t last turns)
-              (drop (last_start_from t last turns - t) stands))
-            (first_or known (first_from holds t stands))
+      ≡ cond (any_era turns)
+      (first_from holds (last_start_from t last turns)
+      (drop (last_start_from t last turns - t) stands))
+      (first_or known (first_from holds t stands))
   lock_is [] [] known t last e = sym (or_none known)
   lock_is [] (s ∷ ss) known t last e = absurd (omega arith)
   lock_is (turn ∷ turns) [] known t last e = absurd (omega arith)
   lock_is (turn ∷ turns) (stand ∷ stands) known t last e =
       by turn.era (any_era turns) refl
-          (lock_is turns stands (first_of (cond (is_some turn.era) None known) (holds stand) t)
-            (t + 1) (begins_at t last turn.era) (omega arith))
-          where
-        later : (n : ℕ) → t + 1 ≤ n → drop (n - t) (stand ∷ stands) ≡ drop (n - (t + 1)) stands
-        later n h =
-            let k : n - t ≡ suc (n - (t + 1)) = omega arith in ap (λ m. drop m (stand ∷ stands)) k
+      (lock_is turns stands (first_of (cond (is_some turn.era) None known) (holds stand) t)
+      (t + 1) (begins_at t last turn.era) (omega arith))
+    where
+      later : (n : ℕ) → t + 1 ≤ n → drop (n - t) (stand ∷ stands) ≡ drop (n - (t + 1)) stands
+      later n h =
+          let k : n - t ≡ suc (n - (t + 1)) = omega arith in ap (λ m. drop m (stand ∷ stands)) k
 
-        here : drop (t - t) (stand ∷ stands) ≡ stand ∷ stands
-        here = let k : t - t ≡ zero = omega arith in ap (λ m. drop m (stand ∷ stands)) k
+      here : drop (t - t) (stand ∷ stands) ≡ stand ∷ stands
+      here = let k : t - t ≡ zero = omega arith in ap (λ m. drop m (stand ∷ stands)) k
 
-        by : (era : Option Era) (more : Bool) → any_era turns ≡ more
-            → lock_over plan (first_of (cond (is_some era) None known) (holds stand) t) (t + 1)
-                turns stands
-            ≡ cond (any_era turns)
-                (first_from holds (last_start_from (t + 1) (begins_at t last era) turns)
-                  (drop (last_start_from (t + 1) (begins_at t last era) turns - (t + 1)) stands))
-            (first_or (first_of (cond (is_some era) None known) (holds stand) t)
-                (first_from holds (t + 1) stands))
-            → lock_over plan (first_of (cond (is_some era) None known) (holds stand) t) (t + 1)
-                turns stands
-            ≡ cond (is_some era || any_era turns)
-                (first_from holds (last_start_from (t + 1) (begins_at t last era) turns)
-                  (drop (last_start_from (t + 1) (begins_at t last era) turns - t)
-                    (stand ∷ stands)))
-                (first_or known (first_from holds t (stand ∷ stands)))
-        by None true m h =
-            h
-            ∙ rw m
-              (ap (first_from holds (last_start_from (t + 1) last turns))
-                (sym
-                  (later (last_start_from (t + 1) last turns) (some_start turns (t + 1) last m))))
-        by (Some era) true m h =
-            h
-            ∙ rw m
-              (ap (first_from holds (last_start_from (t + 1) t turns))
-                (sym (later (last_start_from (t + 1) t turns) (some_start turns (t + 1) t m))))
-        by None false m h = h ∙ rw m (of_or known (holds stand) t (first_from holds (t + 1) stands))
-        by (Some era) false m h =
-            let s : last_start_from (t + 1) t turns ≡ t = no_start turns (t + 1) t m in
-            h
-                ∙ rw m
-                  (of_or None (holds stand) t (first_from holds (t + 1) stands)
-                    ∙ ap (first_from holds t) (sym here)
-                    ∙ ap (λ n. first_from holds n (drop (n - t) (stand ∷ stands))) (sym s))
+      by : (era : Option Era) (more : Bool) → any_era turns ≡ more
+          → lock_over plan (first_of (cond (is_some era) None known) (holds stand) t) (t + 1)
+          turns stands
+          ≡ cond (any_era turns)
+          (first_from holds (last_start_from (t + 1) (begins_at t last era) turns)
+          (drop (last_start_from (t + 1) (begins_at t last era) turns - (t + 1)) stands))
+          (first_or (first_of (cond (is_some era) None known) (holds stand) t)
+          (first_from holds (t + 1) stands))
+          → lock_over plan (first_of (cond (is_some era) None known) (holds stand) t) (t + 1)
+          turns stands
+          ≡ cond (is_some era || any_era turns)
+          (first_from holds (last_start_from (t + 1) (begins_at t last era) turns)
+          (drop (last_start_from (t + 1) (begins_at t last era) turns - t)
+          (stand ∷ stands)))
+          (first_or known (first_from holds t (stand ∷ stands)))
+      by None true m h =
+          h
+          ∙ rw m
+          (ap (first_from holds (last_start_from (t + 1) last turns))
+          (sym
+          (later (last_start_from (t + 1) last turns) (some_start turns (t + 1) last m))))
+      by (Some era) true m h =
+          h
+          ∙ rw m
+          (ap (first_from holds (last_start_from (t + 1) t turns))
+          (sym (later (last_start_from (t + 1) t turns) (some_start turns (t + 1) t m))))
+      by None false m h = h ∙ rw m (of_or known (holds stand) t (first_from holds (t + 1) stands))
+      by (Some era) false m h =
+          let s : last_start_from (t + 1) t turns ≡ t = no_start turns (t + 1) t m in
+          h
+          ∙ rw m
+          (of_or None (holds stand) t (first_from holds (t + 1) stands)
+          ∙ ap (first_from holds t) (sym here)
+          ∙ ap (λ n. first_from holds n (drop (n - t) (stand ∷ stands))) (sym s))
 
 count_stands : (plan : Plan) (stand : Stand) (turns : List Turn)
     → length (stands_behind plan stand turns) ≡ length turns
@@ -355,22 +355,22 @@ pub locks_are : (c : Certificate) (l : Bool)
     → lock_over c.plan (first_of None l 0) 1 c.turns stands ≡ locks_at c
 locks_are c l is stands all =
     lock_is c.plan c.turns stands (first_of None l 0) 1 0
-        (ap length (sym all) ∙ count_stands c.plan (first_stand c) c.turns)
+    (ap length (sym all) ∙ count_stands c.plan (first_stand c) c.turns)
     ∙ by (any_era c.turns) refl where
       whole : drop 0 (first_stand c ∷ stands) ≡ stated c
       whole = ap (λ s. first_stand c ∷ s) (sym all)
 
       by : (any : Bool) → any_era c.turns ≡ any
           → cond any (first_from (holds c.plan) (last_start c) (drop (last_start c - 1) stands))
-                (first_or (first_of None l 0) (first_from (holds c.plan) 1 stands))
-              ≡ first_from (holds c.plan) (last_start c) (drop (last_start c) (stated c))
+          (first_or (first_of None l 0) (first_from (holds c.plan) 1 stands))
+          ≡ first_from (holds c.plan) (last_start c) (drop (last_start c) (stated c))
       by true e =
           ap (first_from (holds c.plan) (last_start c))
           (behind_first (last_start c) (some_start c.turns 1 0 e) ∙ ap (drop (last_start c)) whole)
-          where
-        behind_first : (n : ℕ) → 1 ≤ n → drop (n - 1) stands ≡ drop n (first_stand c ∷ stands)
-        behind_first zero h = absurd (omega arith)
-        behind_first (suc n) h = let k : suc n - 1 ≡ n = omega arith in ap (λ m. drop m stands) k
+        where
+          behind_first : (n : ℕ) → 1 ≤ n → drop (n - 1) stands ≡ drop n (first_stand c ∷ stands)
+          behind_first zero h = absurd (omega arith)
+          behind_first (suc n) h = let k : suc n - 1 ≡ n = omega arith in ap (λ m. drop m stands) k
       by false e =
           let none : last_start c ≡ 0 = no_start c.turns 1 0 e in
           of_or None l 0 (first_from (holds c.plan) 1 stands)
@@ -389,19 +389,19 @@ verdict_seen c is =
     let b : Bool = not (same_rows c.row (shown_row c.plan first)) in
     let l : Bool = is_locked c.plan first.faulty first.config in
     followed_is c.turns (opened c) c.plan first (first_of None b 0) (first_of None l 0) 0
-        (plan_put_all known c.starts) same
+    (plan_put_all known c.starts) same
     (differs_compared placed c.row c.plan first 0 None (plan_put_all known c.starts) same
-        (at_put_all known c.starts) (differs_put_all known c.starts))
+    (at_put_all known c.starts) (differs_put_all known c.starts))
     (locked_compared placed c.row c.plan first 0 None (plan_put_all known c.starts) same
-        (at_put_all known c.starts) (locked_put_all known c.starts))
+    (at_put_all known c.starts) (locked_put_all known c.starts))
     (at_put_all known c.starts) is.turns
     ∙ ap
-        (λ x. verdict_by x (0 + 1 + length c.turns)
-          (lock_over c.plan (first_of None l 0) 1 c.turns stands))
-        (of_or None b 0 (first_from (λ x. x) 1 (differences c.plan (rows c.turns) stands)))
+    (λ x. verdict_by x (0 + 1 + length c.turns)
+    (lock_over c.plan (first_of None l 0) 1 c.turns stands))
+    (of_or None b 0 (first_from (λ x. x) 1 (differences c.plan (rows c.turns) stands)))
     ∙ ap
-        (λ x. verdict_by (first_difference c) x
-          (lock_over c.plan (first_of None l 0) 1 c.turns stands))
-        (omega arith)
+    (λ x. verdict_by (first_difference c) x
+    (lock_over c.plan (first_of None l 0) 1 c.turns stands))
+    (omega arith)
     ∙ ap (λ x. verdict_by (first_difference c) (length c.turns + 1) x)
-        (locks_are c l refl stands refl)
+    (locks_are c l refl stands refl)

@@ -35,10 +35,10 @@ abbrev pub done : Verdict → (taken : ℕ) → List Item → List (List ℕ)
 done v taken items behind = Ok (record { value = v; taken = taken + length items; behind = behind })
 
 last_read : (more : List Item) (taken number : ℕ) (behind : List (List ℕ)) (v w : Verdict)
-      (item : Item)
+    (item : Item)
     → at_end w more ≡ Some v
     → lines_following (ends w) taken number (map item_line more ++ behind)
-      ≡ done v taken (item ∷ more) behind
+    ≡ done v taken (item ∷ more) behind
 last_read [] taken number behind v w item e =
     let same : w ≡ v = cc in
     let count : taken + suc zero ≡ taken + 1 = omega arith in
@@ -48,12 +48,12 @@ last_read (x ∷ xs) taken number behind v w item e = absurd cc
 next_read : (next : Onward) (item : Item) (items : List Item) (taken number : ℕ)
     (behind : List (List ℕ)) (v : Verdict)
     →
-        ((t : Stage) → accepts t items ≡ Some v
-          → read_lines t (taken + 1) (number + 1) (map item_line items ++ behind)
-            ≡ done v (taken + 1) items behind)
+    ((t : Stage) → accepts t items ≡ Some v
+    → read_lines t (taken + 1) (number + 1) (map item_line items ++ behind)
+    ≡ done v (taken + 1) items behind)
     → following next items ≡ Some v
-        → lines_following next taken number (map item_line items ++ behind)
-          ≡ done v taken (item ∷ items) behind
+    → lines_following next taken number (map item_line items ++ behind)
+    ≡ done v taken (item ∷ items) behind
 next_read (goes t) item items taken number behind v more e =
     more t e ∙ ap (λ n. Ok (record { value = v; taken = n; behind = behind })) (omega arith)
 next_read (ends w) item items taken number behind v more e =
@@ -62,17 +62,17 @@ next_read (refuses r) item items taken number behind v more e = absurd cc
 
 -- what is read to a verdict as items is read so as lines
 pub lines_read : (items : List Item) (stage : Stage) (taken number : ℕ) (behind : List (List ℕ))
-      (v : Verdict)
+    (v : Verdict)
     → All HasLine items → accepts stage items ≡ Some v
     → read_lines stage taken number (map item_line items ++ behind) ≡ done v taken items behind
 lines_read [] stage taken number behind v h e = absurd cc
 lines_read (item ∷ items) stage taken number behind v h e =
     ap (λ next. lines_following next taken number (map item_line items ++ behind))
-        (line_steps stage item (All-head HasLine item items h))
+    (line_steps stage item (All-head HasLine item items h))
     ∙ next_read (step stage item) item items taken number behind v
-        (λ t more. lines_read items t (taken + 1) (number + 1) behind v
-          (All-tail HasLine item items h) more)
-        e
+    (λ t more. lines_read items t (taken + 1) (number + 1) behind v
+    (All-tail HasLine item items h) more)
+    e
 
 -- ---- and back
 
@@ -120,16 +120,22 @@ ReadBy stage line taken number lines found next =
 stop_here : (stage : Stage) (taken number : ℕ) (lines : List (List ℕ)) (at : At (Unit {0}))
     → at.line ≡ number → Stopped stage number lines at
 stop_here stage taken number lines at e =
-    record
-    { items = []; has = All-nil HasLine; rest = lines; is = refl; reached = stage; reach = refl;
-      count = omega (arith, e) }
+    record {
+      items = [];
+      has = All-nil HasLine;
+      rest = lines;
+      is = refl;
+      reached = stage;
+      reach = refl;
+      count = omega (arith, e);
+    }
 
 one_before : (stage t : Stage) (item : Item) (line : List ℕ) (taken number : ℕ)
-      (lines : List (List ℕ))
+    (lines : List (List ℕ))
     → step stage item ≡ goes t → item_line item ≡ line → HasLine item
     → (answer : Result (Found Verdict) (At (Unit {0})))
-        → Read t (taken + 1) (number + 1) lines answer
-        → Read stage taken number (line ∷ lines) answer
+    → Read t (taken + 1) (number + 1) lines answer
+    → Read stage taken number (line ∷ lines) answer
 one_before stage t item line taken number lines e is has (Ok found) r = record {
   items = item ∷ r.items;
   has = All-cons HasLine item r.items has r.has;
@@ -145,40 +151,43 @@ one_before stage t item line taken number lines e is has (Err at) r = record {
   reached = r.reached;
   reach =
       ap
-        (λ (next : Onward). elim next as (λ _. Option Stage)
-          [ goes t ↦ reaches t r.items | ends v ↦ None | refuses x ↦ None ])
-        e
+      (λ (next : Onward). elim next as (λ _. Option Stage)
+      [ goes t ↦ reaches t r.items | ends v ↦ None | refuses x ↦ None ])
+      e
       ∙ r.reach;
   count = omega (arith, r.count);
 }
 
 read_item : (next : Onward) (stage : Stage) (item : Item) (line : List ℕ) (taken number : ℕ)
-      (lines : List (List ℕ))
+    (lines : List (List ℕ))
     → item_line item ≡ line → HasLine item
     →
-        ((t : Stage)
-          → Read t (taken + 1) (number + 1) lines (read_lines t (taken + 1) (number + 1) lines))
+    ((t : Stage)
+    → Read t (taken + 1) (number + 1) lines (read_lines t (taken + 1) (number + 1) lines))
     → step stage item ≡ next
-        → Read stage taken number (line ∷ lines) (lines_following next taken number lines)
+    → Read stage taken number (line ∷ lines) (lines_following next taken number lines)
 read_item (goes t) stage item line taken number lines is has more s =
     one_before stage t item line taken number lines s is has
     (read_lines t (taken + 1) (number + 1) lines) (more t)
 read_item (ends v) stage item line taken number lines is has more s =
-    record
-    { items = item ∷ []; has = All-cons HasLine item [] has (All-nil HasLine);
-      is = ap (λ l. l ∷ lines) (sym is); read = ap (λ next. following next []) s;
-      count = omega arith }
+    record {
+      items = item ∷ [];
+      has = All-cons HasLine item [] has (All-nil HasLine);
+      is = ap (λ l. l ∷ lines) (sym is);
+      read = ap (λ next. following next []) s;
+      count = omega arith;
+    }
 read_item (refuses r) stage item line taken number lines is has more s =
     stop_here stage taken number (line ∷ lines) (record { line = number; rule = r }) refl
 
 read_by : (found : Option Item) (stage : Stage) (line : List ℕ) (taken number : ℕ)
-      (lines : List (List ℕ))
+    (lines : List (List ℕ))
     → said line ≡ found
     →
-        ((t : Stage)
-          → Read t (taken + 1) (number + 1) lines (read_lines t (taken + 1) (number + 1) lines))
+    ((t : Stage)
+    → Read t (taken + 1) (number + 1) lines (read_lines t (taken + 1) (number + 1) lines))
     → Read stage taken number (line ∷ lines)
-        (lines_following (step_by stage found) taken number lines)
+    (lines_following (step_by stage found) taken number lines)
 read_by None stage line taken number lines e more =
     stop_here stage taken number (line ∷ lines) (record { line = number; rule = tt }) refl
 read_by (Some item) stage line taken number lines e more =

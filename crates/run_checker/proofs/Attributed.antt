@@ -28,33 +28,33 @@ module _ (plan : Plan) where
   told_same (p ∷ pairs) [] u v = refl
   told_same (p ∷ pairs) (s ∷ states) u v =
       by (eqb p.0 u && eqb p.1 v) (told_same pairs states u v) where
-    by : (b : Bool)
-        → told_of plan (map (λ (pair, state). told_to pair state) (zip pairs states)) u v
-        ≡ told_for (plan_depth plan) pairs states u v
-        → unwrap_or
+        by : (b : Bool)
+            → told_of plan (map (λ (pair, state). told_to pair state) (zip pairs states)) u v
+            ≡ told_for (plan_depth plan) pairs states u v
+            → unwrap_or
             (option_map (λ (t : Told). t.state)
-              (cond b (Some (told_to p s))
-                (find (λ (t : Told). eqb t.sender u && eqb t.receiver v)
-                  (map (λ (pair, state). told_to pair state) (zip pairs states)))))
+            (cond b (Some (told_to p s))
+            (find (λ (t : Told). eqb t.sender u && eqb t.receiver v)
+            (map (λ (pair, state). told_to pair state) (zip pairs states)))))
             (zero_state (plan_depth plan))
-        ≡ cond b s (told_for (plan_depth plan) pairs states u v)
-    by true more = refl
-    by false more = more
+            ≡ cond b s (told_for (plan_depth plan) pairs states u v)
+        by true more = refl
+        by false more = more
 
   table_same : (faulty : List ℕ) (states : List State)
       → told_table (plan_nodes plan) (plan_depth plan) (pairs_of (plan_nodes plan) faulty) states
       ≡ lies_table plan (attributed (plan_nodes plan) faulty states)
   table_same faulty states =
       same_map
-          (λ u. map (λ v. told_for (plan_depth plan) (pairs_of (plan_nodes plan) faulty) states u v)
-            (range_with_len 0 (plan_nodes plan)))
+      (λ u. map (λ v. told_for (plan_depth plan) (pairs_of (plan_nodes plan) faulty) states u v)
+      (range_with_len 0 (plan_nodes plan)))
       (λ u. map (λ v. told_of plan (attributed (plan_nodes plan) faulty states) u v)
-          (range_with_len 0 (plan_nodes plan)))
+      (range_with_len 0 (plan_nodes plan)))
       (λ u. same_map
-          (λ v. told_for (plan_depth plan) (pairs_of (plan_nodes plan) faulty) states u v)
+      (λ v. told_for (plan_depth plan) (pairs_of (plan_nodes plan) faulty) states u v)
       (λ v. told_of plan (attributed (plan_nodes plan) faulty states) u v)
       (λ v. sym (told_same (pairs_of (plan_nodes plan) faulty) states u v))
-          (range_with_len 0 (plan_nodes plan)))
+      (range_with_len 0 (plan_nodes plan)))
       (range_with_len 0 (plan_nodes plan))
 
   -- the configuration behind a round is the stated one
@@ -63,12 +63,12 @@ module _ (plan : Plan) where
       → pairs ≡ pairs_of (plan_nodes plan) faulty
       → stepped_all plan faulty new config pairs states
       ≡ stepped plan new (record { faulty = faulty; config = config })
-          (attributed (plan_nodes plan) faulty states)
+      (attributed (plan_nodes plan) faulty states)
   stepped_is faulty new config pairs states is =
       ap (λ (ps : List (ℕ × ℕ)). stepped_all plan faulty new config ps states) is
       ∙ ap
-          (λ (table : List (List State)). map
-            (λ v. cond (is_in new v) (zero_state (plan_depth plan))
-              (step_of plan v (heard_by (plan_nodes plan) faulty config table v)))
-            (range_with_len 0 (plan_nodes plan)))
+      (λ (table : List (List State)). map
+      (λ v. cond (is_in new v) (zero_state (plan_depth plan))
+      (step_of plan v (heard_by (plan_nodes plan) faulty config table v)))
+      (range_with_len 0 (plan_nodes plan)))
       (table_same faulty states)

@@ -98,8 +98,8 @@ module _ (plan : Plan) (accepted : IsAccepted plan) where
         room = ap (λ (t : Telling). t.room) h.1;
         states = subst (λ (t : Telling). AreStates plan t.states) (sym h.1)
             (subst
-                (λ (f : Shape). AreStates plan
-                  (old.states ++ read_text (fields_at f v) digits ∷ []))
+            (λ (f : Shape). AreStates plan
+            (old.states ++ read_text (fields_at f v) digits ∷ []))
             (sym is) more);
       }
 
@@ -118,7 +118,7 @@ zeros_from faulty s a zero = refl
 zeros_from faulty s a (suc n) =
     ap (λ rest. s ∷ rest) (zeros_from faulty s (a + 1) n)
     ∙ ap (λ t. t ∷ map (λ v. cond (is_in faulty v) s s) (range_with_len (a + 1) n))
-        (same_both (is_in faulty a) s)
+    (same_both (is_in faulty a) s)
 
 pub zeros_known : (plan : Plan) (faulty : List ℕ)
     → replicate (plan_nodes plan) (zero_state (plan_depth plan))
@@ -179,7 +179,7 @@ both_below : (n : ℕ) (xs ys : List (ℕ × ℕ)) → All (Below n) xs → All 
 both_below n [] ys h k = k
 both_below n (x ∷ xs) ys h k =
     All-cons (Below n) x (xs ++ ys) (All-head (Below n) x xs h)
-        (both_below n xs ys (All-tail (Below n) x xs h) k)
+    (both_below n xs ys (All-tail (Below n) x xs h) k)
 
 -- the senders of pairs are nodes
 pub senders_below : (n : ℕ) (vs us : List ℕ) → All (λ id. id < n) us
@@ -188,7 +188,7 @@ senders_below n vs [] h = All-nil (Below n)
 senders_below n vs (u ∷ us) h =
     both_below n (map (λ v. (u, v)) vs) (flat_map (λ u. map (λ v. (u, v)) vs) us)
     (row_below n u vs (All-head (λ id. id < n) u us h))
-        (senders_below n vs us (All-tail (λ id. id < n) u us h))
+    (senders_below n vs us (All-tail (λ id. id < n) u us h))
 
 -- and so is that of the next pair, which is one of those that are left
 pub next_below : (n u v k : ℕ) (pairs : List (ℕ × ℕ)) → All (Below n) pairs

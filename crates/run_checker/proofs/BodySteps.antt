@@ -52,11 +52,11 @@ and_right false b e = refl
 module _ (b : BodySeen) (t : ℕ) where
   era_telling : (ids : List ℕ) → b.is_putting ≡ false → step (stage_of b) (era_item t ids)
       ≡ cond (era_fits b.known b.told t ids)
-          (goes (putting (renewed b.known ids b.told) b.known.stand.faulty 0)) refused
+      (goes (putting (renewed b.known ids b.told) b.known.stand.faulty 0)) refused
   era_telling ids e =
       ap
       (λ (p : Bool). step (cond p (putting b.known b.unknown b.from) (telling b.known b.told))
-        (era_item t ids))
+      (era_item t ids))
       e
 
   era_parts : (ids : List ℕ)
@@ -69,7 +69,7 @@ module _ (b : BodySeen) (t : ℕ) where
   era_elsewhere (Some ids) e =
       ap
       (λ (p : Bool). step (cond p (putting b.known b.unknown b.from) (telling b.known b.told))
-        (era_item t ids))
+      (era_item t ids))
       e
 
   pub era_not_there : (said : Option (List ℕ)) → b.is_putting ≡ false → may_begin b t ≡ false
@@ -89,10 +89,10 @@ module _ (b : BodySeen) (t : ℕ) where
   era_not_borne None e none = refl
   era_not_borne (Some ids) e none =
       era_telling ids e
-          ∙ not_chosen _ _
-            (era_parts ids
-              ∙ and_right (may_begin b t) (is_borne b.known.plan ids)
-                (not_borne (is_borne b.known.plan ids) ids none))
+      ∙ not_chosen _ _
+      (era_parts ids
+      ∙ and_right (may_begin b t) (is_borne b.known.plan ids)
+      (not_borne (is_borne b.known.plan ids) ids none))
 
   is_borne_one : (c : Bool) (ids found : List ℕ) → cond c (Some ids) None ≡ Some found
       → (c ≡ true) × (ids ≡ found)
@@ -102,7 +102,7 @@ module _ (b : BodySeen) (t : ℕ) where
   pub era_taken : (said : Option (List ℕ)) (ids : List ℕ) (new : BodySeen) → b.is_putting ≡ false
       → may_begin b t ≡ true
       → borne_ids (plan_nodes b.known.plan) (plan_faults b.known.plan) said ≡ Some ids
-          → new ≡ played_into (era_more b) ids
+      → new ≡ played_into (era_more b) ids
       → Takes (step_by (stage_of b) (era_by (Some t) said)) (stage_of new) (Ok None)
   era_taken None ids new e may borne is = absurd cc
   era_taken (Some said) ids new e may borne is =
@@ -139,7 +139,7 @@ module _ (b : BodySeen) (t : ℕ) where
   row_other (Some row) mid is e =
       row_step row ∙ not_chosen _ _ (and_right (may_row b) (row_fits (at_row b).known t row)
       (and_left (eqb t (at_row b).known.at)
-          (is_row (at_row b).known.plan (at_row b).known.stand.faulty row)
+      (is_row (at_row b).known.plan (at_row b).known.stand.faulty row)
       (ap (λ (m : BodySeen). eqb t m.known.at) (sym is) ∙ e)))
 
   pub row_no_row : (said : Option (List (Option ℕ))) (mid new : BodySeen) → mid ≡ at_row b
@@ -149,7 +149,7 @@ module _ (b : BodySeen) (t : ℕ) where
   row_no_row (Some row) mid new is h =
       row_step row ∙ not_chosen _ _ (and_right (may_row b) (row_fits (at_row b).known t row)
       (and_right (eqb t (at_row b).known.at)
-          (is_row (at_row b).known.plan (at_row b).known.stand.faulty row)
+      (is_row (at_row b).known.plan (at_row b).known.stand.faulty row)
       (ap (λ (m : BodySeen). is_row m.known.plan m.known.stand.faulty row) (sym is) ∙ h)))
 
   pub row_taken : (said : Option (List (Option ℕ))) (mid new : BodySeen) → may_row b ≡ true
@@ -160,8 +160,8 @@ module _ (b : BodySeen) (t : ℕ) where
   row_taken (Some row) mid new may is e h =
       takes_on _ (stage_of new) (telling (compared (at_row b).known row) [])
       (row_step row
-          ∙ chosen _ _
-            (and_of _ _ may (and_of _ _ (ap (λ (m : BodySeen). eqb t m.known.at) (sym is) ∙ e)
+      ∙ chosen _ _
+      (and_of _ _ may (and_of _ _ (ap (λ (m : BodySeen). eqb t m.known.at) (sym is) ∙ e)
       (ap (λ (m : BodySeen). is_row m.known.plan m.known.stand.faulty row) (sym is) ∙ h.is_row))))
       (ap stage_of h.marked ∙ ap (λ (m : BodySeen). telling (compared m.known row) []) is)
 
@@ -180,8 +180,8 @@ row_marks_by b row same false e is = absurd cc
 
 pub row_marks : (b : BodySeen) (said : Option (List (Option ℕ))) (same : Bool)
     → Some same
-        ≡ row_compared (plan_depth b.known.plan) b.known.stand.faulty b.known.stand.config
-          (plan_nodes b.known.plan) said
+    ≡ row_compared (plan_depth b.known.plan) b.known.stand.faulty b.known.stand.config
+    (plan_nodes b.known.plan) said
     → Marks said b (marked_by b same) true
 row_marks b None same is = absurd cc
 row_marks b (Some row) same is =

@@ -28,7 +28,7 @@ some_era : (x : ℕ) (eras : List Era) (i : ℕ) → i < length eras
 some_era x [] i lt is = absurd (omega arith)
 some_era x (era ∷ eras) zero lt is =
     some_by x era eras (eqb era.first x) refl
-        (λ other. absurd (true≢false (sym (eq-eqb era.first x is) ∙ other)))
+    (λ other. absurd (true≢false (sym (eq-eqb era.first x is) ∙ other)))
 some_era x (era ∷ eras) (suc i) lt is =
     some_by x era eras (eqb era.first x) refl (λ other. some_era x eras i (omega (arith, lt)) is)
 
@@ -44,7 +44,7 @@ no_era : (x : ℕ) (eras : List Era)
 no_era x [] none = refl
 no_era x (era ∷ eras) none =
     none_by x era eras (eqb era.first x) refl
-        (λ here. none zero (omega arith) (eqb-true era.first x here))
+    (λ here. none zero (omega arith) (eqb-true era.first x here))
     (no_era x eras (λ i lt is. none (suc i) (omega (arith, lt)) is))
 
 pub begins_some : (s : Script) (x j : ℕ) → BeginsAt s x (Some j)
@@ -70,7 +70,7 @@ module _ (plan : Plan) (s : Script) (t : ℕ) (config : List State) where
     era_cut cut =
         rw (begins_some s (t + 1) j begins).1
         (cut_more old mid (era_text (t + 1) (faulty_at s (t + 1)))
-            (starts_text plan s t config ++ []) cut)
+        (starts_text plan s t config ++ []) cut)
 
     pub era_put : {T E : Type 0} (r : Result T E) (now : Told)
         → Wrote (era_text (t + 1) (faulty_at s (t + 1))) old mid
@@ -79,5 +79,5 @@ module _ (plan : Plan) (s : Script) (t : ℕ) (config : List State) where
     era_put r now wrote puts =
         rw (begins_some s (t + 1) j begins).1
         (puts_then r old mid now (era_text (t + 1) (faulty_at s (t + 1)))
-            (starts_text plan s t config ++ []) wrote
+        (starts_text plan s t config ++ []) wrote
         (rw (append-nil (starts_text plan s t config)) puts))

@@ -45,7 +45,7 @@ module _ (plan : Plan) (version i : ℕ) (nums : LevelNums)
   -- one more line is written
   pub wrote_level : (s t u : Told) → Wrote (first_texts version plan i) s t
       → Wrote (level_line version (level_of nums)) t u
-          → Wrote (first_texts version plan (i + 1)) s u
+      → Wrote (first_texts version plan (i + 1)) s u
   wrote_level s t u before line =
       wrote_at (level_line version) (reverse plan.levels) i (level_of nums) s t u within before
       (rw here line)

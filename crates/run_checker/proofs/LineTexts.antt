@@ -41,47 +41,47 @@ base_is b = sym (line_text (codes "base") (decimal b ∷ []))
 
 level_by : (v : Bool) (k f c s : ℕ)
     → concat
-        (concat (codes "level " ∷ decimal k ∷ codes " " ∷ decimal f ∷ codes " " ∷ decimal c ∷ [])
+    (concat (codes "level " ∷ decimal k ∷ codes " " ∷ decimal f ∷ codes " " ∷ decimal c ∷ [])
     ∷ cond v (concat (codes " spare " ∷ decimal s ∷ codes "\n" ∷ [])) (codes "\n") ∷ [])
     ≡ line_of (level_item k f c (cond v (Some s) None))
 level_by true k f c s =
     parted k f c (concat (codes " spare " ∷ decimal s ∷ codes "\n" ∷ []))
     ∙ sym
-      (line_text (codes "level")
-        (decimal k ∷ decimal f ∷ decimal c ∷ codes "spare" ∷ decimal s ∷ []))
+    (line_text (codes "level")
+    (decimal k ∷ decimal f ∷ decimal c ∷ codes "spare" ∷ decimal s ∷ []))
   where
     parted : (k f c : ℕ) (end : List ℕ)
         → concat
-            (concat
-                (codes "level " ∷ decimal k ∷ codes " " ∷ decimal f ∷ codes " " ∷ decimal c ∷ [])
-              ∷ end ∷ [])
+        (concat
+        (codes "level " ∷ decimal k ∷ codes " " ∷ decimal f ∷ codes " " ∷ decimal c ∷ [])
+        ∷ end ∷ [])
         ≡ codes "level " ++ (decimal k ++ (32 ∷ (decimal f ++ (32 ∷ (decimal c ++ end)))))
     parted k f c end =
         ap (λ l. codes "level " ++ l)
         (append_assoc (decimal k) (32 ∷ (decimal f ++ (32 ∷ (decimal c ++ [])))) (end ++ [])
         ∙ ap (λ l. decimal k ++ (32 ∷ l))
-            (append_assoc (decimal f) (32 ∷ (decimal c ++ [])) (end ++ [])
+        (append_assoc (decimal f) (32 ∷ (decimal c ++ [])) (end ++ [])
         ∙ ap (λ l. decimal f ++ (32 ∷ l))
-            (ap (λ l. l ++ (end ++ [])) (append-nil (decimal c))
-              ∙ ap (λ l. decimal c ++ l) (append-nil end))))
+        (ap (λ l. l ++ (end ++ [])) (append-nil (decimal c))
+        ∙ ap (λ l. decimal c ++ l) (append-nil end))))
 level_by false k f c s =
     parted k f c (codes "\n")
     ∙ sym (line_text (codes "level") (decimal k ∷ decimal f ∷ decimal c ∷ []))
   where
     parted : (k f c : ℕ) (end : List ℕ)
         → concat
-            (concat
-                (codes "level " ∷ decimal k ∷ codes " " ∷ decimal f ∷ codes " " ∷ decimal c ∷ [])
-              ∷ end ∷ [])
+        (concat
+        (codes "level " ∷ decimal k ∷ codes " " ∷ decimal f ∷ codes " " ∷ decimal c ∷ [])
+        ∷ end ∷ [])
         ≡ codes "level " ++ (decimal k ++ (32 ∷ (decimal f ++ (32 ∷ (decimal c ++ end)))))
     parted k f c end =
         ap (λ l. codes "level " ++ l)
         (append_assoc (decimal k) (32 ∷ (decimal f ++ (32 ∷ (decimal c ++ [])))) (end ++ [])
         ∙ ap (λ l. decimal k ++ (32 ∷ l))
-            (append_assoc (decimal f) (32 ∷ (decimal c ++ [])) (end ++ [])
+        (append_assoc (decimal f) (32 ∷ (decimal c ++ [])) (end ++ [])
         ∙ ap (λ l. decimal f ++ (32 ∷ l))
-            (ap (λ l. l ++ (end ++ [])) (append-nil (decimal c))
-              ∙ ap (λ l. decimal c ++ l) (append-nil end))))
+        (ap (λ l. l ++ (end ++ [])) (append-nil (decimal c))
+        ∙ ap (λ l. decimal c ++ l) (append-nil end))))
 
 pub level_is : (version : ℕ) (level : Level)
     → level_line version level ≡ line_of (level_of version level)
@@ -127,37 +127,37 @@ module _ (plan : Plan) (faulty : List ℕ) (config : List State) where
 
   row_spaced : (vs : List ℕ)
       → flat_map (node_word plan faulty config) vs ++ 10 ∷ []
-        ≡ spaced (map row_word (map shown_of vs))
+      ≡ spaced (map row_word (map shown_of vs))
   row_spaced [] = refl
   row_spaced (v ∷ vs) =
       append_assoc (node_word plan faulty config v) (flat_map (node_word plan faulty config) vs)
-          (10 ∷ [])
+      (10 ∷ [])
       ∙ word_is (is_in faulty v) (shown (plan_depth plan) (state_of config v))
-          (flat_map (node_word plan faulty config) vs ++ 10 ∷ [])
+      (flat_map (node_word plan faulty config) vs ++ 10 ∷ [])
       ∙ ap (λ l. 32 ∷ (row_word (shown_of v) ++ l)) (row_spaced vs)
 
   pub row_is : (t : ℕ)
       → row_text plan faulty t config
-        ≡ line_of (row_item t (map shown_of (range_with_len 0 (plan_nodes plan))))
+      ≡ line_of (row_item t (map shown_of (range_with_len 0 (plan_nodes plan))))
   row_is t =
       numbered (codes "row ") t
-          (flat_map (node_word plan faulty config) (range_with_len 0 (plan_nodes plan)) ++ 10 ∷ [])
+      (flat_map (node_word plan faulty config) (range_with_len 0 (plan_nodes plan)) ++ 10 ∷ [])
       ∙ ap (λ l. codes "row " ++ (decimal t ++ l)) (row_spaced (range_with_len 0 (plan_nodes plan)))
       ∙ sym
-          (line_text (codes "row")
-            (decimal t ∷ map row_word (map shown_of (range_with_len 0 (plan_nodes plan)))))
+      (line_text (codes "row")
+      (decimal t ∷ map row_word (map shown_of (range_with_len 0 (plan_nodes plan)))))
 
 -- ---- states
 
 pub start_is : (v : ℕ) (digits : List ℕ)
     → concat (codes "start " ∷ decimal v ∷ codes " " ∷ digits ∷ codes "\n" ∷ [])
-        ≡ line_of (start_item v digits)
+    ≡ line_of (start_item v digits)
 start_is v digits = sym (line_text (codes "start") (decimal v ∷ digits ∷ []))
 
 pub lie_is : (u v : ℕ) (digits : List ℕ)
     → concat
-          (codes "lie " ∷ decimal u ∷ codes " " ∷ decimal v ∷ codes " " ∷ digits ∷ codes "\n" ∷ [])
-        ≡ line_of (lie_item u v digits)
+    (codes "lie " ∷ decimal u ∷ codes " " ∷ decimal v ∷ codes " " ∷ digits ∷ codes "\n" ∷ [])
+    ≡ line_of (lie_item u v digits)
 lie_is u v digits = sym (line_text (codes "lie") (decimal u ∷ decimal v ∷ digits ∷ []))
 
 -- ---- lists of lines
@@ -168,7 +168,7 @@ kept_lines p line [] = refl
 kept_lines p line (x ∷ xs) = by (p x) (kept_lines p line xs) where
   by : (b : Bool) → flat_map line (filter p xs) ≡ flat_map (λ x. cond (p x) (line x) []) xs
       → flat_map line (cond b (x ∷ filter p xs) (filter p xs))
-          ≡ cond b (line x) [] ++ flat_map (λ x. cond (p x) (line x) []) xs
+      ≡ cond b (line x) [] ++ flat_map (λ x. cond (p x) (line x) []) xs
   by true more = ap (λ l. line x ++ l) more
   by false more = more
 
@@ -182,4 +182,4 @@ pub nested_lines : {X Y : Type 0} (line : Y → List ℕ) (g : X → List Y) (xs
 nested_lines line g [] = refl
 nested_lines line g (x ∷ xs) =
     flat_map-append line (g x) (flat_map g xs)
-        ∙ ap (λ l. flat_map line (g x) ++ l) (nested_lines line g xs)
+    ∙ ap (λ l. flat_map line (g x) ++ l) (nested_lines line g xs)

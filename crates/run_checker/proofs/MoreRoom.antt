@@ -60,7 +60,7 @@ module _ (line : List ℕ) (lines : List (List ℕ)) (taken number : ℕ) where
   abbrev Behind : (m l : ℕ) → Type 0
   Behind m l = (t : Stage)
       → Grows (part_within m t (taken + 1) (number + 1) lines)
-          (part_within l t (taken + 1) (number + 1) lines)
+      (part_within l t (taken + 1) (number + 1) lines)
 
   next_grows : (next : Onward) (m l : ℕ) → m ≤ l → Behind m l
       → Grows (after (with_rest (Some m) next)) (after (with_rest (Some l) next))
@@ -87,7 +87,7 @@ part_grows (line ∷ lines) s taken number m l le =
     line_grows line lines taken number (with_length line_step tt s line)
     (nat_le (line_cost line) m) (nat_le (line_cost line) l) m l refl refl le
     (λ t. part_grows lines t (taken + 1) (number + 1) (m - line_cost line) (l - line_cost line)
-        (omega (arith, le)))
+    (omega (arith, le)))
 
 -- ---- behind the last line
 
@@ -115,7 +115,7 @@ alone_grows : (lines : List (List ℕ)) (v : Verdict) (number at m l : ℕ) → 
 alone_grows [] v number at m l le e = absurd cc
 alone_grows (line ∷ lines) v number at m l le e =
     shown_grows line number at (nat_le (line_cost line) m) (nat_le (line_cost line) l) m l refl refl
-        le e
+    le e
 
 module _ (text : List ℕ) (number : ℕ) where
   text_grows : (part other : Part) → Grows part other
@@ -124,23 +124,23 @@ module _ (text : List ℕ) (number : ℕ) where
   text_grows (Ok found) other grows e =
       ap (then_alone line_step tt text) grows.same
       ∙ alone_grows (lines_of (behind_lines found.taken text)) found.value.1 number
-          (found.taken + 1)
+      (found.taken + 1)
       grows.less grows.more grows.within
       (sym
-            (ap
-              (λ (room : Option ℕ). texts.alone tt (found.taken + 1) room found.value.1
-                (lines_of (behind_lines found.taken text)))
-              grows.room)
-          ∙ e)
+      (ap
+      (λ (room : Option ℕ). texts.alone tt (found.taken + 1) room found.value.1
+      (lines_of (behind_lines found.taken text)))
+      grows.room)
+      ∙ e)
   text_grows (Err at) other grows e =
       let is : at ≡ record { line = number; rule = by tt } = cc in
       ap (then_alone line_step tt text) (grows (ap (λ (a : At (Limited (Unit {0}))). a.rule) is))
-          ∙ e
+      ∙ e
 
   pub more_room : (longer : Bool) (m l : ℕ) → m ≤ l → checked_by m longer text ≡ refused_at number
       → checked_by l longer text ≡ refused_at number
   more_room false m l le e = e
   more_room true m l le e =
       text_grows (part_within m unread 0 1 (lines_of text))
-          (part_within l unread 0 1 (lines_of text))
+      (part_within l unread 0 1 (lines_of text))
       (part_grows (lines_of text) unread 0 1 m l le) e

@@ -30,7 +30,7 @@ follower_few : (nodes faults : ℕ) (ids : List ℕ) (id : ℕ)
 follower_few nodes faults ids id may =
     let parts = and_parts (nat_lt id nodes && nat_lt (length ids) faults) (is_above ids id) may in
     ltb-true (length ids) faults
-        (and_parts (nat_lt id nodes) (nat_lt (length ids) faults) parts.0).1
+    (and_parts (nat_lt id nodes) (nat_lt (length ids) faults) parts.0).1
 
 some_above : (n last id : ℕ) → (eqb n 0 || nat_lt last id) ≡ true → 0 < n → last < id
 some_above n last id e some =
@@ -61,13 +61,13 @@ module _ (nodes faults : ℕ) where
       → may_follow nodes faults ids id ≡ true → is_borne_by nodes faults (ids ++ id ∷ []) ≡ true
   one_borne ids id borne may =
       let parts = and_parts (are_below nodes ids && is_rising ids) (nat_le (length ids) faults)
-          borne in
+      borne in
       let both = and_parts (are_below nodes ids) (is_rising ids) parts.0 in
       let long = length-append ids (id ∷ []) in
       and_from _ _ (and_from _ _
       (list_all-append (λ i. nat_lt i nodes) ids (id ∷ [])
       ∙ and_from _ _ both.0
-          (and_from _ _ (lt-ltb id nodes (follower_below nodes faults ids id may)) refl))
+      (and_from _ _ (lt-ltb id nodes (follower_below nodes faults ids id may)) refl))
       (rising_more ids id both.1 (follower_above nodes faults ids id may)))
       (le-leb _ _ (omega (arith, long, follower_few nodes faults ids id may)))
 
@@ -85,7 +85,7 @@ module _ (nodes faults : ℕ) where
   follows ids id rest borne =
       let all = ids ++ id ∷ rest in
       let parts = and_parts (are_below nodes all && is_rising all) (nat_le (length all) faults)
-          borne in
+      borne in
       let both = and_parts (are_below nodes all) (is_rising all) parts.0 in
       let long = length-append ids (id ∷ rest) in
       let few = leb-true (length all) faults parts.1 in

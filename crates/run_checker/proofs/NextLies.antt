@@ -109,8 +109,8 @@ module _ (b : BodySeen) (accepted : IsAccepted b.known.plan)
       let stage : stage_of b ≡ telling b.known b.told =
       ap (λ (p : Bool). stage_of (record b { is_putting = p })) putting in
       let after : stage_of new ≡ telling b.known told_more.told =
-      ap stage_of h.1 ∙ ap (λ (p : Bool). stage_of (record told_more { is_putting = p })) putting in
-          (
+      ap stage_of h.1
+      ∙ ap (λ (p : Bool). stage_of (record told_more { is_putting = p })) putting in (
         ap (λ (s : Stage). line_step s line) stage ∙ taken h.0 ∙ ap goes (sym after),
         one h.0,
       )

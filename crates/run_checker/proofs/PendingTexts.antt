@@ -45,9 +45,12 @@ module _ (text : List ℕ) where
       → RefusedOnlyAt (1 + length (whole_lines text)) tt (unlimited answer)
       → length (text_of (whole_lines text)) ≤ 2 ^ 44
   answered_short (Ok verdict) of only =
-      omega
-          (arith, text_parts text, ap length of.text_is,
-            certificates_are_short of.certificate of.is)
+      omega (
+        arith,
+        text_parts text,
+        ap length of.text_is,
+        certificates_are_short of.certificate of.is,
+      )
   answered_short (Err number) at only =
       let last : number ≡ 1 + length (whole_lines text) =
       ap (λ (a : At (Limited (Unit {0}))). a.line) only in

@@ -95,7 +95,7 @@ module _ (faulty : List ℕ) where
   pub pairs_more : (u v : ℕ) (old now : List (ℕ × ℕ))
       → now ≡ old ++ map (λ w. (u, w)) (correct_nodes v faulty)
       → now ++ cond (is_in faulty v) [] ((u, v) ∷ [])
-          ≡ old ++ map (λ w. (u, w)) (correct_nodes (v + 1) faulty)
+      ≡ old ++ map (λ w. (u, w)) (correct_nodes (v + 1) faulty)
   pairs_more u v old now is = by (is_in faulty v) refl where
     by : (b : Bool) → is_in faulty v ≡ b
         → now ++ cond b [] ((u, v) ∷ []) ≡ old ++ map (λ w. (u, w)) (correct_nodes (v + 1) faulty)

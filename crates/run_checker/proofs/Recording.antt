@@ -59,7 +59,7 @@ stops_behind old new now lt one same =
     let at = one.at in
     subst (StillPlays old) (sym same)
     (record
-        { plan = one.plan; script = one.script; within = omega (arith, lt, at); plays = one.plays })
+    { plan = one.plan; script = one.script; within = omega (arith, lt, at); plays = one.plays })
 
 -- one that is where another was stops where that does
 pub stops_as : (old mid new : Running NoOverlay) → mid ≡ old → StillPlays mid new
@@ -83,9 +83,14 @@ pub record TurnsSoFar (plan : Plan) (script : Script) (t : ℕ) (r : Running NoO
 pub turns_begin : (r : Running NoOverlay) (sink : Told) → r.at ≡ 0 → IsToRecord r
     → TurnsSoFar r.plan r.script 0 r sink sink
 turns_begin r sink at h =
-    record
-        { plan_is = refl; script_is = refl; at = at; within = omega arith; records = h;
-          wrote = wrote_none sink }
+    record {
+      plan_is = refl;
+      script_is = refl;
+      at = at;
+      within = omega arith;
+      records = h;
+      wrote = wrote_none sink;
+    }
 
 module _ (plan : Plan) (script : Script) (t : ℕ) (r : Running NoOverlay) (old mid : Told)
     (so_far : TurnsSoFar plan script t r old mid) where
@@ -100,7 +105,7 @@ module _ (plan : Plan) (script : Script) (t : ℕ) (r : Running NoOverlay) (old 
 
   pub turns_go_on : (new : Running NoOverlay) (now : Told) → t < script.rounds
       → Wrote (turn_text r.plan r.script r.at) mid now → HasPlayedOne r new
-          → TurnsSoFar plan script (t + 1) new old now
+      → TurnsSoFar plan script (t + 1) new old now
   turns_go_on new now lt wrote played = record {
     plan_is = played.plan ∙ so_far.plan_is;
     script_is = played.script ∙ so_far.script_is;
@@ -139,7 +144,7 @@ module _ (plan : Plan) (script : Script) (t : ℕ) (r : Running NoOverlay) (old 
     turns_played le =
         let rounds = ap (λ (s : Script). s.rounds) script_is in
         let last : r.at
-            ≡ began.script.rounds = omega (arith, le, so_far.at, so_far.within, rounds) in
+        ≡ began.script.rounds = omega (arith, le, so_far.at, so_far.within, rounds) in
         record {
           still = record {
             plan = so_far.plan_is ∙ sym plan_is;

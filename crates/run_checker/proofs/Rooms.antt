@@ -79,7 +79,7 @@ pairs_few plan accepted set nodes faulty few =
     let count = nodes_counted set.ids set.nodes in
     let bad = places_of_all set.ids set.nodes faulty.rising faulty.below in
     let good : length (correct_nodes set.nodes set.ids)
-        ≡ set.nodes - q = omega (arith, count, bad) in
+    ≡ set.nodes - q = omega (arith, count, bad) in
     omega (
       arith,
       length-pairs_of set.nodes set.ids,

@@ -31,14 +31,14 @@ pub written_over : (depth : ℕ) (s out : State) → length out.registers ≡ de
     → written depth s out ≡ s
 written_over depth s out long =
     ap (λ rs. let r : State = record { x = s.x; registers = s.registers ++ rs } in r)
-        (none out.registers depth long)
+    (none out.registers depth long)
     ∙ ap (λ rs. let r : State = record { x = s.x; registers = rs } in r) (append-nil s.registers)
-        where
-      none : {X : Type 0} (xs : List X) (n : ℕ) → length xs ≡ n → drop n xs ≡ []
-      none [] zero e = refl
-      none [] (suc n) e = refl
-      none (x ∷ xs) zero e = absurd (omega (arith, e))
-      none (x ∷ xs) (suc n) e = none xs n (omega (arith, e))
+  where
+    none : {X : Type 0} (xs : List X) (n : ℕ) → length xs ≡ n → drop n xs ≡ []
+    none [] zero e = refl
+    none [] (suc n) e = refl
+    none (x ∷ xs) zero e = absurd (omega (arith, e))
+    none (x ∷ xs) (suc n) e = none xs n (omega (arith, e))
 
 -- ---- states of a round
 
@@ -108,14 +108,14 @@ module _ (plan : Plan) (ids : List ℕ) (told : List State) (config : Pack) (nex
   pub gathered_out : IsGathered plan ids told now room → IsGathered plan ids told config room
   gathered_out h =
       same_current (subst (λ (p : Pack). IsGathered plan ids told p room) fixed h) where
-    same_current : IsGathered plan ids told (record config { next = next }) room
-        → IsGathered plan ids told config room
-    same_current k = record {
-      said = k.said;
-      is = record { size = k.is.size; shape = k.is.shape };
-      ready = k.ready;
-      stands = k.stands;
-    }
+        same_current : IsGathered plan ids told (record config { next = next }) room
+            → IsGathered plan ids told config room
+        same_current k = record {
+          said = k.said;
+          is = record { size = k.is.size; shape = k.is.shape };
+          ready = k.ready;
+          stands = k.stands;
+        }
 
 -- a room in which lies were laid
 pub gathered_laid : (plan : Plan) (ids : List ℕ) (told : List State) (config : Pack)

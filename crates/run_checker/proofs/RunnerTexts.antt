@@ -46,11 +46,11 @@ module _ (plan : Plan) (old now : Running NoOverlay) (same : now ≡ old) (is : 
   first_row_is =
       ap (λ (r : Running NoOverlay). row_text r.plan (faulty_at r.script r.at) r.at r.states) same
       ∙ ap (λ (config : List State). row_text old.plan (faulty_at old.script old.at) old.at config)
-          states_at
+      states_at
       ∙ ap
-          (λ (p : Plan). row_text p (faulty_at old.script old.at) old.at
-            (played_at plan old.script 0))
-          is
+      (λ (p : Plan). row_text p (faulty_at old.script old.at) old.at
+      (played_at plan old.script 0))
+      is
       ∙ ap (λ (t : ℕ). row_text plan (faulty_at old.script t) t (played_at plan old.script 0)) at
 
   pub turns_is : turns_text now.plan now.script ≡ turns_text plan old.script
@@ -92,41 +92,41 @@ module _ (old new now : Running NoOverlay) (one : HasPlayedOne old new) (same : 
       (era_at old.plan old.script (old.at + 1))
   era_is t is =
       ap
-          (λ (config : List State). era_lines new.plan new.script t config
-            (era_at new.plan new.script (t + 1)))
-          states_behind
+      (λ (config : List State). era_lines new.plan new.script t config
+      (era_at new.plan new.script (t + 1)))
+      states_behind
       ∙ ap
-          (λ (p : Plan). era_lines p new.script t (played_at old.plan old.script (old.at + 1))
-            (era_at p new.script (t + 1)))
-          one.plan
+      (λ (p : Plan). era_lines p new.script t (played_at old.plan old.script (old.at + 1))
+      (era_at p new.script (t + 1)))
+      one.plan
       ∙ ap
-          (λ (s : Script). era_lines old.plan s t (played_at old.plan old.script (old.at + 1))
-            (era_at old.plan s (t + 1)))
-          one.script
+      (λ (s : Script). era_lines old.plan s t (played_at old.plan old.script (old.at + 1))
+      (era_at old.plan s (t + 1)))
+      one.script
       ∙ ap
-          (λ (t : ℕ). era_lines old.plan old.script t (played_at old.plan old.script (old.at + 1))
-            (era_at old.plan old.script (t + 1)))
-          is
+      (λ (t : ℕ). era_lines old.plan old.script t (played_at old.plan old.script (old.at + 1))
+      (era_at old.plan old.script (t + 1)))
+      is
 
   pub row_behind_is : row_text now.plan (faulty_at now.script now.at) now.at now.states
       ≡ row_text old.plan (faulty_at old.script (old.at + 1)) (old.at + 1)
-          (played_at old.plan old.script (old.at + 1))
+      (played_at old.plan old.script (old.at + 1))
   row_behind_is =
       ap (λ (r : Running NoOverlay). row_text r.plan (faulty_at r.script r.at) r.at r.states) same
       ∙ ap (λ (config : List State). row_text new.plan (faulty_at new.script new.at) new.at config)
-          states_behind
+      states_behind
       ∙ ap
-          (λ (p : Plan). row_text p (faulty_at new.script new.at) new.at
-            (played_at old.plan old.script (old.at + 1)))
-          one.plan
+      (λ (p : Plan). row_text p (faulty_at new.script new.at) new.at
+      (played_at old.plan old.script (old.at + 1)))
+      one.plan
       ∙ ap
-          (λ (s : Script). row_text old.plan (faulty_at s new.at) new.at
-            (played_at old.plan old.script (old.at + 1)))
-          one.script
+      (λ (s : Script). row_text old.plan (faulty_at s new.at) new.at
+      (played_at old.plan old.script (old.at + 1)))
+      one.script
       ∙ ap
-          (λ (t : ℕ). row_text old.plan (faulty_at old.script t) t
-            (played_at old.plan old.script (old.at + 1)))
-          one.at
+      (λ (t : ℕ). row_text old.plan (faulty_at old.script t) t
+      (played_at old.plan old.script (old.at + 1)))
+      one.at
 
 -- ---- one part of a text after another
 

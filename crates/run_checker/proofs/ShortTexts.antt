@@ -100,10 +100,10 @@ module _ (plan : Plan) (accepted : IsAccepted plan) where
         length-append (line_of (lie_of lie)) (lines (map lie_of lies)),
         lie_most lie (All-head HasLine (lie_of lie) (map lie_of lies) have)
             (All-head (λ lie. is_state_text (fields_of plan lie.sender) lie.digits ≡ true) lie lies
-                texts),
+            texts),
         lies_most lies (All-tail HasLine (lie_of lie) (map lie_of lies) have)
             (All-tail (λ lie. is_state_text (fields_of plan lie.sender) lie.digits ≡ true) lie lies
-                texts),
+            texts),
       )
 
   -- ---- how many lines
@@ -189,7 +189,7 @@ module _ (plan : Plan) (accepted : IsAccepted plan) where
       → IsTurn plan faulty turn
       → All HasLine (map lie_of turn.lies ++ (era_items t turn.era ++ (row_item t turn.row ∷ more)))
       → length
-          (lines (map lie_of turn.lies ++ (era_items t turn.era ++ (row_item t turn.row ∷ more))))
+      (lines (map lie_of turn.lies ++ (era_items t turn.era ++ (row_item t turn.row ∷ more))))
       ≤ 7676162 + length (lines more)
   turn_most faulty t turn more borne is have =
       let told = map lie_of turn.lies in
@@ -242,7 +242,7 @@ certificates_are_short c is =
     let have_first = all_front HasLine first behind is.lines in
     let have_behind = all_back HasLine first behind is.lines in
     let have_starts = All-tail HasLine (faulty_item c.faulty) (starts ++ (row ∷ turns))
-        have_behind in
+    have_behind in
     let have_rows = all_back HasLine starts (row ∷ turns) have_starts in
     omega (
       arith,

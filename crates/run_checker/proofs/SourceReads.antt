@@ -46,9 +46,11 @@ read_all_of None f (Some zs) held bytes keeps read end = (tt, (nothing_left held
 read_all_of (Some xs) None l held bytes keeps read end = absurd keeps
 read_all_of (Some xs) (Some ys) None held bytes keeps read end = absurd read
 read_all_of (Some xs) (Some ys) (Some zs) held bytes keeps read end =
-    let e = nothing_left held zs end in
-    (sym keeps ∙ read ∙ ap (λ (h : List ℕ). bytes ++ h) end
-        ∙ ap (λ (h : List ℕ). bytes ++ h) (sym (e.1)), e.1)
+    let e = nothing_left held zs end in (
+      sym keeps ∙ read ∙ ap (λ (h : List ℕ). bytes ++ h) end
+          ∙ ap (λ (h : List ℕ). bytes ++ h) (sym (e.1)),
+      e.1,
+    )
 
 verdict_back : (r : Result Verdict ℕ) (v : Verdict) → unlimited r ≡ Ok v → r ≡ Ok v
 verdict_back (Ok w) v e = let same : w ≡ v = cc in ap Ok same
@@ -134,7 +136,7 @@ module _ (limit most : ℕ) (le : most ≤ limit) (s f l : Option (List ℕ)) (h
 
   refused_by : length held ≤ 4096
       → (line : ℕ) (r : Unit {0})
-        (h : RefusedText line_step tt unread most f (prepend_known held l) line r) (ended : Bool)
+      (h : RefusedText line_step tt unread most f (prepend_known held l) line r) (ended : Bool)
       → h.ended ≡ ended → IsRefused limit s l line
   refused_by few line r h true e =
       let all = read_all_of s f l held h.bytes keeps h.read (h.at_end e) in
@@ -163,7 +165,7 @@ module _ (limit most : ℕ) (le : most ≤ limit) (s f l : Option (List ℕ)) (h
     decides = λ longer rest follows. ap (checked_by limit longer) (append_assoc h.bytes held rest)
         ∙ more_room (h.bytes ++ (held ++ rest)) line longer most limit le
         (h.decides longer (held ++ rest)
-            (subst (λ (b : Bool). MayFollow b longer (held ++ rest)) (sym e) tt));
+        (subst (λ (b : Bool). MayFollow b longer (held ++ rest)) (sym e) tt));
   } where
     not_both : false ≡ true → ⊥
     not_both e = absurd cc

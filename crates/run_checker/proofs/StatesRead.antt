@@ -97,7 +97,7 @@ module _ (shape : Shape) where
         let long = length-take-le count texts (omega (arith, h.many, h.fits)) in
         read_of pairs (take count texts) k (omega (arith, long, lt)) (omega (arith, long, h.fits))
         ∙ ap (read_text (fields_at shape (get_or pairs k (0, 0)).0))
-            (get_or-take count texts k [] lt)
+        (get_or-take count texts k [] lt)
 
     -- what was told for a pair is read of its digits
     module _ (k : ℕ) (pair : ℕ × ℕ) (room text : List ℕ) (lt : k < count)
@@ -195,23 +195,26 @@ module _ (shape : Shape) where
       adds_none e = next_is ∙ e
 
       module _ (fit : (eqb (length text) (length room) && list_all is_lower_digit text) ≡ true)
-          where
-        pub fit_long : length text ≡ length room
-        fit_long =
-            eqb-true (length text) (length room)
-            (and_parts (eqb (length text) (length room)) (list_all is_lower_digit text) fit).0
+        where
+          pub fit_long : length text ≡ length room
+          fit_long =
+              eqb-true (length text) (length room)
+              (and_parts (eqb (length text) (length room)) (list_all is_lower_digit text) fit).0
 
-        pub adds_kept : IsTelling shape pairs (set texts count text) (count + 1) capacity
-        adds_kept = kept_more text more (fit_long ∙ ap (λ (r : List ℕ). length r) room_is)
+          pub adds_kept : IsTelling shape pairs (set texts count text) (count + 1) capacity
+          adds_kept = kept_more text more (fit_long ∙ ap (λ (r : List ℕ). length r) room_is)
 
-        pub adds_one : AddsState text told_view (record told_view {
-          states = states_read shape pairs (take (count + 1) (set texts count text));
-        }) true
-        adds_one = (
-          next_is ∙ fit,
-          ap (λ (states : List State). let t : Telling = record told_view { states = states } in t)
-              (told_more text more (fit_long ∙ ap (λ (r : List ℕ). length r) room_is)),
-        )
+          pub adds_one : AddsState text told_view (record told_view {
+            states = states_read shape pairs (take (count + 1) (set texts count text));
+          }) true
+          adds_one = (
+            next_is ∙ fit,
+            ap
+                (λ (states : List State). let t : Telling = record told_view
+                { states = states } in
+                t)
+                (told_more text more (fit_long ∙ ap (λ (r : List ℕ). length r) room_is)),
+          )
 
     -- the same of what is there behind it
     module _ (text room : List ℕ) (more : count < length pairs)

@@ -87,7 +87,7 @@ module _ (depth v : ℕ) where
             ≡ get_or told (length more) (zero_state depth))
             → (b : Bool) (told : List State)
             → told_for depth (map (λ x. (u, x)) (cond b (a ∷ more) more ++ v ∷ rest) ++ after) told
-                u v
+            u v
             ≡ get_or told (length (cond b (a ∷ more) more)) (zero_state depth)
         by more again false told = again told u (omega (arith, le))
         by more again true [] = refl

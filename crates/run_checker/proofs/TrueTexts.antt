@@ -24,7 +24,7 @@ true_texts_are_true checks runs count text rows locked e =
     let of : IsOf text (verdict.True rows locked) = subst (IsAnswer text) e (checks text) in
     let c = of.certificate in
     let parts = true_by (first_difference c) (length c.turns + 1) (locks_at c) rows locked
-        of.comes_to in
+    of.comes_to in
     record {
       certificate = c;
       is = of.is;

@@ -42,7 +42,7 @@ pub behind : (front text : List ℕ) (n : ℕ) → suc n ≤ length (whole_from 
 behind front [] n le = absurd (omega arith)
 behind front (b ∷ bs) n le =
     behind_by (eqb b 10) front b bs n refl le (λ m e. behind [] bs m)
-        (behind (front ++ b ∷ []) bs n)
+    (behind (front ++ b ∷ []) bs n)
 
 -- ---- the steps
 
@@ -70,8 +70,8 @@ part_same : (lines : List (List ℕ)) (s : Stage) (taken number : ℕ)
 part_same [] s taken number = refl
 part_same (line ∷ lines) s taken number =
     ap
-        (λ (next : Onward). elim (with_rest None next) as
-          (λ _. Result (Found (Option ℕ × Verdict)) (At (Limited (Unit {0})))) [
+    (λ (next : Onward). elim (with_rest None next) as
+    (λ _. Result (Found (Option ℕ × Verdict)) (At (Limited (Unit {0})))) [
       | goes t ↦ part_from (with_limit (with_length line_step tt)) (by tt) t (taken + 1)
           (number + 1) lines
       | ends v ↦ Ok (record { value = v; taken = taken + 1; behind = lines })
@@ -80,12 +80,12 @@ part_same (line ∷ lines) s taken number =
     ∙ by_step (line_step s line) (λ t. part_same lines t (taken + 1) (number + 1)) where
       by_step : (next : Onward)
           →
-              ((t : Stage)
-                → part_from (with_limit (with_length line_step tt)) (by tt) (None, t) (taken + 1)
-                  (number + 1) lines
+          ((t : Stage)
+          → part_from (with_limit (with_length line_step tt)) (by tt) (None, t) (taken + 1)
+          (number + 1) lines
           ≡ limited (part_from line_step tt t (taken + 1) (number + 1) lines))
           → elim (with_rest None next) as
-              (λ _. Result (Found (Option ℕ × Verdict)) (At (Limited (Unit {0})))) [
+          (λ _. Result (Found (Option ℕ × Verdict)) (At (Limited (Unit {0})))) [
             | goes t ↦ part_from (with_limit (with_length line_step tt)) (by tt) t (taken + 1)
                 (number + 1) lines
             | ends v ↦ Ok (record { value = v; taken = taken + 1; behind = lines })
@@ -118,8 +118,8 @@ behind_in (Err at) = []
 found_next : (next : Onward) (line : List ℕ) (lines : List (List ℕ)) (taken number : ℕ)
     (found : Found Verdict)
     →
-        ((t : Stage) → part_from line_step tt t (taken + 1) (number + 1) lines ≡ Ok found
-          → FoundIn lines (taken + 1) found)
+    ((t : Stage) → part_from line_step tt t (taken + 1) (number + 1) lines ≡ Ok found
+    → FoundIn lines (taken + 1) found)
     → elim next as (λ _. Result (Found Verdict) (At (Unit {0}))) [
       | goes t ↦ part_from line_step tt t (taken + 1) (number + 1) lines
       | ends v ↦ Ok (record { value = v; taken = taken + 1; behind = lines })
@@ -127,9 +127,12 @@ found_next : (next : Onward) (line : List ℕ) (lines : List (List ℕ)) (taken 
     ] ≡ Ok found → FoundIn (line ∷ lines) taken found
 found_next (goes t) line lines taken number found more e =
     let h = more t e in
-    record
-        { n = suc h.n; count = omega (arith, h.count); within = omega (arith, h.within);
-          behind = h.behind }
+    record {
+      n = suc h.n;
+      count = omega (arith, h.count);
+      within = omega (arith, h.within);
+      behind = h.behind;
+    }
 found_next (ends v) line lines taken number found more e = record {
   n = 0;
   count = omega (arith, ap taken_in e);
@@ -143,7 +146,7 @@ found_in : (lines : List (List ℕ)) (s : Stage) (taken number : ℕ) (found : F
 found_in [] s taken number found e = absurd cc
 found_in (line ∷ lines) s taken number found e =
     found_next (line_step s line) line lines taken number found
-        (λ t. found_in lines t (taken + 1) (number + 1) found) e
+    (λ t. found_in lines t (taken + 1) (number + 1) found) e
 
 -- ---- what stands behind
 
@@ -156,39 +159,39 @@ followed v k lines (b ∷ rest) some = refl
 
 some_line : (v : Verdict) (k : ℕ) (lines : List (List ℕ)) → 0 < length lines
     → texts.alone {R = Unit {0}} tt (k + 1) None v lines
-        ≡ Err (record { line = k + 1; rule = by tt })
+    ≡ Err (record { line = k + 1; rule = by tt })
 some_line v k [] some = absurd (omega arith)
 some_line v k (line ∷ lines) some = refl
 
 ends_same : (v : Verdict) (k : ℕ) (text : List ℕ)
     → texts.alone {R = Unit {0}} tt (k + 1) None v (lines_of text)
     ≡ unlimited
-        (alone (open_rest text) (Ok (record { value = v; taken = k; behind = whole_lines text })))
+    (alone (open_rest text) (Ok (record { value = v; taken = k; behind = whole_lines text })))
 ends_same v k [] = refl
 ends_same v k (b ∷ bs) =
     let first = lines_of_first (b ∷ bs) (omega arith) in
     some_line v k (lines_of (b ∷ bs)) (omega (arith, ap length first))
     ∙ sym
-        (ap unlimited
-          (followed v k (whole_lines (b ∷ bs)) (open_rest (b ∷ bs))
-            (omega (arith, ap length (whole_text (b ∷ bs))))))
+    (ap unlimited
+    (followed v k (whole_lines (b ∷ bs)) (open_rest (b ∷ bs))
+    (omega (arith, ap length (whole_text (b ∷ bs))))))
 
 module _ (text : List ℕ) where
   found_same : (found : Found Verdict) → FoundIn (whole_lines text) 0 found
       → texts.alone {R = Unit {0}} tt (found.taken + 1) None found.value
-          (lines_of (behind_lines found.taken text))
+      (lines_of (behind_lines found.taken text))
       ≡ unlimited (alone (open_rest text) (Ok found))
   found_same found h =
       let b = behind [] text h.n h.within in
       let count : found.taken ≡ suc h.n = omega (arith, h.count) in
       let rest : open_rest (behind_lines found.taken text) ≡ open_rest text = rw count b.rest in
       let lines : whole_lines (behind_lines found.taken text)
-          ≡ found.behind = rw (count, h.behind) b.lines in
+      ≡ found.behind = rw (count, h.behind) b.lines in
       ends_same found.value found.taken (behind_lines found.taken text)
       ∙ ap₂
-          (λ (o : List ℕ) (l : List (List ℕ)). unlimited
-            (alone o (Ok (record { value = found.value; taken = found.taken; behind = l }))))
-          rest lines
+      (λ (o : List ℕ) (l : List (List ℕ)). unlimited
+      (alone o (Ok (record { value = found.value; taken = found.taken; behind = l }))))
+      rest lines
 
   part_answer : (part : Result (Found Verdict) (At (Unit {0})))
       → ((found : Found Verdict) → part ≡ Ok found → FoundIn (whole_lines text) 0 found)
@@ -203,7 +206,7 @@ module _ (text : List ℕ) where
       ap (λ (b : Bool). checked_by limit b text) short
       ∙ ap (then_alone line_step tt text) (part_same (whole_lines text) unread 0 1)
       ∙ part_answer (part_from line_step tt unread 0 1 (whole_lines text))
-          (found_in (whole_lines text) unread 0 1)
+      (found_in (whole_lines text) unread 0 1)
 
 pub limits_matter_beyond : LimitsMatterBeyond
 limits_matter_beyond limit text le = within_is text limit le

@@ -40,7 +40,7 @@ module _ (level : Level) (below : List Level) (faulty : ℕ → Bool) (last from
     small_part : why.part t < beat_of level
     small_part =
         (seen_shows (top_over level below) faulty (outs t) is
-            (record { leader = b; part = why.part t })
+        (record { leader = b; part = why.part t })
         (seen_in_window t (omega arith) (omega arith))).below
 
     part_on : (x : ℕ) → x < beat_of level → why.part (t + x) ≡ (why.part t + x) % beat_of level
@@ -80,36 +80,38 @@ module _ (level : Level) (below : List Level) (faulty : ℕ → Bool) (last from
 
   module _ (t b s k : ℕ)
       (why : Explained (beat_of level) faulty last from (seen_over level below faulty outs) t b s k)
-      where
-    window_shows : (r : ℕ) → t ≤ r → r < t + beat_of level
-        → Sees (top_over level below) faulty (outs r) b ((why.p + (r - t)) % beat_of level)
-    window_shows r lo hi =
-        let back : t + (r - t) ≡ r = omega (arith, lo) in
-        (seen_shows (top_over level below) faulty (outs r) is
-        (record { leader = b; part = (why.p + (r - t)) % beat_of level })
-        (ap (seen_over level below faulty outs) (sym back)
-            ∙ why.window.each (r - t) (omega (arith, lo, hi)))).sees
+    where
+      window_shows : (r : ℕ) → t ≤ r → r < t + beat_of level
+          → Sees (top_over level below) faulty (outs r) b ((why.p + (r - t)) % beat_of level)
+      window_shows r lo hi =
+          let back : t + (r - t) ≡ r = omega (arith, lo) in
+          (seen_shows (top_over level below) faulty (outs r) is
+          (record { leader = b; part = (why.p + (r - t)) % beat_of level })
+          (ap (seen_over level below faulty outs) (sym back)
+          ∙ why.window.each (r - t) (omega (arith, lo, hi)))).sees
 
-    from_seen : Explains level (nodes_of below) (faults_of below) faulty last outs t b s k
-    from_seen =
-        let first = window_shows t (omega arith) (omega arith) in
-        record {
-          leader = first.leader;
-          sound = first.sound;
-          window = why.within;
-          points = λ r i j lo hi lt sound jlt ok. (window_shows r lo hi).points i j lt sound jlt ok;
-          part = λ r. (why.p + (r - t)) % beat_of level;
-          parts = λ r j lo hi jlt ok. (window_shows r lo hi).parts j jlt ok;
-          grows = λ r lo hi.
-              let next : why.p + (r + 1 - t) ≡ why.p + (r - t) + 1 = omega (arith, lo) in
-              ap (λ (q : ℕ). q % beat_of level) next
-              ∙ sym (mod-add-mod (why.p + (r - t)) (beat_of level) 1);
-          begins = why.begins;
-          ends = why.ends;
-          within = why.by_last;
-          phase = why.phase;
-          king = why.king;
-        }
+      from_seen : Explains level (nodes_of below) (faults_of below) faulty last outs t b s k
+      from_seen =
+          let first = window_shows t (omega arith) (omega arith) in
+          record {
+            leader = first.leader;
+            sound = first.sound;
+            window = why.within;
+            points =
+                λ r i j lo hi lt sound jlt ok. (window_shows r lo hi).points i j lt sound
+                jlt ok;
+            part = λ r. (why.p + (r - t)) % beat_of level;
+            parts = λ r j lo hi jlt ok. (window_shows r lo hi).parts j jlt ok;
+            grows = λ r lo hi.
+                let next : why.p + (r + 1 - t) ≡ why.p + (r - t) + 1 = omega (arith, lo) in
+                ap (λ (q : ℕ). q % beat_of level) next
+                ∙ sym (mod-add-mod (why.p + (r - t)) (beat_of level) 1);
+            begins = why.begins;
+            ends = why.ends;
+            within = why.by_last;
+            phase = why.phase;
+            king = why.king;
+          }
 
 -- ---- of the last era of a script
 
@@ -132,36 +134,36 @@ module _ (script : Script) (config_at : ℕ → List State) (t b s k : ℕ) wher
   to_in : (levels : List Level) (from : ℕ) → IsTop (top_in levels) → from ≤ t
       → ExplainsIn levels script config_at t b s k
       → Explained (top_in levels).beat (is_faulty script) script.rounds from (seen_by levels) t b s
-          k
+      k
   to_in [] from is since why = absurd why
   to_in (level ∷ below) from is since why =
       subst
-          (λ (seen : ℕ → Option Seen). Explained (beat_of level) (is_faulty script) script.rounds
-            from seen t b s k)
+      (λ (seen : ℕ → Option Seen). Explained (beat_of level) (is_faulty script) script.rounds
+      from seen t b s k)
       (same_seen level below)
       (to_seen level below (is_faulty script) script.rounds from
       (λ r. outputs_in (length below) (config_at r)) is t b s k since why)
 
   from_in : (levels : List Level) (from : ℕ) → IsTop (top_in levels)
       → Explained (top_in levels).beat (is_faulty script) script.rounds from (seen_by levels) t b s
-          k
+      k
       → ExplainsIn levels script config_at t b s k
   from_in [] from is why = (let beat = is.beat in absurd (omega (arith, beat)))
   from_in (level ∷ below) from is why =
       from_seen level below (is_faulty script) script.rounds from
       (λ r. outputs_in (length below) (config_at r)) is t b s k
       (subst
-          (λ (seen : ℕ → Option Seen). Explained (beat_of level) (is_faulty script) script.rounds
-            from seen t b s k)
+      (λ (seen : ℕ → Option Seen). Explained (beat_of level) (is_faulty script) script.rounds
+      from seen t b s k)
       (sym (same_seen level below)) why)
 
 module _ (plan : Plan) (script : Script) (is : IsTop (top_of plan)) (t b s k : ℕ) where
   pub era_is_seen : ExplainsEra plan script t b s k
       → Explained (top_of plan).beat (is_faulty script) script.rounds (era_begin script)
-          (seen_at plan script) t b s k
+      (seen_at plan script) t b s k
   era_is_seen why =
       to_in script (played_at plan script) t b s k plan.levels (era_begin script) is why.from
-          why.explains
+      why.explains
 
   pub seen_is_era : Explained (top_of plan).beat (is_faulty script) script.rounds (era_begin script)
       (seen_at plan script) t b s k

@@ -25,7 +25,7 @@ use Rattle.run_explanations.proofs.Windows.{IsWindow, Stands, stands, IsLong, wi
 pub explained_fits : (beat : ℕ) (faulty : ℕ → Bool) (last since : ℕ) (seen : ℕ → Option Seen)
     (e : Explanation)
     → Explained beat faulty last since seen e.window e.leader e.phase e.king
-        → Fits beat since last e
+    → Fits beat since last e
 explained_fits beat faulty last since seen e why = record {
   from = why.since;
   window = why.within;
@@ -47,7 +47,7 @@ module _ (beat : ℕ) (six : 6 ≤ beat) (faulty : ℕ → Bool) (last since : �
       let x : ℕ = e.phase - e.window in
       let u = and_parts (nat_le beat count && nat_eq s.leader e.leader
       && begins_phase beat faulty last e.window start x) (nat_eq ((start + x) % beat / 3) e.king)
-          is in
+      is in
       let v = and_parts (nat_le beat count && nat_eq s.leader e.leader)
       (begins_phase beat faulty last e.window start x) u.0 in
       let w = and_parts (nat_le beat count) (nat_eq s.leader e.leader) v.0 in
@@ -79,7 +79,7 @@ module _ (beat : ℕ) (six : 6 ≤ beat) (faulty : ℕ → Bool) (last since : �
         let whole : suc (beat - 1) ≡ beat = omega (arith, six) in
         let at : suc (e.window + (beat - 1)) ≡ e.window + beat = omega (arith, six) in
         subst
-            (λ (c : ℕ). IsLong beat seen e.window (beat - 1) e.leader ((why.p + (beat - 1)) % beat)
+        (λ (c : ℕ). IsLong beat seen e.window (beat - 1) e.leader ((why.p + (beat - 1)) % beat)
         (stretch_before beat e.window seen c)) at
         (window_long beat seen e.window e.window e.leader why.p (omega arith) (beat - 1)
         (subst (λ (m : ℕ). IsWindow beat seen e.window m e.leader why.p) (sym whole) why.window))
@@ -99,19 +99,19 @@ module _ (beat : ℕ) (six : 6 ≤ beat) (faulty : ℕ → Bool) (last since : �
         let by = why.by_last in
         let test : ℕ → Bool = λ start. nat_le beat count && nat_eq e.leader e.leader
         && begins_phase beat faulty last e.window start x
-            && nat_eq ((start + x) % beat / 3) e.king in
+        && nat_eq ((start + x) % beat / 3) e.king in
         ap test start_is
         ∙ and_from (nat_le beat count && nat_eq e.leader e.leader
         && begins_phase beat faulty last e.window why.p x) (nat_eq ((why.p + x) % beat / 3) e.king)
         (and_from (nat_le beat count && nat_eq e.leader e.leader)
         (begins_phase beat faulty last e.window why.p x)
         (and_from (nat_le beat count) (nat_eq e.leader e.leader) (le-leb _ _ many)
-            (eq-eqb _ _ refl))
+        (eq-eqb _ _ refl))
         (passes beat six faulty last e.window seen small e.window why.p x e.king why.phase why.king
         (omega (arith, begins, by))))
         (eq-eqb _ _
-            (third beat six faulty last e.window seen small ((why.p + x) % beat) e.king
-              why.phase).1)
+        (third beat six faulty last e.window seen small ((why.p + x) % beat) e.king
+        why.phase).1)
 
     passes_is : is_of beat faulty last (stretch_before beat e.window seen (e.window + beat)) e
         ≡ true
@@ -124,11 +124,11 @@ module _ (beat : ℕ) (six : 6 ≤ beat) (faulty : ℕ → Bool) (last since : �
   -- it passes exactly where it explains
   pub tested : Fits beat since last e
       →
-          (is_of beat faulty last (stretch_before beat e.window seen (e.window + beat)) e ≡ true
-            → Why)
+      (is_of beat faulty last (stretch_before beat e.window seen (e.window + beat)) e ≡ true
+      → Why)
       ×
-          (Why
-            → is_of beat faulty last (stretch_before beat e.window seen (e.window + beat)) e ≡ true)
+      (Why
+      → is_of beat faulty last (stretch_before beat e.window seen (e.window + beat)) e ≡ true)
   tested fits =
       let c : ℕ = e.window + beat - 1 in
       let at : suc c ≡ e.window + beat = omega (arith, six) in (
@@ -147,10 +147,10 @@ module _ (plan : Plan) (script : Script) (is : IsTop (top_of plan)) (e : Explana
   pub check_passes : (result : Bool) → Fits (top_of plan).beat (era_begin script) script.rounds e
       → result ≡ is_of (top_of plan).beat (is_faulty script) script.rounds
       (stretch_before (top_of plan).beat e.window (seen_at plan script)
-            (e.window + (top_of plan).beat))
-          e
+      (e.window + (top_of plan).beat))
+      e
       → (result ≡ true → IsExplanation plan script e)
-          × (IsExplanation plan script e → result ≡ true)
+      × (IsExplanation plan script e → result ≡ true)
   check_passes result fits same =
       let t = tested (top_of plan).beat is.beat (is_faulty script) script.rounds (era_begin script)
       (seen_at plan script) (part_small plan script (top_of plan) is refl) e fits in (
@@ -171,35 +171,35 @@ pub result_is : (plan : Plan) (read script : Script) (top : Top) (played : Plan)
     → result ≡ is_of top.beat (is_faulty read) read.rounds s e
     → result ≡ is_of (top_of plan).beat (is_faulty script) script.rounds
     (stretch_before (top_of plan).beat e.window (seen_at plan script)
-          (e.window + (top_of plan).beat))
-        e
+    (e.window + (top_of plan).beat))
+    e
 result_is plan read script top played s e result top_is plan_is same stretch is =
     is ∙ (ap (λ (r : Script). is_of top.beat (is_faulty r) r.rounds s e) same
     ∙ (ap (λ (s : Stretch). is_of top.beat (is_faulty script) script.rounds s e)
     (stretch
-        ∙ ap
-          (λ (p : Plan). stretch_before top.beat e.window (seen_at p script) (e.window + top.beat))
-          plan_is)
     ∙ ap
-        (λ (t : Top). is_of t.beat (is_faulty script) script.rounds
-          (stretch_before t.beat e.window (seen_at plan script) (e.window + t.beat)) e)
-        top_is))
+    (λ (p : Plan). stretch_before top.beat e.window (seen_at p script) (e.window + top.beat))
+    plan_is)
+    ∙ ap
+    (λ (t : Top). is_of t.beat (is_faulty script) script.rounds
+    (stretch_before t.beat e.window (seen_at plan script) (e.window + t.beat)) e)
+    top_is))
 
 -- what fits by these numbers fits into the last era
 module _ (plan : Plan) (script : Script) (top : Top) (from rounds : ℕ) (e : Explanation)
     (top_is : top ≡ top_of plan) (begin : from ≡ era_begin script) (last : rounds ≡ script.rounds)
-        where
-  pub fits_era : Fits top.beat from rounds e → FitsEra plan script e
-  fits_era fits =
-      subst (λ (t : Top). Fits t.beat (era_begin script) script.rounds e) top_is
-      (subst (λ (from : ℕ). Fits top.beat from script.rounds e) begin
-      (subst (λ (r : ℕ). Fits top.beat from r e) last fits))
+  where
+    pub fits_era : Fits top.beat from rounds e → FitsEra plan script e
+    fits_era fits =
+        subst (λ (t : Top). Fits t.beat (era_begin script) script.rounds e) top_is
+        (subst (λ (from : ℕ). Fits top.beat from script.rounds e) begin
+        (subst (λ (r : ℕ). Fits top.beat from r e) last fits))
 
-  pub era_fits : FitsEra plan script e → Fits top.beat from rounds e
-  era_fits fits =
-      subst (λ (r : ℕ). Fits top.beat from r e) (sym last)
-      (subst (λ (from : ℕ). Fits top.beat from script.rounds e) (sym begin)
-      (subst (λ (t : Top). Fits t.beat (era_begin script) script.rounds e) (sym top_is) fits))
+    pub era_fits : FitsEra plan script e → Fits top.beat from rounds e
+    era_fits fits =
+        subst (λ (r : ℕ). Fits top.beat from r e) (sym last)
+        (subst (λ (from : ℕ). Fits top.beat from script.rounds e) (sym begin)
+        (subst (λ (t : Top). Fits t.beat (era_begin script) script.rounds e) (sym top_is) fits))
 
 pub fits_any : (beat since last other : ℕ) (e : Explanation) → last ≡ other → Fits beat since last e
     → Fits beat 0 other e

@@ -41,7 +41,7 @@ module _ (level : Level) (n f : ℕ) (faulty : ℕ → Bool) (last a : ℕ) (out
             ap (λ (o : ℕ → ℕ). pointer_of (beat_of level) (leaders_of level) i (o (i * n + j)))
             (same r (omega (arith, le, hi, window)))
             ∙ why.points (a + r) i j (omega (arith, le, lo)) (omega (arith, le, hi)) ilt sound jlt
-                ok;
+            ok;
         part = λ r. why.part (a + r);
         parts = λ r j lo hi jlt ok.
             ap (λ (o : ℕ → ℕ). part_of (beat_of level) (o (b * n + j)))
@@ -127,7 +127,7 @@ module _ (plan : Plan) (script : Script) (is : IsReadFor plan script) where
 lock_in : (law : ExplainedRunsLock) (version base : ℕ) (levels : List Level) (script : Script)
     → IsReadFor (record { version = version; base = base; levels = levels }) script
     → (t b s k : ℕ)
-        → ExplainsEra (record { version = version; base = base; levels = levels }) script t b s k
+    → ExplainsEra (record { version = version; base = base; levels = levels }) script t b s k
     → IsLocked (record { version = version; base = base; levels = levels })
     (faulty_of_era script (length script.eras))
     (played_at (record { version = version; base = base; levels = levels }) script (s + 3))
@@ -147,13 +147,13 @@ lock_in law version base (level ∷ rest) script is t b s k why =
     (outputs_are plan script is (length rest)) t b s k from e in
     let locked = law below level is.accepted (faulty_of_era script (length script.eras))
     (run plan script is) (borne_is plan script is)
-        (run_of_era plan script is (length script.eras) (omega arith))
+    (run_of_era plan script is (length script.eras) (omega arith))
     (t - a) b (s - a) k
     (subst (λ (last : ℕ). Explains level (nodes_of rest) (faults_of rest) (is_faulty script) last
     (inner_in below (run plan script is)) (t - a) b (s - a) k) last moved) in
     let at : a + (s - a + 3) ≡ s + 3 = omega (arith, from, begins) in
     subst
-        (λ (config : List State). IsLocked plan (faulty_of_era script (length script.eras)) config)
+    (λ (config : List State). IsLocked plan (faulty_of_era script (length script.eras)) config)
     (configuration_is plan script is (s - a + 3) (omega (arith, from, begins, within))
     ∙ ap (played_at plan script) at) locked
 
@@ -164,9 +164,9 @@ explained_eras_lock law plan script is t b s k why =
 explained_in_levels : (law : BoundIsExplained) (version base : ℕ) (levels : List Level)
     (script : Script)
     → IsReadFor (record { version = version; base = base; levels = levels }) script
-        → 1 ≤ length levels
+    → 1 ≤ length levels
     → era_begin script + plan_bound (record { version = version; base = base; levels = levels })
-        ≤ script.rounds
+    ≤ script.rounds
     → IsExplainedByBound (record { version = version; base = base; levels = levels }) script
 explained_in_levels law version base [] script is some long = absurd (omega (arith, some))
 explained_in_levels law version base (level ∷ rest) script is some long =
@@ -177,7 +177,7 @@ explained_in_levels law version base (level ∷ rest) script is some long =
     let last : length (run plan script is) - 1 ≡ script.rounds - a = omega (arith, l) in
     let e = law below level is.accepted (faulty_of_era script (length script.eras))
     (run plan script is) (borne_is plan script is)
-        (run_of_era plan script is (length script.eras) (omega arith))
+    (run_of_era plan script is (length script.eras) (omega arith))
     (omega (arith, l, long)) in
     let ends = e.ends in
     record {
@@ -189,11 +189,11 @@ explained_in_levels law version base (level ∷ rest) script is some long =
         from = omega arith;
         explains = earlier level (nodes_of rest) (faults_of rest) (is_faulty script) script.rounds a
             (λ r. outputs_in (length rest) (played_at plan script r))
-                (inner_in below (run plan script is))
+            (inner_in below (run plan script is))
             (outputs_are plan script is (length rest)) e.t e.b e.s e.k (omega (arith, long))
             (subst
-                (λ (last : ℕ). Explains level (nodes_of rest) (faults_of rest) (is_faulty script)
-                  last
+            (λ (last : ℕ). Explains level (nodes_of rest) (faults_of rest) (is_faulty script)
+            last
             (inner_in below (run plan script is)) e.t e.b e.s e.k) last e.explains);
       };
       by_bound = omega (arith, ends);

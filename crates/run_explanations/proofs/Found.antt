@@ -45,16 +45,16 @@ module _ (beat : ℕ) (six : 6 ≤ beat) (faulty : ℕ → Bool) (last from : �
   passes t p x k part king room =
       let q = third ((p + x) % beat) k part in
       and_from (nat_eq ((p + x) % beat % 3) 0 && not (faulty ((p + x) % beat / 3)))
-          (nat_le (t + x + 3) last)
+      (nat_le (t + x + 3) last)
       (and_from (nat_eq ((p + x) % beat % 3) 0) (not (faulty ((p + x) % beat / 3))) (eq-eqb _ _ q.0)
       (not_from_false _ (ap faulty q.1 ∙ king))) (le-leb _ _ room)
 
   pub passed : (t p x : ℕ) → begins_phase beat faulty last t p x ≡ true
       → ((p + x) % beat ≡ 3 * ((p + x) % beat / 3)) × (faulty ((p + x) % beat / 3) ≡ false)
-          × (t + x + 3 ≤ last)
+      × (t + x + 3 ≤ last)
   passed t p x e =
       let u = and_parts (nat_eq ((p + x) % beat % 3) 0 && not (faulty ((p + x) % beat / 3)))
-          (nat_le (t + x + 3) last) e in
+      (nat_le (t + x + 3) last) e in
       let v = and_parts (nat_eq ((p + x) % beat % 3) 0) (not (faulty ((p + x) % beat / 3))) u.0 in
       let zero_rest = eqb-true _ _ v.0 in
       (omega (arith, zero_rest), not-true _ v.1, leb-true _ _ u.1)
@@ -91,10 +91,10 @@ module _ (beat : ℕ) (six : 6 ≤ beat) (faulty : ℕ → Bool) (last from : �
       → p < beat → p' < beat → (b' ≡ b) × (p' ≡ p)
   same_window t b p b' p' w w' lt lt' =
       let e : Some (record { leader = b'; part = (p' + 0) % beat })
-          ≡ Some (record { leader = b; part = (p + 0) % beat }) =
+      ≡ Some (record { leader = b; part = (p + 0) % beat }) =
       sym (w'.each 0 (omega (arith, six))) ∙ w.each 0 (omega (arith, six)) in
       let s : ◌≡◌ {A = Seen} (record { leader = b'; part = (p' + 0) % beat })
-          (record { leader = b; part = (p + 0) % beat }) =
+      (record { leader = b; part = (p + 0) % beat }) =
       same_Some _ _ e in
       let rest : (q : ℕ) → q < beat → (q + 0) % beat ≡ q = λ q small.
       ap (λ (y : ℕ). y % beat) (add-zero q) ∙ mod-eq_of_lt small in
@@ -146,8 +146,8 @@ module _ (beat : ℕ) (six : 6 ≤ beat) (faulty : ℕ → Bool) (last from : �
   found_gate : (c count : ℕ) (seen : Seen) (b : Bool) (e : Explanation) → nat_le beat count ≡ b
       → c ≤ last → Ends beat seen_at from (suc c) count seen
       → (if b then explained_in beat faulty last (c + 1 - beat) seen.leader ((seen.part + 1) % beat)
-            else None)
-          ≡ Some e
+      else None)
+      ≡ Some e
       → IsFoundIn (c + 1 - beat) e
   found_gate c count seen false e g le ends is = absurd (none-some e is)
   found_gate c count seen true e g le ends is =
@@ -156,12 +156,12 @@ module _ (beat : ℕ) (six : 6 ≤ beat) (faulty : ℕ → Bool) (last from : �
       let whole = at.1 in
       found_phase (c + 1 - beat) seen.leader ((seen.part + 1) % beat)
       (first_below (begins_phase beat faulty last (c + 1 - beat) ((seen.part + 1) % beat))
-            (beat - 2))
-          e
+      (beat - 2))
+      e
       at.0 (omega (arith, whole, le)) (mod-lt (seen.part + 1) (omega (arith, six)))
       (last_window c count seen ends long)
       (first_is (begins_phase beat faulty last (c + 1 - beat) ((seen.part + 1) % beat)) (beat - 2))
-          is
+      is
 
   found_from : (c count : ℕ) (seen : Option Seen) (e : Explanation) → c ≤ last
       → Stands beat seen_at from (suc c) count seen
@@ -178,9 +178,10 @@ module _ (beat : ℕ) (six : 6 ≤ beat) (faulty : ℕ → Bool) (last from : �
 
   known_in : (t b p : ℕ) (x : Option ℕ) → ((y : ℕ) × (x ≡ Some y))
       → (e : Explanation) × (option_map (explained_by beat faulty last t b p) x ≡ Some e)
-  known_in t b p x (y, is) =
-      (explained_by beat faulty last t b p y,
-          ap (option_map (explained_by beat faulty last t b p)) is)
+  known_in t b p x (y, is) = (
+    explained_by beat faulty last t b p y,
+    ap (option_map (explained_by beat faulty last t b p)) is,
+  )
 
   pub known_at : (t b s k : ℕ) → Why t b s k → (c : ℕ) → t + beat ≡ c + 1
       → (e : Explanation) × (explained_at beat faulty last from seen_at c ≡ Some e)
@@ -206,19 +207,18 @@ module _ (beat : ℕ) (six : 6 ≤ beat) (faulty : ℕ → Bool) (last from : �
       (omega (arith, begins, ends, six))
       (passes t why.p (s - t) k why.phase why.king (omega (arith, begins, by))) in
       let known = known_in t b why.p
-            (first_below (begins_phase beat faulty last t why.p) (beat - 2)) (x.0, x.1) in
-          (
+      (first_below (begins_phase beat faulty last t why.p) (beat - 2)) (x.0, x.1) in (
         known.0,
         ap (explained_from beat faulty last c (stretch_before beat from seen_at (suc c)).count)
             long.seen
             ∙
-                (ap
-                  (λ (g : Bool). if g
-                    then explained_in beat faulty last (c + 1 - beat) b
-                      (((why.p + (beat - 1)) % beat + 1) % beat)
-                    else None)
+            (ap
+            (λ (g : Bool). if g
+            then explained_in beat faulty last (c + 1 - beat) b
+            (((why.p + (beat - 1)) % beat + 1) % beat)
+            else None)
             (le-leb beat (stretch_before beat from seen_at (suc c)).count
-                (omega (arith, more, six)))
+            (omega (arith, more, six)))
             ∙ (ap₂ (λ (t p : ℕ). explained_in beat faulty last t b p) window start ∙ known.1)),
       )
 
@@ -239,7 +239,7 @@ module _ (beat : ℕ) (six : 6 ≤ beat) (faulty : ℕ → Bool) (last from : �
 
   from_first : (found : Option Explanation)
       → IsFirstKnown (explained_at beat faulty last from seen_at) (last + 1) found
-          → IsFirstFound found
+      → IsFirstFound found
   from_first None h = λ t b s k why.
       let within = why.within in
       let e = known_at t b s k why (t + beat - 1) (omega (arith, six)) in

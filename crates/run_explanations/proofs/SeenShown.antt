@@ -134,7 +134,7 @@ module _ (top : Top) (faulty : ℕ → Bool) (outputs : ℕ → ℕ) where
     sees_sound : (b : ℕ) (ok : Bool) (seen : Seen) → pointed top faulty outputs top.blocks ≡ One b
         → is_sound top faulty b ≡ ok
         → (if ok then seen_parts top faulty outputs b (parted top faulty outputs b) else None)
-            ≡ Some seen
+        ≡ Some seen
         → Shows seen
     sees_sound b true seen points ok e =
         sees_parts b (parted top faulty outputs b) seen points ok refl e
@@ -175,8 +175,8 @@ module _ (top : Top) (faulty : ℕ → Bool) (outputs : ℕ → ℕ) where
         (λ j jlt correct. sees.parts j jlt (not-true _ correct))) in
         ap (seen_leader top faulty outputs) points
         ∙
-            (ap
-              (λ (ok : Bool). if ok
-                then seen_parts top faulty outputs b (parted top faulty outputs b) else None)
-              ok
+        (ap
+        (λ (ok : Bool). if ok
+        then seen_parts top faulty outputs b (parted top faulty outputs b) else None)
+        ok
         ∙ ap (seen_parts top faulty outputs b) parts)

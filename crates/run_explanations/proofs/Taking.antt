@@ -56,12 +56,12 @@ pub part_small : (plan : Plan) (script : Script) (top : Top) → IsTop top → t
     → (c : ℕ) (seen : Seen) → seen_at plan script c ≡ Some seen → seen.part < top.beat
 part_small plan script top is same c seen e =
     (seen_shows top (is_faulty script) (outputs_in (plan_depth plan - 1) (played_at plan script c))
-        is seen
+    is seen
     (ap
-          (λ (t : Top). seen_in t (is_faulty script)
-            (outputs_in (plan_depth plan - 1) (played_at plan script c)))
-          same
-        ∙ e)).below
+    (λ (t : Top). seen_in t (is_faulty script)
+    (outputs_in (plan_depth plan - 1) (played_at plan script c)))
+    same
+    ∙ e)).below
 
 -- ---- a runner that goes on
 
@@ -122,18 +122,18 @@ pub seen_is : (top : Top) (r : Running NoOverlay) → IsRead top r
     → r.states ≡ played_at r.plan r.script r.at → seen ≡ seen_at r.plan r.script r.at
 seen_is top r read ids seen is faulty states =
     is
-        ∙ (ap
-          (λ (ids : List ℕ). seen_in top (is_in ids) (outputs_in (plan_depth r.plan - 1) r.states))
-          faulty
+    ∙ (ap
+    (λ (ids : List ℕ). seen_in top (is_in ids) (outputs_in (plan_depth r.plan - 1) r.states))
+    faulty
     ∙
-        (ap
-          (λ (config : List State). seen_in top (is_faulty r.script)
-            (outputs_in (plan_depth r.plan - 1) config))
-          states
+    (ap
+    (λ (config : List State). seen_in top (is_faulty r.script)
+    (outputs_in (plan_depth r.plan - 1) config))
+    states
     ∙ ap
-        (λ (t : Top). seen_in t (is_faulty r.script)
-          (outputs_in (plan_depth r.plan - 1) (played_at r.plan r.script r.at)))
-        read.top_is))
+    (λ (t : Top). seen_in t (is_faulty r.script)
+    (outputs_in (plan_depth r.plan - 1) (played_at r.plan r.script r.at)))
+    read.top_is))
 
 -- a stretch with a configuration more is no longer than by one
 longer_by : (s : Stretch) (b : Bool) → (if b then s.count + 1 else 1) ≤ s.count + 1
@@ -170,10 +170,10 @@ module _ (top : Top) (plan : Plan) (script : Script) (c : ℕ) (search : Search)
       ap₂ made is
       (new ∙ (ap (λ (at : ℕ). explained_from top.beat (is_in ids) rounds at s.count s.seen) here
       ∙
-          (ap₂
-            (λ (ids : List ℕ) (rounds : ℕ). explained_from top.beat (is_in ids) rounds c s.count
-              s.seen)
-            faulty last
+      (ap₂
+      (λ (ids : List ℕ) (rounds : ℕ). explained_from top.beat (is_in ids) rounds c s.count
+      s.seen)
+      faulty last
       ∙ (ap new_in is
       ∙ sym (ap (λ (o : Option Explanation).
       first_or o (new_in (stretched top.beat search.stretch (seen_at plan script c)))) none)))))
@@ -246,16 +246,16 @@ pub value_is : (plan : Plan) (top : Top) (from : ℕ) (r : Running NoOverlay)
 value_is plan top from r found plan_is top_is begin is =
     is
     ∙
-        (ap
-          (λ (p : Plan). found_before top.beat (is_faulty r.script) r.script.rounds from
-            (seen_at p r.script) (r.script.rounds + 1))
-          plan_is
+    (ap
+    (λ (p : Plan). found_before top.beat (is_faulty r.script) r.script.rounds from
+    (seen_at p r.script) (r.script.rounds + 1))
+    plan_is
     ∙
-        (ap
-          (λ (t : Top). found_before t.beat (is_faulty r.script) r.script.rounds from
-            (seen_at plan r.script) (r.script.rounds + 1))
-          top_is
+    (ap
+    (λ (t : Top). found_before t.beat (is_faulty r.script) r.script.rounds from
+    (seen_at plan r.script) (r.script.rounds + 1))
+    top_is
     ∙ ap
-        (λ (from : ℕ). found_before (top_of plan).beat (is_faulty r.script) r.script.rounds from
-          (seen_at plan r.script) (r.script.rounds + 1))
-        begin))
+    (λ (from : ℕ). found_before (top_of plan).beat (is_faulty r.script) r.script.rounds from
+    (seen_at plan r.script) (r.script.rounds + 1))
+    begin))

@@ -115,8 +115,8 @@ top_from : (base : ℕ) (levels : List Level) (i n f : ℕ) (nums : LevelNums)
     → slice_get (numbers_of base levels) i ≡ Some nums → n ≡ block_nodes nums
     → f ≡ (top_in levels).faults
     → ◌≡◌ {A = Top}
-        (record
-          { blocks = nums.blocks; leaders = nums.leaders; beat = nums.beat; nodes = n; faults = f })
+    (record
+    { blocks = nums.blocks; leaders = nums.leaders; beat = nums.beat; nodes = n; faults = f })
     (top_in levels)
 top_from base [] i n f nums accepted some at here nodes faults = absurd (omega (arith, some))
 top_from base (level ∷ below) i n f nums accepted some at here nodes faults =
@@ -128,21 +128,25 @@ top_from base (level ∷ below) i n f nums accepted some at here nodes faults =
     nodes ∙ (ap (λ (m : LevelNums). block_nodes m) is
     ∙ block_is level.blocks (nodes_of below) level.spares (omega arith)) in
     ap
-        (λ (m : LevelNums). record
-          { blocks = m.blocks; leaders = m.leaders; beat = m.beat; nodes = n; faults = f })
-        is
+    (λ (m : LevelNums). record
+    { blocks = m.blocks; leaders = m.leaders; beat = m.beat; nodes = n; faults = f })
+    is
     ∙ ap₂
-        (λ (n f : ℕ). record
-          { blocks = level.blocks; leaders = leaders_of level; beat = beat_of level; nodes = n;
-            faults = f })
-        size faults
+    (λ (n f : ℕ). record {
+      blocks = level.blocks;
+      leaders = leaders_of level;
+      beat = beat_of level;
+      nodes = n;
+      faults = f;
+    })
+    size faults
 
 pub top_read : (plan : Plan) (i n f : ℕ) (nums : LevelNums) → IsAccepted plan → 1 ≤ plan_depth plan
     → i ≡ plan_depth plan - 1 → slice_get (level_numbers plan) i ≡ Some nums → n ≡ block_nodes nums
     → f ≡ (top_of plan).faults
     → ◌≡◌ {A = Top}
-        (record
-          { blocks = nums.blocks; leaders = nums.leaders; beat = nums.beat; nodes = n; faults = f })
+    (record
+    { blocks = nums.blocks; leaders = nums.leaders; beat = nums.beat; nodes = n; faults = f })
     (top_of plan)
 top_read plan i n f nums accepted some at here nodes faults =
     top_from plan.base plan.levels i n f nums accepted.levels some at here nodes faults

@@ -35,18 +35,18 @@ module _ (beat : ℕ) (seen_at : ℕ → Option Seen) where
     none_before zero h = refl
     none_before (suc c) h =
         ap
-            (λ (b : Bool). if b then stretched beat (stretch_before beat from seen_at c) (seen_at c)
-              else stretch_before beat from seen_at c)
-            (lt-leb from c (omega (arith, h)))
+        (λ (b : Bool). if b then stretched beat (stretch_before beat from seen_at c) (seen_at c)
+        else stretch_before beat from seen_at c)
+        (lt-leb from c (omega (arith, h)))
         ∙ none_before c (omega (arith, h))
 
     pub begun : (c : ℕ) → from ≤ c → stretch_before beat from seen_at (suc c)
         ≡ stretched beat (stretch_before beat from seen_at c) (seen_at c)
     begun c h =
         ap
-            (λ (b : Bool). if b then stretched beat (stretch_before beat from seen_at c) (seen_at c)
-              else stretch_before beat from seen_at c)
-            (le-leb from c h)
+        (λ (b : Bool). if b then stretched beat (stretch_before beat from seen_at c) (seen_at c)
+        else stretch_before beat from seen_at c)
+        (le-leb from c h)
 
     module _ (small : (c : ℕ) (seen : Seen) → seen_at c ≡ Some seen → seen.part < beat) where
       -- one configuration is a stretch
@@ -63,7 +63,7 @@ module _ (beat : ℕ) (seen_at : ℕ → Option Seen) where
               let same : now.part ≡ (now.part + x) % beat =
               subst (λ (x : ℕ). now.part ≡ (now.part + x) % beat) none
               (sym
-                  (ap (λ (p : ℕ). p % beat) (add-zero now.part) ∙ mod-eq_of_lt (small c now is))) in
+              (ap (λ (p : ℕ). p % beat) (add-zero now.part) ∙ mod-eq_of_lt (small c now is))) in
               let here : c + x ≡ c = omega (arith, none) in
               ap seen_at here
               ∙ (is ∙ ap (λ (p : ℕ). Some (record { leader = now.leader; part = p })) same);
@@ -89,16 +89,16 @@ module _ (beat : ℕ) (seen_at : ℕ → Option Seen) where
               each = λ x lt. elim (cases_lt x count) [
                 | inl before_it ↦ ends.window.each x before_it
                     ∙ ap (λ (b : ℕ). Some (record { leader = b; part = (ends.p + x) % beat }))
-                        leader
+                    leader
                 | inr from_it ↦
                     let here : count ≡ x = omega (arith, lt, from_it) in
                     subst (λ (x : ℕ). seen_at (ends.t + x)
                     ≡ Some (record { leader = now.leader; part = (ends.p + x) % beat })) here
                     (ap seen_at at
                     ∙
-                        (is
-                          ∙ ap (λ (p : ℕ). Some (record { leader = now.leader; part = p }))
-                            part_is))
+                    (is
+                    ∙ ap (λ (p : ℕ). Some (record { leader = now.leader; part = p }))
+                    part_is))
               ];
             };
             next =
@@ -126,7 +126,7 @@ module _ (beat : ℕ) (seen_at : ℕ → Option Seen) where
 
       stands_more : (c : ℕ) (b : Bool) → nat_le from c ≡ b
           → Stands c (stretch_before beat from seen_at c).count
-              (stretch_before beat from seen_at c).seen
+          (stretch_before beat from seen_at c).seen
           → Stands (suc c) (stretch_before beat from seen_at (suc c)).count
           (stretch_before beat from seen_at (suc c)).seen
       stands_more c true e h =
@@ -179,8 +179,8 @@ module _ (beat : ℕ) (seen_at : ℕ → Option Seen) where
         ap (λ (o : Option Seen). goes_on beat o (record { leader = b; part = r })) is.seen
         ∙ and_from (nat_eq b b) (nat_eq r ((q + 1) % beat)) (eq-eqb b b refl) (eq-eqb _ _ next) in
         let count :
-              (if goes_on beat s.seen (record { leader = b; part = r }) then s.count + 1 else 1)
-            ≡ s.count + 1 =
+        (if goes_on beat s.seen (record { leader = b; part = r }) then s.count + 1 else 1)
+        ≡ s.count + 1 =
         ap (λ (g : Bool). if g then s.count + 1 else 1) on in
         let long = is.long in
         subst (λ (now : Option Seen). IsLong (suc m) b r (stretched beat s now)) (sym e) (record {
@@ -194,18 +194,18 @@ module _ (beat : ℕ) (seen_at : ℕ → Option Seen) where
       window_long zero w =
           subst (IsLong 0 b ((p + 0) % beat)) (sym (begun (t + 0) (omega (arith, le))))
           (first_long (stretch_before beat from seen_at (t + 0)) (seen_at (t + 0)) b
-              ((p + 0) % beat)
+          ((p + 0) % beat)
           (w.each 0 (omega arith)))
       window_long (suc m) w =
           let before = window_long m (record { each = λ x lt. w.each x (omega (arith, lt)) }) in
           let next : t + suc m ≡ suc (t + m) = omega arith in
           let more : p + m + 1 ≡ p + suc m = omega arith in
           subst
-              (λ (c : ℕ). IsLong (suc m) b ((p + suc m) % beat)
-                (stretch_before beat from seen_at (suc c)))
-              (sym next)
+          (λ (c : ℕ). IsLong (suc m) b ((p + suc m) % beat)
+          (stretch_before beat from seen_at (suc c)))
+          (sym next)
           (subst (IsLong (suc m) b ((p + suc m) % beat))
-              (sym (begun (suc (t + m)) (omega (arith, le))))
+          (sym (begun (suc (t + m)) (omega (arith, le))))
           (more_long (stretch_before beat from seen_at (suc (t + m))) (seen_at (suc (t + m))) m b
           ((p + m) % beat) ((p + suc m) % beat) before
           (ap seen_at (sym next) ∙ w.each (suc m) (omega arith))

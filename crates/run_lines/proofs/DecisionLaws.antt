@@ -28,13 +28,13 @@ pub long_before : (plan : Plan) (script : Script) (q c : ℕ) (config : List Sta
     → ends_at plan script q c config ≡ true → q ≤ c
 long_before plan script q c config is =
     let may =
-        (and_parts (may_end_at (plan_bound plan) script q c)
-          (lead_output plan script c config % q == 0) is).0 in
+    (and_parts (may_end_at (plan_bound plan) script q c)
+    (lead_output plan script c config % q == 0) is).0 in
     let both =
-        (and_parts (nat_le (script.first + q) c && nat_le c (script.last + q))
-          (counts_at (plan_bound plan) script q (c - q)) may).0 in
+    (and_parts (nat_le (script.first + q) c && nat_le c (script.last + q))
+    (counts_at (plan_bound plan) script q (c - q)) may).0 in
     let low = leb-true (script.first + q) c
-        (and_parts (nat_le (script.first + q) c) (nat_le c (script.last + q)) both).0 in
+    (and_parts (nat_le (script.first + q) c) (nat_le c (script.last + q)) both).0 in
     omega (arith, low)
 
 module _ (plan : Plan) (script : Script) (said : AgreeSaid) where
@@ -52,7 +52,7 @@ module _ (plan : Plan) (script : Script) (said : AgreeSaid) where
   line_behind c d =
       concat
       (slot_front (c - q) ∷ words_of_nodes plan (decision_word (scene d)) (faulty_at script d)
-        ∷ codes "\n" ∷ [])
+      ∷ codes "\n" ∷ [])
 
   line_at_end : (c : ℕ) (b : Bool) → ends_at plan script q c (config_at c) ≡ b
       → cond b (line_behind c c) [] ≡ cond b (decision_line plan script said (c - q)) []
@@ -69,23 +69,23 @@ decisions_as_defined plan accepted said for script right sound whole =
     let length_is : suc (3 * plan_faults plan + 2) ≡ slot_length (plan_faults plan) = omega arith in
     let SameRest : ℕ → ℕ → Type 0 = λ q t. counts_at (plan_bound plan) script q t ≡ true
     → (lead_output plan script (t + q) (config_at plan script said (t + q)) % q == 0)
-        ≡ (lead_output plan script t (config_at plan script said t) % q == 0) in
+    ≡ (lead_output plan script t (config_at plan script said t) % q == 0) in
     let divides : plan_modulus plan % suc (3 * plan_faults plan + 2)
-        ≡ 0 = subst (λ q. plan_modulus plan % q ≡ 0) (sym length_is) for.whole in
+    ≡ 0 = subst (λ q. plan_modulus plan % q ≡ 0) (sym length_is) for.whole in
     let same : (t : ℕ) → SameRest (slot_length (plan_faults plan)) t = λ t.
     subst (λ q. SameRest q t) length_is
-        (λ counting. same_rest plan script layer began accepted right sound whole
-          (3 * plan_faults plan + 2) t counting divides) in
+    (λ counting. same_rest plan script layer began accepted right sound whole
+    (3 * plan_faults plan + 2) t counting divides) in
     let lines : lines_text plan script layer began
-          (decision_wording (slot_length (plan_faults plan)))
-        ≡ slot_lines plan script (slot_length (plan_faults plan)) (config_at plan script said)
-          (decision_line plan script said) =
+    (decision_wording (slot_length (plan_faults plan)))
+    ≡ slot_lines plan script (slot_length (plan_faults plan)) (config_at plan script said)
+    (decision_line plan script said) =
     ap (λ (g : ℕ → List ℕ). flat_map g (range_with_len 0 (script.rounds + 1)))
-        (fun_ext (λ c. line_at_end plan script said c _ refl))
+    (fun_ext (λ c. line_at_end plan script said c _ refl))
     ∙ lines_of_slots plan script (slot_length (plan_faults plan)) (config_at plan script said)
-        (decision_line plan script said) same in
+    (decision_line plan script said) same in
     ap
-        (λ (text : List ℕ). concat
-          (bound_line (plan_bound plan) ∷ text ∷ lock_lines plan script (config_at plan script said)
-            ∷ []))
-        lines
+    (λ (text : List ℕ). concat
+    (bound_line (plan_bound plan) ∷ text ∷ lock_lines plan script (config_at plan script said)
+    ∷ []))
+    lines

@@ -60,7 +60,7 @@ fires_as_defined plan accepted requests for script right sound whole =
     subst (λ q. plan_modulus plan % q ≡ 0) (sym length_is) for.whole in
     let same : (t : ℕ) → SameRest (slot_length (plan_faults plan)) t = λ t.
     subst (λ q. SameRest q t) length_is
-        (λ counting. same_rest plan script layer began accepted right
+    (λ counting. same_rest plan script layer began accepted right
     sound whole (3 * plan_faults plan + 2) t counting divides) in
     let lines : lines_text plan script layer began (fire_wording (slot_length (plan_faults plan)))
     ≡ slot_lines plan script (slot_length (plan_faults plan)) (config_at plan script requests)

@@ -56,7 +56,7 @@ module _ (p : ℕ → Bool) (n : ℕ) where
       (λ lt. at w le ∙ h.1) in
       ap (λ (i : ℕ). cond (nat_lt i (length numbers)) (Some i) None) place
       ∙ ap (λ (b : Bool). cond b (Some w) None)
-          (lt-ltb w (length numbers) (omega (arith, le, size)))
+      (lt-ltb w (length numbers) (omega (arith, le, size)))
   found None h =
       let place : position_or_len p numbers ≡ length numbers =
       position_or_len_is p numbers (length numbers) 0 (omega arith)

@@ -40,11 +40,11 @@ at_most_one_in_a_line plan script read lines apart t lo hi u v ult uok vlt vok o
     let shows_u = counts.shows t lo era.before u ult uok in
     let shows_v = counts.shows t lo era.before v vlt vok in
     let holder_u = is_holder
-        (holder_of lines (shown (plan_depth plan) (state_of (played_at plan script t) u))) u _ refl
-        one in
+    (holder_of lines (shown (plan_depth plan) (state_of (played_at plan script t) u))) u _ refl
+    one in
     let holder_v = is_holder
-        (holder_of lines (shown (plan_depth plan) (state_of (played_at plan script t) v))) v _ refl
-        other in
+    (holder_of lines (shown (plan_depth plan) (state_of (played_at plan script t) v))) v _ refl
+    other in
     some_one u v (sym holder_u ∙ (ap (holder_of lines) (shows_u ∙ sym shows_v) ∙ holder_v))
 
 -- ---- exactly the holder's word is 1

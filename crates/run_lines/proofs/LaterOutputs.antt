@@ -48,7 +48,7 @@ counted c output from end grows i (suc x) lo hi =
 
 module _ {Kept : Type 0} (plan : Plan) (script : Script) (layer : Layer Kept) (began : List Kept)
     (accepted : IsAccepted plan) (right : IsFor plan layer script) (sound : IsShape script.shape)
-        (whole : IsScript script) where
+    (whole : IsScript script) where
   abbrev n : ℕ
   n = plan_nodes plan
 
@@ -70,7 +70,7 @@ module _ {Kept : Type 0} (plan : Plan) (script : Script) (layer : Layer Kept) (b
         let quorum = (accepted_sized plan.base plan.levels accepted.levels).quorum in
         let few = borne.few in
         let some = one_fails (is_in (faulty_of_era script j)) n
-            (omega (arith, places_of_ids (faulty_of_era script j) n, few, quorum)) in
+        (omega (arith, places_of_ids (faulty_of_era script j) n, few, quorum)) in
         lowest_among n (faulty_of_era script j) some.0 some.1 some.2
 
     module _ (count : ℕ) (some : 0 < count)
@@ -89,30 +89,30 @@ module _ {Kept : Type 0} (plan : Plan) (script : Script) (layer : Layer Kept) (b
       -- what it shows is the output
       shows : (i : ℕ) → plan_bound plan ≤ i → i < count
           → shown (plan_depth plan) (state_of (config_at (first_of_era script j + i)) lead)
-            ≡ counts.output i
+          ≡ counts.output i
       shows i lo lt =
           sym
-              (shown_of_cut (plan_depth plan) (plan_depth plan) (omega arith)
-                (state_of (config_at (first_of_era script j + i)) lead))
+          (shown_of_cut (plan_depth plan) (plan_depth plan) (omega arith)
+          (state_of (config_at (first_of_era script j + i)) lead))
           ∙
-              (ap (shown (plan_depth plan))
-                (sym (state_of-cut (plan_depth plan) (config_at (first_of_era script j + i)) lead))
+          (ap (shown (plan_depth plan))
+          (sym (state_of-cut (plan_depth plan) (config_at (first_of_era script j + i)) lead))
           ∙
-              (ap (λ (config : List State). shown (plan_depth plan) (state_of config lead))
-                (sym (cut_configuration plan script layer began (first_of_era script j) count i lt))
+          (ap (λ (config : List State). shown (plan_depth plan) (state_of config lead))
+          (sym (cut_configuration plan script layer began (first_of_era script j) count i lt))
           ∙ counts.shows i lo (omega (arith, lt, long)) lead leads.0 leads.1))
 
       later : (i x : ℕ) → plan_bound plan ≤ i → i + suc x < count
           → shown (plan_depth plan)
-                (state_of (config_at (first_of_era script j + (i + suc x))) lead)
-              ≡ (shown (plan_depth plan) (state_of (config_at (first_of_era script j + i)) lead)
-                  + suc x)
-                % plan_modulus plan
+          (state_of (config_at (first_of_era script j + (i + suc x))) lead)
+          ≡ (shown (plan_depth plan) (state_of (config_at (first_of_era script j + i)) lead)
+          + suc x)
+          % plan_modulus plan
       later i x lo lt =
           shows (i + suc x) (omega (arith, lo)) lt
           ∙
-              (counted (plan_modulus plan) counts.output (plan_bound plan) count
-                (λ t from to. counts.grows t from (omega (arith, to, long))) i x lo lt
+          (counted (plan_modulus plan) counts.output (plan_bound plan) count
+          (λ t from to. counts.grows t from (omega (arith, to, long))) i x lo lt
           ∙ ap (λ o. (o + suc x) % plan_modulus plan) (sym (shows i lo (omega (arith, lt)))))
 
   -- a slot that counts is of one era
@@ -163,20 +163,20 @@ module _ {Kept : Type 0} (plan : Plan) (script : Script) (layer : Layer Kept) (b
         let node : ℕ = lead j (era_within script t) in
         let shown_in : ℕ → ℕ = λ c. shown (plan_depth plan) (state_of (config_at c) node) in
         let goes = later j (era_within script t) count (omega (arith, lo)) (omega (arith, lo, hi)) i
-            x (omega (arith, lo)) (omega (arith, lo)) in
+        x (omega (arith, lo)) (omega (arith, lo)) in
         ap
-            (λ era. shown (plan_depth plan)
-              (state_of (config_at (t + q)) (lowest_correct n (faulty_of_era script era))))
-            same_era
+        (λ era. shown (plan_depth plan)
+        (state_of (config_at (t + q)) (lowest_correct n (faulty_of_era script era))))
+        same_era
         ∙ (ap shown_in (sym there) ∙ (goes ∙ ap (λ c. (shown_in c + q) % plan_modulus plan) here))
 
     -- so it is a multiple of the slot's length where it was one
     pub same_rest : plan_modulus plan % suc x ≡ 0
         → (lead_output plan script (t + suc x) (config_at (t + suc x)) % suc x == 0)
-          ≡ (lead_output plan script t (config_at t) % suc x == 0)
+        ≡ (lead_output plan script t (config_at t) % suc x == 0)
     same_rest divides =
         ap (λ y. y % q == 0) later_output
         ∙ ap (λ y. y == 0)
-            (mod-mod_of_dvd q (lead_output plan script t (config_at t) + q)
-                (dvd_of_mod-eq-zero q divides)
-              ∙ add-mod_right (lead_output plan script t (config_at t)) q)
+        (mod-mod_of_dvd q (lead_output plan script t (config_at t) + q)
+        (dvd_of_mod-eq-zero q divides)
+        ∙ add-mod_right (lead_output plan script t (config_at t)) q)

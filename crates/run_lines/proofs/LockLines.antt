@@ -33,7 +33,7 @@ module _ {O Kept : Type 0} (layer : O → Layer Kept) (kept : O → List Kept) (
 
 -- so they are, of all that the runner may play
 abbrev pub ErasSoFar : {O Kept : Type 0} (layer : O → Layer Kept) (kept : O → List Kept)
-      (r : Running O) (j : ℕ) (s t : Told)
+    (r : Running O) (j : ℕ) (s t : Told)
     → Type 0
 ErasSoFar {O} {Kept} layer kept r j s t =
     (began : List Kept) → IsPlaying layer kept began r → ErasBefore layer kept began r j s t
@@ -72,13 +72,13 @@ module _ (plan : Plan) (script : Script) (config_at : ℕ → List State) (versi
 
   pub cut_of_many : (version ≢ 1)
       → Cut (flat_map (era_line plan script config_at) (range_with_len 0 (length script.eras + 1)))
-          s t
+      s t
       → Cut (lock_lines plan script config_at) s t
   cut_of_many further cut = subst (λ (x : List ℕ). Cut x s t) (many further) cut
 
   pub wrote_many : (version ≢ 1)
       → Wrote
-          (flat_map (era_line plan script config_at) (range_with_len 0 (length script.eras + 1))) s
-          t
+      (flat_map (era_line plan script config_at) (range_with_len 0 (length script.eras + 1))) s
+      t
       → Wrote (lock_lines plan script config_at) s t
   wrote_many further wrote = subst (λ (x : List ℕ). Wrote x s t) (many further) wrote

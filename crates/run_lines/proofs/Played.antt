@@ -36,7 +36,7 @@ faulty_ids lent read script t at is same here =
 pub hidden_line : {Kept : Type 0} (wording : Wording Kept) (plan : Plan) (script : Script) (c : ℕ)
     (scene : Scene Kept) (shows : Bool) (sink : Told)
     → shows ≡ wording.shows plan script c scene → shows ≡ false
-        → Wrote (line_if_shown wording plan script c scene) sink sink
+    → Wrote (line_if_shown wording plan script c scene) sink sink
 hidden_line wording plan script c scene shows sink is hidden =
     rw (sym is ∙ hidden) (wrote_none sink)
 
@@ -70,16 +70,16 @@ module _ {O Kept : Type 0} (layer : O → Layer Kept) (kept : O → List Kept) (
         let p = so_far.played in
         ap (line_if_shown wording r.plan r.script r.at) p.plays.scene
         ∙
-            (ap
-              (λ (l : Layer Kept). line_if_shown wording r.plan r.script r.at
-                (scene_at (plan_meaning r.plan) r.script l (kept start.overlay) r.at))
-              p.layer
+        (ap
+        (λ (l : Layer Kept). line_if_shown wording r.plan r.script r.at
+        (scene_at (plan_meaning r.plan) r.script l (kept start.overlay) r.at))
+        p.layer
         ∙
-            (ap₂
-              (λ (plan : Plan) (script : Script). line_if_shown wording plan script r.at
-                (scene_at (plan_meaning plan) script (layer start.overlay) (kept start.overlay)
-                  r.at))
-              p.plan p.script
+        (ap₂
+        (λ (plan : Plan) (script : Script). line_if_shown wording plan script r.at
+        (scene_at (plan_meaning plan) script (layer start.overlay) (kept start.overlay)
+        r.at))
+        p.plan p.script
         ∙ ap line p.at))
 
     pub over_still : IsOver layer start → IsOver layer r
@@ -90,7 +90,7 @@ module _ {O Kept : Type 0} (layer : O → Layer Kept) (kept : O → List Kept) (
           over =
               subst (λ (l : Layer Kept). StandsOver l (plan_meaning r.plan)) (sym p.layer)
               (subst (λ (plan : Plan). StandsOver (layer start.overlay) (plan_meaning plan))
-                (sym p.plan) over.over);
+              (sym p.plan) over.over);
         }
 
     -- there is a round to play before the last configuration
@@ -100,9 +100,9 @@ module _ {O Kept : Type 0} (layer : O → Layer Kept) (kept : O → List Kept) (
     pub lines_go_on : (new : Running O) (now : Told) → c < count
         → Wrote (line_if_shown wording r.plan r.script r.at (scene_of kept r)) mid now
         → Advances layer kept r new
-            → (IsPlaying layer kept (kept start.overlay) r
-              → IsPlaying layer kept (kept start.overlay) new)
-            → LinesSoFar (c + 1) new old now
+        → (IsPlaying layer kept (kept start.overlay) r
+        → IsPlaying layer kept (kept start.overlay) new)
+        → LinesSoFar (c + 1) new old now
     lines_go_on new now lt one step played =
         let p = so_far.played in
         record {
@@ -137,7 +137,7 @@ module _ {O Kept : Type 0} (layer : O → Layer Kept) (kept : O → List Kept) (
     lines_end (Ok value) now last wrote =
         words_all line count (c + 1) old now (omega (arith, last))
         (words_more line count c old mid now (omega (arith, last)) so_far.wrote
-          (subst (λ (x : List ℕ). Wrote x mid now) line_is wrote))
+        (subst (λ (x : List ℕ). Wrote x mid now) line_is wrote))
     lines_end (Err error) now last cut = lines_cut now (omega (arith, last)) cut
 
   -- what is written behind the lines is of the same run
@@ -145,17 +145,17 @@ module _ {O Kept : Type 0} (layer : O → Layer Kept) (kept : O → List Kept) (
       → HasPlayed layer kept start c r
       → Puts result (lock_lines r.plan r.script (configuration_of layer (kept start.overlay) r)) s t
       → Puts result
-          (lock_lines start.plan start.script
-            (configuration_in start.plan start.script (layer start.overlay) (kept start.overlay)))
-          s t
+      (lock_lines start.plan start.script
+      (configuration_in start.plan start.script (layer start.overlay) (kept start.overlay)))
+      s t
   locks_after result c r s t p puts =
       let began : List Kept = kept start.overlay in
       let text : Plan → Script → Layer Kept
-          → List ℕ = λ plan script l. lock_lines plan script
-            (λ u. (scene_at (plan_meaning plan) script l began u).states) in
+      → List ℕ = λ plan script l. lock_lines plan script
+      (λ u. (scene_at (plan_meaning plan) script l began u).states) in
       subst (λ (plan : Plan). Puts result (text plan start.script (layer start.overlay)) s t) p.plan
       (subst (λ (script : Script). Puts result (text r.plan script (layer start.overlay)) s t)
-          p.script
+      p.script
       (subst (λ (l : Layer Kept). Puts result (text r.plan r.script l) s t) p.layer puts))
 
   pub end_at : (r : Running O) → HasPlayed layer kept start start.script.rounds r

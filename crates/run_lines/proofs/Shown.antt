@@ -27,7 +27,7 @@ module _ (row : ℕ → List ℕ) (first last : ℕ) where
   nothing_more t hidden same =
       same
       ∙ (sym (append-nil (rows_before t))
-        ∙ ap (λ (b : Bool). rows_before t ++ cond b (row t) []) (sym hidden))
+      ∙ ap (λ (b : Bool). rows_before t ++ cond b (row t) []) (sym hidden))
 
   one_more : (t : ℕ) → first ≤ t → t ≤ last → rows_before (t + 1) ≡ rows_before t ++ row t
   one_more t le ge =
@@ -35,27 +35,27 @@ module _ (row : ℕ → List ℕ) (first last : ℕ) where
       let within : t - first < length rows = omega (arith, size) in
       let next : t + 1 - first ≡ t - first + 1 = omega arith in
       let here : get_or rows (t - first) 0
-          ≡ t = omega
-            (arith, get_or-range_with_len first (last + 1 - first) (t - first) 0 (omega arith)) in
+      ≡ t = omega
+      (arith, get_or-range_with_len first (last + 1 - first) (t - first) 0 (omega arith)) in
       ap (λ (n : ℕ). flat_map row (take n rows)) next
       ∙ (ap (flat_map row) (take_more rows (t - first) 0 within)
       ∙ (flat_map-append row (take (t - first) rows) (get_or rows (t - first) 0 ∷ [])
       ∙ ap (λ (r : List ℕ). rows_before t ++ r)
-          (append-nil (row (get_or rows (t - first) 0)) ∙ ap row here)))
+      (append-nil (row (get_or rows (t - first) 0)) ∙ ap row here)))
 
   -- with row t the rows are those before row t + 1
   pub rows_more : (t : ℕ) → rows_before (t + 1) ≡ rows_before t ++ row_if_shown t
   rows_more t = elim (cases_lt t first) [
     | inl early ↦ nothing_more t (ap (λ (b : Bool). b && nat_le t last) (lt-leb first t early))
         (let none : t + 1 - first ≡ t - first = omega (arith, early) in
-          ap (λ (n : ℕ). flat_map row (take n rows)) none)
+        ap (λ (n : ℕ). flat_map row (take n rows)) none)
     | inr from ↦ elim (cases_lt last t) [
       | inl late ↦ nothing_more t
           (ap (λ (b : Bool). nat_le first t && b) (lt-leb t last late) ∙ no_and (nat_le first t))
           (let size = length-range_with_len first (last + 1 - first) in
           ap (flat_map row)
-              (take_all (t + 1 - first) rows (omega (arith, size, late))
-                ∙ sym (take_all (t - first) rows (omega (arith, size, late)))))
+          (take_all (t + 1 - first) rows (omega (arith, size, late))
+          ∙ sym (take_all (t - first) rows (omega (arith, size, late)))))
       | inr within ↦ one_more t from within
           ∙ ap (λ (b : Bool). rows_before t ++ cond b (row t) []) (sym (both t from within))
     ]

@@ -9,5 +9,5 @@ pub may_end_is : (plan : Plan) (script lent : Script) (q c bound at : ℕ) (may 
     → may_end_at (plan_bound plan) script q c ≡ may
 may_end_is plan script lent q c bound at may is bound_is lent_is at_is =
     sym
-        (is ∙ ap (λ b. may_end_at b lent q at) bound_is
-          ∙ ap₂ (λ (s : Script) (c : ℕ). may_end_at (plan_bound plan) s q c) lent_is at_is)
+    (is ∙ ap (λ b. may_end_at b lent q at) bound_is
+    ∙ ap₂ (λ (s : Script) (c : ℕ). may_end_at (plan_bound plan) s q c) lent_is at_is)

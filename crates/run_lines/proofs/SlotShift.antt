@@ -46,7 +46,7 @@ module _ (f : ℕ → List ℕ) (q first last end : ℕ) (beyond : (t : ℕ) →
 
   one_more : (n c : ℕ) → c < n
       → flat_map later (take (c + 1) (range_with_len 0 n))
-        ≡ flat_map later (take c (range_with_len 0 n)) ++ later c
+      ≡ flat_map later (take c (range_with_len 0 n)) ++ later c
   one_more n c lt =
       let numbers : List ℕ = range_with_len 0 n in
       let size = length-range_with_len 0 n in
@@ -54,7 +54,7 @@ module _ (f : ℕ → List ℕ) (q first last end : ℕ) (beyond : (t : ℕ) →
       ap (flat_map later) (take_more numbers c 0 (omega (arith, lt, size)))
       ∙ (flat_map-append later (take c numbers) (get_or numbers c 0 ∷ [])
       ∙ ap (λ (r : List ℕ). flat_map later (take c numbers) ++ r)
-          (append-nil (later (get_or numbers c 0)) ∙ ap later here))
+      (append-nil (later (get_or numbers c 0)) ∙ ap later here))
 
   -- what is written before c is what there is of the numbers that are q before
   so_far : (n c : ℕ) → c ≤ n → flat_map later (take c (range_with_len 0 n)) ≡ before (c - q)
@@ -68,12 +68,12 @@ module _ (f : ℕ → List ℕ) (q first last end : ℕ) (beyond : (t : ℕ) →
       ∙ elim (cases_lt c q) [
         | inl lt ↦ (let none : suc c - q ≡ c - q = omega (arith, lt) in
             ap (λ (r : List ℕ). before (c - q) ++ r) (early c lt)
-                ∙ (append-nil (before (c - q)) ∙ ap before (sym none)))
+            ∙ (append-nil (before (c - q)) ∙ ap before (sym none)))
         | inr from ↦ (let t : ℕ = c - q in
             let here : c ≡ t + q = omega (arith, from) in
             let next : t + 1 ≡ suc c - q = omega (arith, from) in
             ap (λ (r : List ℕ). before t ++ r) (ap later here ∙ late t)
-                ∙ (sym (rows_more f first last t) ∙ ap before next))
+            ∙ (sym (rows_more f first last t) ∙ ap before next))
       ]))
 
   -- what is behind the end is empty
@@ -88,9 +88,9 @@ module _ (f : ℕ → List ℕ) (q first last end : ℕ) (beyond : (t : ℕ) →
       ap before step
       ∙ (rows_more f first last (t + m)
       ∙
-          (ap (λ (r : List ℕ). before (t + m) ++ r)
-            (hidden (t + m) (nat_le first (t + m) && nat_le (t + m) last)
-              (beyond (t + m) (omega (arith, lt))))
+      (ap (λ (r : List ℕ). before (t + m) ++ r)
+      (hidden (t + m) (nat_le first (t + m) && nat_le (t + m) last)
+      (beyond (t + m) (omega (arith, lt))))
       ∙ (append-nil (before (t + m)) ∙ nothing_behind m t lt)))
 
   pub shifted : flat_map later (range_with_len 0 (end + 1))
@@ -108,73 +108,75 @@ module _ (f : ℕ → List ℕ) (q first last end : ℕ) (beyond : (t : ℕ) →
 
 module _ (plan : Plan) (script : Script) (q : ℕ) (config_at : ℕ → List State) (line : ℕ → List ℕ)
     (same : (t : ℕ) → counts_at (plan_bound plan) script q t ≡ true
-          → (lead_output plan script (t + q) (config_at (t + q)) % q == 0)
-            ≡ (lead_output plan script t (config_at t) % q == 0))
-        where
-  abbrev counts : ℕ → Bool
-  counts t = counts_at (plan_bound plan) script q t
+    → (lead_output plan script (t + q) (config_at (t + q)) % q == 0)
+    ≡ (lead_output plan script t (config_at t) % q == 0))
+  where
+    abbrev counts : ℕ → Bool
+    counts t = counts_at (plan_bound plan) script q t
 
-  abbrev of_slot : ℕ → List ℕ
-  of_slot t = cond (begins_at plan script q t (config_at t)) (line t) []
+    abbrev of_slot : ℕ → List ℕ
+    of_slot t = cond (begins_at plan script q t (config_at t)) (line t) []
 
-  abbrev at_end : ℕ → List ℕ
-  at_end c = cond (ends_at plan script q c (config_at c)) (line (c - q)) []
+    abbrev at_end : ℕ → List ℕ
+    at_end c = cond (ends_at plan script q c (config_at c)) (line (c - q)) []
 
-  -- a slot that ends behind the rounds does not count
-  no_slot : (low era within : Bool) (x : Bool) (text : List ℕ) → within ≡ false
-      → cond ((low && era && within) && x) text [] ≡ []
-  no_slot true true within x text out = ap (λ (b : Bool). cond (b && x) text []) out
-  no_slot true false within x text out = refl
-  no_slot false era within x text out = refl
+    -- a slot that ends behind the rounds does not count
+    no_slot : (low era within : Bool) (x : Bool) (text : List ℕ) → within ≡ false
+        → cond ((low && era && within) && x) text [] ≡ []
+    no_slot true true within x text out = ap (λ (b : Bool). cond (b && x) text []) out
+    no_slot true false within x text out = refl
+    no_slot false era within x text out = refl
 
-  beyond : (t : ℕ) → script.rounds < t + q → of_slot t ≡ []
-  beyond t lt =
-      no_slot (nat_lt (first_of_era script (era_of script t) + plan_bound plan) t)
-          (era_of script (t + q) == era_of script t) (nat_le (t + q) script.rounds)
-      (lead_output plan script t (config_at t) % q == 0) (line t) (lt-leb (t + q) script.rounds lt)
+    beyond : (t : ℕ) → script.rounds < t + q → of_slot t ≡ []
+    beyond t lt =
+        no_slot (nat_lt (first_of_era script (era_of script t) + plan_bound plan) t)
+        (era_of script (t + q) == era_of script t) (nat_le (t + q) script.rounds)
+        (lead_output plan script t (config_at t) % q == 0) (line t)
+        (lt-leb (t + q) script.rounds lt)
 
-  -- a slot that ends here is one that began so long before
-  both_ends : (low high k x y : Bool) (text : List ℕ) → (k ≡ true → x ≡ y)
-      → cond ((low && high && k) && x) text [] ≡ cond (low && high) (cond (k && y) text []) []
-  both_ends true true true x y text e = ap (λ (z : Bool). cond z text []) (e refl)
-  both_ends true true false x y text e = refl
-  both_ends true false k x y text e = refl
-  both_ends false high k x y text e = refl
+    -- a slot that ends here is one that began so long before
+    both_ends : (low high k x y : Bool) (text : List ℕ) → (k ≡ true → x ≡ y)
+        → cond ((low && high && k) && x) text [] ≡ cond (low && high) (cond (k && y) text []) []
+    both_ends true true true x y text e = ap (λ (z : Bool). cond z text []) (e refl)
+    both_ends true true false x y text e = refl
+    both_ends true false k x y text e = refl
+    both_ends false high k x y text e = refl
 
-  end_of_slot : (c : ℕ) → at_end c ≡ later of_slot q script.first script.last script.rounds beyond c
-  end_of_slot c = elim (cases_lt c q) [
-    | inl lt ↦ ap
-        (λ (b : Bool). cond
+    end_of_slot : (c : ℕ)
+        → at_end c ≡ later of_slot q script.first script.last script.rounds beyond c
+    end_of_slot c = elim (cases_lt c q) [
+      | inl lt ↦ ap
+          (λ (b : Bool). cond
           ((b && nat_le c (script.last + q) && counts (c - q))
-            && lead_output plan script c (config_at c) % q == 0)
+          && lead_output plan script c (config_at c) % q == 0)
           (line (c - q)) [])
-        (lt-leb (script.first + q) c (omega (arith, lt)))
-        ∙ sym (early of_slot q script.first script.last script.rounds beyond c lt)
-    | inr from ↦ (let t : ℕ = c - q in
-        let here : c ≡ t + q = omega (arith, from) in
-        let ends : ℕ → ℕ
-            → List ℕ = λ c i. cond
-              ((nat_le (script.first + q) c && nat_le c (script.last + q) && counts i)
-                && lead_output plan script c (config_at c) % q == 0)
-              (line i) [] in
-        let begins : ℕ → ℕ
-            → List ℕ = λ c i. cond (nat_le (script.first + q) c && nat_le c (script.last + q))
-              (of_slot i) [] in
-        ap (λ (c : ℕ). ends c t) here
-        ∙
-            (both_ends (nat_le (script.first + q) (t + q)) (nat_le (t + q) (script.last + q))
-              (counts t) (lead_output plan script (t + q) (config_at (t + q)) % q == 0)
-              (lead_output plan script t (config_at t) % q == 0) (line t) (same t)
-        ∙ ap (λ (c : ℕ). begins c t) (sym here)))
-  ]
+          (lt-leb (script.first + q) c (omega (arith, lt)))
+          ∙ sym (early of_slot q script.first script.last script.rounds beyond c lt)
+      | inr from ↦ (let t : ℕ = c - q in
+          let here : c ≡ t + q = omega (arith, from) in
+          let ends : ℕ → ℕ
+          → List ℕ = λ c i. cond
+          ((nat_le (script.first + q) c && nat_le c (script.last + q) && counts i)
+          && lead_output plan script c (config_at c) % q == 0)
+          (line i) [] in
+          let begins : ℕ → ℕ
+          → List ℕ = λ c i. cond (nat_le (script.first + q) c && nat_le c (script.last + q))
+          (of_slot i) [] in
+          ap (λ (c : ℕ). ends c t) here
+          ∙
+          (both_ends (nat_le (script.first + q) (t + q)) (nat_le (t + q) (script.last + q))
+          (counts t) (lead_output plan script (t + q) (config_at (t + q)) % q == 0)
+          (lead_output plan script t (config_at t) % q == 0) (line t) (same t)
+          ∙ ap (λ (c : ℕ). begins c t) (sym here)))
+    ]
 
-  -- what is written at the ends of slots, up to the last round
-  pub lines_of_slots : flat_map at_end (range_with_len 0 (script.rounds + 1))
-      ≡ slot_lines plan script q config_at line
-  lines_of_slots =
-      ap (λ (g : ℕ → List ℕ). flat_map g (range_with_len 0 (script.rounds + 1)))
-          (fun_ext end_of_slot)
-      ∙ shifted of_slot q script.first script.last script.rounds beyond
+    -- what is written at the ends of slots, up to the last round
+    pub lines_of_slots : flat_map at_end (range_with_len 0 (script.rounds + 1))
+        ≡ slot_lines plan script q config_at line
+    lines_of_slots =
+        ap (λ (g : ℕ → List ℕ). flat_map g (range_with_len 0 (script.rounds + 1)))
+        (fun_ext end_of_slot)
+        ∙ shifted of_slot q script.first script.last script.rounds beyond
 
 -- rows that are shown, each written at its own configuration
 module _ (f : ℕ → List ℕ) (first last end : ℕ) (within : last ≤ end) where
@@ -189,13 +191,13 @@ module _ (f : ℕ → List ℕ) (first last end : ℕ) (within : last ≤ end) w
       let size = length-range_with_len 0 n in
       let step : suc c ≡ c + 1 = omega arith in
       let here : get_or numbers c 0
-          ≡ c = omega (arith, get_or-range_with_len 0 n c 0 (omega (arith, le))) in
+      ≡ c = omega (arith, get_or-range_with_len 0 n c 0 (omega (arith, le))) in
       ap (λ (i : ℕ). flat_map row_at (take i numbers)) step
       ∙ (ap (flat_map row_at) (take_more numbers c 0 (omega (arith, le, size)))
       ∙ (flat_map-append row_at (take c numbers) (get_or numbers c 0 ∷ [])
       ∙
-          (ap (λ (r : List ℕ). flat_map row_at (take c numbers) ++ r)
-            (append-nil (row_at (get_or numbers c 0)) ∙ ap row_at here)
+      (ap (λ (r : List ℕ). flat_map row_at (take c numbers) ++ r)
+      (append-nil (row_at (get_or numbers c 0)) ∙ ap row_at here)
       ∙ (ap (λ (r : List ℕ). r ++ row_at c) (rows_so_far n c (omega (arith, le)))
       ∙ (sym (rows_more f first last c) ∙ ap (λ (i : ℕ). rows_before f first last i) (sym step))))))
 
@@ -204,7 +206,7 @@ module _ (f : ℕ → List ℕ) (first last end : ℕ) (within : last ≤ end) w
   rows_in_place =
       let size = length-range_with_len 0 (end + 1) in
       ap (flat_map row_at)
-          (sym (take_all (end + 1) (range_with_len 0 (end + 1)) (omega (arith, size))))
+      (sym (take_all (end + 1) (range_with_len 0 (end + 1)) (omega (arith, size))))
       ∙
-          (rows_so_far (end + 1) (end + 1) (omega arith)
-            ∙ all_before f first last (end + 1) (omega (arith, within)))
+      (rows_so_far (end + 1) (end + 1) (omega arith)
+      ∙ all_before f first last (end + 1) (omega (arith, within)))

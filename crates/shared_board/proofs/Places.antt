@@ -61,7 +61,7 @@ length-groups_of (level ∷ below) first =
       arith,
       length-pieces (λ b. groups_of below (first + b * nodes_of below))
           (group_count below) (λ b. length-groups_of below (first + b * nodes_of below))
-              level.blocks
+          level.blocks
           0,
     )
 

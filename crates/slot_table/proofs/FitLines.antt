@@ -35,7 +35,7 @@ meet_there output old line here there =
     let from = leb-true _ _ b.0 in
     let to = leb-true _ _ b.1 in
     ap (λ (x : Bool). x && nat_le line.first old.last)
-        (le-leb old.first line.last (omega (arith, old_from, to)))
+    (le-leb old.first line.last (omega (arith, old_from, to)))
     ∙ le-leb line.first old.last (omega (arith, from, old_to))
 
 none_before : (b rest : Bool) → (b || rest) ≡ false → b ≡ false
@@ -69,9 +69,9 @@ module _ (lines : List SlotLine) (line : SlotLine) (apart : AreApart lines)
       → covers output (get_or lines i d) ≡ true → covers output line ≡ true → i ≡ j
   never_both i j output d lt here there =
       absurd
-          (true≢false
-            (sym (meet_there output (get_or lines i d) line here there)
-              ∙ no_meeting (meets line.first line.last) lines i d clear lt))
+      (true≢false
+      (sym (meet_there output (get_or lines i d) line here there)
+      ∙ no_meeting (meets line.first line.last) lines i d clear lt))
 
   pub apart_more : AreApart all
   apart_more i j output d ilt jlt here there = elim (cases_lt i (length lines)) [
@@ -86,7 +86,7 @@ module _ (lines : List SlotLine) (line : SlotLine) (apart : AreApart lines)
     | inr i_new ↦ elim (cases_lt j (length lines)) [
       | inl j_old ↦ sym
           (never_both j i output d j_old (ap (covers output) (sym (old_at j d j_old)) ∙ there)
-            (ap (covers output) (sym (new_at i d i_new ilt)) ∙ here))
+          (ap (covers output) (sym (new_at i d i_new ilt)) ∙ here))
       | inr j_new ↦ let long = length_push lines line in omega (arith, i_new, j_new, ilt, jlt, long)
     ]
   ]
@@ -143,7 +143,7 @@ pub still_apart : (s : SlotsSoFar) (line : SlotLine) (numbers : Option (List ℕ
     → Ok line ≡ line_tested s numbers → AreApart (s.lines ++ line ∷ [])
 still_apart s line numbers apart is =
     let one = subst (λ (r : Result SlotLine Rule). IfOk r (IsOneMore s)) (sym is)
-        (tested s numbers) in
+    (tested s numbers) in
     apart_more s.lines line apart one.clear
 
 module _ (plan : Plan) where
@@ -167,9 +167,13 @@ module _ (plan : Plan) where
       → Goes (if is then goes (record s { begun = true }) else refuses Form)
   headed s false fit = tt
   headed s true fit =
-      record
-      { nodes = fit.nodes; modulus = fit.modulus; many = fit.many; each = fit.each;
-        apart = fit.apart }
+      record {
+        nodes = fit.nodes;
+        modulus = fit.modulus;
+        many = fit.many;
+        each = fit.each;
+        apart = fit.apart;
+      }
 
   ended : (s : SlotsSoFar) (is : Bool) (line : List ℕ) → FitSoFar plan s
       → Goes (if is then ends s.lines else goes_with s (line_in s line))

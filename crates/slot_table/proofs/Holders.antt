@@ -19,15 +19,25 @@ first_holds : (line : SlotLine) (lines : List SlotLine) (v output : ℕ) (b : Bo
     → covers output line ≡ b → (if b then Some line.node else holder_of lines output) ≡ Some v
     → (holder_of lines output ≡ Some v → Holds lines v output) → Holds (line ∷ lines) v output
 first_holds line lines v output true is e later =
-    record
-    { place = 0; line = line; inside = omega arith; at = λ d. refl; node = some_one line.node v e;
-      covers_it = is }
+    record {
+      place = 0;
+      line = line;
+      inside = omega arith;
+      at = λ d. refl;
+      node = some_one line.node v e;
+      covers_it = is;
+    }
 first_holds line lines v output false is e later =
     let h = later e in
     let inside = h.inside in
-    record
-        { place = suc h.place; line = h.line; inside = omega (arith, inside); at = λ d. h.at d;
-          node = h.node; covers_it = h.covers_it }
+    record {
+      place = suc h.place;
+      line = h.line;
+      inside = omega (arith, inside);
+      at = λ d. h.at d;
+      node = h.node;
+      covers_it = h.covers_it;
+    }
 
 pub holder_is_one : HolderIsOne
 holder_is_one [] v output e = absurd (none_is v e)
@@ -54,13 +64,13 @@ holder_at [] apart output place line lt at it = absurd (omega arith)
 holder_at (first ∷ lines) apart output zero line lt at it =
     let same : first ≡ line = at line in
     ap (λ (b : Bool). if b then Some first.node else holder_of lines output)
-          (ap (covers output) same ∙ it)
-        ∙ ap (λ (l : SlotLine). Some l.node) same
+    (ap (covers output) same ∙ it)
+    ∙ ap (λ (l : SlotLine). Some l.node) same
 holder_at (first ∷ lines) apart output (suc place) line lt at it =
     later first lines output place line.node (covers output first) refl
     (λ yes. let e = apart 0 (suc place) output line (omega arith) lt yes
-          (ap (covers output) (at line) ∙ it) in
-        absurd (omega (arith, e)))
+    (ap (covers output) (at line) ∙ it) in
+    absurd (omega (arith, e)))
     (holder_at lines (later_apart first lines apart) output place line (omega arith) at it)
 
 pub holder_holds : HolderHolds
@@ -74,9 +84,9 @@ at_most_one_holds plan accepted lines apart faulty run borne is t lo hi u v here
     let counts = every_plan_settles plan accepted faulty run borne is in
     let output : ℕ = counts.output t in
     let one : holder_of lines output
-        ≡ Some u = holder_holds lines apart u output
-          (subst (Holds lines u) (counts.shows t lo hi u here.node here.correct) here.holds) in
+    ≡ Some u = holder_holds lines apart u output
+    (subst (Holds lines u) (counts.shows t lo hi u here.node here.correct) here.holds) in
     let other : holder_of lines output
-        ≡ Some v = holder_holds lines apart v output
-          (subst (Holds lines v) (counts.shows t lo hi v there.node there.correct) there.holds) in
+    ≡ Some v = holder_holds lines apart v output
+    (subst (Holds lines v) (counts.shows t lo hi v there.node there.correct) there.holds) in
     some_one u v (sym one ∙ other)

@@ -111,7 +111,7 @@ pub modulus_of_node : (shape : Shape) (v i : ℕ) → i < shape.depth
     ≡ get_or (slice_index_or shape.fields v no_fields).moduli i 0
 modulus_of_node shape v i lt = get_or-map-range_with_len
     (λ i. slice_index_or (slice_index_or shape.fields v no_fields).moduli i 0) 0 shape.depth i i 0
-        lt
+    lt
     (omega arith)
 
 -- fields of the depth are taken as they are
@@ -162,7 +162,7 @@ pub kind_at : (shape : Shape) (kinds : List Fields) (which : List ℕ) (v kind :
     → found ≡ get_or kinds kind found → found ≡ fields_at shape v
 kind_at shape kinds which v kind found kept lt same is =
     let below : kind
-        < length kinds = subst (λ k. k < length kinds) (sym same) (kept.among v 0 lt) in
+    < length kinds = subst (λ k. k < length kinds) (sym same) (kept.among v 0 lt) in
     let deep : length found.moduli ≡ shape.depth =
     subst (λ (f : Fields). length f.moduli ≡ shape.depth) (sym is) (kept.depth kind found below) in
     let own : get_or shape.fields v no_fields ≡ found =

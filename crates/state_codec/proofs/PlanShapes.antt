@@ -15,7 +15,7 @@ use Rattle.state_codec.proofs.Lows.{made_at, length-moduli_from}
 
 module _ (plan : Plan) (moduli : List ℕ) (kinds : List Fields) (which : List ℕ)
     (made : kinds
-        ≡ map (fields_from (all_over plan moduli)) (range_with_len 0 (plan_depth plan + 1)))
+    ≡ map (fields_from (all_over plan moduli)) (range_with_len 0 (plan_depth plan + 1)))
     (lows : which ≡ lows_of plan) where
   abbrev all : Fields
   all = all_over plan moduli

@@ -153,10 +153,15 @@ bits_of_levels base (level ∷ below) (accepted, none) =
       full_register level.modulus met.modulus,
     )
 
+pub bits_of_all : (plan : Plan) → IsAccepted plan
+    → bits_in (fields_from (all_of plan) 0) ≡ plan_bits plan
+bits_of_all plan accepted =
+    ap (λ ms. width plan.base + registers_bits ms) (all_moduli (moduli_of plan.levels))
+    ∙ bits_of_levels plan.base plan.levels accepted.levels
+
 pub bits_of_shape : (plan : Plan) → IsAccepted plan → (v : ℕ) → v < plan_nodes plan
     → plan_low plan v ≡ 0 → bits_in (fields_at (shape_of plan) v) ≡ plan_bits plan
 bits_of_shape plan accepted v lt none =
     ap bits_in (fields_of_node plan (moduli_of plan.levels) v lt
     ∙ ap (fields_from (all_of plan)) none)
-    ∙ (ap (λ ms. width plan.base + registers_bits ms) (all_moduli (moduli_of plan.levels))
-    ∙ bits_of_levels plan.base plan.levels accepted.levels)
+    ∙ bits_of_all plan accepted

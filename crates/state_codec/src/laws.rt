@@ -7,6 +7,7 @@ ghost use Rattle.construction.specs.Runs.{IsState};
 ghost use Rattle.plan_numbers.specs.Premises.{IsAccepted};
 ghost use Rattle.state_codec.specs.Shapes.{Fields, IsFields, bits_in, Shape, IsShape, shape_of};
 ghost use Rattle.state_codec.specs.Shapes.{shape_with, with_further, shape_nodes, fields_at};
+ghost use Rattle.state_codec.specs.Shapes.{all_of, fields_from};
 ghost use Rattle.state_codec.specs.Ranges.{InRange};
 ghost use Rattle.state_codec.specs.Writing.{written};
 ghost use Rattle.state_codec.specs.Reading.{read};
@@ -32,12 +33,14 @@ pub fn text_reads_back()
         → read_text fields (written_text fields state) ≡ state }
 {}
 
-/// The shape of an accepted plan is within the limits, and has the plan's depth and nodes, and a
-/// node that is no spare the plan's bits; where a shape is within the limits, so are the fields of
-/// each of its nodes.
+/// The shape of an accepted plan is within the limits, and has the plan's depth and nodes. All
+/// fields of the plan together have its bits, and so has each node that takes part from the lowest
+/// level on. Where a shape is within the limits, so are the fields of each of its nodes.
 pub fn plans_have_shapes()
     ensures shape { (plan : Plan) → IsAccepted plan → IsShape (shape_of plan) }
     ensures fields { (shape : Shape) (v : ℕ) → IsShape shape → IsFields (fields_at shape v) }
+    ensures all { (plan : Plan) → IsAccepted plan
+        → bits_in (fields_from (all_of plan) 0) ≡ plan_bits plan }
     ensures bits { (plan : Plan) → IsAccepted plan
         → (v : ℕ) → v < plan_nodes plan → plan_low plan v ≡ 0
         → bits_in (fields_at (shape_of plan) v) ≡ plan_bits plan }

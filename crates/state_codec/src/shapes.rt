@@ -65,9 +65,9 @@ impl StateShape {
         StateShape::over(alloc, plan, moduli)
     }
 
-    /// The shape of a plan's states with one further register after the plan's, which every node has and
-    /// whose values are those below `values`, 2 to 65536. It takes all the memory that the shape
-    /// ever needs.
+    /// The shape of a plan's states with one further register after the plan's, which every node
+    /// has and whose values are those below `values`, 2 to 65536. It takes all the memory that the
+    /// shape ever needs.
     pub fn with_register(alloc: Global, plan: &Plan, values: u64) -> Result<StateShape, NoMemory>
         requires least { 2 ≤ values }
         requires most { values ≤ 65536 }
@@ -77,8 +77,8 @@ impl StateShape {
     }
 
     /// The shape of a plan's states with `count` further registers after the plan's, at most 2,
-    /// which every node has and whose values are those below `values`, 2 to 65536. It takes all the memory that
-    /// the shape ever needs.
+    /// which every node has and whose values are those below `values`, 2 to 65536. It takes all
+    /// the memory that the shape ever needs.
     pub fn with_registers(
         alloc: Global,
         plan: &Plan,

@@ -187,7 +187,7 @@ module _ (plan : Plan) (script : Script) (seeds : List ℕ) (seed : ℕ)
         done = λ k lt in_k. placed script tally j old now here is k
             (AreOfEra plan script (seeds ++ seed ∷ []) k)
             (λ e. subst (λ (i : ℕ). AreOfEra plan script (seeds ++ seed ∷ []) i now) (sym e)
-                counted)
+            counted)
             (λ e. are.done k (omega (arith, lt, e)) in_k);
         rest = λ k le in_k. placed script tally j old now here is k (AreOfEra plan script seeds k)
             (λ e. absurd (omega (arith, le, e)))

@@ -29,12 +29,12 @@ pub room_for : (ids : List ℕ) (id : ℕ) → IsStrictlyIncreasing ids
 room_for ids id rising above =
     ⊎_elim (λ none. omega arith)
     (λ some. let last = above some in
-      let at_least = rising_from ids rising (length ids - 1) (omega arith) in
-      omega arith)
+    let at_least = rising_from ids rising (length ids - 1) (omega arith) in
+    omega arith)
     (none_or_some (length ids)) where
-  none_or_some : (n : ℕ) → (n ≡ 0) ⊎ (0 < n)
-  none_or_some zero = inl refl
-  none_or_some (suc n) = inr (omega arith)
+      none_or_some : (n : ℕ) → (n ≡ 0) ⊎ (0 < n)
+      none_or_some zero = inl refl
+      none_or_some (suc n) = inr (omega arith)
 
 -- below a number there are no more of them than that number
 pub count_below : (n : ℕ) (ids : List ℕ) → IsStrictlyIncreasing ids → All (λ id. id < n) ids
@@ -69,14 +69,15 @@ marked_push : (ids : List ℕ) (id : ℕ) (marks : List Bool)
     → get_or (set marks id true) v false ≡ is_in (ids ++ id ∷ []) v
 marked_push ids id marks marked lt v =
     by (eqb_tells v id) ∙ sym (list_any-append (λ i. eqb v i) ids (id ∷ [])) where
-  by : ((eqb v id ≡ true) × (v ≡ id)) ⊎ ((eqb v id ≡ false) × (v ≢ id))
-      → get_or (set marks id true) v false ≡ (is_in ids v || (eqb v id || false))
-  by (inl same) =
-      ap (λ u. get_or (set marks id true) u false) same.1 ∙ get_or-set_same marks id true false lt
-      ∙ sym (ap (λ b. is_in ids v || (b || false)) same.0 ∙ or-true (is_in ids v))
-  by (inr other) =
-      get_or-set_other marks id v true false other.1 ∙ marked v
-      ∙ sym (ap (λ b. is_in ids v || (b || false)) other.0 ∙ or-false (is_in ids v))
+      by : ((eqb v id ≡ true) × (v ≡ id)) ⊎ ((eqb v id ≡ false) × (v ≢ id))
+          → get_or (set marks id true) v false ≡ (is_in ids v || (eqb v id || false))
+      by (inl same) =
+          ap (λ u. get_or (set marks id true) u false) same.1
+          ∙ get_or-set_same marks id true false lt
+          ∙ sym (ap (λ b. is_in ids v || (b || false)) same.0 ∙ or-true (is_in ids v))
+      by (inr other) =
+          get_or-set_other marks id v true false other.1 ∙ marked v
+          ∙ sym (ap (λ b. is_in ids v || (b || false)) other.0 ∙ or-false (is_in ids v))
 
 -- the set that is kept after one more id
 pub kept_push : (nodes : ℕ) (ids : List ℕ) (marks : List Bool) (capacity more id : ℕ)

@@ -32,8 +32,8 @@ parted_more false front b bs n is lt more =
       lines =
           rw (is, k, m)
           (h.lines
-            ∙ ap (λ l. l ∷ whole_lines (drop (n + 1) bs))
-              (append_assoc front (b ∷ []) (take n bs)));
+          ∙ ap (λ l. l ∷ whole_lines (drop (n + 1) bs))
+          (append_assoc front (b ∷ []) (take n bs)));
       behind = rw (is, k) h.behind;
     }
 
@@ -41,7 +41,7 @@ parted : (front text : List ℕ) → place text < length text → Parted front t
 parted front [] lt = absurd (omega arith)
 parted front (b ∷ bs) lt =
     parted_more (eqb b 10) front b bs (place bs) refl lt
-        (λ within. parted (front ++ b ∷ []) bs within)
+    (λ within. parted (front ++ b ∷ []) bs within)
 
 -- the line that ends at the newline at i
 pub whole_at : (text : List ℕ) (i : ℕ) → position (λ b. eqb b 10) text ≡ Some i

@@ -14,7 +14,7 @@ IsOneLine line = is_one_line line ≡ true
 whole_by : (newline : Bool) (b : ℕ) (line bs : List ℕ) → eqb b 10 ≡ newline
     → text_of (whole_from [] bs) ++ open_from [] bs ≡ bs
     → text_of (whole_from (line ++ b ∷ []) bs) ++ open_from (line ++ b ∷ []) bs
-        ≡ (line ++ b ∷ []) ++ bs
+    ≡ (line ++ b ∷ []) ++ bs
     → text_of (cond newline (line ∷ whole_from [] bs) (whole_from (line ++ b ∷ []) bs))
     ++ cond newline (open_from [] bs) (open_from (line ++ b ∷ []) bs)
     ≡ line ++ b ∷ bs

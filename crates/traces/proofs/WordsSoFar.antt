@@ -14,7 +14,7 @@ module _ (word : ℕ → List ℕ) (n : ℕ) where
   word_at : (v : ℕ) → v < n → word (get_or (range_with_len 0 n) v 0) ≡ word v
   word_at v lt =
       let here : get_or (range_with_len 0 n) v 0
-        ≡ v = omega (arith, get_or-range_with_len 0 n v 0 lt) in
+      ≡ v = omega (arith, get_or-range_with_len 0 n v 0 lt) in
       ap word here
 
   inside : (v : ℕ) → v < n → v < length (range_with_len 0 n)
@@ -35,5 +35,5 @@ module _ (word : ℕ → List ℕ) (n : ℕ) where
       → Wrote (flat_map word (range_with_len 0 n)) old now
   words_all v old now le before =
       let whole = take_all v (range_with_len 0 n)
-        (let size = length-range_with_len 0 n in omega (arith, size, le)) in
+      (let size = length-range_with_len 0 n in omega (arith, size, le)) in
       rw (← whole) before

@@ -1,5 +1,5 @@
-//! Tries the calls that read and write the texts of pulse plans: their parts and their tables. There
-//! is nothing here but tests.
+//! Tries the calls that read and write the texts of pulse plans: their parts and their tables.
+//! There is nothing here but tests.
 #![tactic(auto)]
 
 #[cfg(test)]

@@ -44,9 +44,10 @@ input_of true s l bytes read end within =
       read =
           subst (ReadsFront s l) (sym (append-nil bytes))
           (all_front s l bytes (record { read = read; end = end refl }));
-      follows =
-          (refl,
-          le-ltb (2 ^ 44) (length (bytes ++ [])) (omega (arith, length-append bytes [], short)));
+      follows = (
+        refl,
+        le-ltb (2 ^ 44) (length (bytes ++ [])) (omega (arith, length-append bytes [], short)),
+      );
     }
 input_of false s l bytes read end within =
     record { rest = left_of l; read = front_read s l bytes read; follows = tt }
@@ -77,14 +78,18 @@ module _ (s l : Option (List ℕ)) (before now : ℕ) where
   check_long t h still =
       let input = h.bytes ++ left_of l in
       let above : nat_lt (2 ^ 44) (length input)
-          ≡ true = lt-ltb (2 ^ 44) (length input)
-            (omega (arith, length-append h.bytes (left_of l), h.past)) in
+      ≡ true = lt-ltb (2 ^ 44) (length input)
+      (omega (arith, length-append h.bytes (left_of l), h.past)) in
       let is : check_outcome input
-            ≡ too_long = ap (λ (b : Bool). checked_outcome (checked_by (2 ^ 44) b input)) above
-          ∙ ap checked_outcome (h.decides (left_of l)) in
-      record
-          { input = input; read = front_read s l h.bytes h.read; still = still;
-            status = ap (λ (o : Outcome). o.status) (sym is); wrote = rw is (wrote_none t) }
+      ≡ too_long = ap (λ (b : Bool). checked_outcome (checked_by (2 ^ 44) b input)) above
+      ∙ ap checked_outcome (h.decides (left_of l)) in
+      record {
+        input = input;
+        read = front_read s l h.bytes h.read;
+        still = still;
+        status = ap (λ (o : Outcome). o.status) (sym is);
+        wrote = rw is (wrote_none t);
+      }
 
   -- a line is refused
   module _ (line : ℕ) (h : IsRefused (2 ^ 44) s l line) (still : now ≡ before) (t u : Told) where
@@ -99,9 +104,13 @@ module _ (s l : Option (List ℕ)) (before now : ℕ) where
     pub check_refused : Wrote (refusal_line (refusal.Certificate line)) t u
         → Does (Some command.Check) (status.CertRefused line) s l before now t u
     check_refused wrote =
-        record
-        { input = h.bytes ++ input.rest; read = input.read; still = still;
-          status = ap (λ (o : Outcome). o.status) (sym refused_is); wrote = rw refused_is wrote }
+        record {
+          input = h.bytes ++ input.rest;
+          read = input.read;
+          still = still;
+          status = ap (λ (o : Outcome). o.status) (sym refused_is);
+          wrote = rw refused_is wrote;
+        }
 
     pub check_refused_cut : Cut (refusal_line (refusal.Certificate line)) t u
         → Does (Some command.Check) status.WriteFault s l before now t u
@@ -121,20 +130,31 @@ module _ (s l : Option (List ℕ)) (before now : ℕ) where
     pub check_cut : Cut (verdict_outcome v).text t u
         → Does (Some command.Check) status.WriteFault s l before now t u
     check_cut cut =
-        record
-        { input = h.text; read = all_front s l h.text all_read; still = still;
-          cut = rw verdict_is cut }
+        record {
+          input = h.text;
+          read = all_front s l h.text all_read;
+          still = still;
+          cut = rw verdict_is cut;
+        }
 
   pub check_done : LimitsMatterBeyond → (v : Verdict) → IsChecked (2 ^ 44) s l v → now ≡ before
       → (t u : Told) → Wrote (verdict_outcome v).text t u
       → Does (Some command.Check) (verdict_outcome v).status s l before now t u
   check_done law (verdict.True rows locked) h still t u wrote =
       let is = verdict_is law (verdict.True rows locked) h still t u in
-      record
-          { input = h.text; read = all_read law (verdict.True rows locked) h still t u;
-            still = still; status = ap (λ (o : Outcome). o.status) (sym is); wrote = rw is wrote }
+      record {
+        input = h.text;
+        read = all_read law (verdict.True rows locked) h still t u;
+        still = still;
+        status = ap (λ (o : Outcome). o.status) (sym is);
+        wrote = rw is wrote;
+      }
   check_done law (verdict.False row) h still t u wrote =
       let is = verdict_is law (verdict.False row) h still t u in
-      record
-          { input = h.text; read = all_read law (verdict.False row) h still t u; still = still;
-            status = ap (λ (o : Outcome). o.status) (sym is); wrote = rw is wrote }
+      record {
+        input = h.text;
+        read = all_read law (verdict.False row) h still t u;
+        still = still;
+        status = ap (λ (o : Outcome). o.status) (sym is);
+        wrote = rw is wrote;
+      }

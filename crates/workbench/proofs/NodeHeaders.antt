@@ -53,16 +53,20 @@ module _ (s f l : Option (List ℕ)) (held : List ℕ) (before now : ℕ) (keeps
   header_long t h still =
       let input = h.bytes ++ (held ++ left_of l) in
       let above : ltb (2 ^ 20) (length input)
-          ≡ true = lt-ltb (2 ^ 20) (length input)
-            (omega (arith, length-append h.bytes (held ++ left_of l), h.past)) in
+      ≡ true = lt-ltb (2 ^ 20) (length input)
+      (omega (arith, length-append h.bytes (held ++ left_of l), h.past)) in
       let is : node_outcome input
-            ≡ too_long = ap
-              (λ (b : Bool). behind_header input (header_in (room_of b (2 ^ 20)) (lines_of input)))
-              above
-          ∙ ap (behind_header input) (h.decides (held ++ left_of l)) in
-      record
-          { input = input; read = reads_front s f l held h.bytes keeps h.read; still = still;
-            status = ap (λ (o : Outcome). o.status) (sym is); wrote = rw is (wrote_none t) }
+      ≡ too_long = ap
+      (λ (b : Bool). behind_header input (header_in (room_of b (2 ^ 20)) (lines_of input)))
+      above
+      ∙ ap (behind_header input) (h.decides (held ++ left_of l)) in
+      record {
+        input = input;
+        read = reads_front s f l held h.bytes keeps h.read;
+        still = still;
+        status = ap (λ (o : Outcome). o.status) (sym is);
+        wrote = rw is (wrote_none t);
+      }
 
   -- it is refused
   module _ (r : HeaderRefusal) (d : HeaderDecided plan_part f (prepend_known held l) (Err (Some r)))
@@ -74,29 +78,36 @@ module _ (s f l : Option (List ℕ)) (held : List ℕ) (before now : ℕ) (keeps
     refused_is =
         ap (behind_header (d.bytes ++ whole_input.rest))
         (d.decides (ltb (2 ^ 20) (length (d.bytes ++ whole_input.rest))) whole_input.rest
-          whole_input.follows)
+        whole_input.follows)
 
     pub header_cut : (t u : Told) → Cut (refusal_line (header_refusal r)) t u
         → Does (Some command.Node) status.WriteFault s l before now t u
     header_cut t u is =
-        record
-        { input = d.bytes ++ whole_input.rest; read = whole_input.read; still = still;
-          cut = rw refused_is is }
+        record {
+          input = d.bytes ++ whole_input.rest;
+          read = whole_input.read;
+          still = still;
+          cut = rw refused_is is;
+        }
 
   pub header_refused : (r : HeaderRefusal)
-        (d : HeaderDecided plan_part f (prepend_known held l) (Err (Some r))) (still : now ≡ before)
-        (t u : Told)
+      (d : HeaderDecided plan_part f (prepend_known held l) (Err (Some r))) (still : now ≡ before)
+      (t u : Told)
       → Wrote (refusal_line (header_refusal r)) t u
       → Does (Some command.Node) (refusal_status (header_refusal r)) s l before now t u
   header_refused (header.Plan line p) d still t u is =
-      record
-      { input = d.bytes ++ (whole_input (header.Plan line p) d still).rest;
-        read = (whole_input (header.Plan line p) d still).read; still = still;
+      record {
+        input = d.bytes ++ (whole_input (header.Plan line p) d still).rest;
+        read = (whole_input (header.Plan line p) d still).read;
+        still = still;
         status = ap (λ (o : Outcome). o.status) (sym (refused_is (header.Plan line p) d still));
-        wrote = rw (refused_is (header.Plan line p) d still) is }
+        wrote = rw (refused_is (header.Plan line p) d still) is;
+      }
   header_refused (header.Node line p) d still t u is =
-      record
-      { input = d.bytes ++ (whole_input (header.Node line p) d still).rest;
-        read = (whole_input (header.Node line p) d still).read; still = still;
+      record {
+        input = d.bytes ++ (whole_input (header.Node line p) d still).rest;
+        read = (whole_input (header.Node line p) d still).read;
+        still = still;
         status = ap (λ (o : Outcome). o.status) (sym (refused_is (header.Node line p) d still));
-        wrote = rw (refused_is (header.Node line p) d still) is }
+        wrote = rw (refused_is (header.Node line p) d still) is;
+      }

@@ -52,9 +52,11 @@ reads_all (Some xs) None l held bytes keeps read end = absurd keeps
 reads_all (Some xs) (Some ys) None held bytes keeps read end = absurd read
 reads_all (Some xs) (Some ys) (Some zs) held bytes keeps read end =
     let e = nothing_left held zs end in
-    record
-      { read = sym keeps ∙ read ∙ ap (λ (h : List ℕ). bytes ++ h) end
-        ∙ ap (λ (h : List ℕ). bytes ++ h) (sym (e.1)); end = e.1 }
+    record {
+      read = sym keeps ∙ read ∙ ap (λ (h : List ℕ). bytes ++ h) end
+          ∙ ap (λ (h : List ℕ). bytes ++ h) (sym (e.1));
+      end = e.1;
+    }
 
 pub all_front : (s l : Option (List ℕ)) (bytes : List ℕ) → ReadsAll s l bytes → ReadsFront s l bytes
 all_front s None bytes h =
@@ -97,7 +99,7 @@ dry_held at end buffer Met dry = none_held at end buffer (dry.0)
 
 -- the source that was lent ends as what stands under its name
 pub does_end : {X : Type 0} (left : X → Option (List ℕ)) (faults : X → ℕ) (c : Option Command)
-      (r : Status) (start final now : X) (lent other : ℕ) (t u : Told)
+    (r : Status) (start final now : X) (lent other : ℕ) (t u : Told)
     → (lent ≡ other → final ≡ now) → lent ≡ other
     → Does c r (left start) (left now) (faults start) (faults now) t u
     → Does c r (left start) (left final) (faults start) (faults final) t u

@@ -162,7 +162,7 @@ no_bytes (Some ys) (Some zs) bytes keeps read = (nothing_left bytes zs (sym read
 
 module _ (s f l : Option (List ℕ)) (held : List ℕ) (before now : ℕ) (keeps : Keeps s f) (t u : Told)
     (x : HeaderRead Plan) (w : HeaderWhole plan_part f (prepend_known held l) x)
-        (e after : Standing Plan)
+    (e after : Standing Plan)
     (node : IsNodeOf w.header e) (over : x.ended ≡ true) (still : now ≡ before) where
   ended_is : w.decided.ended ≡ true
   ended_is = w.ends ∙ over

@@ -104,7 +104,7 @@ module _ (b : Batch) (left left' : Option (List ℕ)) (before now : ℕ) where
         given status.Usage (Err refusal.Usage) here refl read wrote
     by_answer (Err (refusal.Plan line premise)) here wrote =
         given (status.PlanRefused line premise) (Err (refusal.Plan line premise)) here refl read
-            wrote
+        wrote
     by_answer (Err (refusal.Part part line rule)) here wrote =
         given (status.PartRefused part line rule) (Err (refusal.Part part line rule)) here refl read
         wrote

@@ -6,5 +6,5 @@ pub returns : goal.returns
 returns g c =
     puts_lent g.K.Sink.told _ _ _ _ _ _ _ _ (search rules)
     (c.finish.ensures.puts _ _
-      (rw c.new-lines.ensures.told at c.put_explained_lines-written.ensures))
+    (rw c.new-lines.ensures.told at c.put_explained_lines-written.ensures))
     c.finish.ensures.none_held

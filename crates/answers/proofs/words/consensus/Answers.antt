@@ -8,7 +8,7 @@ returns-in_err-lines g c =
 pub returns-in_err-put_played : goal.returns-in_err-put_played
 returns-in_err-put_played g c =
     unwritten g.K.Sink.told _ _ _ _ _ c.in_ok-lines.ensures.text
-        c.from_residual-in_err-put_played.ensures.1
+    c.from_residual-in_err-put_played.ensures.1
     c.in_err-put_played.ensures
 
 pub returns : goal.returns

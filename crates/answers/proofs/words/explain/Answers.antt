@@ -9,7 +9,7 @@ pub returns-in_err-plan : goal.returns-in_err-plan
 returns-in_err-plan g c =
     unread g.K.Sink.told _ _ _ _
     (refuses_text (λ (s : Scripted). explain_text s.plan s.script) _ (scripted_of c.args.input.now)
-        c.in_err-plan.ensures)
+    c.in_err-plan.ensures)
     c.from_residual.ensures.1
 
 pub returns-in_err-put_explained : goal.returns-in_err-put_explained

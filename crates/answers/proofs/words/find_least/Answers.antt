@@ -11,7 +11,7 @@ pub returns-in_err-want : goal.returns-in_err-want
 returns-in_err-want g c =
     unread g.K.Sink.told _ _ _ _
     (refuses_text text_for_want _ (or_refusal (in_part part.Find) (want_of c.args.input.now))
-        (refuses_wants _ _ c.in_err-want.ensures.exact))
+    (refuses_wants _ _ c.in_err-want.ensures.exact))
     c.from_residual.ensures.1
 
 pub returns-in_err-found : goal.returns-in_err-found

@@ -10,13 +10,13 @@ pub returns-in_err-plan : goal.returns-in_err-plan
 returns-in_err-plan g c =
     unread g.K.Sink.told _ _ _ _
     (refuses_text table_text _ (or_refusal in_plan (whole_plan_of c.args.input.now))
-        (refuses_plan _ _ c.in_err-plan.ensures))
+    (refuses_plan _ _ c.in_err-plan.ensures))
     c.from_residual.ensures.1
 
 pub returns-in_err-write_table : goal.returns-in_err-write_table
 returns-in_err-write_table g c =
     unwritten g.K.Sink.told _ _ _ _ _
-        (ap (λ r. text_by table_text (or_refusal in_plan r)) c.in_ok-plan.ensures)
+    (ap (λ r. text_by table_text (or_refusal in_plan r)) c.in_ok-plan.ensures)
     c.from_residual-in_err-write_table.ensures.1 c.in_err-write_table.ensures
 
 pub returns : goal.returns

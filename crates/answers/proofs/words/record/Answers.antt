@@ -10,14 +10,14 @@ pub returns-in_err-plan : goal.returns-in_err-plan
 returns-in_err-plan g c =
     unread g.K.Sink.told _ _ _ _
     (refuses_text (λ (s : Scripted). certificate_text (certificate_of s.plan s.script)) _
-        (scripted_of c.args.input.now) c.in_err-plan.ensures)
+    (scripted_of c.args.input.now) c.in_err-plan.ensures)
     c.from_residual.ensures.1
 
 pub returns-in_err-write_run : goal.returns-in_err-write_run
 returns-in_err-write_run g c =
     unwritten g.K.Sink.told _ _ _ _ _
     (ap (text_by (λ (s : Scripted). certificate_text (certificate_of s.plan s.script)))
-        c.in_ok-plan.ensures.read)
+    c.in_ok-plan.ensures.read)
     c.from_residual-in_err-write_run.ensures.1 c.in_err-write_run.ensures.text
 
 pub returns : goal.returns

@@ -8,7 +8,7 @@ pub returns-in_err-runner : goal.returns-in_err-runner
 returns-in_err-runner g c =
     unread g.K.Sink.told _ _ _ _
     (refuses_text (λ (s : Scripted). run_text s.plan s.script) _ (scripted_of c.args.input.now)
-        c.in_err-runner.ensures)
+    c.in_err-runner.ensures)
     c.from_residual.ensures.1
 
 pub put_counting-requires : goal.put_counting-requires

@@ -8,7 +8,7 @@ returns-in_err-lines g c =
 pub returns-in_err-put_counting : goal.returns-in_err-put_counting
 returns-in_err-put_counting g c =
     unwritten g.K.Sink.told _ _ _ _ _ c.in_ok-lines.ensures.text
-        c.from_residual-in_err-put_counting.ensures.1
+    c.from_residual-in_err-put_counting.ensures.1
     c.in_err-put_counting.ensures
 
 pub returns : goal.returns

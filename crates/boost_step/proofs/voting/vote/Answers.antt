@@ -83,7 +83,7 @@ returns-clause-vote c =
     ∙ ap (λ m. interval_of (beat_of level) m i) r.leaders) in
     vote_of_slice level n (in_blocks nums) i start c.new.result c.from-leaders.result
     c.block_vote.result items (ap (λ n. nums.blocks * n) (sym e)) c.requires.block refl
-        (c.new.ensures ∙ long)
+    (c.new.ensures ∙ long)
     (c.from-leaders.ensures ∙ r.leaders)
     (c.block_vote.ensures
     ∙ ap (λ (xs : List ℕ). majority_or_zero (map (λ o. o / c.new.result % c.from-leaders.result)

@@ -21,7 +21,7 @@ loop-i-preserved c =
             (omega (arith, w.most-is, w.greater-most.ensures)) i.0
             (few_some votes c.match-votes-i.most w.in-Some.vote (get_or votes c.loop-i.i None)
             w.in-Some.is
-                (omega (arith, w.most-is, w.greater-most.ensures, w.places_of-places.ensures))),
+            (omega (arith, w.most-is, w.greater-most.ensures, w.places_of-places.ensures))),
         omega (arith, w.most-is, w.greater-most.ensures, w.if-half-places.false, i.1),
       )
       | in_default w ↦ (

@@ -6,7 +6,7 @@ use Rattle.plan_certificate.proofs.plan_texts.put_level.Goals as goal
 pub returns-in_err-put_level_words : goal.returns-in_err-put_level_words
 returns-in_err-put_level_words g c =
     puts_exit _ _ _ _ _ c.from_residual.ensures.1
-        (cut_more _ _ (level_words (level_of c.args.nums.now)) _ c.in_err-put_level_words.ensures)
+    (cut_more _ _ (level_words (level_of c.args.nums.now)) _ c.in_err-put_level_words.ensures)
 
 pub returns : goal.returns
 returns g c =

@@ -24,4 +24,4 @@ returns g c =
     puts_then _ _ _ _ (version_line (codes "plan ") c.args.version) _ c.in_ok-put_version.ensures
     (puts_then _ _ _ _ (base_line c.args.plan.now.base) _ c.in_ok-put_base.ensures
     (puts_then _ _ _ _ (level_texts c.args.version c.args.plan.now) _ c.in_ok-put_levels.ensures
-        c.put_all.ensures))
+    c.put_all.ensures))

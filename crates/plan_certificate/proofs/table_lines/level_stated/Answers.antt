@@ -17,4 +17,4 @@ pub returns-in_ok-n-clause-value : goal.returns-in_ok-n-clause-value
 returns-in_ok-n-clause-value c =
     rw c.if-version-eq1.true (of_version_1 (words_of c.args.line.now) c.in_ok-n.n
     (ap (numbers_named level_names) (sym c.new-words.ensures) ∙ sym c.numbers_named.ensures
-        ∙ c.in_ok-n.was))
+    ∙ c.in_ok-n.was))

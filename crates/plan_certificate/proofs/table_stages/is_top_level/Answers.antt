@@ -6,5 +6,5 @@ pub returns : goal.returns
 returns c =
     let plan = c.args.plan.now in
     let same = top_is plan.base plan.levels _ c.requires
-        (rw c.depth-depth.ensures.value at c.level-nums.ensures.value) in
+    (rw c.depth-depth.ensures.value at c.level-nums.ensures.value) in
     rw (← same) (search rules)

@@ -5,7 +5,7 @@ use Rattle.plan_certificate.proofs.tables.put_level.Goals as goal
 pub returns-in_err-put_level_front : goal.returns-in_err-put_level_front
 returns-in_err-put_level_front g c =
     puts_exit _ _ _ _ _ c.from_residual.ensures.1
-        (cut_more _ _ (level_front c.args.index c.args.nums.now) _ c.in_err-put_level_front.ensures)
+    (cut_more _ _ (level_front c.args.index c.args.nums.now) _ c.in_err-put_level_front.ensures)
 
 pub returns : goal.returns
 returns g c =

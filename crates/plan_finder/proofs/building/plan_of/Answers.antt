@@ -18,14 +18,14 @@ modulus_under-modulus-requires c =
     let steps = c.args.steps.now in
     let next = c.loop-i.i + 1 in
     All-take IsUsable (length steps - next) (drop next steps)
-        (All-drop IsUsable next steps (path_usable c.args.most steps c.requires.path))
+    (All-drop IsUsable next steps (path_usable c.args.most steps c.requires.path))
 
 pub unreachable-requires : goal.unreachable-requires
 unreachable-requires c =
     let none : base_premise c.modulus_under.result ≡ None =
     ap base_premise c.modulus_under.ensures
     ∙ base_fits c.args.most c.requires.most c.args.c c.requires.modulus.0 c.requires.modulus.1
-        c.args.steps.now c.requires.path in
+    c.args.steps.now c.requires.path in
     let refused : base_premise c.modulus_under.result ≡ Some c.in-Err-Refused.field-0-0 =
     rw c.in-Err-Refused.field-0-is at c.in-Err-Refused.ensures in
     absurd (cc)
@@ -38,25 +38,25 @@ unwrap-requires c =
     let step : Step = get_or steps i none in
     let rest : take (length steps - (i + 1)) (drop (i + 1) steps) ≡ drop (i + 1) steps =
     take_all (length steps - (i + 1)) (drop (i + 1) steps)
-        (omega (arith, length-drop (i + 1) steps)) in
+    (omega (arith, length-drop (i + 1) steps)) in
     let modulus : c.modulus_under-modulus.result ≡ modulus_under c.args.c (drop (i + 1) steps) =
     c.modulus_under-modulus.ensures ∙ ap (modulus_under c.args.c) rest in
     let fits = push_fits c.args.most c.requires.most c.args.c c.requires.modulus.0
-        c.requires.modulus.1 steps c.requires.path i none step c.loop-i-test.true refl in
+    c.requires.modulus.1 steps c.requires.path i none step c.loop-i-test.true refl in
     let fits' : first_premise (numbers_below c.loop-i.plan)
-          (level_with step c.modulus_under-modulus.result)
-        ≡ None =
+    (level_with step c.modulus_under-modulus.result)
+    ≡ None =
     ap (λ p. first_premise (numbers_below p) (level_with step c.modulus_under-modulus.result))
-        c.loop-i.invariant
+    c.loop-i.invariant
     ∙
-        (ap
-          (λ m. first_premise
-            (numbers_below
-              (plan_with (modulus_under c.args.c (drop i steps)) (levels_by (take i steps))))
-            (level_with step m))
-          modulus
+    (ap
+    (λ m. first_premise
+    (numbers_below
+    (plan_with (modulus_under c.args.c (drop i steps)) (levels_by (take i steps))))
+    (level_with step m))
+    modulus
     ∙ fits) in
     ok_by c.push.result
-        (first_premise (numbers_below c.loop-i.plan)
-          (level_with step c.modulus_under-modulus.result))
-        c.push.ensures.refused fits'
+    (first_premise (numbers_below c.loop-i.plan)
+    (level_with step c.modulus_under-modulus.result))
+    c.push.ensures.refused fits'

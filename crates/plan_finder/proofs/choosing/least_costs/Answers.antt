@@ -19,9 +19,11 @@ loop-f-preserved c =
     let f = c.loop-f.f in
     let before = c.loop-f.invariant.costs in
     let inside : n * c.args.rows.now.width + f < length c.args.rows.now.cells.now =
-    omega
-        (arith, in_rows n f c.args.rows.now.width (most + 1) c.loop-f-test.true c.loop-n-test.true,
-          c.requires.size) in
+    omega (
+      arith,
+      in_rows n f c.args.rows.now.width (most + 1) c.loop-f-test.true c.loop-n-test.true,
+      c.requires.size,
+    ) in
     let cell = c.args.rows.now.best.best n f c.loop-f-test.true inside in
     elim c.match-rows-n.branch [
       | in-None w ↦
@@ -34,14 +36,14 @@ loop-f-preserved c =
             same =
                 items
                 ∙ (sym (append-nil c.loop-f.pots.items)
-                  ∙ row_more most c.args.rows.now.width n f c.loop-f.pots.items []
-                    c.loop-f.invariant.same
-                    (pair_found most c.requires.some c.args.rows.now.sizes.0 n f None is));
+                ∙ row_more most c.args.rows.now.width n f c.loop-f.pots.items []
+                c.loop-f.invariant.same
+                (pair_found most c.requires.some c.args.rows.now.sizes.0 n f None is));
           }
       | in-Some+in_ok-map_err-in-Some w ↦
           let best = w.in-Some.best in
           let items : c.match-rows-n.pots.items
-              ≡ c.loop-f.pots.items ++ pot_of n f best.value ∷ [] = search rules in
+          ≡ c.loop-f.pots.items ++ pot_of n f best.value ∷ [] = search rules in
           let is = subst (IsBestOf (Reaches most n f)) w.in-Some.is cell in
           record {
             costs =
@@ -50,9 +52,9 @@ loop-f-preserved c =
             same =
                 items
                 ∙ row_more most c.args.rows.now.width n f c.loop-f.pots.items
-                  (pot_of n f best.value ∷ []) c.loop-f.invariant.same
+                (pot_of n f best.value ∷ []) c.loop-f.invariant.same
                 (ap (λ v. pot_of n f v ∷ []) is.kept.value
-                    ∙ pair_found most c.requires.some c.args.rows.now.sizes.0 n f (Some best) is);
+                ∙ pair_found most c.requires.some c.args.rows.now.sizes.0 n f (Some best) is);
           }
     ]
 
@@ -69,7 +71,7 @@ loop-n-preserved c =
           (subst (λ f. AreCostsBefore most n f pots) full c.loop-f.invariant.costs);
       same =
           subst
-            (λ f. pots ≡ rows_before most width n ++ flat_map (pots_at most n) (range_with_len 0 f))
-            full c.loop-f.invariant.same
+          (λ f. pots ≡ rows_before most width n ++ flat_map (pots_at most n) (range_with_len 0 f))
+          full c.loop-f.invariant.same
           ∙ sym (rows_push most width n);
     }

@@ -16,5 +16,5 @@ invariant-loop-f l = record {
   costs : AreCostsBefore l.rows.most l.n l.f l.pots.items;
   same : l.pots.items
       ≡ rows_before l.rows.most l.rows.width l.n
-        ++ flat_map (pots_at l.rows.most l.n) (range_with_len 0 l.f);
+      ++ flat_map (pots_at l.rows.most l.n) (range_with_len 0 l.f);
 }

@@ -11,4 +11,4 @@ pub overflow_mul-cost : goal.overflow_mul-cost
 overflow_mul-cost c =
     let most = span_most c.args.k c.args.g c.requires.blocks.1 c.requires.faults in
     rw (c.pow.ensures, c.from.ensures, c.from-turns.ensures, c.div_ceil.ensures)
-      (omega (arith, most))
+    (omega (arith, most))

@@ -7,14 +7,14 @@ use Rattle.plan_finder.proofs.finding.find.Goals as goal
 pub returns-clause-plan : goal.returns-clause-plan
 returns-clause-plan c =
     plan_for c.args.f c.args.c c.args.most c.best_with-best.result c.in_ok-plan.plan
-        c.best_with-best.ensures c.in_ok-plan.ensures
+    c.best_with-best.ensures c.in_ok-plan.ensures
 
 pub returns-clause-passes : goal.returns-clause-passes
 returns-clause-passes c =
     let costs = subst (AreLeastCosts c.args.most) (sym c.new-pots.ensures)
-        c.in_ok-least_costs.ensures.costs in
+    c.in_ok-least_costs.ensures.costs in
     costs_pass c.args.most c.requires.most.0 c.new-pots.result costs c.args.f c.args.c
-        c.best_with-best.result c.in_ok-plan.plan c.best_with-best.ensures c.in_ok-plan.ensures
+    c.best_with-best.result c.in_ok-plan.plan c.best_with-best.ensures c.in_ok-plan.ensures
 
 pub returns-clause-exact : goal.returns-clause-exact
 returns-clause-exact c = (

@@ -15,5 +15,5 @@ returns-clause-logs c =
     ∙ ap (set (map log_seen logs) c.args.node)
     (ap log_seen c.push_back.ensures.items ∙ (newest_first at.capacity at.items c.args.entry
     ∙ ap₂ (λ (k : ℕ) (l : List Entry). take k (c.args.entry ∷ l))
-        (c.requires.keep c.args.node r c.requires.node)
-        (sym (get_or-map log_seen logs c.args.node r [] c.requires.node))))
+    (c.requires.keep c.args.node r c.requires.node)
+    (sym (get_or-map log_seen logs c.args.node r [] c.requires.node))))

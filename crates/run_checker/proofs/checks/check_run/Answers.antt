@@ -15,12 +15,12 @@ returns-in-Ok-read_lines-clause-checks g c =
     let name = c.read_lines.ensures.same_reference in
     let le : c.min-limit.result ≤ c.args.limit = omega (arith, c.min-limit.ensures) in
     lent_back
-        (λ x. IsChecked c.args.limit (g.S.Source.left c.args.source.now) (g.S.Source.left x)
-          c.in-Ok-read_lines.verdict)
-        _ c.read_lines.new.feed.source.now _ c.read_lines.new.feed.source.ghost_name (search rules)
-        (sym (name ∙ same))
+    (λ x. IsChecked c.args.limit (g.S.Source.left c.args.source.now) (g.S.Source.left x)
+    c.in-Ok-read_lines.verdict)
+    _ c.read_lines.new.feed.source.now _ c.read_lines.new.feed.source.ghost_name (search rules)
+    (sym (name ∙ same))
     (whole_checked c.args.limit _ le _ _ _ _ c.new-feed.ensures.left c.in-Ok-read_lines.verdict
-        (rw c.new-2.ensures at c.in-Ok-read_lines.ensures.text))
+    (rw c.new-2.ensures at c.in-Ok-read_lines.ensures.text))
 
 pub returns-in-Err-Refused-clause-checks : goal.returns-in-Err-Refused-clause-checks
 returns-in-Err-Refused-clause-checks g c =
@@ -28,13 +28,13 @@ returns-in-Err-Refused-clause-checks g c =
     let name = c.read_lines.ensures.same_reference in
     let le : c.min-limit.result ≤ c.args.limit = omega (arith, c.min-limit.ensures) in
     lent_back
-        (λ x. IsRefused c.args.limit (g.S.Source.left c.args.source.now) (g.S.Source.left x)
-          c.in-Err-Refused.refused.line)
-        _ c.read_lines.new.feed.source.now _ c.read_lines.new.feed.source.ghost_name (search rules)
-        (sym (name ∙ same))
+    (λ x. IsRefused c.args.limit (g.S.Source.left c.args.source.now) (g.S.Source.left x)
+    c.in-Err-Refused.refused.line)
+    _ c.read_lines.new.feed.source.now _ c.read_lines.new.feed.source.ghost_name (search rules)
+    (sym (name ∙ same))
     (text_refused c.args.limit _ le _ _ _ _ c.new-feed.ensures.left
-        (buffered_few c.read_lines.new.feed) c.in-Err-Refused.refused.line _
-        (rw (c.in-Err-Refused.field-0-is, c.new-2.ensures) at c.in-Err-Refused.ensures.text))
+    (buffered_few c.read_lines.new.feed) c.in-Err-Refused.refused.line _
+    (rw (c.in-Err-Refused.field-0-is, c.new-2.ensures) at c.in-Err-Refused.ensures.text))
 
 pub returns-in-Err-TooLong-clause-checks : goal.returns-in-Err-TooLong-clause-checks
 returns-in-Err-TooLong-clause-checks g c =
@@ -43,11 +43,11 @@ returns-in-Err-TooLong-clause-checks g c =
     let le : c.min-limit.result ≤ c.args.limit = omega (arith, c.min-limit.ensures) in
     let text = rw (c.in-Err-TooLong.field-0-is, c.new-2.ensures) at c.in-Err-TooLong.ensures.text in
     lent_back (λ x. IsTooLong c.args.limit (g.S.Source.left c.args.source.now) (g.S.Source.left x))
-        _ c.read_lines.new.feed.source.now _ c.read_lines.new.feed.source.ghost_name (search rules)
-        (sym (name ∙ same))
+    _ c.read_lines.new.feed.source.now _ c.read_lines.new.feed.source.ghost_name (search rules)
+    (sym (name ∙ same))
     (text_too_long c.args.limit _ le _ _ _ _ c.new-feed.ensures.left
-        (buffered_few c.read_lines.new.feed)
-        (long_within c.args.limit _ _ _ c.min-limit.ensures text) text)
+    (buffered_few c.read_lines.new.feed)
+    (long_within c.args.limit _ _ _ c.min-limit.ensures text) text)
 
 pub returns-in-Err-ReadFault-clause-checks : goal.returns-in-Err-ReadFault-clause-checks
 returns-in-Err-ReadFault-clause-checks g c =
@@ -56,11 +56,11 @@ returns-in-Err-ReadFault-clause-checks g c =
     let le : c.min-limit.result ≤ c.args.limit = omega (arith, c.min-limit.ensures) in
     let cause = rw c.in-Err-ReadFault.field-0-is at c.in-Err-ReadFault.ensures.cause in
     lent_back (λ x. IsLost c.args.limit (g.S.Source.left c.args.source.now) (g.S.Source.left x)) _
-        c.read_lines.new.feed.source.now _ c.read_lines.new.feed.source.ghost_name (search rules)
-        (sym (name ∙ same))
+    c.read_lines.new.feed.source.now _ c.read_lines.new.feed.source.ghost_name (search rules)
+    (sym (name ∙ same))
     (text_lost c.args.limit _ le _ _ _ _ c.new-feed.ensures.left
-        (held_none c.read_lines.new.feed cause.1.0)
-        (rw (c.in-Err-ReadFault.field-0-is, c.new-2.ensures) at c.in-Err-ReadFault.ensures.text))
+    (held_none c.read_lines.new.feed cause.1.0)
+    (rw (c.in-Err-ReadFault.field-0-is, c.new-2.ensures) at c.in-Err-ReadFault.ensures.text))
 
 pub returns-clause-checks : goal.returns-clause-checks
 returns-clause-checks g c =
@@ -68,11 +68,11 @@ returns-clause-checks g c =
     let name = c.read_lines.ensures.same_reference in
     let le : c.min-limit.result ≤ c.args.limit = omega (arith, c.min-limit.ensures) in
     lent_back (λ x. IsHalted c.args.limit (g.S.Source.left c.args.source.now) (g.S.Source.left x)) _
-        c.read_lines.new.feed.source.now _ c.read_lines.new.feed.source.ghost_name (search rules)
-        (sym (name ∙ same))
+    c.read_lines.new.feed.source.now _ c.read_lines.new.feed.source.ghost_name (search rules)
+    (sym (name ∙ same))
     (text_halted c.args.limit _ le _ _ _ _ c.new-feed.ensures.left
-        (buffered_few c.read_lines.new.feed)
-        (rw (c.in-Err-NoMemory.field-0-is, c.new-2.ensures) at c.in-Err-NoMemory.ensures.text))
+    (buffered_few c.read_lines.new.feed)
+    (rw (c.in-Err-NoMemory.field-0-is, c.new-2.ensures) at c.in-Err-NoMemory.ensures.text))
 
 pub returns-in-Err-ReadFault-clause-unmet : goal.returns-in-Err-ReadFault-clause-unmet
 returns-in-Err-ReadFault-clause-unmet g c = λ _.

@@ -8,7 +8,7 @@ pub returns-in_err-put_version : goal.returns-in_err-put_version
 returns-in_err-put_version g c =
     let version = rw c.recorded_version-version.ensures at c.in_err-put_version.ensures in
     puts_exit _ _ _ _ _ c.from_residual.ensures.1
-        (cut_more _ _ (version_line (recorded_version c.args.plan.now c.args.script.now)) _ version)
+    (cut_more _ _ (version_line (recorded_version c.args.plan.now c.args.script.now)) _ version)
 
 pub returns-in_err-put_base : goal.returns-in_err-put_base
 returns-in_err-put_base g c =
@@ -25,8 +25,8 @@ returns-in_err-put_levels g c =
     (cut_then _ _ _ (version_line (recorded_version c.args.plan.now c.args.script.now)) _ version
     (cut_then _ _ _ (base_line c.args.plan.now.base) _ c.in_ok-put_base.ensures
     (cut_more _ _
-        (level_lines (recorded_version c.args.plan.now c.args.script.now) c.args.plan.now.levels) _
-        levels)))
+    (level_lines (recorded_version c.args.plan.now c.args.script.now) c.args.plan.now.levels) _
+    levels)))
 
 pub returns : goal.returns
 returns g c =
@@ -35,6 +35,6 @@ returns g c =
     puts_then _ _ _ _ (version_line (recorded_version c.args.plan.now c.args.script.now)) _ version
     (puts_then _ _ _ _ (base_line c.args.plan.now.base) _ c.in_ok-put_base.ensures
     (puts_then _ _ _ _
-        (level_lines (recorded_version c.args.plan.now c.args.script.now) c.args.plan.now.levels) _
-        levels
+    (level_lines (recorded_version c.args.plan.now c.args.script.now) c.args.plan.now.levels) _
+    levels
     (puts_last _ _ _ _ (rw c.faulty_at.ensures at c.put_faulty.ensures))))

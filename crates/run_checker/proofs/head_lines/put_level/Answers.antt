@@ -7,7 +7,7 @@ use Rattle.run_checker.proofs.head_lines.put_level.Goals as goal
 pub returns-in_err-put_level_front : goal.returns-in_err-put_level_front
 returns-in_err-put_level_front g c =
     puts_exit _ _ _ _ _ c.from_residual.ensures.1
-        (cut_more _ _ (level_front (level_of c.args.nums.now)) _ c.in_err-put_level_front.ensures)
+    (cut_more _ _ (level_front (level_of c.args.nums.now)) _ c.in_err-put_level_front.ensures)
 
 pub returns : goal.returns
 returns g c =

@@ -11,7 +11,7 @@ loop-j-init c = record {
   high = c.requires.stretch.0;
   laid = none_laid c.args.stretch.0
       (λ j. state_of c.args.told.now.states (j * c.args.correct + c.args.before))
-          c.args.lies.now.items;
+      c.args.lies.now.items;
 }
 
 pub overflow_mul-j : goal.overflow_mul-j
@@ -37,7 +37,7 @@ read-requires-clause-depth c =
     omega (arith, c.loop-j-test.true, c.requires.stretch.1) in
     ap (λ (s : State). length s.registers) c.index_mut.ensures.value ∙ deep_at c.args.stretch.0
     (λ j. state_of c.args.told.now.states (j * c.args.correct + c.args.before))
-        c.args.lies.now.items
+    c.args.lies.now.items
     c.loop-j.j c.loop-j.lies.items c.args.told.now.shape.depth
     c.loop-j.invariant.laid inside c.requires.deep c.index_mut.result.now
 
@@ -58,5 +58,5 @@ returns c =
     omega (arith, c.loop-j-test.false, c.loop-j.invariant.high) in
     subst (λ to. Lays c.args.stretch.0 to
     (λ j. state_of c.args.told.now.states (j * c.args.correct + c.args.before))
-        c.args.lies.now.items
+    c.args.lies.now.items
     c.loop-j.lies.items) end c.loop-j.invariant.laid

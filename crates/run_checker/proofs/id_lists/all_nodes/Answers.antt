@@ -10,10 +10,10 @@ pub loop-v-preserved : goal.loop-v-preserved
 loop-v-preserved c =
     c.push.ensures
     ∙
-        (ap
-          (λ (s : FaultIds). let r : FaultIds = record
-              { nodes = s.nodes; ids = s.ids ++ c.loop-v.v ∷ [] } in
-            r)
-          c.loop-v.invariant
+    (ap
+    (λ (s : FaultIds). let r : FaultIds = record
+    { nodes = s.nodes; ids = s.ids ++ c.loop-v.v ∷ [] } in
+    r)
+    c.loop-v.invariant
     ∙ ap (λ (ids : List ℕ). let r : FaultIds = record { nodes = c.args.nodes; ids = ids } in r)
     (sym (range_more 0 c.loop-v.v c.loop-v.v (omega arith))))

@@ -14,7 +14,7 @@ returns-then-not-may_follow-clause-ids c =
     let ids = c.loop-word.set.ids in
     let id = c.in-Some-number.id in
     let read = word_read nodes faults (numbers_in c.args.words) ids c.loop-word.word-iterator _ _ id
-        h.read
+    h.read
     c.in-Some.ensures.steps (sym c.number.ensures ∙ c.in-Some-number.is) in
     no_follower nodes faults (numbers_in c.args.words) ids id _ read
     (ap (λ (n : ℕ). may_follow n faults ids id) (sym h.nodes)
@@ -28,7 +28,7 @@ loop-word-preserved c =
     let ids = c.loop-word.set.ids in
     let id = c.in-Some-number.id in
     let read = word_read nodes faults (numbers_in c.args.words) ids c.loop-word.word-iterator _ _ id
-        h.read
+    h.read
     c.in-Some.ensures.steps (sym c.number.ensures ∙ c.in-Some-number.is) in
     let may = ap (λ (n : ℕ). may_follow n faults ids id) (sym h.nodes)
     ∙ (sym c.may_follow.ensures.value ∙ c.if-not-may_follow.false) in

@@ -27,13 +27,16 @@ put_lies_from-requires g c =
     let same = c.loop-i.invariant.same in
     let one = faulty_ids _ _ r.script _ r.at c.faulty_at.ensures c.script.ensures c.at.ensures in
     let two = faulty_ids _ _ r.script _ r.at c.faulty_at-in-loop-i.ensures
-        (c.script-in-loop-i.ensures ∙ ap (λ (x : Running NoOverlay). x.script) same)
+    (c.script-in-loop-i.ensures ∙ ap (λ (x : Running NoOverlay). x.script) same)
     (c.at-in-loop-i.ensures ∙ ap (λ (x : Running NoOverlay). x.at) same) in
     let u = c.at-u.ensures.id ∙ ap (λ (l : List ℕ). slice_index l c.loop-i.i) two in
     let within : c.loop-i.i
-        < length ids = omega
-          (arith, c.loop-i-test.true, c.len-count.ensures.exact,
-            ap (λ (l : List ℕ). length l) one) in
+    < length ids = omega (
+      arith,
+      c.loop-i-test.true,
+      c.len-count.ensures.exact,
+      ap (λ (l : List ℕ). length l) one,
+    ) in
     let node : c.at-u.result < plan_nodes r.plan = omega (
       arith,
       c.at-u.ensures.node,
@@ -55,24 +58,27 @@ returns-in-Err-clause-text g c =
     let same = c.loop-i.invariant.same in
     let one = faulty_ids _ _ r.script _ r.at c.faulty_at.ensures c.script.ensures c.at.ensures in
     let two = faulty_ids _ _ r.script _ r.at c.faulty_at-in-loop-i.ensures
-        (c.script-in-loop-i.ensures ∙ ap (λ (x : Running NoOverlay). x.script) same)
+    (c.script-in-loop-i.ensures ∙ ap (λ (x : Running NoOverlay). x.script) same)
     (c.at-in-loop-i.ensures ∙ ap (λ (x : Running NoOverlay). x.at) same) in
     let u = c.at-u.ensures.id ∙ ap (λ (l : List ℕ). slice_index l c.loop-i.i) two in
     let within : c.loop-i.i
-        < length ids = omega
-          (arith, c.loop-i-test.true, c.len-count.ensures.exact,
-            ap (λ (l : List ℕ). length l) one) in
+    < length ids = omega (
+      arith,
+      c.loop-i-test.true,
+      c.len-count.ensures.exact,
+      ap (λ (l : List ℕ). length l) one,
+    ) in
     cut_at (lies_from r.script (plan_nodes r.plan) r.at r.states) ids c.loop-i.i 0 _ _ _ within
-        c.loop-i.invariant.wrote
+    c.loop-i.invariant.wrote
     (subst
-        (λ (w : ℕ). Cut (lies_from r.script (plan_nodes r.plan) r.at r.states w)
-          (g.K.Sink.told c.loop-i.sink) (g.K.Sink.told c.put_lies_from.new.sink))
-        u
+    (λ (w : ℕ). Cut (lies_from r.script (plan_nodes r.plan) r.at r.states w)
+    (g.K.Sink.told c.loop-i.sink) (g.K.Sink.told c.put_lies_from.new.sink))
+    u
     (subst
-        (λ (x : Running NoOverlay). Cut
-          (lies_from x.script (plan_nodes x.plan) x.at x.states c.at-u.result)
-          (g.K.Sink.told c.loop-i.sink) (g.K.Sink.told c.put_lies_from.new.sink))
-        same c.in-Err.ensures.text))
+    (λ (x : Running NoOverlay). Cut
+    (lies_from x.script (plan_nodes x.plan) x.at x.states c.at-u.result)
+    (g.K.Sink.told c.loop-i.sink) (g.K.Sink.told c.put_lies_from.new.sink))
+    same c.in-Err.ensures.text))
 
 pub loop-i-preserved : goal.loop-i-preserved
 loop-i-preserved g c =
@@ -81,27 +87,30 @@ loop-i-preserved g c =
     let same = c.loop-i.invariant.same in
     let one = faulty_ids _ _ r.script _ r.at c.faulty_at.ensures c.script.ensures c.at.ensures in
     let two = faulty_ids _ _ r.script _ r.at c.faulty_at-in-loop-i.ensures
-        (c.script-in-loop-i.ensures ∙ ap (λ (x : Running NoOverlay). x.script) same)
+    (c.script-in-loop-i.ensures ∙ ap (λ (x : Running NoOverlay). x.script) same)
     (c.at-in-loop-i.ensures ∙ ap (λ (x : Running NoOverlay). x.at) same) in
     let u = c.at-u.ensures.id ∙ ap (λ (l : List ℕ). slice_index l c.loop-i.i) two in
     let within : c.loop-i.i
-        < length ids = omega
-          (arith, c.loop-i-test.true, c.len-count.ensures.exact,
-            ap (λ (l : List ℕ). length l) one) in
+    < length ids = omega (
+      arith,
+      c.loop-i-test.true,
+      c.len-count.ensures.exact,
+      ap (λ (l : List ℕ). length l) one,
+    ) in
     record {
       same = c.in-Ok.ensures.same ∙ same;
       wrote =
           wrote_at (lies_from r.script (plan_nodes r.plan) r.at r.states) ids c.loop-i.i 0 _ _ _
           within c.loop-i.invariant.wrote
           (subst
-              (λ (w : ℕ). Wrote (lies_from r.script (plan_nodes r.plan) r.at r.states w)
-                (g.K.Sink.told c.loop-i.sink) (g.K.Sink.told c.put_lies_from.new.sink))
-              u
+          (λ (w : ℕ). Wrote (lies_from r.script (plan_nodes r.plan) r.at r.states w)
+          (g.K.Sink.told c.loop-i.sink) (g.K.Sink.told c.put_lies_from.new.sink))
+          u
           (subst
-              (λ (x : Running NoOverlay). Wrote
-                (lies_from x.script (plan_nodes x.plan) x.at x.states c.at-u.result)
-                (g.K.Sink.told c.loop-i.sink) (g.K.Sink.told c.put_lies_from.new.sink))
-              same c.in-Ok.ensures.text));
+          (λ (x : Running NoOverlay). Wrote
+          (lies_from x.script (plan_nodes x.plan) x.at x.states c.at-u.result)
+          (g.K.Sink.told c.loop-i.sink) (g.K.Sink.told c.put_lies_from.new.sink))
+          same c.in-Ok.ensures.text));
     }
 
 pub returns-clause-text : goal.returns-clause-text
@@ -111,10 +120,13 @@ returns-clause-text g c =
     let same = c.loop-i.invariant.same in
     let one = faulty_ids _ _ r.script _ r.at c.faulty_at.ensures c.script.ensures c.at.ensures in
     subst
-        (λ (l : List ℕ). Wrote (flat_map (lies_from r.script (plan_nodes r.plan) r.at r.states) l)
-          (g.K.Sink.told c.args.sink.now) (g.K.Sink.told c.loop-i.sink))
+    (λ (l : List ℕ). Wrote (flat_map (lies_from r.script (plan_nodes r.plan) r.at r.states) l)
+    (g.K.Sink.told c.args.sink.now) (g.K.Sink.told c.loop-i.sink))
     (take_all c.loop-i.i ids
-          (omega
-            (arith, c.loop-i-test.false, c.len-count.ensures.exact,
-              ap (λ (l : List ℕ). length l) one)))
-        c.loop-i.invariant.wrote
+    (omega (
+      arith,
+      c.loop-i-test.false,
+      c.len-count.ensures.exact,
+      ap (λ (l : List ℕ). length l) one,
+    )))
+    c.loop-i.invariant.wrote

@@ -11,8 +11,8 @@ invariant-loop-i g l = record {
   same : l.runner ≡ l.fn.runner;
   wrote : Wrote
       (flat_map
-        (lies_from l.fn.runner.script (plan_nodes l.fn.runner.plan) l.fn.runner.at
-          l.fn.runner.states)
+      (lies_from l.fn.runner.script (plan_nodes l.fn.runner.plan) l.fn.runner.at
+      l.fn.runner.states)
       (take l.i (faulty_at l.fn.runner.script l.fn.runner.at))) (g.K.Sink.told l.fn.sink)
-          (g.K.Sink.told l.sink);
+      (g.K.Sink.told l.sink);
 }

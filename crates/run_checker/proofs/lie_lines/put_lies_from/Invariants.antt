@@ -10,6 +10,6 @@ invariant-loop-v g l = record {
   same : l.runner ≡ l.fn.runner;
   wrote : Wrote
       (words_before (lie_if l.fn.runner.script l.fn.runner.at l.fn.runner.states l.u)
-        (plan_nodes l.fn.runner.plan) l.v)
+      (plan_nodes l.fn.runner.plan) l.v)
       (g.K.Sink.told l.fn.sink) (g.K.Sink.told l.sink);
 }

@@ -15,7 +15,7 @@ loop-number-init g c =
 pub returns-in-Err-ReadFault-clause-text : goal.returns-in-Err-ReadFault-clause-text
 returns-in-Err-ReadFault-clause-text g c =
     let stands = reads_still g.S.Source.left _ _ _ _ _ _ _ _
-        (c.take_held.ensures.none c.if-take_held.false)
+    (c.take_held.ensures.none c.if-take_held.false)
     c.loop-number.invariant.stands in
     let read = c.in-Err-ReadFault.ensures in
     let line = rw c.in-Err-ReadFault.field-0-is at read.line in
@@ -25,7 +25,7 @@ returns-in-Err-ReadFault-clause-text g c =
 pub returns-in-Err-TooLong-clause-text : goal.returns-in-Err-TooLong-clause-text
 returns-in-Err-TooLong-clause-text g c =
     let stands = reads_still g.S.Source.left _ _ _ _ _ _ _ _
-        (c.take_held.ensures.none c.if-take_held.false)
+    (c.take_held.ensures.none c.if-take_held.false)
     c.loop-number.invariant.stands in
     let read = c.in-Err-TooLong.ensures in
     let line = rw c.in-Err-TooLong.field-0-is at read.line in
@@ -35,7 +35,7 @@ returns-in-Err-TooLong-clause-text g c =
 pub returns-in-Open-clause-text : goal.returns-in-Open-clause-text
 returns-in-Open-clause-text g c =
     let stands = reads_still g.S.Source.left _ _ _ _ _ _ _ _
-        (c.take_held.ensures.none c.if-take_held.false)
+    (c.take_held.ensures.none c.if-take_held.false)
     c.loop-number.invariant.stands in
     let read = c.in-Ok.ensures in
     let line = rw c.in-Open.is at read.line in
@@ -46,7 +46,7 @@ returns-in-Open-clause-text g c =
 pub returns-in-Long-clause-text : goal.returns-in-Long-clause-text
 returns-in-Long-clause-text g c =
     let stands = reads_still g.S.Source.left _ _ _ _ _ _ _ _
-        (c.take_held.ensures.none c.if-take_held.false)
+    (c.take_held.ensures.none c.if-take_held.false)
     c.loop-number.invariant.stands in
     let read = c.in-Ok.ensures in
     let line = rw c.in-Long.is at read.line in
@@ -57,7 +57,7 @@ returns-in-Long-clause-text g c =
 pub returns-in-End-clause-text : goal.returns-in-End-clause-text
 returns-in-End-clause-text g c =
     let stands = reads_still g.S.Source.left _ _ _ _ _ _ _ _
-        (c.take_held.ensures.none c.if-take_held.false)
+    (c.take_held.ensures.none c.if-take_held.false)
     c.loop-number.invariant.stands in
     let read = c.in-Ok.ensures in
     let line = rw c.in-End.is at read.line in
@@ -68,7 +68,7 @@ returns-in-End-clause-text g c =
 pub returns-in-Ok-end_of_text-clause-text : goal.returns-in-Ok-end_of_text-clause-text
 returns-in-Ok-end_of_text-clause-text g c =
     let stands = reads_still g.S.Source.left _ _ _ _ _ _ _ _
-        (c.take_held.ensures.none c.if-take_held.false)
+    (c.take_held.ensures.none c.if-take_held.false)
     c.loop-number.invariant.stands in
     let read = c.in-Ok.ensures in
     let line = rw c.in-Whole.is at read.line in
@@ -82,7 +82,7 @@ returns-in-Ok-end_of_text-clause-text g c =
 pub returns-in-Err-clause-text : goal.returns-in-Err-clause-text
 returns-in-Err-clause-text g c =
     let stands = reads_still g.S.Source.left _ _ _ _ _ _ _ _
-        (c.take_held.ensures.none c.if-take_held.false)
+    (c.take_held.ensures.none c.if-take_held.false)
     c.loop-number.invariant.stands in
     let read = c.in-Ok.ensures in
     let line = rw c.in-Whole.is at read.line in
@@ -96,7 +96,7 @@ returns-in-Err-clause-text g c =
 pub returns-in-Err-Refused-clause-text : goal.returns-in-Err-Refused-clause-text
 returns-in-Err-Refused-clause-text g c =
     let stands = reads_still g.S.Source.left _ _ _ _ _ _ _ _
-        (c.take_held.ensures.none c.if-take_held.false)
+    (c.take_held.ensures.none c.if-take_held.false)
     c.loop-number.invariant.stands in
     let read = c.in-Ok.ensures in
     let line = rw c.in-Whole.is at read.line in
@@ -110,7 +110,7 @@ returns-in-Err-Refused-clause-text g c =
 pub returns-in-Err-NoMemory-clause-text : goal.returns-in-Err-NoMemory-clause-text
 returns-in-Err-NoMemory-clause-text g c =
     let stands = reads_still g.S.Source.left _ _ _ _ _ _ _ _
-        (c.take_held.ensures.none c.if-take_held.false)
+    (c.take_held.ensures.none c.if-take_held.false)
     c.loop-number.invariant.stands in
     let read = c.in-Ok.ensures in
     let line = rw c.in-Whole.is at read.line in
@@ -120,7 +120,7 @@ returns-in-Err-NoMemory-clause-text g c =
 pub loop-number-preserved : goal.loop-number-preserved
 loop-number-preserved g c =
     let stands = reads_still g.S.Source.left _ _ _ _ _ _ _ _
-        (c.take_held.ensures.none c.if-take_held.false)
+    (c.take_held.ensures.none c.if-take_held.false)
     c.loop-number.invariant.stands in
     let read = c.in-Ok.ensures in
     let line = rw c.in-Whole.is at read.line in

@@ -13,10 +13,10 @@ pub returns-in_err-put_head-clause-text : goal.returns-in_err-put_head-clause-te
 returns-in_err-put_head-clause-text g c =
     puts_exit _ _ _ _ _ c.from_residual.ensures.1
     (cut_in_head c.args.plan.now c.args.runner.now.script _ _
-        (subst
-          (λ (s : Script). Cut (head_text c.args.plan.now s) (g.K.Sink.told c.args.sink.now)
-            (g.K.Sink.told c.put_head.new.sink))
-          c.script.ensures c.in_err-put_head.ensures))
+    (subst
+    (λ (s : Script). Cut (head_text c.args.plan.now s) (g.K.Sink.told c.args.sink.now)
+    (g.K.Sink.told c.put_head.new.sink))
+    c.script.ensures c.in_err-put_head.ensures))
 
 pub put_first_starts-requires : goal.put_first_starts-requires
 put_first_starts-requires g c = record { sized = shape_sized c.args.runner.now c.requires.plays }
@@ -25,11 +25,11 @@ pub returns-in_err-put_first_starts-clause-text : goal.returns-in_err-put_first_
 returns-in_err-put_first_starts-clause-text g c =
     let r = c.args.runner.now in
     let head = subst
-        (λ (s : Script). Wrote (head_text c.args.plan.now s) (g.K.Sink.told c.args.sink.now)
-          (g.K.Sink.told c.put_head.new.sink))
-        c.script.ensures c.in_ok-put_head.ensures in
+    (λ (s : Script). Wrote (head_text c.args.plan.now s) (g.K.Sink.told c.args.sink.now)
+    (g.K.Sink.told c.put_head.new.sink))
+    c.script.ensures c.in_ok-put_head.ensures in
     let starts = cut_as _ _ _ _
-        (first_starts_is c.args.plan.now r r refl c.requires.plan c.requires.start c.requires.plays)
+    (first_starts_is c.args.plan.now r r refl c.requires.plan c.requires.start c.requires.plays)
     c.in_err-put_first_starts.ensures.text in
     puts_exit _ _ _ _ _ c.from_residual-in_err-put_first_starts.ensures.1
     (cut_in_starts c.args.plan.now r.script _ _ _ head starts)
@@ -38,15 +38,15 @@ pub returns-in_err-put_row-clause-text : goal.returns-in_err-put_row-clause-text
 returns-in_err-put_row-clause-text g c =
     let r = c.args.runner.now in
     let head = subst
-        (λ (s : Script). Wrote (head_text c.args.plan.now s) (g.K.Sink.told c.args.sink.now)
-          (g.K.Sink.told c.put_head.new.sink))
-        c.script.ensures c.in_ok-put_head.ensures in
+    (λ (s : Script). Wrote (head_text c.args.plan.now s) (g.K.Sink.told c.args.sink.now)
+    (g.K.Sink.told c.put_head.new.sink))
+    c.script.ensures c.in_ok-put_head.ensures in
     let starts = wrote_as _ _ _ _
-        (first_starts_is c.args.plan.now r r refl c.requires.plan c.requires.start c.requires.plays)
+    (first_starts_is c.args.plan.now r r refl c.requires.plan c.requires.start c.requires.plays)
     c.in_ok-put_first_starts.ensures.text in
     let row = cut_as _ _ _ _
-        (first_row_is c.args.plan.now r c.put_first_starts.new.runner
-          c.in_ok-put_first_starts.ensures.same
+    (first_row_is c.args.plan.now r c.put_first_starts.new.runner
+    c.in_ok-put_first_starts.ensures.same
     c.requires.plan c.requires.start c.requires.plays) c.in_err-put_row.ensures in
     puts_exit _ _ _ _ _ c.from_residual-in_err-put_row.ensures.1
     (cut_in_row c.args.plan.now r.script _ _ _ _ head starts row)
@@ -55,19 +55,19 @@ pub returns-in_err-put_turns-clause-text : goal.returns-in_err-put_turns-clause-
 returns-in_err-put_turns-clause-text g c =
     let r = c.args.runner.now in
     let head = subst
-        (λ (s : Script). Wrote (head_text c.args.plan.now s) (g.K.Sink.told c.args.sink.now)
-          (g.K.Sink.told c.put_head.new.sink))
-        c.script.ensures c.in_ok-put_head.ensures in
+    (λ (s : Script). Wrote (head_text c.args.plan.now s) (g.K.Sink.told c.args.sink.now)
+    (g.K.Sink.told c.put_head.new.sink))
+    c.script.ensures c.in_ok-put_head.ensures in
     let starts = wrote_as _ _ _ _
-        (first_starts_is c.args.plan.now r r refl c.requires.plan c.requires.start c.requires.plays)
+    (first_starts_is c.args.plan.now r r refl c.requires.plan c.requires.start c.requires.plays)
     c.in_ok-put_first_starts.ensures.text in
     let row = wrote_as _ _ _ _
-        (first_row_is c.args.plan.now r c.put_first_starts.new.runner
-          c.in_ok-put_first_starts.ensures.same
+    (first_row_is c.args.plan.now r c.put_first_starts.new.runner
+    c.in_ok-put_first_starts.ensures.same
     c.requires.plan c.requires.start c.requires.plays) c.in_ok-put_row.ensures in
     let turns = cut_as _ _ _ _
-        (turns_is c.args.plan.now r c.put_first_starts.new.runner
-          c.in_ok-put_first_starts.ensures.same
+    (turns_is c.args.plan.now r c.put_first_starts.new.runner
+    c.in_ok-put_first_starts.ensures.same
     c.requires.plan c.requires.start c.requires.plays) c.in_err-put_turns.ensures.text in
     puts_exit _ _ _ _ _ c.from_residual-in_err-put_turns.ensures.1
     (cut_in_turns c.args.plan.now r.script _ _ _ _ _ head starts row turns)
@@ -76,22 +76,22 @@ pub returns-clause-text : goal.returns-clause-text
 returns-clause-text g c =
     let r = c.args.runner.now in
     let head = subst
-        (λ (s : Script). Wrote (head_text c.args.plan.now s) (g.K.Sink.told c.args.sink.now)
-          (g.K.Sink.told c.put_head.new.sink))
-        c.script.ensures c.in_ok-put_head.ensures in
+    (λ (s : Script). Wrote (head_text c.args.plan.now s) (g.K.Sink.told c.args.sink.now)
+    (g.K.Sink.told c.put_head.new.sink))
+    c.script.ensures c.in_ok-put_head.ensures in
     let starts = wrote_as _ _ _ _
-        (first_starts_is c.args.plan.now r r refl c.requires.plan c.requires.start c.requires.plays)
+    (first_starts_is c.args.plan.now r r refl c.requires.plan c.requires.start c.requires.plays)
     c.in_ok-put_first_starts.ensures.text in
     let row = wrote_as _ _ _ _
-        (first_row_is c.args.plan.now r c.put_first_starts.new.runner
-          c.in_ok-put_first_starts.ensures.same
+    (first_row_is c.args.plan.now r c.put_first_starts.new.runner
+    c.in_ok-put_first_starts.ensures.same
     c.requires.plan c.requires.start c.requires.plays) c.in_ok-put_row.ensures in
     let turns = wrote_as _ _ _ _
-        (turns_is c.args.plan.now r c.put_first_starts.new.runner
-          c.in_ok-put_first_starts.ensures.same
+    (turns_is c.args.plan.now r c.put_first_starts.new.runner
+    c.in_ok-put_first_starts.ensures.same
     c.requires.plan c.requires.start c.requires.plays) c.in_ok-put_turns.ensures.text in
     puts_record c.args.plan.now r.script c.put_all.result _ _ _ _ _ _ head starts row turns
-        c.put_all.ensures
+    c.put_all.ensures
 
 pub returns-in_err-put_head-clause-stopped : goal.returns-in_err-put_head-clause-stopped
 returns-in_err-put_head-clause-stopped g c =
@@ -107,8 +107,8 @@ returns-in_err-put_first_starts-clause-stopped g c =
     let start = c.requires.start in
     let within : r.at ≤ r.script.rounds = omega (arith, start) in
     on_err _ _
-        (stops_here r c.put_first_starts.new.runner within c.requires.plays
-          c.in_err-put_first_starts.ensures.same)
+    (stops_here r c.put_first_starts.new.runner within c.requires.plays
+    c.in_err-put_first_starts.ensures.same)
 
 pub returns-in_err-put_row-clause-stopped : goal.returns-in_err-put_row-clause-stopped
 returns-in_err-put_row-clause-stopped g c =
@@ -116,8 +116,8 @@ returns-in_err-put_row-clause-stopped g c =
     let start = c.requires.start in
     let within : r.at ≤ r.script.rounds = omega (arith, start) in
     on_err _ _
-        (stops_here r c.put_first_starts.new.runner within c.requires.plays
-          c.in_ok-put_first_starts.ensures.same)
+    (stops_here r c.put_first_starts.new.runner within c.requires.plays
+    c.in_ok-put_first_starts.ensures.same)
 
 pub returns-in_err-put_turns-clause-stopped : goal.returns-in_err-put_turns-clause-stopped
 returns-in_err-put_turns-clause-stopped g c =

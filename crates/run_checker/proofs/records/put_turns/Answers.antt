@@ -11,13 +11,13 @@ pub returns-in-Err-clause-text : goal.returns-in-Err-clause-text
 returns-in-Err-clause-text g c =
     let rounds = c.rounds-rounds.ensures.value ∙ ap (λ (s : Script). s.rounds) c.script.ensures in
     turns_cut _ _ _ _ _ _ c.loop.invariant _ (omega (arith, c.loop-test.true, rounds))
-        c.in-Err.ensures.text
+    c.in-Err.ensures.text
 
 pub loop-preserved : goal.loop-preserved
 loop-preserved g c =
     let rounds = c.rounds-rounds.ensures.value ∙ ap (λ (s : Script). s.rounds) c.script.ensures in
     turns_go_on _ _ _ _ _ _ c.loop.invariant _ _ (omega (arith, c.loop-test.true, rounds))
-        c.in-Ok.ensures.text c.in-Ok.ensures.played
+    c.in-Ok.ensures.text c.in-Ok.ensures.played
 
 pub returns-clause-text : goal.returns-clause-text
 returns-clause-text g c =
@@ -27,10 +27,10 @@ returns-clause-text g c =
 pub returns-in-Err-clause-stopped : goal.returns-in-Err-clause-stopped
 returns-in-Err-clause-stopped g c =
     turns_stopped _ _ _ _ _ _ c.loop.invariant c.args.runner.now refl refl _
-        c.in-Err.ensures.stopped
+    c.in-Err.ensures.stopped
 
 pub returns-clause-played : goal.returns-clause-played
 returns-clause-played g c =
     let rounds = c.rounds-rounds.ensures.value ∙ ap (λ (s : Script). s.rounds) c.script.ensures in
     turns_played _ _ _ _ _ _ c.loop.invariant c.args.runner.now refl refl
-        (omega (arith, c.loop-test.false, rounds))
+    (omega (arith, c.loop-test.false, rounds))

@@ -9,9 +9,9 @@ returns-in-Ok-clause-text g c =
     let text = record_is c.args.plan.now c.args.runner.now.script c.requires.plays.script
     (rw c.requires.plan at c.requires.plays.shape) in
     rw text
-        (puts_lent g.K.Sink.told _ _ _ _ _ _ _ _ (search rules)
-          (c.finish.ensures.puts _ _ (rw c.new-lines.ensures.told at c.in-Ok.ensures.text))
-          c.finish.ensures.none_held)
+    (puts_lent g.K.Sink.told _ _ _ _ _ _ _ _ (search rules)
+    (c.finish.ensures.puts _ _ (rw c.new-lines.ensures.told at c.in-Ok.ensures.text))
+    c.finish.ensures.none_held)
 
 pub returns-in-Ok-clause-played : goal.returns-in-Ok-clause-played
 returns-in-Ok-clause-played g c = on_ok _ _ c.in-Ok.ensures.played
@@ -26,5 +26,5 @@ returns-in-Err-clause-text g c =
     let text = record_is c.args.plan.now c.args.runner.now.script c.requires.plays.script
     (rw c.requires.plan at c.requires.plays.shape) in
     rw text
-        (cut_lent g.K.Sink.told _ _ _ _ _ _ _ (search rules)
-          (rw c.new-lines.ensures.told at c.in-Err.ensures.text))
+    (cut_lent g.K.Sink.told _ _ _ _ _ _ _ (search rules)
+    (rw c.new-lines.ensures.told at c.in-Err.ensures.text))

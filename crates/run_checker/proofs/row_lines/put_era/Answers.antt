@@ -5,13 +5,13 @@ use Rattle.run_checker.proofs.row_lines.put_era.Goals as goal
 pub returns-in_err-put_pieces : goal.returns-in_err-put_pieces
 returns-in_err-put_pieces g c =
     puts_exit _ _ _ _ _ c.from_residual.ensures.1
-        (cut_more _ _ (era_front c.args.t) _ c.in_err-put_pieces.ensures)
+    (cut_more _ _ (era_front c.args.t) _ c.in_err-put_pieces.ensures)
 
 pub returns-in_err-put_ids : goal.returns-in_err-put_ids
 returns-in_err-put_ids g c =
     puts_exit _ _ _ _ _ c.from_residual-in_err-put_ids.ensures.1
     (cut_then _ _ _ (era_front c.args.t) _ c.in_ok-put_pieces.ensures
-        (cut_more _ _ (ids_text c.args.faulty.now.ids) _ c.in_err-put_ids.ensures))
+    (cut_more _ _ (ids_text c.args.faulty.now.ids) _ c.in_err-put_ids.ensures))
 
 pub returns : goal.returns
 returns g c =

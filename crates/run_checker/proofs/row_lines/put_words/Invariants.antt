@@ -8,5 +8,5 @@ abbrev pub invariant-loop-v : goal.invariant-loop-v
 invariant-loop-v g l =
     Wrote
     (words_before (node_word l.runner.plan l.faulty.ids l.runner.states) (plan_nodes l.runner.plan)
-      l.v)
+    l.v)
     (g.K.Sink.told l.fn.sink) (g.K.Sink.told l.sink)

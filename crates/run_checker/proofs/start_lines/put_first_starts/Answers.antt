@@ -15,12 +15,12 @@ loop-v-init g c = record { same = refl; wrote = wrote_none _ }
 pub returns-in-Err-clause-text : goal.returns-in-Err-clause-text
 returns-in-Err-clause-text g c =
     words_cut _ (plan_nodes c.args.runner.now.plan) c.loop-v.v _ _ _
-        (omega (arith, c.loop-v-test.true, c.nodes-v-end.ensures))
+    (omega (arith, c.loop-v-test.true, c.nodes-v-end.ensures))
     c.loop-v.invariant.wrote
-        (subst
-          (λ (r : Running NoOverlay). Cut (first_start r.script r.states c.loop-v.v)
-            (g.K.Sink.told c.loop-v.sink) (g.K.Sink.told c.put_first_start.new.sink))
-          c.loop-v.invariant.same c.in-Err.ensures.text)
+    (subst
+    (λ (r : Running NoOverlay). Cut (first_start r.script r.states c.loop-v.v)
+    (g.K.Sink.told c.loop-v.sink) (g.K.Sink.told c.put_first_start.new.sink))
+    c.loop-v.invariant.same c.in-Err.ensures.text)
 
 pub loop-v-preserved : goal.loop-v-preserved
 loop-v-preserved g c = record {
@@ -29,16 +29,16 @@ loop-v-preserved g c = record {
       words_more _ (plan_nodes c.args.runner.now.plan) c.loop-v.v _ _ _
       (omega (arith, c.loop-v-test.true, c.nodes-v-end.ensures))
       c.loop-v.invariant.wrote
-          (subst
-            (λ (r : Running NoOverlay). Wrote (first_start r.script r.states c.loop-v.v)
-              (g.K.Sink.told c.loop-v.sink) (g.K.Sink.told c.put_first_start.new.sink))
-            c.loop-v.invariant.same c.in-Ok.ensures.text);
+      (subst
+      (λ (r : Running NoOverlay). Wrote (first_start r.script r.states c.loop-v.v)
+      (g.K.Sink.told c.loop-v.sink) (g.K.Sink.told c.put_first_start.new.sink))
+      c.loop-v.invariant.same c.in-Ok.ensures.text);
 }
 
 pub returns-clause-text : goal.returns-clause-text
 returns-clause-text g c =
     words_all _ (plan_nodes c.args.runner.now.plan) c.loop-v.v _ _
-        (omega (arith, c.loop-v-test.false, c.nodes-v-end.ensures)) c.loop-v.invariant.wrote
+    (omega (arith, c.loop-v-test.false, c.nodes-v-end.ensures)) c.loop-v.invariant.wrote
 
 pub put_first_start-requires : goal.put_first_start-requires
 put_first_start-requires g c =

@@ -10,6 +10,6 @@ invariant-loop-v g l = record {
   same : l.runner ≡ l.fn.runner;
   wrote : Wrote
       (words_before (first_start l.fn.runner.script l.fn.runner.states)
-        (plan_nodes l.fn.runner.plan) l.v)
+      (plan_nodes l.fn.runner.plan) l.v)
       (g.K.Sink.told l.fn.sink) (g.K.Sink.told l.sink);
 }

@@ -10,6 +10,6 @@ invariant-loop-v g l = record {
   same : l.runner ≡ l.fn.runner;
   wrote : Wrote
       (words_before (start_if l.fn.runner.plan l.fn.runner.script l.t l.fn.runner.states)
-        (plan_nodes l.fn.runner.plan) l.v)
+      (plan_nodes l.fn.runner.plan) l.v)
       (g.K.Sink.told l.fn.sink) (g.K.Sink.told l.sink);
 }

@@ -22,9 +22,9 @@ loop-i-preserved c =
     record {
       pairs = c.add_pairs.ensures.pairs
           ∙ flat_more (row_of (correct_nodes c.args.faulty.now.nodes c.args.faulty.now.ids))
-              c.args.faulty.now.ids c.loop-i.i _
+          c.args.faulty.now.ids c.loop-i.i _
           c.loop-i.pairs.items (omega (arith, c.loop-i-test.true, c.len-i-end.ensures.exact))
-              c.at.ensures.id h.pairs;
+          c.at.ensures.id h.pairs;
       room = omega (arith, c.add_pairs.ensures.room, h.room);
     }
 
@@ -33,13 +33,13 @@ returns-clause-pairs c =
     c.loop-i.invariant.pairs
     ∙ ap (flat_map (row_of (correct_nodes c.args.faulty.now.nodes c.args.faulty.now.ids)))
     (take_all c.loop-i.i c.args.faulty.now.ids
-        (omega (arith, c.loop-i-test.false, c.len-i-end.ensures.exact)))
+    (omega (arith, c.loop-i-test.false, c.len-i-end.ensures.exact)))
 
 pub returns-clause-senders : goal.returns-clause-senders
 returns-clause-senders c =
     subst (All (Below c.args.faulty.now.nodes)) (sym c.loop-i.invariant.pairs)
     (senders_below c.args.faulty.now.nodes
-        (correct_nodes c.args.faulty.now.nodes c.args.faulty.now.ids)
-        (take c.loop-i.i c.args.faulty.now.ids)
+    (correct_nodes c.args.faulty.now.nodes c.args.faulty.now.ids)
+    (take c.loop-i.i c.args.faulty.now.ids)
     (All-take (λ id. id < c.args.faulty.now.nodes) c.loop-i.i c.args.faulty.now.ids
-        c.tell.ensures.below))
+    c.tell.ensures.below))

@@ -75,8 +75,8 @@ returns-clause-played c =
       strays =
           λ no. absurd
           (no
-            (fits_era plan script c.top_of-top.result.numbers _ _ e c.top_of-top.ensures begin
-              rounds
+          (fits_era plan script c.top_of-top.result.numbers _ _ e c.top_of-top.ensures begin
+          rounds
           (c.fits.ensures.0 c.if-not-fits.false)));
     }
 

@@ -39,7 +39,7 @@ take-search-requires-clause-few c =
     let is = c.loop-runner.invariant in
     let read = c.requires.read in
     let count = count_now c.args.top.numbers (era_begin c.args.runner.now.script)
-        c.args.runner.now.plan c.args.runner.now.script
+    c.args.runner.now.plan c.args.runner.now.script
     read.reads.top_is read.top_is _ _ is.found.stretch in
     omega (arith, count)
 
@@ -91,7 +91,7 @@ take-requires-clause-few c =
     let is = c.loop-runner.invariant in
     let read = c.requires.read in
     let count = count_now c.args.top.numbers (era_begin c.args.runner.now.script)
-        c.args.runner.now.plan c.args.runner.now.script
+    c.args.runner.now.plan c.args.runner.now.script
     read.reads.top_is read.top_is _ _ is.found.stretch in
     omega (arith, count)
 

@@ -26,5 +26,5 @@ returns c =
     ∙ ap (λ (o : Option Seen). stretched c.args.top.numbers.beat c.args.stretch o)
     (seen_is c.args.top.numbers r c.requires.read _ _ c.see.ensures
     (c.last_faulty-faulty.ensures
-        ∙ ap (λ (s : Script). faulty_of_era s (length s.eras)) c.script-script.ensures)
+    ∙ ap (λ (s : Script). faulty_of_era s (length s.eras)) c.script-script.ensures)
     (c.bare_runners_are_played.ensures r c.requires.read.plays))

@@ -14,7 +14,7 @@ returns-then-version-eq1 g c began plays =
     let known = lock_at_end g.O.Overlay.layer g.O.Overlay.kept began r 0 c.locked_in.result
     (c.locked_in.ensures.at_end began plays c.requires) in
     puts_one r.plan r.script (configuration_of g.O.Overlay.layer began r) _ version _ _ _
-        c.if-version-eq1.true (puts_locked _ _ _ _ _ known c.put_locked.ensures)
+    c.if-version-eq1.true (puts_locked _ _ _ _ _ known c.put_locked.ensures)
 
 pub loop-era-init : goal.loop-era-init
 loop-era-init g c began plays = wrote_none _
@@ -24,32 +24,32 @@ returns-in-Err g c began plays =
     let r = c.args.runner.now in
     let version = c.version.ensures ∙ ap (λ (s : Script). s.version) c.script.ensures in
     let size = c.eras-era-end.ensures.value
-        ∙ ap (λ (s : Script). length s.eras + 1) c.script-2.ensures in
+    ∙ ap (λ (s : Script). length s.eras + 1) c.script-2.ensures in
     cut_of_many r.plan r.script (configuration_of g.O.Overlay.layer began r) _ version _ _
-        c.if-version-eq1.false
+    c.if-version-eq1.false
     (words_cut (era_line r.plan r.script (configuration_of g.O.Overlay.layer began r))
-        (length r.script.eras + 1) c.loop-era.era _ _ _
+    (length r.script.eras + 1) c.loop-era.era _ _ _
     (omega (arith, c.loop-era-test.true, size)) (c.loop-era.invariant began plays)
-        (c.in-Err.ensures began plays))
+    (c.in-Err.ensures began plays))
 
 pub loop-era-preserved : goal.loop-era-preserved
 loop-era-preserved g c began plays =
     let r = c.args.runner.now in
     let size = c.eras-era-end.ensures.value
-        ∙ ap (λ (s : Script). length s.eras + 1) c.script-2.ensures in
+    ∙ ap (λ (s : Script). length s.eras + 1) c.script-2.ensures in
     words_more (era_line r.plan r.script (configuration_of g.O.Overlay.layer began r))
-        (length r.script.eras + 1) c.loop-era.era _ _ _
+    (length r.script.eras + 1) c.loop-era.era _ _ _
     (omega (arith, c.loop-era-test.true, size)) (c.loop-era.invariant began plays)
-        (c.in-Ok.ensures began plays)
+    (c.in-Ok.ensures began plays)
 
 pub returns : goal.returns
 returns g c began plays =
     let r = c.args.runner.now in
     let version = c.version.ensures ∙ ap (λ (s : Script). s.version) c.script.ensures in
     let size = c.eras-era-end.ensures.value
-        ∙ ap (λ (s : Script). length s.eras + 1) c.script-2.ensures in
+    ∙ ap (λ (s : Script). length s.eras + 1) c.script-2.ensures in
     wrote_many r.plan r.script (configuration_of g.O.Overlay.layer began r) _ version _ _
-        c.if-version-eq1.false
+    c.if-version-eq1.false
     (words_all (era_line r.plan r.script (configuration_of g.O.Overlay.layer began r))
-        (length r.script.eras + 1) c.loop-era.era _ _
+    (length r.script.eras + 1) c.loop-era.era _ _
     (omega (arith, c.loop-era-test.false, size)) (c.loop-era.invariant began plays))

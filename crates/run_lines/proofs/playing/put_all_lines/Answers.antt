@@ -26,5 +26,5 @@ returns g c =
     puts_then _ _ _ _ _ _ bound
     (puts_then _ _ _ _ _ _ lines.lines
     (puts_last _ _ _ _
-        (locks_after _ _ (g.L.Lines.wording c.args.lines.now) _ _ _ _ _ _ lines.played
-          (c.put_locks.ensures _ lines.played.plays))))
+    (locks_after _ _ (g.L.Lines.wording c.args.lines.now) _ _ _ _ _ _ lines.played
+    (c.put_locks.ensures _ lines.played.plays))))

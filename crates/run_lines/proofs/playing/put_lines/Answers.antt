@@ -20,19 +20,19 @@ pub put_if_shown-requires-clause-number : goal.put_if_shown-requires-clause-numb
 put_if_shown-requires-clause-number g c =
     c.loop.invariant.number
     ∙ ap (numbered (g.L.Lines.wording c.args.lines.now).label)
-        (sym c.loop.invariant.so_far.played.at)
+    (sym c.loop.invariant.so_far.played.at)
 
 pub returns-in-Err-clause-lines : goal.returns-in-Err-clause-lines
 returns-in-Err-clause-lines g c =
     let rounds = c.rounds-rounds.ensures.value ∙ ap (λ (s : Script). s.rounds) c.script.ensures in
     lines_cut _ _ _ _ _ _ _ _ c.loop.invariant.so_far _ (omega (arith, rounds, c.loop-test.true))
-        c.in-Err.ensures
+    c.in-Err.ensures
 
 pub round-requires : goal.round-requires
 round-requires g c =
     has_round _ _ _ _ _ _ _ _ c.loop.invariant.so_far _
-        (c.rounds-rounds.ensures.value ∙ ap (λ (s : Script). s.rounds) c.script.ensures)
-        c.loop-test.true
+    (c.rounds-rounds.ensures.value ∙ ap (λ (s : Script). s.rounds) c.script.ensures)
+    c.loop-test.true
 
 pub loop-preserved : goal.loop-preserved
 loop-preserved g c =
@@ -49,11 +49,11 @@ pub returns-clause-lines : goal.returns-clause-lines
 returns-clause-lines g c =
     let rounds = c.rounds-rounds.ensures.value ∙ ap (λ (s : Script). s.rounds) c.script.ensures in
     lines_end _ _ _ _ _ _ _ _ c.loop.invariant.so_far _ _
-        (omega (arith, rounds, c.loop.auto.counter-end, c.loop-test.false)) c.put_if_shown-2.ensures
+    (omega (arith, rounds, c.loop.auto.counter-end, c.loop-test.false)) c.put_if_shown-2.ensures
 
 pub returns-clause-played : goal.returns-clause-played
 returns-clause-played g c =
     let rounds = c.rounds-rounds.ensures.value ∙ ap (λ (s : Script). s.rounds) c.script.ensures in
     on_ok _
-        (at_last _ _ (g.L.Lines.wording c.args.lines.now) _ _ _ _ _ c.loop.invariant.so_far
-          (omega (arith, rounds, c.loop.auto.counter-end, c.loop-test.false)))
+    (at_last _ _ (g.L.Lines.wording c.args.lines.now) _ _ _ _ _ c.loop.invariant.so_far
+    (omega (arith, rounds, c.loop.auto.counter-end, c.loop-test.false)))

@@ -8,6 +8,6 @@ use Rattle.run_lines.proofs.words.put_words.Given as goal
 abbrev pub invariant-loop-v : goal.invariant-loop-v
 invariant-loop-v g l = Wrote (words_before
     (word_or_star
-        ((g.L.Lines.wording l.lines).word l.runner.plan (scene_of g.O.Overlay.kept l.runner))
-        l.faulty.ids)
+    ((g.L.Lines.wording l.lines).word l.runner.plan (scene_of g.O.Overlay.kept l.runner))
+    l.faulty.ids)
     (plan_nodes l.runner.plan) l.v) (g.K.Sink.told l.fn.sink) (g.K.Sink.told l.sink)

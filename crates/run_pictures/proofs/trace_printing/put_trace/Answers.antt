@@ -18,7 +18,7 @@ returns-in-Err g c =
 pub loop-note-preserved : goal.loop-note-preserved
 loop-note-preserved g c =
     wrote_at (note_line c.args.first) c.args.notes.now c.loop-note.note-index c.note-item.result _ _
-        _
+    _
     c.loop-note-test.true c.loop-note.invariant
     (subst (λ (n : Note). Wrote (note_line c.args.first n) (g.K.Sink.told c.loop-note.sink)
     (g.K.Sink.told c.put_note.new.sink)) c.note-item.is c.in-Ok.ensures)

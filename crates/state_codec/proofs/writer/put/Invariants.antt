@@ -8,7 +8,7 @@ invariant-loop-count l = record {
   size_kept : length l.out ≡ length l.fn.out;
   text : so_far l.out l.at l.count l.held
       ≡ so_far l.fn.out l.fn.pending.at l.fn.pending.count l.fn.pending.held
-          ++ bits l.fn.number.size
+      ++ bits l.fn.number.size
       l.fn.number.value;
   place : 8 * l.at + l.count ≡ 8 * l.fn.pending.at + l.fn.pending.count + l.fn.number.size;
   small : l.count ≤ 56;

@@ -12,7 +12,7 @@ returns-in_err-write_tally-clause-text g c =
     let seeds = range_with_len c.args.first c.args.count in
     let text = ap (λ (tally : List EraRuns). flat_map runs_text tally) c.deref.ensures.value
     ∙ tally_text runner.plan runner.script seeds c.in_ok-tally.tally.items
-        c.in_ok-tally.ensures.tally in
+    c.in_ok-tally.ensures.tally in
     cut_exit _ _ _ _ c.from_residual-in_err-write_tally.ensures.1
     (subst (λ (text : List ℕ). Cut text (g.K.Sink.told c.args.sink.now)
     (g.K.Sink.told c.write_tally.new.sink)) text c.in_err-write_tally.ensures)
@@ -23,6 +23,6 @@ returns-clause-text g c =
     let seeds = range_with_len c.args.first c.args.count in
     let text = ap (λ (tally : List EraRuns). flat_map runs_text tally) c.deref.ensures.value
     ∙ tally_text runner.plan runner.script seeds c.in_ok-tally.tally.items
-        c.in_ok-tally.ensures.tally in
+    c.in_ok-tally.ensures.tally in
     subst (λ (text : List ℕ). Wrote text (g.K.Sink.told c.args.sink.now)
     (g.K.Sink.told c.write_tally.new.sink)) text c.in_ok-write_tally.ensures

@@ -28,7 +28,7 @@ level_step-register-requires-clause-numbers t c =
 pub level_step-register-requires-clause-range : goal.level_step-register-requires-clause-range
 level_step-register-requires-clause-range t c =
     top_range _ _ _ _ c.in-Some.ensures.cases.0 c.requires.levels c.args.group.now
-        c.requires.group.range
+    c.requires.group.range
 
 pub nodes_over-n-requires : goal.nodes_over-n-requires
 nodes_over-n-requires t c =

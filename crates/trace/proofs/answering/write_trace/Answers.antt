@@ -21,9 +21,12 @@ pub returns-in_err-put_trace : goal.returns-in_err-put_trace
 returns-in_err-put_trace g c =
     let naming = rw c.nodes.ensures at (rw c.in-Some.is at c.in_ok-nodes.ensures) in
     let le : c.args.want.last ≤ c.in_ok-plan.runner.script.rounds =
-    omega
-        (arith, c.if-want-rounds.false, c.rounds.ensures.value,
-          ap (λ s. s.rounds) c.script.ensures) in
+    omega (
+      arith,
+      c.if-want-rounds.false,
+      c.rounds.ensures.value,
+      ap (λ s. s.rounds) c.script.ensures,
+    ) in
     unwritten _ _ _ _ _
     (traced c.args.want (map string_bytes c.args.words.now) c.args.input.now c.in_ok-plan.plan
     c.in_ok-plan.runner c.in_ok-plan.ensures le c.deref.result.now
@@ -34,9 +37,12 @@ pub returns : goal.returns
 returns g c =
     let naming = rw c.nodes.ensures at (rw c.in-Some.is at c.in_ok-nodes.ensures) in
     let le : c.args.want.last ≤ c.in_ok-plan.runner.script.rounds =
-    omega
-        (arith, c.if-want-rounds.false, c.rounds.ensures.value,
-          ap (λ s. s.rounds) c.script.ensures) in
+    omega (
+      arith,
+      c.if-want-rounds.false,
+      c.rounds.ensures.value,
+      ap (λ s. s.rounds) c.script.ensures,
+    ) in
     record {
       text = _;
       traced = traced c.args.want (map string_bytes c.args.words.now) c.args.input.now

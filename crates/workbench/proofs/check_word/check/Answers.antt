@@ -31,12 +31,12 @@ pub returns-in-Ok-put_verdict-clause-does : goal.returns-in-Ok-put_verdict-claus
 returns-in-Ok-put_verdict-clause-does g c =
     rw c.verdict_status.ensures
     (check_done _ _ _ _ c.limits_matter_beyond.ensures _ c.in-Ok.ensures.checks
-        c.in-Ok.ensures.cause _ _ c.in-Ok-put_verdict.ensures)
+    c.in-Ok.ensures.cause _ _ c.in-Ok-put_verdict.ensures)
 
 pub returns-in-Err-put_verdict-clause-does : goal.returns-in-Err-put_verdict-clause-does
 returns-in-Err-put_verdict-clause-does g c =
     check_cut _ _ _ _ c.limits_matter_beyond.ensures _ c.in-Ok.ensures.checks c.in-Ok.ensures.cause
-        _ _ c.in-Err-put_verdict.ensures
+    _ _ c.in-Err-put_verdict.ensures
 
 pub returns-in-Ok-put_refusal-clause-untouched : goal.returns-in-Ok-put_refusal-clause-untouched
 returns-in-Ok-put_refusal-clause-untouched g c = rw c.status.ensures tt

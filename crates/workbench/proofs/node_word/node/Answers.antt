@@ -15,10 +15,10 @@ returns-in-Err-ReadFault-clause-does g c =
     let name = c.read_header.ensures.same_reference in
     let header = rw c.in-Err-ReadFault.field-0-is at c.in-Err-ReadFault.ensures.header in
     let cause = rw (c.in-Err-ReadFault.field-0-is, c.new-feed.ensures.faults) at
-        c.in-Err-ReadFault.ensures.cause in
+    c.in-Err-ReadFault.ensures.cause in
     does_end g.S.Source.left g.S.Source.faults (Some command.Node) status.ReadFault _ _
-        c.read_header.new.feed.source.now _ c.read_header.new.feed.source.ghost_name _ _
-        (search rules) (sym (name ∙ same))
+    c.read_header.new.feed.source.now _ c.read_header.new.feed.source.ghost_name _ _
+    (search rules) (sym (name ∙ same))
     (header_lost _ _ _ _ _ _ c.new-feed.ensures.left _ header (none_held _ _ _ cause.1.0) cause.0)
 
 pub returns-in-Err-TooLong-clause-does : goal.returns-in-Err-TooLong-clause-does
@@ -27,10 +27,10 @@ returns-in-Err-TooLong-clause-does g c =
     let name = c.read_header.ensures.same_reference in
     let header = rw c.in-Err-TooLong.field-0-is at c.in-Err-TooLong.ensures.header in
     let cause = rw (c.in-Err-TooLong.field-0-is, c.new-feed.ensures.faults) at
-        c.in-Err-TooLong.ensures.cause in
+    c.in-Err-TooLong.ensures.cause in
     does_end g.S.Source.left g.S.Source.faults (Some command.Node) status.TooLong _ _
-        c.read_header.new.feed.source.now _ c.read_header.new.feed.source.ghost_name _ _
-        (search rules) (sym (name ∙ same))
+    c.read_header.new.feed.source.now _ c.read_header.new.feed.source.ghost_name _ _
+    (search rules) (sym (name ∙ same))
     (header_long _ _ _ _ _ _ c.new-feed.ensures.left _ header cause)
 
 pub returns-in-Ok-put_refusal-clause-does : goal.returns-in-Ok-put_refusal-clause-does
@@ -39,13 +39,13 @@ returns-in-Ok-put_refusal-clause-does g c =
     let name = c.read_header.ensures.same_reference in
     let header = rw c.in-Err-Refused.field-0-is at c.in-Err-Refused.ensures.header in
     let cause = rw (c.in-Err-Refused.field-0-is, c.new-feed.ensures.faults) at
-        c.in-Err-Refused.ensures.cause in
+    c.in-Err-Refused.ensures.cause in
     let refusal = rw c.in-Err-Refused.refused-is at c.header_refusal-refusal.ensures in
     let wrote = rw refusal at c.in-Ok-put_refusal.ensures in
     rw (c.status.ensures, refusal)
-        (does_end g.S.Source.left g.S.Source.faults (Some command.Node) _ _ _
-          c.read_header.new.feed.source.now _ c.read_header.new.feed.source.ghost_name _ _
-          (search rules) (sym (name ∙ same))
+    (does_end g.S.Source.left g.S.Source.faults (Some command.Node) _ _ _
+    c.read_header.new.feed.source.now _ c.read_header.new.feed.source.ghost_name _ _
+    (search rules) (sym (name ∙ same))
     (header_refused _ _ _ _ _ _ c.new-feed.ensures.left _ header cause _ _ wrote))
 
 pub returns-in-Err-put_refusal-clause-does : goal.returns-in-Err-put_refusal-clause-does
@@ -54,12 +54,12 @@ returns-in-Err-put_refusal-clause-does g c =
     let name = c.read_header.ensures.same_reference in
     let header = rw c.in-Err-Refused.field-0-is at c.in-Err-Refused.ensures.header in
     let cause = rw (c.in-Err-Refused.field-0-is, c.new-feed.ensures.faults) at
-        c.in-Err-Refused.ensures.cause in
+    c.in-Err-Refused.ensures.cause in
     let refusal = rw c.in-Err-Refused.refused-is at c.header_refusal-refusal.ensures in
     let part = rw refusal at c.in-Err-put_refusal.ensures in
     does_end g.S.Source.left g.S.Source.faults (Some command.Node) status.WriteFault _ _
-        c.read_header.new.feed.source.now _ c.read_header.new.feed.source.ghost_name _ _
-        (search rules) (sym (name ∙ same))
+    c.read_header.new.feed.source.now _ c.read_header.new.feed.source.ghost_name _ _
+    (search rules) (sym (name ∙ same))
     (header_cut _ _ _ _ _ _ c.new-feed.ensures.left _ header cause _ _ part)
 
 pub returns-then-ended-clause-does : goal.returns-then-ended-clause-does
@@ -70,12 +70,12 @@ returns-then-ended-clause-does g c =
     let node = is_node_of _ _ _ read.header read.shape read.fits _ c.in-Ok-engine_of.ensures in
     let still = read.cause ∙ c.new-feed.ensures.faults in
     rw c.service_status.ensures
-        (does_end g.S.Source.left g.S.Source.faults (Some command.Node) _ _ _
-          c.read_header.new.feed.source.now _ c.read_header.new.feed.source.ghost_name _ _
-          (search rules) (sym (name ∙ same))
+    (does_end g.S.Source.left g.S.Source.faults (Some command.Node) _ _ _
+    c.read_header.new.feed.source.now _ c.read_header.new.feed.source.ghost_name _ _
+    (search rules) (sym (name ∙ same))
     (serves_last _ _ _ _ _ _ c.new-feed.ensures.left _ _ _ read.header _ _ node c.if-ended.true
-        still _ _ _ _ (rw c.new-nothing.ensures at c.new-none.ensures.left) c.serve.ensures.served
-        c.serve.ensures.cause))
+    still _ _ _ _ (rw c.new-nothing.ensures at c.new-none.ensures.left) c.serve.ensures.served
+    c.serve.ensures.cause))
 
 pub returns-clause-does : goal.returns-clause-does
 returns-clause-does g c =
@@ -85,12 +85,12 @@ returns-clause-does g c =
     let node = is_node_of _ _ _ read.header read.shape read.fits _ c.in-Ok-engine_of.ensures in
     let still = read.cause ∙ c.new-feed.ensures.faults in
     rw c.service_status-2.ensures
-        (does_end g.S.Source.left g.S.Source.faults (Some command.Node) _ _ _
-          c.serve-2.new.feed.source.now _ c.serve-2.new.feed.source.ghost_name _ _ (search rules)
-          (sym (name ∙ same))
+    (does_end g.S.Source.left g.S.Source.faults (Some command.Node) _ _ _
+    c.serve-2.new.feed.source.now _ c.serve-2.new.feed.source.ghost_name _ _ (search rules)
+    (sym (name ∙ same))
     (serves _ _ _ _ _ _ _ c.new-feed.ensures.left _ _ _ read.header _ _ node c.if-ended.false _
-        c.serve-2.ensures.served
-        (cause_of _ _ _ _ _ _ (dry_held _ _ _ _) still c.serve-2.ensures.cause)))
+    c.serve-2.ensures.served
+    (cause_of _ _ _ _ _ _ (dry_held _ _ _ _) still c.serve-2.ensures.cause)))
 
 pub returns-in-Ok-put_refusal-clause-untouched : goal.returns-in-Ok-put_refusal-clause-untouched
 returns-in-Ok-put_refusal-clause-untouched g c =
@@ -109,7 +109,7 @@ returns-in-Err-ReadFault-clause-unmet g c =
     let name = c.read_header.ensures.same_reference in
     let cause = rw c.in-Err-ReadFault.field-0-is at c.in-Err-ReadFault.ensures.cause in
     unmet_end g.S.Source.met status.ReadFault _ _ c.read_header.new.feed.source.now _
-        c.read_header.new.feed.source.ghost_name (search rules) (sym (name ∙ same))
+    c.read_header.new.feed.source.ghost_name (search rules) (sym (name ∙ same))
     (cause.1.1 ∙ c.new-feed.ensures.met)
 
 pub returns-in-Ok-put_refusal-clause-unmet : goal.returns-in-Ok-put_refusal-clause-unmet
@@ -127,7 +127,7 @@ returns-clause-unmet g c =
     let name = c.serve-2.ensures.same_reference ∙ c.read_header.ensures.same_reference in
     let met = rw c.if-ended.false at c.in-Ok-read_header.ensures.met in
     rw c.service_status-2.ensures
-        (unmet_end g.S.Source.met _ _ _ c.serve-2.new.feed.source.now _
-          c.serve-2.new.feed.source.ghost_name (search rules) (sym (name ∙ same))
+    (unmet_end g.S.Source.met _ _ _ c.serve-2.new.feed.source.now _
+    c.serve-2.new.feed.source.ghost_name (search rules) (sym (name ∙ same))
     (service_unmet _ _ _ _ _ _ c.serve-2.ensures.cause
-        (λ dry. dry.1 ∙ (met ∙ c.new-feed.ensures.met))))
+    (λ dry. dry.1 ∙ (met ∙ c.new-feed.ensures.met))))

@@ -30,22 +30,22 @@ returns-clause-out c =
     let room = step.room in
     let node = step.node in
     let at : ℕ
-        → Agreeing = λ input. agree_step f.nodes f.faults f.depth c.args.node input c.args.output
-          c.args.heard.now in
+    → Agreeing = λ input. agree_step f.nodes f.faults f.depth c.args.node input c.args.output
+    c.args.heard.now in
     let own = own_round f.round f.fired.items c.args.node (omega (arith, node)) in
     c.set_reg.ensures
-        ∙ (layered_one layer c.args.out.now c.agree-agreed.result.register refl (omega arith)
-          ∙ ap (λ r. layered layer (r ∷ []) c.args.out.now)
+    ∙ (layered_one layer c.args.out.now c.agree-agreed.result.register refl (omega arith)
+    ∙ ap (λ r. layered layer (r ∷ []) c.args.out.now)
     (c.agree-agreed.ensures.step.0
-        ∙ ap (λ (h : RegisterHeard). (heard_of h c.args.node c.input.result c.args.output).register)
-          c.of-values.ensures
+    ∙ ap (λ (h : RegisterHeard). (heard_of h c.args.node c.input.result c.args.output).register)
+    c.of-values.ensures
     ∙ ap
-        (λ (n : ℕ).
-          (agree_step n f.faults f.depth c.args.node c.input.result c.args.output
-            c.args.heard.now).register)
-        step.size
+    (λ (n : ℕ).
+    (agree_step n f.faults f.depth c.args.node c.input.result c.args.output
+    c.args.heard.now).register)
+    step.size
     ∙ ap (λ i. (at i).register) c.input.ensures
-        ∙ ap (λ round. (at (bit (requests_in f.requests c.args.node round))).register) (sym own)))
+    ∙ ap (λ round. (at (bit (requests_in f.requests c.args.node round))).register) (sym own)))
 
 pub returns-clause-kept : goal.returns-clause-kept
 returns-clause-kept c =
@@ -53,26 +53,26 @@ returns-clause-kept c =
     let step = c.requires.step (omega arith) in
     let node = step.node in
     let at : ℕ
-        → Agreeing = λ input. agree_step f.nodes f.faults f.depth c.args.node input c.args.output
-          c.args.heard.now in
+    → Agreeing = λ input. agree_step f.nodes f.faults f.depth c.args.node input c.args.output
+    c.args.heard.now in
     let own = own_round f.round f.fired.items c.args.node (omega (arith, node)) in
     map-set (made f.round) f.fired.items c.args.node c.eq.result
     ∙ ap (set (map (made f.round) f.fired.items) c.args.node)
-        (ap (made f.round)
-          (c.eq.ensures
-            ∙ ap (λ d. option_eq nat_eq d (Some 1))
-              (c.agree-agreed.ensures.step.1
-                ∙ ap
-                  (λ (h : RegisterHeard).
-                    (heard_of h c.args.node c.input.result c.args.output).decided)
-                  c.of-values.ensures
+    (ap (made f.round)
+    (c.eq.ensures
+    ∙ ap (λ d. option_eq nat_eq d (Some 1))
+    (c.agree-agreed.ensures.step.1
     ∙ ap
-        (λ (n : ℕ).
-          (agree_step n f.faults f.depth c.args.node c.input.result c.args.output
-            c.args.heard.now).decided)
-        step.size
+    (λ (h : RegisterHeard).
+    (heard_of h c.args.node c.input.result c.args.output).decided)
+    c.of-values.ensures
+    ∙ ap
+    (λ (n : ℕ).
+    (agree_step n f.faults f.depth c.args.node c.input.result c.args.output
+    c.args.heard.now).decided)
+    step.size
     ∙ ap (λ i. (at i).decided) c.input.ensures))
     ∙ ap
-        (λ round. made round
-          (option_eq nat_eq (at (bit (requests_in f.requests c.args.node round))).decided (Some 1)))
-        (sym own))
+    (λ round. made round
+    (option_eq nat_eq (at (bit (requests_in f.requests c.args.node round))).decided (Some 1)))
+    (sym own))

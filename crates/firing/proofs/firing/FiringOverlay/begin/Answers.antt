@@ -7,5 +7,5 @@ pub returns-clause-kept : goal.returns-clause-kept
 returns-clause-kept c =
     sym
     (map-map (λ (f : Fire). let g : Fire = record { round = c.args.at; fired = f.fired } in g)
-      (λ (b : Bool). let g : Fire = record { round = c.args.self.now.round; fired = b } in g)
-      c.args.self.now.fired.items)
+    (λ (b : Bool). let g : Fire = record { round = c.args.self.now.round; fired = b } in g)
+    c.args.self.now.fired.items)

@@ -11,25 +11,25 @@ pub returns-then-count-f : goal.returns-then-count-f
 returns-then-count-f c =
     let t = c.self.inside in
     let kept = subst
-        (λ counts. IsKept t.capacity t.values.items counts t.infinities (vec_capacity t.values)
-          (vec_capacity t.counts))
-        (sym c.deref-count-items.ensures.value) c.self.invariant in
+    (λ counts. IsKept t.capacity t.values.items counts t.infinities (vec_capacity t.values)
+    (vec_capacity t.counts))
+    (sym c.deref-count-items.ensures.value) c.self.invariant in
     let stays = least_known _ _ _ _ _ _ kept c.args.f c.args.more c.loop-count.count-index
-        (omega arith) c.loop-count-test.true c.if-count-f.true c.loop-count.invariant in
+    (omega arith) c.loop-count-test.true c.if-count-f.true c.loop-count.invariant in
     λ _. subst
-        (λ (v : Votes). LeastStays c.args.f c.args.more v.values (least_above c.args.f v.values))
-        c.self.view_is stays
+    (λ (v : Votes). LeastStays c.args.f c.args.more v.values (least_above c.args.f v.values))
+    c.self.view_is stays
 
 -- none can come above f
 pub returns : goal.returns
 returns c =
     let t = c.self.inside in
     let kept = subst
-        (λ counts. IsKept t.capacity t.values.items counts t.infinities (vec_capacity t.values)
-          (vec_capacity t.counts))
-        (sym c.deref-count-items.ensures.value) c.self.invariant in
+    (λ counts. IsKept t.capacity t.values.items counts t.infinities (vec_capacity t.values)
+    (vec_capacity t.counts))
+    (sym c.deref-count-items.ensures.value) c.self.invariant in
     let stays = no_least_known _ _ _ _ _ _ kept c.args.f c.args.more (omega arith)
-        (λ i lt. c.loop-count.invariant i (omega arith)) in
+    (λ i lt. c.loop-count.invariant i (omega arith)) in
     λ _. subst
-        (λ (v : Votes). LeastStays c.args.f c.args.more v.values (least_above c.args.f v.values))
-        c.self.view_is stays
+    (λ (v : Votes). LeastStays c.args.f c.args.more v.values (least_above c.args.f v.values))
+    c.self.view_is stays

@@ -10,26 +10,26 @@ pub returns-then-half-count : goal.returns-then-half-count
 returns-then-half-count c =
     let t = c.self.inside in
     let kept = subst
-        (λ counts. IsKept t.capacity t.values.items counts t.infinities (vec_capacity t.values)
-          (vec_capacity t.counts))
-        (sym c.deref-count-items.ensures.value) c.self.invariant in
+    (λ counts. IsKept t.capacity t.values.items counts t.infinities (vec_capacity t.values)
+    (vec_capacity t.counts))
+    (sym c.deref-count-items.ensures.value) c.self.invariant in
     let stays = majority_known _ _ _ _ _ _ kept c.args.more c.loop-count.count-index (omega arith)
-        (omega (arith, c.if-half-count.true, c.len.ensures, t.values.ok.0)) in
+    (omega (arith, c.if-half-count.true, c.len.ensures, t.values.ok.0)) in
     subst
-        (λ (v : Votes). MajorityStays c.args.more v.values
-          (Some (value_at c.deref-count-items.result.now c.loop-count.count-index)))
-        c.self.view_is stays
+    (λ (v : Votes). MajorityStays c.args.more v.values
+    (Some (value_at c.deref-count-items.result.now c.loop-count.count-index)))
+    c.self.view_is stays
 
 -- none can come to more than half
 pub returns-then-most-more : goal.returns-then-most-more
 returns-then-most-more c =
     let t = c.self.inside in
     let kept = subst
-        (λ counts. IsKept t.capacity t.values.items counts t.infinities (vec_capacity t.values)
-          (vec_capacity t.counts))
-        (sym c.deref-count-items.ensures.value) c.self.invariant in
+    (λ counts. IsKept t.capacity t.values.items counts t.infinities (vec_capacity t.values)
+    (vec_capacity t.counts))
+    (sym c.deref-count-items.ensures.value) c.self.invariant in
     let long = ap (λ (v : Votes). length v.values) c.self.view_is in
     let stays = no_majority_known _ _ _ _ _ _ kept c.args.more c.loop-count.most
-        (λ i lt. c.loop-count.invariant.0 i (omega arith))
-        (omega (arith, c.if-most-more.true, c.len.ensures, t.values.ok.0, long)) in
+    (λ i lt. c.loop-count.invariant.0 i (omega arith))
+    (omega (arith, c.if-most-more.true, c.len.ensures, t.values.ok.0, long)) in
     subst (λ (v : Votes). MajorityStays c.args.more v.values None) c.self.view_is stays

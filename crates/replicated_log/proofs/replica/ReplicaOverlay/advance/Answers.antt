@@ -24,14 +24,14 @@ returns-then-output-entry_length-clause-out c =
     let room = step.room in
     let second : Reg = loaded c.command-command.result in
     c.set_reg-2.ensures
-        ∙ (ap
-          (λ (st : State). let s : State = record
-              { x = st.x; registers = set st.registers (r.depth + 1) second } in
-            s)
-          c.set_reg.ensures
+    ∙ (ap
+    (λ (st : State). let s : State = record
+    { x = st.x; registers = set st.registers (r.depth + 1) second } in
+    s)
+    c.set_reg.ensures
     ∙ (layered_two layer out c.agreement-agreement.result second refl (omega arith)
     ∙ ap₂ (λ (a : Reg) (b : ℕ). layered layer (a ∷ loaded b ∷ []) out)
-        c.agreement-agreement.ensures.register c.command-command.ensures))
+    c.agreement-agreement.ensures.register c.command-command.ensures))
 
 pub returns-else-output-entry_length-clause-out : goal.returns-else-output-entry_length-clause-out
 returns-else-output-entry_length-clause-out c =
@@ -42,14 +42,14 @@ returns-else-output-entry_length-clause-out c =
     let room = step.room in
     let second : Reg = loaded c.command-command.result in
     c.set_reg-2.ensures
-        ∙ (ap
-          (λ (st : State). let s : State = record
-              { x = st.x; registers = set st.registers (r.depth + 1) second } in
-            s)
-          c.set_reg.ensures
+    ∙ (ap
+    (λ (st : State). let s : State = record
+    { x = st.x; registers = set st.registers (r.depth + 1) second } in
+    s)
+    c.set_reg.ensures
     ∙ (layered_two layer out c.agreement-agreement.result second refl (omega arith)
     ∙ ap₂ (λ (a : Reg) (b : ℕ). layered layer (a ∷ loaded b ∷ []) out)
-        c.agreement-agreement.ensures.register c.command-command.ensures))
+    c.agreement-agreement.ensures.register c.command-command.ensures))
 
 pub returns-else-output-entry_length-clause-kept : goal.returns-else-output-entry_length-clause-kept
 returns-else-output-entry_length-clause-kept c =
@@ -60,11 +60,11 @@ returns-else-output-entry_length-clause-kept c =
     let agreement : Reg = agreement_after r.nodes r.faults r.depth c.args.node o c.args.heard.now in
     sym (ap (set logs c.args.node)
     (ap
-        (λ (b : Bool). if b
-          then take r.keep
-            (record { slot = o - slot_length r.faults; value = unwrap_or agreement.a 0 } ∷ own)
-          else own)
+    (λ (b : Bool). if b
+    then take r.keep
+    (record { slot = o - slot_length r.faults; value = unwrap_or agreement.a 0 } ∷ own)
+    else own)
     (ne_eqb (o % entry_length r.faults + 1) (entry_length r.faults)
-        (λ e. c.if-output-entry_length.false
-          (ap (λ y. o % y + 1) c.entry_length.ensures ∙ (e ∙ sym c.entry_length-2.ensures)))))
+    (λ e. c.if-output-entry_length.false
+    (ap (λ y. o % y + 1) c.entry_length.ensures ∙ (e ∙ sym c.entry_length-2.ensures)))))
     ∙ set-get_or logs c.args.node [])

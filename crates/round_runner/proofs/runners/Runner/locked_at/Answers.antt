@@ -31,7 +31,7 @@ returns-clause-by_bound g c = λ began plays reached.
     c.self.invariant.here in
     let before = era_before script whole.formed.rising c.args.self.now.at within in
     let known : (j : ℕ) → c.self.inside.era ≡ j
-        → first_of_era script j + bound < end_of_era script j
+    → first_of_era script j + bound < end_of_era script j
     → first_of_era script j + bound ≤ c.args.self.now.at
     → IsUpTo (first_of_era script j + bound) c.locked_in.result = λ j is reaches reached.
     subst (λ j. first_of_era script j + bound < end_of_era script j

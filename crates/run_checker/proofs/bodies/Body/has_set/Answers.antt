@@ -9,5 +9,5 @@ returns c =
     ap not c.is_empty.ensures
     ∙ ap (λ (n : ℕ). not (eqb n 0)) c.self.inside.sets.ok.0
     ∙ some_left (most_eras c.self.inside.version) (length c.self.inside.sets.items)
-        c.self.invariant.eras
+    c.self.invariant.eras
     ∙ ap (λ (b : BodySeen). nat_lt b.known.eras (most_eras b.known.version)) c.self.view_is

@@ -19,7 +19,11 @@ is_locked-locked-requires-clause-deep c =
 pub returns : goal.returns
 returns c =
     let h = rw (c.depth.ensures, c.self.invariant.faulty) at c.in-Some.ensures in
-    rw
-        (c.first_of-self-inside.ensures, c.first_of-self-inside-2.ensures,
-          c.is_locked-locked.ensures, c.clear.ensures, ← c.self.view_is)
+    rw (
+      c.first_of-self-inside.ensures,
+      c.first_of-self-inside-2.ensures,
+      c.is_locked-locked.ensures,
+      c.clear.ensures,
+      ← c.self.view_is,
+    )
     (row_marks _ (values_said c.args.words) c.in-Some.same h)

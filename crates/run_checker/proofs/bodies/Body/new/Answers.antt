@@ -72,7 +72,7 @@ invariant_of-result c =
 pub returns : goal.returns
 returns c =
     let view : Plan → (eras : ℕ) → List State → List ℕ → List State
-        → BodySeen = λ plan eras config unknown told. record {
+    → BodySeen = λ plan eras config unknown told. record {
       known = record {
         version = c.args.version;
         plan = plan;
@@ -94,12 +94,12 @@ returns c =
     ∙ (ap₂ (λ (n d : ℕ). replicate n (zero_state d)) c.nodes-2.ensures depth
     ∙ zeros_known plan c.args.faulty.ids) in
     let unknown = ap (λ (s : FaultIds). s.ids) c.in_ok-unknown.ensures
-        ∙ ap (range_with_len 0) c.nodes.ensures in
+    ∙ ap (range_with_len 0) c.nodes.ensures in
     let eras : most_eras c.args.version - length c.in_ok-sets.sets.items ≡ 0 =
     omega (arith, c.in_ok-sets.ensures.count, c.most_eras.ensures) in
     ap₂
-        (λ p eras. view p eras c.in_ok-config.config.current c.in_ok-unknown.unknown.ids
-          c.begin.new.self.states)
-        c.in_ok-tower.ensures.plan eras
+    (λ p eras. view p eras c.in_ok-config.config.current c.in_ok-unknown.unknown.ids
+    c.begin.new.self.states)
+    c.in_ok-tower.ensures.plan eras
     ∙ ap₂ (λ config unknown. view plan 0 config unknown c.begin.new.self.states) zeros unknown
     ∙ ap (view plan 0 _ _) (ap (λ (t : Telling). t.states) c.begin.ensures.value)

@@ -46,7 +46,7 @@ play-requires-clause-room c = c.self.invariant.room
 pub returns : goal.returns
 returns c =
     let view : FaultIds → FaultIds → List State → List State
-        → BodySeen = λ faulty unknown config told. record {
+    → BodySeen = λ faulty unknown config told. record {
       known = record {
         version = c.self.inside.version;
         plan = c.self.inside.tower;
@@ -65,9 +65,9 @@ returns c =
     ∙ (stepped_is c.self.inside.tower c.self.inside.faulty.ids
     c.args.faulty.ids c.self.inside.config.current _ c.self.inside.tellings.states refl) in
     ap₂ (λ f u. view f u c.play.new.config.current c.begin.new.self.states) c.replace.ensures.after
-        c.replace.ensures.value
+    c.replace.ensures.value
     ∙ ap₂ (view c.args.faulty c.self.inside.faulty) config
-        (ap (λ (t : Telling). t.states) c.begin.ensures.value)
+    (ap (λ (t : Telling). t.states) c.begin.ensures.value)
     ∙ ap (λ (b : BodySeen). played_into b c.args.faulty.ids) c.self.view_is
 
 pub invariant_of-self : goal.invariant_of-self

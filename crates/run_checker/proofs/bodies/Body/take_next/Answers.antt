@@ -19,14 +19,14 @@ returns-in-Some c =
     (subst (λ (b : BodySeen). IsAccepted b.known.plan) view c.tell.ensures)
     (subst (λ (b : BodySeen). All (λ id. id < plan_nodes b.known.plan) b.known.stand.faulty) view
     (subst (λ (n : ℕ). All (λ id. id < n) c.self.inside.faulty.ids) i.faulty
-        c.tell-2.ensures.below))
+    c.tell-2.ensures.below))
     (sym c.is_putting.ensures ∙ c.if-is_putting.false)
     (sym c.has_round.ensures ∙ c.if-not-has_round.false)
     line digits
     (subst (λ (b : BodySeen). length b.told < length (pairs_in b)) view
     (subst (λ (l : List (ℕ × ℕ)). length told < length l) i.pairs next.more))
     (subst
-        (λ (b : BodySeen). line ≡ lie_front (get_or (pairs_in b) (length b.told) (0, 0)) ++ digits)
+    (λ (b : BodySeen). line ≡ lie_front (get_or (pairs_in b) (length b.told) (0, 0)) ++ digits)
     view (subst (λ (l : List (ℕ × ℕ)). line ≡ lie_front (get_or l (length told) (0, 0)) ++ digits)
     i.pairs next.is))
     c.tell_state.new.self c.tell_state.result c.tell_state.ensures

@@ -10,12 +10,12 @@ invariant_of-self c =
     let i = c.self.invariant in
     let nodes = ap (λ (b : BodySeen). plan_nodes b.known.plan) c.self.view_is in
     let sender : ℕ =
-        (get_or c.self.inside.tellings.pairs (length c.self.inside.tellings.states) (0, 0)).0 in
+    (get_or c.self.inside.tellings.pairs (length c.self.inside.tellings.states) (0, 0)).0 in
     let seen = ap next_sender c.self.view_is in
     let here = ap (λ (l : List (ℕ × ℕ)). (get_or l (length c.self.inside.tellings.states) (0, 0)).0)
-        i.pairs in
+    i.pairs in
     let lt : sender
-        < plan_nodes c.self.inside.tower = omega (arith, c.requires.node, nodes, seen, here) in
+    < plan_nodes c.self.inside.tower = omega (arith, c.requires.node, nodes, seen, here) in
     let k = told_kept c.self.inside.tower c.tell.ensures c.args.digits.now c.self.inside.tellings
     c.add.new.self c.add.result c.add.ensures i.kept lt i.told in
     record {

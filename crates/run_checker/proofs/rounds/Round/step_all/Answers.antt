@@ -11,7 +11,7 @@ use Rattle.run_checker.proofs.rounds.Round.step_all.Goals as goal
 pub gather-requires-clause-deep : goal.gather-requires-clause-deep
 gather-requires-clause-deep g c =
     let deep = pack_deep c.args.self.now.tower.now c.tell.ensures c.args.config.now
-        c.requires.config.shape
+    c.requires.config.shape
     in omega (arith, deep)
 
 pub gather-requires-clause-range : goal.gather-requires-clause-range
@@ -77,9 +77,9 @@ loop-v-preserved g c =
     record {
       stepped = rw (c.step_one.ensures.config, fixed)
           (one_stepped c.args.self.now.tower.now c.args.self.now.faulty.now.ids
-              c.args.new_faulty.now.ids
+          c.args.new_faulty.now.ids
           c.args.config.now.current c.args.self.now.told.now.states c.loop-v.v c.loop-v.config.next
-              lt h.stepped);
+          lt h.stepped);
       fixed = rw (c.step_one.ensures.config, fixed) refl;
       before = omega (arith, more, h.before, c.correct_at-before.ensures.value);
       room =

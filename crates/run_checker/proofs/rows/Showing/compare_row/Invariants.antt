@@ -8,5 +8,5 @@ invariant-loop-word l = record {
   read : words_compared l.self.depth l.self.faulty.now.ids l.self.config.now.current 0
       l.self.faulty.now.nodes true l.fn.words
       ≡ words_compared l.self.depth l.self.faulty.now.ids l.self.config.now.current l.v
-          (l.self.faulty.now.nodes - l.v) l.same l.word-iterator;
+      (l.self.faulty.now.nodes - l.v) l.same l.word-iterator;
 }

@@ -28,14 +28,14 @@ lay_heard-requires-clause-stretch c =
 pub returns-clause-room : goal.returns-clause-room
 returns-clause-room c =
     gathered_laid c.args.self.now.round.now.tower.now c.args.self.now.round.now.faulty.now.ids
-        c.args.self.now.round.now.told.now.states c.args.config.now
+    c.args.self.now.round.now.told.now.states c.args.config.now
     c.args.room.now c.lay_heard.new.room c.lay_heard.ensures.same c.requires.room
     c.lay_heard.ensures.laid.size c.lay_heard.ensures.laid.states
 
 pub returns-clause-tells : goal.returns-clause-tells
 returns-clause-tells c =
     tells_taken c.args.self.now.round.now.tower.now c.args.self.now.round.now.faulty.now.ids
-        c.args.self.now.round.now.told.now.states
+    c.args.self.now.round.now.told.now.states
     c.args.config.now.current c.args.self.now.v c.requires.room.is.size c.args.self.now.node
     c.args.self.now.round.now.ids.rising c.heeded-stretch.result.0 c.heeded-stretch.result.1
     c.args.room.now.lies.items c.lay_heard.new.room.lies.items c.lay_heard.ensures.laid
@@ -53,7 +53,7 @@ returns-clause-step c =
     let ids = ap (λ (s : Shares). length s.faulty) c.requires.room.stands in
     let within = c.heeded-stretch.ensures.range.1 in
     step_taken c.args.self.now.round.now.tower.now c.args.self.now.round.now.faulty.now.ids
-        c.args.self.now.round.now.told.now.states
+    c.args.self.now.round.now.told.now.states
     c.args.config.now.current c.args.self.now.v c.requires.room.is.size c.args.self.now.node
     c.args.self.now.round.now.ids.rising c.heeded-stretch.result.0 c.heeded-stretch.result.1
     c.args.room.now.lies.items c.lay_heard.new.room.lies.items c.lay_heard.ensures.laid

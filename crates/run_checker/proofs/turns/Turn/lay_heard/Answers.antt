@@ -13,17 +13,21 @@ use Rattle.run_checker.proofs.turns.Turn.lay_heard.Goals as goal
 pub lay_zeros-requires-clause-stretch : goal.lay_zeros-requires-clause-stretch
 lay_zeros-requires-clause-stretch c = (
   c.requires.stretch.0,
-  omega
-      (arith, c.requires.stretch.1, c.args.self.now.round.now.few, c.args.self.now.round.now.nodes,
-        c.requires.room.ready.size),
+  omega (
+    arith,
+    c.requires.stretch.1,
+    c.args.self.now.round.now.few,
+    c.args.self.now.round.now.nodes,
+    c.requires.room.ready.size,
+  ),
 )
 
 pub lay_zeros-requires-clause-deep : goal.lay_zeros-requires-clause-deep
 lay_zeros-requires-clause-deep c =
     subst (λ (n : ℕ). All (λ (s : State). length s.registers ≡ n) c.args.room.now.lies.items)
     (sym
-        (zero_long (plan_depth c.args.self.now.round.now.tower.now) c.args.room.now.zero
-          c.requires.room.ready.zero))
+    (zero_long (plan_depth c.args.self.now.round.now.tower.now) c.args.room.now.zero
+    c.requires.room.ready.zero))
     c.requires.room.ready.lies.deep
 
 pub old-requires-clause-node : goal.old-requires-clause-node
@@ -35,11 +39,11 @@ old-requires-clause-depth c =
     let zero = c.args.room.now.zero in
     let deep = zero_long (plan_depth plan) zero c.requires.room.ready.zero in
     let states = laid_states c.args.stretch.0 (λ j. zero) c.args.room.now.lies.items
-        c.args.stretch.1
+    c.args.stretch.1
     c.lay_zeros.new.lies.items plan c.lay_zeros.ensures c.requires.room.ready.lies
-        (λ j low high. deep)
+    (λ j low high. deep)
     (λ j low high. subst (IsInRange plan) (sym c.requires.room.ready.zero)
-        (plan_zero plan c.tell.ensures)) in
+    (plan_zero plan c.tell.ensures)) in
     ap (λ (s : State). length s.registers) c.index_mut.ensures.value
     ∙ states.deep c.place_of-own.result _ (omega (
       arith,
@@ -61,16 +65,19 @@ returns-then-contains-clause-laid c =
     let at : c.args.self.now.v < length config.current =
     omega (arith, c.args.self.now.node, c.requires.room.is.size) in
     faulty_heard plan c.args.self.now.round.now.faulty.now.ids
-        c.args.self.now.round.now.told.now.states config.current c.args.self.now.v
+    c.args.self.now.round.now.told.now.states config.current c.args.self.now.v
     c.args.self.now.round.now.ids.rising c.args.stretch.0 c.args.stretch.1
-        c.args.room.now.lies.items
+    c.args.room.now.lies.items
     c.lay_zeros.new.lies.items zero c.old.new.out c.place_of-own.result
     (sym c.contains.ensures ∙ c.if-contains.true) c.lay_zeros.ensures c.requires.room.ready.zero
     c.place_of-own.ensures.within c.place_of-own.ensures.id
-    (omega
-          (arith, c.args.self.now.round.now.few, c.args.self.now.round.now.nodes,
-            c.requires.room.ready.size))
-        c.requires.stretch.1 c.old.ensures
+    (omega (
+      arith,
+      c.args.self.now.round.now.few,
+      c.args.self.now.round.now.nodes,
+      c.requires.room.ready.size,
+    ))
+    c.requires.stretch.1 c.old.ensures
     c.requires.room.ready.lies (zero_long (plan_depth plan) zero c.requires.room.ready.zero)
     (subst (IsInRange plan) (sym c.requires.room.ready.zero) (plan_zero plan c.tell.ensures))
     (ap (λ (s : State). length s.registers) c.old.ensures
@@ -80,24 +87,28 @@ returns-then-contains-clause-laid c =
 pub lay_told-requires-clause-stretch : goal.lay_told-requires-clause-stretch
 lay_told-requires-clause-stretch c = (
   c.requires.stretch.0,
-  omega
-      (arith, c.requires.stretch.1, c.args.self.now.round.now.few, c.args.self.now.round.now.nodes,
-        c.requires.room.ready.size),
+  omega (
+    arith,
+    c.requires.stretch.1,
+    c.args.self.now.round.now.few,
+    c.args.self.now.round.now.nodes,
+    c.requires.room.ready.size,
+  ),
 )
 
 pub lay_told-requires-clause-before : goal.lay_told-requires-clause-before
 lay_told-requires-clause-before c =
     let few = fewer_before (plan_nodes c.args.self.now.round.now.tower.now) c.args.self.now.v
-        c.args.self.now.round.now.faulty.now.ids
+    c.args.self.now.round.now.faulty.now.ids
     c.args.self.now.node (sym c.contains.ensures ∙ c.if-contains.false) in
     omega (arith, few, c.args.self.now.round.now.count, c.args.self.now.stand)
 
 pub lay_told-requires-clause-whole : goal.lay_told-requires-clause-whole
 lay_told-requires-clause-whole c =
     told_room (plan_nodes c.args.self.now.round.now.tower.now) c.args.stretch.1
-        c.args.self.now.round.now.correct
+    c.args.self.now.round.now.correct
     (length c.args.self.now.round.now.told.now.states) c.args.self.now.round.now.faulty.now.ids
-        c.requires.stretch.1 c.args.self.now.round.now.count
+    c.requires.stretch.1 c.args.self.now.round.now.count
     c.args.self.now.round.now.whole
 
 pub lay_told-requires-clause-deep : goal.lay_told-requires-clause-deep
@@ -112,14 +123,14 @@ returns-else-contains-clause-laid c =
     let plan = c.args.self.now.round.now.tower.now in
     let free = sym c.contains.ensures ∙ c.if-contains.false in
     let few = fewer_before (plan_nodes plan) c.args.self.now.v
-        c.args.self.now.round.now.faulty.now.ids c.args.self.now.node free in
+    c.args.self.now.round.now.faulty.now.ids c.args.self.now.node free in
     correct_heard plan c.args.self.now.round.now.faulty.now.ids
-        c.args.self.now.round.now.told.now.states c.args.config.now.current c.args.self.now.v
+    c.args.self.now.round.now.told.now.states c.args.config.now.current c.args.self.now.v
     c.args.self.now.round.now.ids.rising c.args.stretch.0 c.args.stretch.1
-        c.args.room.now.lies.items
+    c.args.room.now.lies.items
     c.lay_told.new.lies.items c.args.self.now.round.now.correct c.args.self.now.before
-        c.args.self.now.node free
+    c.args.self.now.node free
     c.lay_told.ensures c.args.self.now.round.now.count c.args.self.now.stand
     (omega (arith, few, c.args.self.now.round.now.count, c.args.self.now.stand))
-        c.requires.stretch.1
+    c.requires.stretch.1
     c.args.self.now.round.now.whole c.requires.room.ready.lies c.requires.room.said

@@ -6,8 +6,8 @@ use Rattle.run_checker.proofs.turns.Turn.step.Goals as goal
 pub advance_shared-requires-clause-stands : goal.advance_shared-requires-clause-stands
 advance_shared-requires-clause-stands g c =
     subst
-        (λ (s : Shares). s
-          ≡ stands_for c.args.self.now.round.now.tower.now c.args.config.now.current s.faulty)
+    (λ (s : Shares). s
+    ≡ stands_for c.args.self.now.round.now.tower.now c.args.config.now.current s.faulty)
     (sym c.hear.ensures.room.stands) refl
 
 pub returns-clause-room : goal.returns-clause-room

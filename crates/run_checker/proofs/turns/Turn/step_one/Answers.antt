@@ -11,7 +11,7 @@ put-requires-clause-node g c =
 pub put-requires-clause-range : goal.put-requires-clause-range
 put-requires-clause-range g c =
     zero_fits c.args.self.now.round.now.tower.now c.tell.ensures c.args.config.now
-        c.requires.room.is.shape c.args.self.now.v
+    c.requires.room.is.shape c.args.self.now.v
     c.args.room.now.zero c.requires.room.ready.zero
 
 pub put-requires-else-contains-clause-node : goal.put-requires-else-contains-clause-node
@@ -21,7 +21,7 @@ put-requires-else-contains-clause-node g c =
 pub put-requires-else-contains-clause-range : goal.put-requires-else-contains-clause-range
 put-requires-else-contains-clause-range g c =
     step_fits c.args.self.now.round.now.tower.now c.tell.ensures c.args.config.now
-        c.requires.room.is.shape c.args.self.now.v
+    c.requires.room.is.shape c.args.self.now.v
     c.args.self.now.node _ c.step.new.room.out c.step.ensures.out
 
 pub returns-then-contains-clause-config : goal.returns-then-contains-clause-config
@@ -31,9 +31,9 @@ returns-then-contains-clause-config g c =
       next = set c.args.config.now.next c.args.self.now.v s;
     } in p)
     (next_zero c.args.self.now.round.now.tower.now c.args.self.now.round.now.faulty.now.ids
-        c.args.new_faulty.now.ids
+    c.args.new_faulty.now.ids
     c.args.config.now.current c.args.self.now.round.now.told.now.states c.args.self.now.v
-        c.args.room.now.zero
+    c.args.room.now.zero
     (sym c.contains.ensures ∙ c.if-contains.true) c.requires.room.ready.zero)
 
 pub returns-else-contains-clause-config : goal.returns-else-contains-clause-config
@@ -43,7 +43,7 @@ returns-else-contains-clause-config g c =
       next = set c.args.config.now.next c.args.self.now.v s;
     } in p)
     (next_step c.args.self.now.round.now.tower.now c.args.self.now.round.now.faulty.now.ids
-        c.args.new_faulty.now.ids
+    c.args.new_faulty.now.ids
     c.args.config.now.current c.args.self.now.round.now.told.now.states c.args.self.now.v
-        c.step.new.room.out
+    c.step.new.room.out
     (sym c.contains.ensures ∙ c.if-contains.false) c.step.ensures.out)

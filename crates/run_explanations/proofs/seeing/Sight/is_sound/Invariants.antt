@@ -7,4 +7,4 @@ use Rattle.run_explanations.proofs.seeing.Sight.is_sound.Given as goal
 abbrev pub invariant-loop-j : goal.invariant-loop-j
 invariant-loop-j l =
     (l.count ≡ places (λ j. is_in l.self.faulty.now.ids (l.i * l.self.top.numbers.nodes + j)) l.j)
-        × (l.count ≤ l.j)
+    × (l.count ≤ l.j)

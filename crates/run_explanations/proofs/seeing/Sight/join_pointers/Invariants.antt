@@ -11,5 +11,5 @@ invariant-loop-j l =
     l.shared
     ≡ shared_by l.fn.begun (is_correct l.self.top.numbers (is_in l.self.faulty.now.ids) l.i)
     (pointer_at l.self.top.numbers
-          (outputs_in (plan_depth l.self.runner.now.plan - 1) l.self.runner.now.states) l.i)
-        l.j
+    (outputs_in (plan_depth l.self.runner.now.plan - 1) l.self.runner.now.states) l.i)
+    l.j

@@ -11,5 +11,5 @@ abbrev pub invariant-loop-j : goal.invariant-loop-j
 invariant-loop-j l =
     l.shared ≡ shared_by Nothing (is_correct l.self.top.numbers (is_in l.self.faulty.now.ids) l.b)
     (part_at l.self.top.numbers
-          (outputs_in (plan_depth l.self.runner.now.plan - 1) l.self.runner.now.states) l.b)
-        l.j
+    (outputs_in (plan_depth l.self.runner.now.plan - 1) l.self.runner.now.states) l.b)
+    l.j

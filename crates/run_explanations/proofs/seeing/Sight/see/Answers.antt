@@ -13,7 +13,7 @@ overflow_cast-leader c =
     let blocks = is.blocks in
     let below = leader_below c.args.self.now.top.numbers (is_in c.args.self.now.faulty.now.ids)
     (outputs_in (plan_depth c.args.self.now.runner.now.plan - 1) c.args.self.now.runner.now.states)
-        c.in-One.leader c.args.self.now.top.numbers.blocks (omega (arith, leaders))
+    c.in-One.leader c.args.self.now.top.numbers.blocks (omega (arith, leaders))
     (sym c.pointed.ensures ∙ c.in-One.is) in
     omega (arith, below, few, blocks)
 
@@ -24,7 +24,7 @@ is_sound-requires c =
     let few = is.few_leaders in
     let below = leader_below c.args.self.now.top.numbers (is_in c.args.self.now.faulty.now.ids)
     (outputs_in (plan_depth c.args.self.now.runner.now.plan - 1) c.args.self.now.runner.now.states)
-        c.in-One.leader c.args.self.now.top.numbers.blocks (omega (arith, leaders))
+    c.in-One.leader c.args.self.now.top.numbers.blocks (omega (arith, leaders))
     (sym c.pointed.ensures ∙ c.in-One.is) in
     omega (arith, below, few)
 
@@ -35,6 +35,6 @@ parted-requires c =
     let few = is.few_leaders in
     let below = leader_below c.args.self.now.top.numbers (is_in c.args.self.now.faulty.now.ids)
     (outputs_in (plan_depth c.args.self.now.runner.now.plan - 1) c.args.self.now.runner.now.states)
-        c.in-One.leader c.args.self.now.top.numbers.blocks (omega (arith, leaders))
+    c.in-One.leader c.args.self.now.top.numbers.blocks (omega (arith, leaders))
     (sym c.pointed.ensures ∙ c.in-One.is) in
     omega (arith, below, few)

@@ -6,4 +6,4 @@ pub returns : goal.returns
 returns c =
     let r = c.args.runner.now in
     c.slot_ends.ensures
-        ∙ ap (λ (q : ℕ). ends_at r.plan r.script q r.at r.states) c.entry_length.ensures
+    ∙ ap (λ (q : ℕ). ends_at r.plan r.script q r.at r.states) c.entry_length.ensures

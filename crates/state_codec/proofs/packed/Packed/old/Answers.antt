@@ -8,6 +8,6 @@ pub copy_from-requires : goal.copy_from-requires
 copy_from-requires c =
     ap (λ (s : State). length s.registers) c.state.ensures
     ∙
-        (depth_in_range c.args.self.now.shape c.args.v _
-          (c.tell.ensures.current c.args.v c.requires.node)
+    (depth_in_range c.args.self.now.shape c.args.v _
+    (c.tell.ensures.current c.args.v c.requires.node)
     ∙ sym c.requires.depth)

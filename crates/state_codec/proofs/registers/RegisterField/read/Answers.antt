@@ -37,7 +37,7 @@ returns c =
     c.read_u64-word.ensures ∙ ap (λ k. big_from 0 8 (take k (drop (from / 8) bytes))) eight in
     let bs : List Bool = drop from (bits_of_bytes bytes) in
     let n : ℕ = bit_and (c.read_u64-word.result / 2 ^ r)
-        (1 * 2 ^ size % 18446744073709551616 - 1) in
+    (1 * 2 ^ size % 18446744073709551616 - 1) in
     let loaded : n ≡ number_of (take size bs) =
     ap (λ k. bit_and (c.read_u64-word.result / 2 ^ r) (k - 1)) one
     ∙ (and_mask (c.read_u64-word.result / 2 ^ r) size

@@ -13,7 +13,7 @@ invariant_of-result c =
     let made = c.in_ok-kinds.ensures ∙ ap (λ (ms : List ℕ). map (fields_from (all_over plan ms))
     (range_with_len 0 (plan_depth plan + 1))) c.deref.ensures.value in
     let deep : c.len-depth.result
-        ≡ length c.args.moduli.items = omega (arith, c.len-depth.ensures) in
+    ≡ length c.args.moduli.items = omega (arith, c.len-depth.ensures) in
     plan_kept plan c.args.moduli.items c.in_ok-kinds.kinds.items c.in_ok-which.which.items made
     c.in_ok-which.ensures c.len-depth.result deep c.tell.ensures.sized.most
     (over_accepted plan c.args.moduli.items c.tell.ensures.accepted
@@ -25,6 +25,6 @@ returns c =
     let made = c.in_ok-kinds.ensures ∙ ap (λ (ms : List ℕ). map (fields_from (all_over plan ms))
     (range_with_len 0 (plan_depth plan + 1))) c.deref.ensures.value in
     let deep : c.len-depth.result
-        ≡ length c.args.moduli.items = omega (arith, c.len-depth.ensures) in
+    ≡ length c.args.moduli.items = omega (arith, c.len-depth.ensures) in
     shape_is plan c.args.moduli.items c.in_ok-kinds.kinds.items c.in_ok-which.which.items made
     c.in_ok-which.ensures c.len-depth.result deep

@@ -7,5 +7,5 @@ pub returns-clause-within : goal.returns-clause-within
 returns-clause-within c =
     let nodes = ap (λ (s : FaultIds). s.nodes) c.self.view_is in
     let few = count_below c.self.inside.nodes c.self.inside.ids.items c.self.invariant.rising
-        c.self.invariant.below in
+    c.self.invariant.below in
     omega arith

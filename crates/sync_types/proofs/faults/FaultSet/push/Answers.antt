@@ -18,5 +18,5 @@ invariant_of-self c =
     let enough = room_for inside.ids.items c.args.id c.self.invariant.rising above in
     rw (c.push.ensures.items, c.push.ensures.succeeds (omega arith))
     (kept_push inside.nodes inside.ids.items inside.marks.items (vec_capacity inside.ids)
-        (vec_capacity c.push.new.self) c.args.id c.push.ensures.capacity c.self.invariant
-        (omega arith) above)
+    (vec_capacity c.push.new.self) c.args.id c.push.ensures.capacity c.self.invariant
+    (omega arith) above)

@@ -9,5 +9,5 @@ use Rattle.traces.proofs.places.Place.all_have.Given as goal
 abbrev pub invariant-loop-u : goal.invariant-loop-u
 invariant-loop-u l = list_all (λ u. is_in l.self-inside.view.now.faulty.now.ids u
     || is_locked_at l.a
-        (register_at l.self-inside.below (state_of l.self-inside.view.now.config.now u)))
+    (register_at l.self-inside.below (state_of l.self-inside.view.now.config.now u)))
     (range_with_len l.self-inside.first (l.u - l.self-inside.first)) ≡ true

@@ -37,7 +37,7 @@ returns-in-Err-clause-words g c =
     let blocks = ap (λ (p : Placed). p.nums.blocks) c.self.view_is in
     words_cut (vote_word (block_nodes nums) (level_of nums)
     (take (in_blocks nums) c.args.work.now.outputs.items)) nums.blocks i _ _ _
-        (omega (arith, c.loop-i-test.true, blocks))
+    (omega (arith, c.loop-i-test.true, blocks))
     c.loop-i.invariant.wrote (word_cut _ _ _ _ is c.in-Err.ensures)
 
 pub loop-i-preserved : goal.loop-i-preserved
@@ -54,7 +54,7 @@ loop-i-preserved g c =
       wrote = words_more (vote_word (block_nodes nums) (level_of nums)
           (take (in_blocks nums) c.args.work.now.outputs.items)) nums.blocks i _ _ _
           (omega (arith, c.loop-i-test.true, blocks)) c.loop-i.invariant.wrote
-              (word_wrote _ _ _ _ is c.in-Ok.ensures);
+          (word_wrote _ _ _ _ is c.in-Ok.ensures);
       work = record {
         outputs = c.vote.ensures.work.outputs ∙ c.loop-i.invariant.work.outputs;
         values = c.vote.ensures.work.values ∙ c.loop-i.invariant.work.values;
