@@ -95,7 +95,8 @@ module _ {Reader Plan Premise : Type 0} (words : Words Reader Plan Premise) wher
 -- ---- calls with packets for a window
 
 module _ {Reader Plan Premise : Type 0} (words : Words Reader Plan Premise)
-    {Accepted : Plan → Type 0} (law : HeadersAreOfMachines words Accepted) (m : Machine) (faulty : List ℕ)
+    {Accepted : Plan → Type 0} (law : HeadersAreOfMachines words Accepted) (m : Machine)
+        (faulty : List ℕ)
     (some : SomeIsCorrect m faulty) (calls : ℕ → Call) (begins : ℕ → ℕ) (rounds : ℕ)
     (is : AreCalls words m faulty calls begins rounds) where
   abbrev pub nodes : Nodes

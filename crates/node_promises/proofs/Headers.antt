@@ -91,6 +91,7 @@ module _ {Reader Plan Premise : Type 0} (words : Words Reader Plan Premise)
     all = all_lines;
     whole = λ text.
         let whole = whole_text text in
-        subst (λ lines. IfOk (header_in words.part None lines) (IsOfMachine words Accepted)) whole.is
+        subst (λ lines. IfOk (header_in words.part None lines) (IsOfMachine words Accepted))
+            whole.is
         (all_lines None whole.text);
   }

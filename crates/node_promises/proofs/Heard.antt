@@ -14,7 +14,8 @@ use Rattle.node_promises.specs.CallWindows.{states_written, CallsAreHeard, Heard
 use Rattle.node_promises.proofs.CallStates.{nodes, sound, start_is_one, given_is, same_states}
 
 module _ {Reader Plan Premise : Type 0} (words : Words Reader Plan Premise)
-    {Accepted : Plan → Type 0} (law : HeadersAreOfMachines words Accepted) (m : Machine) (faulty : List ℕ)
+    {Accepted : Plan → Type 0} (law : HeadersAreOfMachines words Accepted) (m : Machine)
+        (faulty : List ℕ)
     (some : SomeIsCorrect m faulty) (calls : ℕ → Call) (begins : ℕ → ℕ) (rounds : ℕ)
     (is : CallsAreHeard words m faulty calls begins rounds) where
   abbrev own : Nodes
@@ -39,7 +40,8 @@ module _ {Reader Plan Premise : Type 0} (words : Words Reader Plan Premise)
   }
 
 pub heard_stay_locked : {Reader Plan Premise : Type 0} (words : Words Reader Plan Premise)
-    {Accepted : Plan → Type 0} → HeadersAreOfMachines words Accepted → (m : Machine) → HeardCallsStayLocked words m
+    {Accepted : Plan → Type 0} → HeadersAreOfMachines words Accepted → (m : Machine)
+        → HeardCallsStayLocked words m
 heard_stay_locked words law m faulty borne some calls begins rounds is from le locked =
     let heard = own words law m faulty some calls begins rounds is in
     let is_sound = sound words law m faulty some calls begins rounds is.are_calls in

@@ -10,9 +10,7 @@ pub mod FindPromises
 pub mod PlanPromises
 pub mod Printed
 pub mod NodeCalls
-pub mod CallStates
+pub mod PlanCalls
 pub mod NodePromises
-pub mod HeardCalls
-pub mod Restarts
 pub mod NodeInputs
 pub mod DemoTexts

@@ -1,1 +1,1 @@
-mod NodeEnds
+pub mod NodeEnds
