@@ -40,17 +40,21 @@ module _ {Reader Plan Premise : Type 0} (words : Words Reader Plan Premise)
   header_long t h still =
       let input = h.bytes ++ (held ++ left_of l) in
       let above : ltb (2 ^ 20) (length input)
-          ≡ true = lt-ltb (2 ^ 20) (length input)
-            (omega (arith, length-append h.bytes (held ++ left_of l), h.past)) in
+      ≡ true = lt-ltb (2 ^ 20) (length input)
+      (omega (arith, length-append h.bytes (held ++ left_of l), h.past)) in
       let is : node_outcome words input
-            ≡ too_long = ap
-              (λ (b : Bool). behind_header words input
-                (header_in words.part (room_of b (2 ^ 20)) (lines_of input)))
-              above
-          ∙ ap (behind_header words input) (h.decides (held ++ left_of l)) in
-      record
-          { input = input; read = reads_front s f l held h.bytes keeps h.read; still = still;
-            is = ap (λ (o : Outcome Premise). o.ended) (sym is); wrote = rw is (wrote_none t) }
+      ≡ too_long = ap
+      (λ (b : Bool). behind_header words input
+      (header_in words.part (room_of b (2 ^ 20)) (lines_of input)))
+      above
+      ∙ ap (behind_header words input) (h.decides (held ++ left_of l)) in
+      record {
+        input = input;
+        read = reads_front s f l held h.bytes keeps h.read;
+        still = still;
+        is = ap (λ (o : Outcome Premise). o.ended) (sym is);
+        wrote = rw is (wrote_none t);
+      }
 
   -- it is refused
   module _ (r : HeaderRefusal Premise)
@@ -63,19 +67,25 @@ module _ {Reader Plan Premise : Type 0} (words : Words Reader Plan Premise)
     refused_is =
         ap (behind_header words (d.bytes ++ whole_input.rest))
         (d.decides (ltb (2 ^ 20) (length (d.bytes ++ whole_input.rest))) whole_input.rest
-          whole_input.follows)
+        whole_input.follows)
 
     pub header_cut : (t u : Told) → Cut (words.refusal r) t u
         → NodeDoes words (Err error.WriteFault) s l before now t u
     header_cut t u is =
-        record
-        { input = d.bytes ++ whole_input.rest; read = whole_input.read; still = still;
-          cut = rw refused_is is }
+        record {
+          input = d.bytes ++ whole_input.rest;
+          read = whole_input.read;
+          still = still;
+          cut = rw refused_is is;
+        }
 
     pub header_refused : (t u : Told) → Wrote (words.refusal r) t u
         → NodeDoes words (Err (error.Refused r)) s l before now t u
     header_refused t u is =
-        record
-        { input = d.bytes ++ whole_input.rest; read = whole_input.read; still = still;
+        record {
+          input = d.bytes ++ whole_input.rest;
+          read = whole_input.read;
+          still = still;
           is = ap (λ (o : Outcome Premise). o.ended) (sym refused_is);
-          wrote = rw refused_is is }
+          wrote = rw refused_is is;
+        }

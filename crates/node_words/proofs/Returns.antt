@@ -61,9 +61,11 @@ reads_all (Some xs) None l held bytes keeps read end = absurd keeps
 reads_all (Some xs) (Some ys) None held bytes keeps read end = absurd read
 reads_all (Some xs) (Some ys) (Some zs) held bytes keeps read end =
     let e = nothing_left held zs end in
-    record
-      { read = sym keeps ∙ read ∙ ap (λ (h : List ℕ). bytes ++ h) end
-        ∙ ap (λ (h : List ℕ). bytes ++ h) (sym (e.1)); end = e.1 }
+    record {
+      read = sym keeps ∙ read ∙ ap (λ (h : List ℕ). bytes ++ h) end
+          ∙ ap (λ (h : List ℕ). bytes ++ h) (sym (e.1));
+      end = e.1;
+    }
 
 pub all_front : (s l : Option (List ℕ)) (bytes : List ℕ) → ReadsAll s l bytes → ReadsFront s l bytes
 all_front s None bytes h =
@@ -106,15 +108,15 @@ dry_held at end buffer Met dry = none_held at end buffer (dry.0)
 
 -- the source that was lent ends as what stands under its name
 pub does_end : {Reader Plan Premise X : Type 0} (words : Words Reader Plan Premise)
-      (left : X → Option (List ℕ)) (faults : X → ℕ) (r : Result ℕ (NodeError Premise))
-      (start final now : X) (lent other : ℕ) (t u : Told)
+    (left : X → Option (List ℕ)) (faults : X → ℕ) (r : Result ℕ (NodeError Premise))
+    (start final now : X) (lent other : ℕ) (t u : Told)
     → (lent ≡ other → final ≡ now) → lent ≡ other
     → NodeDoes words r (left start) (left now) (faults start) (faults now) t u
     → NodeDoes words r (left start) (left final) (faults start) (faults final) t u
 does_end words left faults r start final now lent other t u given same h = rw (given same) h
 
 pub unmet_end : {Premise X : Type 0} (met : X → Bool) (r : Result ℕ (NodeError Premise))
-      (start final now : X) (lent other : ℕ)
+    (start final now : X) (lent other : ℕ)
     → (lent ≡ other → final ≡ now) → lent ≡ other → LeavesUnmet r (met start) (met now)
     → LeavesUnmet r (met start) (met final)
 unmet_end met r start final now lent other given same h = rw (given same) h

@@ -165,92 +165,96 @@ module _ {Reader Plan Premise M : Type 0} (words : Words Reader Plan Premise)
     (keeps : Keeps s f) (t u : Told) (x : HeaderRead Plan)
     (w : HeaderWhole words.part f (prepend_known held l) x) (e after : Standing M)
     (node : IsNodeOf words machine w.header e) (over : x.ended ≡ true) (still : now ≡ before)
-    where
-  ended_is : w.decided.ended ≡ true
-  ended_is = w.ends ∙ over
+  where
+    ended_is : w.decided.ended ≡ true
+    ended_is = w.ends ∙ over
 
-  last_follows : MayFollow w.decided.ended (ltb (2 ^ 20) (length (w.decided.bytes ++ []))) []
-  last_follows = subst (λ (b : Bool). MayFollow b (ltb (2 ^ 20) (length (w.decided.bytes ++ [])))
-      []) (sym ended_is) (
-        refl,
-        le-ltb (2 ^ 20) (length (w.decided.bytes ++ []))
-            (omega (arith, length-append w.decided.bytes [], w.decided.within)),
-      )
+    last_follows : MayFollow w.decided.ended (ltb (2 ^ 20) (length (w.decided.bytes ++ []))) []
+    last_follows = subst (λ (b : Bool). MayFollow b (ltb (2 ^ 20) (length (w.decided.bytes ++ [])))
+        []) (sym ended_is) (
+          refl,
+          le-ltb (2 ^ 20) (length (w.decided.bytes ++ []))
+              (omega (arith, length-append w.decided.bytes [], w.decided.within)),
+        )
 
-  node_end : node_outcome words (w.decided.bytes ++ [])
-      ≡ served_outcome words w.header (packets_for words w.header [])
-  node_end =
-      let input = w.decided.bytes ++ [] in
-      let above = ltb (2 ^ 20) (length input) in
-      ap (behind_header words input) (w.decided.decides above [] last_follows)
-      ∙ ap (λ (b : List ℕ). served_outcome words w.header (packets_for words w.header b))
-      (w.behind above [] last_follows)
+    node_end : node_outcome words (w.decided.bytes ++ [])
+        ≡ served_outcome words w.header (packets_for words w.header [])
+    node_end =
+        let input = w.decided.bytes ++ [] in
+        let above = ltb (2 ^ 20) (length input) in
+        ap (behind_header words input) (w.decided.decides above [] last_follows)
+        ∙ ap (λ (b : List ℕ). served_outcome words w.header (packets_for words w.header b))
+        (w.behind above [] last_follows)
 
-  text_end : (node_outcome words (w.decided.bytes ++ [])).text
-      ≡ answer machine e (served machine e []).cells
-  text_end = ap (λ (o : Outcome Premise). o.text) node_end
-      ∙ (node.writes (packets_for words w.header []).cells
-      ∙ ap (λ (p : Packets). answer machine e p.cells) (node.hears []))
+    text_end : (node_outcome words (w.decided.bytes ++ [])).text
+        ≡ answer machine e (served machine e []).cells
+    text_end = ap (λ (o : Outcome Premise). o.text) node_end
+        ∙ (node.writes (packets_for words w.header []).cells
+        ∙ ap (λ (p : Packets). answer machine e p.cells) (node.hears []))
 
-  all_read : ReadsAll s l (w.decided.bytes ++ [])
-  all_read = subst (ReadsAll s l) (sym (append-nil w.decided.bytes))
-      (reads_all s f l held w.decided.bytes keeps w.decided.read (w.decided.at_end ended_is))
+    all_read : ReadsAll s l (w.decided.bytes ++ [])
+    all_read = subst (ReadsAll s l) (sym (append-nil w.decided.bytes))
+        (reads_all s f l held w.decided.bytes keeps w.decided.read (w.decided.at_end ended_is))
 
-  pub serves_last : (n m : Option (List ℕ)) (Dry : Type 0) (r : Result ℕ NodeFault)
-      → Keeps (Some []) n → Serves machine e after n m t u r → HasServeCause 0 0 Dry r
-      → NodeDoes words (ended_by r) s l before now t u
-  serves_last n m Dry (Ok k) none (d, ending, end) cause = record {
-    input = w.decided.bytes ++ [];
-    read = all_read;
-    still = still;
-    is = ap (λ (o : Outcome Premise). o.ended) (sym node_end);
-    wrote = subst (λ (text : List ℕ). Wrote text t u) (sym text_end)
-        (subst (λ (b : List ℕ). Wrote (answer machine e (served machine e b).cells)
-        t u) (no_bytes n m d.bytes none d.read) d.wrote);
-  }
-  serves_last n m Dry (Err (fault.Cut p v)) none (d, ending, end) cause =
-      let h : whole 0 ≡ cut p v = subst
-      (λ (b : List ℕ). (served machine e b).ending ≡ cut p v)
-      (no_bytes n m d.bytes none d.read) ending in absurd cc
-  serves_last n m Dry (Err fault.TooLong) none (d, past, at_once) cause = let h : whole 0 ≡ beyond =
-      subst (λ (b : List ℕ). (served machine e (b ++ [])).ending ≡ beyond)
-      (no_bytes n m d.bytes none d.read) (ap (λ (p : Packets). p.ending) (past [])) in absurd cc
-  serves_last n m Dry (Err fault.ReadFault) none d cause = absurd (never_counted (cause.0))
-  serves_last n m Dry (Err fault.WriteFault) none d cause = record {
-    input = w.decided.bytes ++ [];
-    read = all_front s l (w.decided.bytes ++ []) all_read;
-    still = still;
-    cut = subst (λ (text : List ℕ). Cut text t u) (sym text_end)
-        (subst (λ (b : List ℕ). Cut (answer machine e
-        (served machine e (b ++ [])).cells) t u) (no_bytes n m d.bytes none d.read)
-        (d.cut []));
-  }
+    pub serves_last : (n m : Option (List ℕ)) (Dry : Type 0) (r : Result ℕ NodeFault)
+        → Keeps (Some []) n → Serves machine e after n m t u r → HasServeCause 0 0 Dry r
+        → NodeDoes words (ended_by r) s l before now t u
+    serves_last n m Dry (Ok k) none (d, ending, end) cause = record {
+      input = w.decided.bytes ++ [];
+      read = all_read;
+      still = still;
+      is =
+          let h : whole 0 ≡ whole k = subst
+          (λ (b : List ℕ). (served machine e b).ending ≡ whole k)
+          (no_bytes n m d.bytes none d.read) ending in
+          ap ending_of (sym h) ∙ sym (ap (λ (o : Outcome Premise). o.ended) node_end);
+      wrote = subst (λ (text : List ℕ). Wrote text t u) (sym text_end)
+          (subst (λ (b : List ℕ). Wrote (answer machine e (served machine e b).cells)
+          t u) (no_bytes n m d.bytes none d.read) d.wrote);
+    }
+    serves_last n m Dry (Err (fault.Cut p v)) none (d, ending, end) cause =
+        let h : whole 0 ≡ cut p v = subst
+        (λ (b : List ℕ). (served machine e b).ending ≡ cut p v)
+        (no_bytes n m d.bytes none d.read) ending in absurd cc
+    serves_last n m Dry (Err fault.TooLong) none (d, past, at_once) cause = let h : whole 0 ≡ beyond =
+        subst (λ (b : List ℕ). (served machine e (b ++ [])).ending ≡ beyond)
+        (no_bytes n m d.bytes none d.read) (ap (λ (p : Packets). p.ending) (past [])) in absurd cc
+    serves_last n m Dry (Err fault.ReadFault) none d cause = absurd (never_counted (cause.0))
+    serves_last n m Dry (Err fault.WriteFault) none d cause = record {
+      input = w.decided.bytes ++ [];
+      read = all_front s l (w.decided.bytes ++ []) all_read;
+      still = still;
+      cut = subst (λ (text : List ℕ). Cut text t u) (sym text_end)
+          (subst (λ (b : List ℕ). Cut (answer machine e
+          (served machine e (b ++ [])).cells) t u) (no_bytes n m d.bytes none d.read)
+          (d.cut []));
+    }
 
 -- a service writes at its start, whatever becomes of it
-pub service_touches : {K Premise : Type 0} (r : Result ℕ NodeFault) (old new : K)
+pub service_touches : {K : Type 0} (Premise : Type 0) (r : Result ℕ NodeFault) (old new : K)
     → LeavesUntouched {K = K} {Premise = Premise} (ended_by r) old new
-service_touches (Ok count) old new = tt
-service_touches (Err fault.ReadFault) old new = tt
-service_touches (Err fault.WriteFault) old new = tt
-service_touches (Err (fault.Cut packet sender)) old new = tt
-service_touches (Err fault.TooLong) old new = tt
+service_touches Premise (Ok count) old new = tt
+service_touches Premise (Err fault.ReadFault) old new = tt
+service_touches Premise (Err fault.WriteFault) old new = tt
+service_touches Premise (Err (fault.Cut packet sender)) old new = tt
+service_touches Premise (Err fault.TooLong) old new = tt
 
 -- where a read of it failed, the end was not met
-pub service_unmet : {Premise : Type 0} (r : Result ℕ NodeFault) (count counted : ℕ) (Dry : Type 0)
-      (before now : Bool)
+pub service_unmet : (Premise : Type 0) (r : Result ℕ NodeFault) (count counted : ℕ) (Dry : Type 0)
+    (before now : Bool)
     → HasServeCause count counted Dry r → (Dry → now ≡ before)
     → LeavesUnmet {Premise = Premise} (ended_by r) before now
-service_unmet (Ok n) count counted Dry before now h kept = tt
-service_unmet (Err fault.ReadFault) count counted Dry before now h kept = kept h.1
-service_unmet (Err fault.WriteFault) count counted Dry before now h kept = tt
-service_unmet (Err (fault.Cut packet sender)) count counted Dry before now h kept = tt
-service_unmet (Err fault.TooLong) count counted Dry before now h kept = tt
+service_unmet Premise (Ok n) count counted Dry before now h kept = tt
+service_unmet Premise (Err fault.ReadFault) count counted Dry before now h kept = kept h.1
+service_unmet Premise (Err fault.WriteFault) count counted Dry before now h kept = tt
+service_unmet Premise (Err (fault.Cut packet sender)) count counted Dry before now h kept = tt
+service_unmet Premise (Err fault.TooLong) count counted Dry before now h kept = tt
 
 -- no read fails of a source that counts no fault
-pub never_unmet : {Premise : Type 0} (r : Result ℕ NodeFault) (Dry : Type 0) (before now : Bool)
+pub never_unmet : (Premise : Type 0) (r : Result ℕ NodeFault) (Dry : Type 0) (before now : Bool)
     → HasServeCause 0 0 Dry r → LeavesUnmet {Premise = Premise} (ended_by r) before now
-never_unmet (Ok n) Dry before now h = tt
-never_unmet (Err fault.ReadFault) Dry before now h = absurd (never_counted h.0)
-never_unmet (Err fault.WriteFault) Dry before now h = tt
-never_unmet (Err (fault.Cut packet sender)) Dry before now h = tt
-never_unmet (Err fault.TooLong) Dry before now h = tt
+never_unmet Premise (Ok n) Dry before now h = tt
+never_unmet Premise (Err fault.ReadFault) Dry before now h = absurd (never_counted h.0)
+never_unmet Premise (Err fault.WriteFault) Dry before now h = tt
+never_unmet Premise (Err (fault.Cut packet sender)) Dry before now h = tt
+never_unmet Premise (Err fault.TooLong) Dry before now h = tt

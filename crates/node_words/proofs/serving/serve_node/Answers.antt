@@ -1,4 +1,4 @@
-use Rattle.std.proofs.Common.{◌∙◌, sym, Err, rules}
+use Rattle.std.proofs.Common.{ℕ, ◌∙◌, sym, Err, rules}
 use Rattle.node_words.specs.declared.errors.NodeError.TheVariants as error
 use Rattle.node_words.proofs.Returns.{does_end, unmet_end, none_held, dry_held}
 use Rattle.node_words.proofs.Headers.{header_lost, header_long, header_cut, header_refused}
@@ -14,12 +14,12 @@ returns-in-Err-ReadFault-clause-does g c =
     let name = c.read_header.ensures.same_reference in
     let header = rw c.in-Err-ReadFault.field-0-is at c.in-Err-ReadFault.ensures.header in
     let cause = rw (c.in-Err-ReadFault.field-0-is, c.new-feed.ensures.faults) at
-        c.in-Err-ReadFault.ensures.cause in
+    c.in-Err-ReadFault.ensures.cause in
     does_end words g.S.Source.left g.S.Source.faults (Err error.ReadFault) _ _
-        c.read_header.new.feed.source.now _ c.read_header.new.feed.source.ghost_name _ _
-        (search rules) (sym (name ∙ same))
+    c.read_header.new.feed.source.now _ c.read_header.new.feed.source.ghost_name _ _
+    (search rules) (sym (name ∙ same))
     (header_lost words _ _ _ _ _ _ c.new-feed.ensures.left _ header
-        (none_held _ _ _ cause.1.0) cause.0)
+    (none_held _ _ _ cause.1.0) cause.0)
 
 pub returns-in-Err-TooLong-clause-does : goal.returns-in-Err-TooLong-clause-does
 returns-in-Err-TooLong-clause-does g c =
@@ -28,10 +28,10 @@ returns-in-Err-TooLong-clause-does g c =
     let name = c.read_header.ensures.same_reference in
     let header = rw c.in-Err-TooLong.field-0-is at c.in-Err-TooLong.ensures.header in
     let cause = rw (c.in-Err-TooLong.field-0-is, c.new-feed.ensures.faults) at
-        c.in-Err-TooLong.ensures.cause in
+    c.in-Err-TooLong.ensures.cause in
     does_end words g.S.Source.left g.S.Source.faults (Err error.TooLong) _ _
-        c.read_header.new.feed.source.now _ c.read_header.new.feed.source.ghost_name _ _
-        (search rules) (sym (name ∙ same))
+    c.read_header.new.feed.source.now _ c.read_header.new.feed.source.ghost_name _ _
+    (search rules) (sym (name ∙ same))
     (header_long words _ _ _ _ _ _ c.new-feed.ensures.left _ header cause)
 
 pub returns-in-Ok-put_refusal-clause-does : goal.returns-in-Ok-put_refusal-clause-does
@@ -41,12 +41,14 @@ returns-in-Ok-put_refusal-clause-does g c =
     let name = c.read_header.ensures.same_reference in
     let header = rw c.in-Err-Refused.field-0-is at c.in-Err-Refused.ensures.header in
     let cause = rw (c.in-Err-Refused.field-0-is, c.new-feed.ensures.faults) at
-        c.in-Err-Refused.ensures.cause in
-    does_end words g.S.Source.left g.S.Source.faults _ _ _
-        c.read_header.new.feed.source.now _ c.read_header.new.feed.source.ghost_name _ _
-        (search rules) (sym (name ∙ same))
+    c.in-Err-Refused.ensures.cause in
+    rw c.in-Err-Refused.refusal-is
+    (does_end words g.S.Source.left g.S.Source.faults
+    (Err (error.Refused c.in-Err-Refused.refusal)) _ _
+    c.read_header.new.feed.source.now _ c.read_header.new.feed.source.ghost_name _ _
+    (search rules) (sym (name ∙ same))
     (header_refused words _ _ _ _ _ _ c.new-feed.ensures.left _ header cause _ _
-        c.in-Ok-put_refusal.ensures)
+    (rw c.in-Err-Refused.refusal-is at c.in-Ok-put_refusal.ensures)))
 
 pub returns-in-Err-put_refusal-clause-does : goal.returns-in-Err-put_refusal-clause-does
 returns-in-Err-put_refusal-clause-does g c =
@@ -55,12 +57,12 @@ returns-in-Err-put_refusal-clause-does g c =
     let name = c.read_header.ensures.same_reference in
     let header = rw c.in-Err-Refused.field-0-is at c.in-Err-Refused.ensures.header in
     let cause = rw (c.in-Err-Refused.field-0-is, c.new-feed.ensures.faults) at
-        c.in-Err-Refused.ensures.cause in
+    c.in-Err-Refused.ensures.cause in
     does_end words g.S.Source.left g.S.Source.faults (Err error.WriteFault) _ _
-        c.read_header.new.feed.source.now _ c.read_header.new.feed.source.ghost_name _ _
-        (search rules) (sym (name ∙ same))
+    c.read_header.new.feed.source.now _ c.read_header.new.feed.source.ghost_name _ _
+    (search rules) (sym (name ∙ same))
     (header_cut words _ _ _ _ _ _ c.new-feed.ensures.left _ header cause _ _
-        c.in-Err-put_refusal.ensures)
+    (rw c.in-Err-Refused.refusal-is at c.in-Err-put_refusal.ensures))
 
 pub returns-then-ended-clause-does : goal.returns-then-ended-clause-does
 returns-then-ended-clause-does g c =
@@ -72,12 +74,12 @@ returns-then-ended-clause-does g c =
     let node = is_node_of words machine _ _ _ read.header _ c.in-Ok-engine.ensures in
     let still = read.cause ∙ c.new-feed.ensures.faults in
     rw c.ended_by.ensures
-        (does_end words g.S.Source.left g.S.Source.faults _ _ _
-          c.read_header.new.feed.source.now _ c.read_header.new.feed.source.ghost_name _ _
-          (search rules) (sym (name ∙ same))
+    (does_end words g.S.Source.left g.S.Source.faults _ _ _
+    c.read_header.new.feed.source.now _ c.read_header.new.feed.source.ghost_name _ _
+    (search rules) (sym (name ∙ same))
     (serves_last words machine _ _ _ _ _ _ c.new-feed.ensures.left _ _ _ read.header _ _ node
-        c.if-ended.true still _ _ _ _ (rw c.new-nothing.ensures at c.new-none.ensures.left)
-        c.serve.ensures.served c.serve.ensures.cause))
+    c.if-ended.true still _ _ _ _ (rw c.new-nothing.ensures at c.new-none.ensures.left)
+    c.serve.ensures.served c.serve.ensures.cause))
 
 pub returns-clause-does : goal.returns-clause-does
 returns-clause-does g c =
@@ -89,31 +91,32 @@ returns-clause-does g c =
     let node = is_node_of words machine _ _ _ read.header _ c.in-Ok-engine.ensures in
     let still = read.cause ∙ c.new-feed.ensures.faults in
     rw c.ended_by-2.ensures
-        (does_end words g.S.Source.left g.S.Source.faults _ _ _
-          c.serve-2.new.feed.source.now _ c.serve-2.new.feed.source.ghost_name _ _ (search rules)
-          (sym (name ∙ same))
+    (does_end words g.S.Source.left g.S.Source.faults _ _ _
+    c.serve-2.new.feed.source.now _ c.serve-2.new.feed.source.ghost_name _ _ (search rules)
+    (sym (name ∙ same))
     (serves words machine _ _ _ _ _ _ _ c.new-feed.ensures.left _ _ _ read.header _ _ node
-        c.if-ended.false _ c.serve-2.ensures.served
-        (cause_of _ _ _ _ _ _ (dry_held _ _ _ _) still c.serve-2.ensures.cause)))
+    c.if-ended.false _ c.serve-2.ensures.served
+    (cause_of _ _ _ _ _ _ (dry_held _ _ _ _) still c.serve-2.ensures.cause)))
 
 pub returns-then-ended-clause-untouched : goal.returns-then-ended-clause-untouched
-returns-then-ended-clause-untouched g c = rw c.ended_by.ensures (service_touches _ _ _)
+returns-then-ended-clause-untouched g c = rw c.ended_by.ensures (service_touches _ _ _ _)
 
 pub returns-clause-untouched : goal.returns-clause-untouched
-returns-clause-untouched g c = rw c.ended_by-2.ensures (service_touches _ _ _)
+returns-clause-untouched g c = rw c.ended_by-2.ensures (service_touches _ _ _ _)
 
 pub returns-in-Err-ReadFault-clause-unmet : goal.returns-in-Err-ReadFault-clause-unmet
 returns-in-Err-ReadFault-clause-unmet g c =
     let same = c.new-feed.ensures.same_reference in
     let name = c.read_header.ensures.same_reference in
     let cause = rw c.in-Err-ReadFault.field-0-is at c.in-Err-ReadFault.ensures.cause in
-    unmet_end g.S.Source.met (Err error.ReadFault) _ _ c.read_header.new.feed.source.now _
-        c.read_header.new.feed.source.ghost_name (search rules) (sym (name ∙ same))
+    unmet_end {Premise = ℕ} g.S.Source.met (Err error.ReadFault) _ _
+    c.read_header.new.feed.source.now _
+    c.read_header.new.feed.source.ghost_name (search rules) (sym (name ∙ same))
     (cause.1.1 ∙ c.new-feed.ensures.met)
 
 pub returns-then-ended-clause-unmet : goal.returns-then-ended-clause-unmet
 returns-then-ended-clause-unmet g c =
-    rw c.ended_by.ensures (never_unmet _ _ _ _ c.serve.ensures.cause)
+    rw c.ended_by.ensures (never_unmet _ _ _ _ _ c.serve.ensures.cause)
 
 pub returns-clause-unmet : goal.returns-clause-unmet
 returns-clause-unmet g c =
@@ -121,7 +124,7 @@ returns-clause-unmet g c =
     let name = c.serve-2.ensures.same_reference ∙ c.read_header.ensures.same_reference in
     let met = rw c.if-ended.false at c.in-Ok-read_header.ensures.met in
     rw c.ended_by-2.ensures
-        (unmet_end g.S.Source.met _ _ _ c.serve-2.new.feed.source.now _
-          c.serve-2.new.feed.source.ghost_name (search rules) (sym (name ∙ same))
-    (service_unmet _ _ _ _ _ _ c.serve-2.ensures.cause
-        (λ dry. dry.1 ∙ (met ∙ c.new-feed.ensures.met))))
+    (unmet_end g.S.Source.met _ _ _ c.serve-2.new.feed.source.now _
+    c.serve-2.new.feed.source.ghost_name (search rules) (sym (name ∙ same))
+    (service_unmet _ _ _ _ _ _ _ c.serve-2.ensures.cause
+    (λ dry. dry.1 ∙ (met ∙ c.new-feed.ensures.met))))
