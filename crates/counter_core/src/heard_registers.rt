@@ -115,7 +115,7 @@ impl<'a> HeardRegister<'a> {
 
     /// The least finite value that more nodes have than may be faulty, None where there is none. So
     /// many have `own`: what all but the faulty ones have is the only such value.
-    fn least(&self, own: Option<u64>, same: usize, values: &mut Tally) -> Option<u64>
+    pub fn least(&self, own: Option<u64>, same: usize, values: &mut Tally) -> Option<u64>
         requires same { same ≡ count_of (values_heard self.now) own }
         requires room { length self.now.states ≤ values.old.capacity }
         ensures least { result ≡ least_above self.now.faults (values_heard self.now) }

@@ -87,7 +87,8 @@ NodesStayLocked = (m : Machine) → IsSound m → (faulty : List ℕ) → IsBorn
     → (from : ℕ) → from ≤ rounds → IsLocked m faulty (states_in m nodes begins from)
     → StayLockedThrough m faulty (states_in m nodes begins) from rounds
 
--- So they do where states are lost, as long as each hears those of N - F nodes in each round.
+-- So they do where states are lost, as long as each correct node hears those of N - F correct nodes
+-- in each round, itself among them.
 abbrev pub HeardNodesStayLocked : Type 0
 HeardNodesStayLocked = (m : Machine) → IsSound m → (faulty : List ℕ) → IsBorne m faulty
     → (nodes : Nodes) (begins : ℕ → ℕ) (rounds : ℕ) → AreHeard m faulty nodes begins rounds

@@ -38,7 +38,7 @@ module _ (m : Machine) (faulty : List ℕ) where
         → LossyStep v (configuration run t) (state_of (configuration run (t + 1)) v)
 
 -- From any locked configuration on, the correct nodes stay locked and count, as long as each of
--- them hears, in each round, the true states of N - F nodes, itself among them.
+-- them hears, in each round, the true states of N - F correct nodes, itself among them.
 abbrev pub LossesKeepLocked : Type 0
 LossesKeepLocked = (m : Machine) → IsSound m → (faulty : List ℕ) → IsBorne m faulty
     → (run : List (List State)) → LossyRun m faulty run → (from : ℕ) → from < length run

@@ -48,7 +48,8 @@ pub fn nodes_stay_locked()
 {}
 
 /// A sound machine stays locked, and counts, where states are lost: as long as each correct node
-/// hears in each round the true states of N - F nodes, itself among them, whichever these are.
+/// hears in each round the true states of N - F correct nodes, itself among them, whichever these
+/// are.
 pub fn losses_keep_locked()
     ensures { LossesKeepLocked }
 {}

@@ -16,4 +16,4 @@
 pub mod laws;
 mod steps;
 
-pub use steps::{agree_step, king_step};
+pub use steps::{agree_step, king_step, up};

@@ -12,6 +12,7 @@ use sync_types::Reg;
 /// how many are its own value, infinity being one; `least` is the least finite value that more than
 /// `faults` nodes have, None where there is none; `king` is the king's value, None being infinity.
 /// After the instruction a finite value goes to the next one modulo `modulus`, and infinity stays.
+/// Values may be any, as a liar tells them.
 pub fn king_step(
     kind: u64,
     own: Reg,
@@ -25,9 +26,6 @@ pub fn king_step(
     requires kind { kind ≤ 2 }
     requires faults { faults ≤ nodes }
     requires modulus { (2 ≤ modulus) × (modulus ≤ 2 ^ 40) }
-    requires own { IfSome own.a (λ a. a < modulus) }
-    requires least { IfSome least (λ a. a < modulus) }
-    requires king { IfSome king (λ a. a < modulus) }
     ensures value { result ≡ incremented (up modulus) (without_increment nodes faults kind own same
         least king) }
 
@@ -46,7 +44,7 @@ pub fn king_step(
 
 /// The register of a node after one instruction without the increment, as consensus takes it.
 ///
-/// The arguments are those of [`king_step`]; values have no bound here.
+/// The arguments are those of [`king_step`].
 pub fn agree_step(
     kind: u64,
     own: Reg,
@@ -94,14 +92,25 @@ fn own_or_kings(own: Reg, king: Option<u64>) -> u64
     }
 }
 
+/// The next number modulo `modulus`, of any number.
+pub fn up(number: u64, modulus: u64) -> u64
+    requires { (2 ≤ modulus) × (modulus ≤ 2 ^ 40) }
+    ensures { result ≡ up modulus number }
+{
+    let next = number % modulus + 1;
+    if next == modulus { 0 } else { next }
+}
+
 // A finite value goes to the next one.
 fn increment(register: Reg, modulus: u64) -> Reg
-    requires modulus { (2 ≤ modulus) × (modulus ≤ 2 ^ 40) }
-    requires below { IfSome register.a (λ a. a < modulus) }
+    requires { (2 ≤ modulus) × (modulus ≤ 2 ^ 40) }
     ensures { result ≡ incremented (up modulus) register }
 {
-    Reg {
-        a: register.a.map(|a| (a + 1) % modulus),
-        d: register.d,
+    match register.a {
+        Some(a) => Reg {
+            a: Some(up(a, modulus)),
+            d: register.d,
+        },
+        None => register,
     }
 }

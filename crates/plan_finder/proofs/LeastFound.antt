@@ -27,8 +27,9 @@ use Rattle.plan_finder.specs.Least.{all_levels, least_levels, has_faults, reache
 use Rattle.plan_finder.specs.Least.{pots_at, pot_if, costs_of}
 use Rattle.plan_finder.proofs.Sets.{path_deep, path_few}
 use Rattle.plan_finder.proofs.Members.{IsIn, in_filter, from_filter}
-use Rattle.plan_finder.proofs.Enumerated.{IsPlain, AreFew, IsLeastIn, least_is, in_all, few_path}
-use Rattle.plan_finder.proofs.Enumerated.{from_all, in_set_of, faults_yes, faults_from, reaches_yes}
+use Rattle.plan_finder.proofs.AllLevels.{IsPlain, AreFew, in_all, few_path, from_all}
+use Rattle.plan_finder.proofs.Enumerated.{IsLeastIn, least_is}
+use Rattle.plan_finder.proofs.Enumerated.{in_set_of, faults_yes, faults_from, reaches_yes}
 use Rattle.plan_finder.proofs.Enumerated.{reaches_from, row_push, rows_push, rows_before}
 use Rattle.plan_finder.proofs.PlainLevels.{plain_of, is_plain, nodes_plain, faults_plain}
 use Rattle.plan_finder.proofs.PlainLevels.{rank_plain, path_plain, best_from, levels_from}

@@ -8,6 +8,7 @@ pub mod Moduli
 pub mod Gathered
 pub mod Answered
 pub mod Members
+pub mod AllLevels
 pub mod Enumerated
 pub mod PlainLevels
 pub mod LeastFound

@@ -18,7 +18,7 @@ use Rattle.plan_finder.specs.Steps.{IsPath, IsStep}
 use Rattle.plan_finder.specs.Orders.{steps_of, rank_of}
 use Rattle.plan_finder.specs.Best.{level_by, levels_by, levels_in, IsKept}
 use Rattle.plan_finder.specs.Building.{base_under, counting_by, plan_with}
-use Rattle.plan_finder.proofs.Enumerated.{IsPlain}
+use Rattle.plan_finder.proofs.AllLevels.{IsPlain}
 use Rattle.plan_finder.proofs.Moduli.{accepts}
 
 -- ---- moduli left aside

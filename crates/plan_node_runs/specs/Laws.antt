@@ -89,7 +89,8 @@ NodesStayLocked = (plan : Plan) → IsAccepted plan → (faulty : List ℕ) → 
     → (from : ℕ) → from ≤ rounds → IsLocked plan faulty (states_in plan nodes begins from)
     → StayLockedThrough plan faulty (states_in plan nodes begins) from rounds
 
--- So they do where states are lost, as long as each hears those of N - F nodes in each round.
+-- So they do where states are lost, as long as each correct node hears those of N - F correct nodes
+-- in each round, itself among them.
 abbrev pub HeardNodesStayLocked : Type 0
 HeardNodesStayLocked = (plan : Plan) → IsAccepted plan → (faulty : List ℕ) → IsBorne plan faulty
     → (nodes : Nodes) (begins : ℕ → ℕ) (rounds : ℕ) → AreHeard plan faulty nodes begins rounds

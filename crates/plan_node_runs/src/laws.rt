@@ -41,7 +41,7 @@ pub fn nodes_stay_locked()
 {}
 
 /// So they do where states are lost, as long as each correct node hears in each round the true
-/// states of N - F nodes, itself among them, whichever these are.
+/// states of N - F correct nodes, itself among them, whichever these are.
 pub fn heard_nodes_stay_locked()
     ensures { HeardNodesStayLocked }
 {}

@@ -4,9 +4,9 @@ ghost use Rattle.pulse_plan.specs.Groups.{tree_in};
 ghost use Rattle.pulse_counter.specs.Groups.{HasGroup, stretch, overlaid};
 
 use crate::hearing::new_level_state;
-use crate::kings::up;
 use counter_core::Heard;
 use majority_votes::Tally;
+use phase_king::up;
 use pulse_plan::Group;
 use sync_types::NodeState;
 

@@ -28,7 +28,7 @@ use Rattle.run_certificates.specs.Grammar.{pairs_of, AreStarts, IsRow, IsEra, Is
 use Rattle.run_certificates.specs.Grammar.{faulty_behind}
 use Rattle.run_certificates.specs.Stated.{Stand, shown_row}
 use Rattle.run_certificates.specs.Recorded.{stand_at, put_at, lie_at, is_put, era_with, turn_at}
-use Rattle.run_certificates.proofs.RecordedTrue.{is_in_filter, is_in_range}
+use Rattle.run_certificates.proofs.RecordedTellings.{is_in_filter, is_in_range}
 
 below_range : (n : ℕ) → All (λ v. v < n) (range_with_len 0 n)
 below_range n =

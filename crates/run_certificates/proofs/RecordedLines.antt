@@ -23,7 +23,7 @@ use Rattle.std.specs.Int.{div_ceil}
 use Rattle.state_codec.specs.Shapes.{bits_in, bytes_in}
 use Rattle.state_codec.specs.Texts.{is_state_text, is_lower_digit}
 use Rattle.round_runner.proofs.Places.{each}
-use Rattle.run_certificates.proofs.Live.{few_bits}
+use Rattle.run_certificates.proofs.LiveLines.{few_bits}
 use Rattle.run_certificates.specs.NodeFields.{fields_of}
 use Rattle.run_certificates.specs.Items.{IsShort, HasLine, row_word, run_item, base_item}
 use Rattle.run_certificates.specs.Items.{level_item, faulty_item, start_item, row_item, lie_item}

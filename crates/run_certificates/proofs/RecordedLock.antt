@@ -27,7 +27,8 @@ use Rattle.run_certificates.specs.Stated.{verdict_by, verdict_of}
 use Rattle.run_certificates.specs.Recorded.{stand_at, era_with, era_at, turn_at, certificate_of}
 use Rattle.run_certificates.proofs.EraBegins.{begun, begun_more, same_begun, begins_more}
 use Rattle.run_certificates.proofs.EraBegins.{begun_grows}
-use Rattle.run_certificates.proofs.RecordedTrue.{Agrees, agree_first, agree_next, no_difference}
+use Rattle.run_certificates.proofs.RecordedTellings.{Agrees}
+use Rattle.run_certificates.proofs.RecordedTrue.{agree_first, agree_next, no_difference}
 use Rattle.run_certificates.proofs.Verdicts.{lock_over, locks_are}
 
 -- ---- configurations that agree are locked alike

@@ -11,7 +11,8 @@ use Rattle.run_certificates.specs.Certificates.{Turn}
 use Rattle.run_certificates.specs.Stated.{Stand, told_by, told_of, stand_behind, first_stand}
 use Rattle.run_certificates.specs.Stated.{stands_behind, stated}
 use Rattle.run_certificates.specs.Recorded.{stand_at, turn_at, certificate_of, RecordsAreOfRuns}
-use Rattle.run_certificates.proofs.RecordedTrue.{Agrees, agree_first, agree_next, told_is}
+use Rattle.run_certificates.proofs.RecordedTellings.{Agrees}
+use Rattle.run_certificates.proofs.RecordedTrue.{agree_first, agree_next, told_is}
 
 module _ (plan : Plan) (s : Script) (is : IsReadFor plan s) where
   abbrev turns : (t k : ℕ) → List Turn

@@ -25,7 +25,7 @@ use Rattle.run_certificates.specs.Items.{row_item}
 use Rattle.run_certificates.specs.Certificates.{Put, Lie, Era, Turn, level_of, start_of, lie_of}
 use Rattle.run_certificates.specs.Certificates.{era_items, turns_items, items_of}
 use Rattle.run_certificates.specs.Grammar.{AreStarts, IsEra, IsTurn, AreTurns, faulty_behind}
-use Rattle.run_certificates.proofs.Live.{few_bits}
+use Rattle.run_certificates.proofs.LiveLines.{few_bits}
 use Rattle.run_checker.specs.TrueTexts.{CertificatesAreShort}
 use Rattle.run_checker.proofs.LineTexts.{line_of}
 use Rattle.run_checker.proofs.RecordTexts.{lines, lines_text}
