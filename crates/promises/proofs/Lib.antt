@@ -10,7 +10,9 @@ pub mod FindPromises
 pub mod PlanPromises
 pub mod Printed
 pub mod NodeCalls
-pub mod PlanCalls
+pub mod CallStates
 pub mod NodePromises
+pub mod HeardCalls
+pub mod Restarts
 pub mod NodeInputs
 pub mod DemoTexts

@@ -18,11 +18,8 @@ use Rattle.plan_machine.specs.PlanMachines.{machine_of_plan}
 use Rattle.plan_node_runs.specs.PlanNodes.{fields_of, state_behind}
 use Rattle.plan_node_runs.specs.NodeRuns.{cell_given, IsCorrect, state_at}
 use Rattle.plan_node_runs.specs.Laws.{Connects, AnyLiesConnect}
-use Rattle.node_words.specs.NodeAnswers.{served_outcome, behind_header}
-use Rattle.node_words.specs.NodeAnswers as any
-use Rattle.node_promises.specs.Calls.{packets_behind}
-use Rattle.outcomes.specs.NodeAnswers.{plan_words, node_status, packets_for}
-use Rattle.promises.specs.NodeCalls.{whole, header_of, packets_in, cell_heard}
+use Rattle.outcomes.specs.NodeAnswers.{packets_for, served_outcome, behind_header, node_outcome}
+use Rattle.promises.specs.NodeCalls.{whole, header_of, packets_behind, packets_in, cell_heard}
 use Rattle.promises.specs.CallWindows.{cell_written, CallsConnect}
 use Rattle.promises.specs.NodePromises.{InputsConnect, AnyInputsConnect}
 
@@ -53,13 +50,10 @@ module _ (headers : HeaderTextIsRead) (read_back : PacketsReadBack) (plan : Plan
       ∙ read_back (plan_nodes plan) packets 1000000 0 (omega arith) full few
 
   packets_are : packets_in (whole input) ≡ packets
-  packets_are =
-      ap (packets_behind plan_words input) header_is ∙ ap (λ (p : Packets). p.cells) behind_is
+  packets_are = ap (packets_behind input) header_is ∙ ap (λ (p : Packets). p.cells) behind_is
 
-  outcome_is : any.node_outcome plan_words input ≡ served_outcome plan_words header all
-  outcome_is =
-      ap (behind_header plan_words input) header_is
-      ∙ ap (served_outcome plan_words header) behind_is
+  outcome_is : node_outcome input ≡ served_outcome header all
+  outcome_is = ap (behind_header input) header_is ∙ ap (served_outcome header) behind_is
 
 -- ---- the inputs of all nodes
 
@@ -94,8 +88,8 @@ module _ (headers : HeaderTextIsRead) (writes : NodeWritesStates) (read_back : P
   same_cell t v u correct =
       ap (λ (ps : List (List (List ℕ))). get_or (get_or ps t []) u []) (same_packets v correct)
 
-  outcome : (v : ℕ) → IsCorrect plan faulty v → any.node_outcome plan_words (inputs v)
-      ≡ served_outcome plan_words (header_stated plan v (starts v))
+  outcome : (v : ℕ) → IsCorrect plan faulty v → node_outcome (inputs v)
+      ≡ served_outcome (header_stated plan v (starts v))
       (record { cells = packets v; ending = all_whole (0 + length (packets v)) })
   outcome v correct =
       outcome_is headers read_back plan accepted v correct.0 (starts v) (begun v correct)
@@ -136,7 +130,7 @@ module _ (headers : HeaderTextIsRead) (writes : NodeWritesStates) (read_back : P
     connect = connect;
     begin = begin;
     given = λ t v u lt correct ult when. same_cell t v u correct ∙ c.given t v u lt ult when;
-    ends = λ v correct. ap (λ o. node_status o.ended) (outcome v correct);
+    ends = λ v correct. ap (λ o. o.status) (outcome v correct);
   }
 
 pub any_connect : HeaderTextIsRead → NodeWritesStates → AnyLiesConnect → PacketsReadBack

@@ -1,66 +1,87 @@
--- Calls of `node` that are given one another's cells count, stay locked where cells are lost, and
--- where one is started anew.
-use Rattle.std.proofs.Common.{ℕ, ◌+◌, List}
-use Rattle.construction.specs.Plans.{Plan}
+-- Calls of `node` that are given one another's cells are connected nodes.
+use Rattle.std.proofs.Common.{ℕ, List, ◌∙◌}
+use Rattle.sync_types.specs.States.{State}
+use Rattle.construction.specs.Plans.{Plan, plan_bound}
+use Rattle.construction.specs.Runs.{IsBorne}
 use Rattle.plan_numbers.specs.Premises.{IsAccepted}
 use Rattle.plan_laws.specs.VersionLaws.{in_version}
+use Rattle.plan_laws.proofs.Versions.{versions_agree}
 use Rattle.node_header.specs.HeaderLaws.{HeadersAreOfPlans}
-use Rattle.plan_machine.specs.PlanMachines.{machine_of_plan}
-use Rattle.plan_node_runs.specs.NodeRuns.{IsCorrect, SomeIsCorrect}
-use Rattle.node_promises.proofs.Connected as any
-use Rattle.node_promises.proofs.Heard as heard
-use Rattle.node_promises.proofs.Restarts as restarts
-use Rattle.outcomes.specs.NodeAnswers.{plan_words}
-use Rattle.promises.specs.NodeCalls.{Call, IsOfNode}
-use Rattle.promises.specs.CallWindows.{states_written, ConnectedCallsCount, HeardCallsStayLocked}
-use Rattle.promises.specs.Restarts.{RestartedNodesCount, Restart, calls_after, begins_after}
-use Rattle.promises.proofs.PlanCalls.{headers_are_served, are_accepted, connect_any, heard_any}
-use Rattle.promises.proofs.PlanCalls.{borne_any, stay_plan, locked_any, keep_plan}
+use Rattle.node_runs.specs.Cells.{NodeWritesStates}
+use Rattle.plan_machine.proofs.PlanMachines.{are_alike}
+use Rattle.plan_node_runs.specs.NodeRuns.{Nodes, SomeIsCorrect, AreConnected}
+use Rattle.plan_node_runs.specs.Laws.{RunThrough, NodesRun}
+use Rattle.plan_node_runs.proofs.Plans.{settle_through, lock_through, stay_through}
+use Rattle.promises.specs.NodeCalls.{Call}
+use Rattle.promises.specs.CallWindows.{states_written, CallsConnect, NodesKeepPromise}
+use Rattle.promises.specs.CallWindows.{ConnectedCallsCount}
+use Rattle.promises.proofs.CallStates.{Calling, borne_newer, nodes, accepted, start_is_one}
+use Rattle.promises.proofs.CallStates.{given_is, same_states, some_written, count_of, stay_of}
 
-module _ (law : HeadersAreOfPlans) where
-  accepted : (plan : Plan) (faulty : List ℕ) (calls : ℕ → Call) → SomeIsCorrect plan faulty
-      → ((v : ℕ) → IsCorrect plan faulty v → IsOfNode plan v (calls v))
-      → IsAccepted (in_version 2 plan)
-  accepted plan faulty calls some headers =
-      (are_accepted law plan some.0 (calls some.0) (headers some.0 some.1)).1
+module _ (law : HeadersAreOfPlans) (writes : NodeWritesStates) (runs : NodesRun) (plan : Plan)
+    (faulty : List ℕ) (borne : IsBorne plan faulty) (some : SomeIsCorrect plan faulty)
+    (calls : ℕ → Call) (begins : ℕ → ℕ) (rounds : ℕ)
+    (is : CallsConnect plan faulty calls begins rounds) where
+  abbrev calling : Calling plan faulty calls begins rounds
+  calling = record { headers = is.headers; enough = is.enough }
 
-  pub connected_count : ConnectedCallsCount
-  connected_count plan faulty borne some calls begins rounds is =
-      let good = accepted plan faulty calls some is.headers in
-      keep_plan plan good faulty calls begins rounds
-      (any.connected_count plan_words (headers_are_served law) (machine_of_plan plan) faulty
-      (borne_any plan good faulty borne) some calls begins rounds
-      (connect_any plan faulty calls begins rounds is))
+  abbrev two : Plan
+  two = in_version 2 plan
 
-  pub heard_stay_locked : HeardCallsStayLocked
-  heard_stay_locked plan faulty borne some calls begins rounds is from le locked =
-      let good = accepted plan faulty calls some is.headers in
-      let at = states_written plan calls begins in
-      stay_plan plan good faulty at rounds from
-      (heard.heard_stay_locked plan_words (headers_are_served law) (machine_of_plan plan) faulty
-      (borne_any plan good faulty borne) some calls begins rounds
-      (heard_any plan faulty calls begins rounds is) from le
-      (locked_any plan good faulty (at from) locked))
+  abbrev own : Nodes
+  own = nodes law writes plan faulty some calls begins rounds calling
 
-  pub restarted_count : RestartedNodesCount
-  restarted_count plan faulty meanwhile borne borne_too restart too some calls begins rounds whole
-      rest =
-      let m = machine_of_plan plan in
-      let good = accepted plan meanwhile calls some whole.headers in
-      let later = calls_after restart calls in
-      let begun = begins_after restart begins in
-      let kept = restarts.restarted_count plan_words m
-      (any.connected_count plan_words (headers_are_served law) m) faulty meanwhile
-      (borne_any plan good faulty borne) (borne_any plan good meanwhile borne_too) restart too some
-      calls begins rounds
-      (connect_any plan meanwhile calls begins (restart.after + rounds) whole)
-      (connect_any plan faulty later begun rounds rest) in
+  sound : IsAccepted two
+  sound = accepted law writes plan faulty some calls begins rounds calling
+
+  connected : AreConnected two faulty own begins rounds
+  connected = record {
+    starts = λ v correct.
+        ((are_alike two sound).states v (own.starts v) correct.0).0
+        (start_is_one law writes plan faulty some calls begins rounds calling v correct);
+    enough = is.enough;
+    cells = λ i v u lt v_correct u_correct other.
+        given_is law writes plan faulty some calls begins rounds calling i v u lt u_correct
+        (is.cells i v u lt v_correct u_correct other);
+  }
+
+  abbrev at : (i : ℕ) → List State
+  at i = states_written plan calls begins i
+
+  run_newer : RunThrough two faulty (states_written plan calls begins) rounds
+  run_newer =
+      let r = runs two sound faulty own begins rounds connected in
       record {
-        others = keep_plan plan good meanwhile calls begins (restart.after + rounds) kept.others;
-        rest = keep_plan plan good faulty later begun rounds kept.rest;
-        same = kept.same;
-        handed = λ same_cell locked.
-            stay_plan plan good faulty (states_written plan later begun) rounds 0
-            (kept.handed same_cell
-            (locked_any plan good faulty (states_written plan calls begins restart.after) locked));
+        run = r.run;
+        is = r.is;
+        long = r.long;
+        states = λ i v le correct.
+            r.states i v le correct
+            ∙ same_states law writes plan faulty some calls begins rounds calling i v le correct;
       }
+
+  keep : NodesKeepPromise plan faulty calls begins rounds
+  keep =
+      let r = run_newer in
+      let borne_two = borne_newer plan faulty borne in
+      record {
+        written = some_written law writes plan faulty some calls begins rounds calling;
+        run = record {
+          run = r.run;
+          is = ((versions_agree plan 2).runs faulty r.run).1 r.is;
+          long = r.long;
+          states = r.states;
+        };
+        settles =
+            count_of law writes plan faulty some calls begins rounds calling (plan_bound plan)
+            (settle_through two sound faulty (states_written plan calls begins) rounds r borne_two);
+        locks = lock_through two sound faulty (states_written plan calls begins) rounds r borne_two;
+        stays = λ from le locked.
+            stay_of law writes plan faulty some calls begins rounds calling from
+            (stay_through two sound faulty (states_written plan calls begins) rounds r borne_two
+            from le locked);
+      }
+
+pub connected_count : HeadersAreOfPlans → NodeWritesStates → NodesRun → ConnectedCallsCount
+connected_count law writes runs plan faulty borne some calls begins rounds is =
+    keep law writes runs plan faulty borne some calls begins rounds is

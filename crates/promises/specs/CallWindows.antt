@@ -1,28 +1,32 @@
 -- Calls of `node`, one for each node, over a window of rounds.
-use Rattle.std.specs.Prelude.{◌≡◌, ◌≢◌, ℕ, ◌+◌, ◌<◌, ◌≤◌, false, List, length, Option, Some}
-use Rattle.std.specs.Prelude.{IsSome}
+use Rattle.std.specs.Prelude.{◌≡◌, ◌≢◌, ℕ, ◌+◌, ◌<◌, ◌≤◌, false, List, [], length, map, Option}
+use Rattle.std.specs.Prelude.{Some, unwrap_or, IsSome}
+use Rattle.std.specs.List.{range_with_len}
 use Rattle.sync_types.specs.States.{State}
 use Rattle.construction.specs.Plans.{Plan, plan_nodes, plan_bound}
 use Rattle.construction.specs.Runs.{is_in, IsBorne, IsLocked}
-use Rattle.plan_machine.specs.PlanMachines.{machine_of_plan}
+use Rattle.state_codec.specs.Reading.{read}
+use Rattle.node_runs.specs.Cells.{cell_number}
+use Rattle.plan_node_runs.specs.PlanNodes.{fields_of}
 use Rattle.plan_node_runs.specs.NodeRuns.{IsCorrect, SomeIsCorrect, AreMissed}
 use Rattle.plan_node_runs.specs.Laws.{RunThrough, CountThrough, StayLockedThrough}
-use Rattle.node_promises.specs.CallWindows as any
-use Rattle.outcomes.specs.NodeAnswers.{plan_words}
-use Rattle.promises.specs.NodeCalls.{Call, packets_in, cell_heard, IsOfNode}
+use Rattle.promises.specs.NodeCalls.{Call, packets_in, cell_heard, text_of, IsOfNode}
 
 -- of a call for each node
 module _ (plan : Plan) (calls : ℕ → Call) where
   -- cell t of what that of node v writes
   abbrev pub cell_written : (t v : ℕ) → Option (List ℕ)
-  cell_written = any.cell_written plan_words (machine_of_plan plan) calls
+  cell_written t v = cell_number t (text_of (calls v))
 
-  -- The configuration after i rounds of a window, by the states that the cells stand for. It begins
-  -- in each call at a packet of its own, `begins v` in that of node v, since each process counts
-  -- its
-  -- packets from when it was started.
+  -- the state that it stands for
+  abbrev pub state_written : (t v : ℕ) → State
+  state_written t v = read (fields_of plan v) (unwrap_or (cell_written t v) [])
+
+  -- The configuration after i rounds of a window. It begins in each call at a packet of its own,
+  -- `begins v` in that of node v, since each process counts its packets from when it was started.
   abbrev pub states_written : (begins : ℕ → ℕ) → (i : ℕ) → List State
-  states_written = any.states_written plan_words (machine_of_plan plan) calls
+  states_written begins i =
+      map (λ v. state_written (begins v + i) v) (range_with_len 0 (plan_nodes plan))
 
 module _ (plan : Plan) (faulty : List ℕ) (calls : ℕ → Call) (begins : ℕ → ℕ) (rounds : ℕ) where
   -- Each correct node is a call of its own, with packets for so many rounds. In each round the cell

@@ -6,7 +6,9 @@ ghost use Rattle.promises.specs.NodePromises.{NodePromiseIsKept, AnyInputsConnec
 use node_header::laws::{header_texts_read_back, headers_are_of_plans};
 use node_runs::laws::node_writes_states;
 use node_stepper::laws::packets_read_back;
-use plan_node_runs::laws::{any_lies_connect, borne_leaves_some};
+use plan_node_runs::laws::{
+    any_lies_connect, borne_leaves_some, heard_nodes_stay_locked, nodes_run,
+};
 
 /// N calls of `node`, one for each node of a plan, of which few are faulty. For a window of rounds
 /// each of the others is given, in each packet, the cells that they wrote after as many rounds, and
@@ -22,6 +24,9 @@ pub fn node_promise_is_kept()
     ensures { NodePromiseIsKept }
 {
     headers_are_of_plans();
+    node_writes_states();
+    nodes_run();
+    heard_nodes_stay_locked();
     borne_leaves_some();
 }
 

@@ -21,7 +21,7 @@ use Rattle.outcomes.specs.Outcomes.{Outcome, outcome_of, too_long}
 use Rattle.outcomes.specs.CheckAnswers.{verdict_outcome, checked_outcome, check_outcome}
 use Rattle.outcomes.specs.Conduct.{ReadsFront, ReadsAll, Does, LeavesUnmet, LeavesUntouched}
 use Rattle.workbench.proofs.Unread.{left_of, holds_left}
-use Rattle.node_words.proofs.Returns.{all_front}
+use Rattle.workbench.proofs.NodeReturns.{all_front}
 
 -- a front of an input was read, of which what is left follows
 front_read : (s l : Option (List ℕ)) (bytes : List ℕ) → Consumes s l bytes

@@ -1,5 +1,7 @@
 pub mod Whole
 pub mod Unread
-pub mod Engines
-pub mod NodeEnds
+pub mod NodeReturns
+pub mod NodeHeaders
+pub mod NodeEngines
+pub mod NodeService
 pub mod CheckWord

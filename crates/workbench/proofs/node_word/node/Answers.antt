@@ -1,14 +1,133 @@
-use Rattle.workbench.proofs.NodeEnds.{does_so, untouched_so, unmet_so}
+use Rattle.std.proofs.Common.{◌∙◌, sym, Some, rules}
+use Rattle.sync_types.specs.declared.status.Status.TheVariants as status
+use Rattle.outcomes.specs.declared.commands.Command.TheVariants as command
+use Rattle.workbench.proofs.NodeReturns.{does_end, unmet_end, none_held, dry_held}
+use Rattle.workbench.proofs.NodeHeaders.{refusal_touches, refusal_unmet, header_lost, header_long}
+use Rattle.workbench.proofs.NodeHeaders.{header_cut, header_refused}
+use Rattle.workbench.proofs.NodeEngines.{is_node_of}
+use Rattle.workbench.proofs.NodeService.{service_touches, service_unmet, never_unmet, serves}
+use Rattle.workbench.proofs.NodeService.{serves_last, cause_of}
 use Rattle.workbench.proofs.node_word.node.Goals as goal
+
+pub returns-in-Err-ReadFault-clause-does : goal.returns-in-Err-ReadFault-clause-does
+returns-in-Err-ReadFault-clause-does g c =
+    let same = c.new-feed.ensures.same_reference in
+    let name = c.read_header.ensures.same_reference in
+    let header = rw c.in-Err-ReadFault.field-0-is at c.in-Err-ReadFault.ensures.header in
+    let cause = rw (c.in-Err-ReadFault.field-0-is, c.new-feed.ensures.faults) at
+    c.in-Err-ReadFault.ensures.cause in
+    does_end g.S.Source.left g.S.Source.faults (Some command.Node) status.ReadFault _ _
+    c.read_header.new.feed.source.now _ c.read_header.new.feed.source.ghost_name _ _
+    (search rules) (sym (name ∙ same))
+    (header_lost _ _ _ _ _ _ c.new-feed.ensures.left _ header (none_held _ _ _ cause.1.0) cause.0)
+
+pub returns-in-Err-TooLong-clause-does : goal.returns-in-Err-TooLong-clause-does
+returns-in-Err-TooLong-clause-does g c =
+    let same = c.new-feed.ensures.same_reference in
+    let name = c.read_header.ensures.same_reference in
+    let header = rw c.in-Err-TooLong.field-0-is at c.in-Err-TooLong.ensures.header in
+    let cause = rw (c.in-Err-TooLong.field-0-is, c.new-feed.ensures.faults) at
+    c.in-Err-TooLong.ensures.cause in
+    does_end g.S.Source.left g.S.Source.faults (Some command.Node) status.TooLong _ _
+    c.read_header.new.feed.source.now _ c.read_header.new.feed.source.ghost_name _ _
+    (search rules) (sym (name ∙ same))
+    (header_long _ _ _ _ _ _ c.new-feed.ensures.left _ header cause)
+
+pub returns-in-Ok-put_refusal-clause-does : goal.returns-in-Ok-put_refusal-clause-does
+returns-in-Ok-put_refusal-clause-does g c =
+    let same = c.new-feed.ensures.same_reference in
+    let name = c.read_header.ensures.same_reference in
+    let header = rw c.in-Err-Refused.field-0-is at c.in-Err-Refused.ensures.header in
+    let cause = rw (c.in-Err-Refused.field-0-is, c.new-feed.ensures.faults) at
+    c.in-Err-Refused.ensures.cause in
+    let refusal = rw c.in-Err-Refused.refused-is at c.header_refusal-refusal.ensures in
+    let wrote = rw refusal at c.in-Ok-put_refusal.ensures in
+    rw (c.status.ensures, refusal)
+    (does_end g.S.Source.left g.S.Source.faults (Some command.Node) _ _ _
+    c.read_header.new.feed.source.now _ c.read_header.new.feed.source.ghost_name _ _
+    (search rules) (sym (name ∙ same))
+    (header_refused _ _ _ _ _ _ c.new-feed.ensures.left _ header cause _ _ wrote))
+
+pub returns-in-Err-put_refusal-clause-does : goal.returns-in-Err-put_refusal-clause-does
+returns-in-Err-put_refusal-clause-does g c =
+    let same = c.new-feed.ensures.same_reference in
+    let name = c.read_header.ensures.same_reference in
+    let header = rw c.in-Err-Refused.field-0-is at c.in-Err-Refused.ensures.header in
+    let cause = rw (c.in-Err-Refused.field-0-is, c.new-feed.ensures.faults) at
+    c.in-Err-Refused.ensures.cause in
+    let refusal = rw c.in-Err-Refused.refused-is at c.header_refusal-refusal.ensures in
+    let part = rw refusal at c.in-Err-put_refusal.ensures in
+    does_end g.S.Source.left g.S.Source.faults (Some command.Node) status.WriteFault _ _
+    c.read_header.new.feed.source.now _ c.read_header.new.feed.source.ghost_name _ _
+    (search rules) (sym (name ∙ same))
+    (header_cut _ _ _ _ _ _ c.new-feed.ensures.left _ header cause _ _ part)
+
+pub returns-then-ended-clause-does : goal.returns-then-ended-clause-does
+returns-then-ended-clause-does g c =
+    let same = c.new-feed.ensures.same_reference in
+    let name = c.read_header.ensures.same_reference in
+    let read = c.in-Ok-read_header.ensures in
+    let node = is_node_of _ _ _ read.header read.shape read.fits _ c.in-Ok-engine_of.ensures in
+    let still = read.cause ∙ c.new-feed.ensures.faults in
+    rw c.service_status.ensures
+    (does_end g.S.Source.left g.S.Source.faults (Some command.Node) _ _ _
+    c.read_header.new.feed.source.now _ c.read_header.new.feed.source.ghost_name _ _
+    (search rules) (sym (name ∙ same))
+    (serves_last _ _ _ _ _ _ c.new-feed.ensures.left _ _ _ read.header _ _ node c.if-ended.true
+    still _ _ _ _ (rw c.new-nothing.ensures at c.new-none.ensures.left) c.serve.ensures.served
+    c.serve.ensures.cause))
 
 pub returns-clause-does : goal.returns-clause-does
 returns-clause-does g c =
-    rw c.node_status.ensures (does_so _ _ _ _ _ _ _ c.serve_node.ensures.does)
+    let same = c.new-feed.ensures.same_reference in
+    let name = c.serve-2.ensures.same_reference ∙ c.read_header.ensures.same_reference in
+    let read = c.in-Ok-read_header.ensures in
+    let node = is_node_of _ _ _ read.header read.shape read.fits _ c.in-Ok-engine_of.ensures in
+    let still = read.cause ∙ c.new-feed.ensures.faults in
+    rw c.service_status-2.ensures
+    (does_end g.S.Source.left g.S.Source.faults (Some command.Node) _ _ _
+    c.serve-2.new.feed.source.now _ c.serve-2.new.feed.source.ghost_name _ _ (search rules)
+    (sym (name ∙ same))
+    (serves _ _ _ _ _ _ _ c.new-feed.ensures.left _ _ _ read.header _ _ node c.if-ended.false _
+    c.serve-2.ensures.served
+    (cause_of _ _ _ _ _ _ (dry_held _ _ _ _) still c.serve-2.ensures.cause)))
+
+pub returns-in-Ok-put_refusal-clause-untouched : goal.returns-in-Ok-put_refusal-clause-untouched
+returns-in-Ok-put_refusal-clause-untouched g c =
+    rw (c.status.ensures, rw c.in-Err-Refused.refused-is at c.header_refusal-refusal.ensures)
+    (refusal_touches _ _ _)
+
+pub returns-then-ended-clause-untouched : goal.returns-then-ended-clause-untouched
+returns-then-ended-clause-untouched g c = rw c.service_status.ensures (service_touches _ _ _)
+
+pub returns-clause-untouched : goal.returns-clause-untouched
+returns-clause-untouched g c = rw c.service_status-2.ensures (service_touches _ _ _)
+
+pub returns-in-Err-ReadFault-clause-unmet : goal.returns-in-Err-ReadFault-clause-unmet
+returns-in-Err-ReadFault-clause-unmet g c =
+    let same = c.new-feed.ensures.same_reference in
+    let name = c.read_header.ensures.same_reference in
+    let cause = rw c.in-Err-ReadFault.field-0-is at c.in-Err-ReadFault.ensures.cause in
+    unmet_end g.S.Source.met status.ReadFault _ _ c.read_header.new.feed.source.now _
+    c.read_header.new.feed.source.ghost_name (search rules) (sym (name ∙ same))
+    (cause.1.1 ∙ c.new-feed.ensures.met)
+
+pub returns-in-Ok-put_refusal-clause-unmet : goal.returns-in-Ok-put_refusal-clause-unmet
+returns-in-Ok-put_refusal-clause-unmet g c =
+    rw (c.status.ensures, rw c.in-Err-Refused.refused-is at c.header_refusal-refusal.ensures)
+    (refusal_unmet _ _ _)
+
+pub returns-then-ended-clause-unmet : goal.returns-then-ended-clause-unmet
+returns-then-ended-clause-unmet g c =
+    rw c.service_status.ensures (never_unmet _ _ _ _ c.serve.ensures.cause)
 
 pub returns-clause-unmet : goal.returns-clause-unmet
 returns-clause-unmet g c =
-    rw c.node_status.ensures (unmet_so _ _ _ c.serve_node.ensures.unmet)
-
-pub returns-clause-untouched : goal.returns-clause-untouched
-returns-clause-untouched g c =
-    rw c.node_status.ensures (untouched_so _ _ _ c.serve_node.ensures.untouched)
+    let same = c.new-feed.ensures.same_reference in
+    let name = c.serve-2.ensures.same_reference ∙ c.read_header.ensures.same_reference in
+    let met = rw c.if-ended.false at c.in-Ok-read_header.ensures.met in
+    rw c.service_status-2.ensures
+    (unmet_end g.S.Source.met _ _ _ c.serve-2.new.feed.source.now _
+    c.serve-2.new.feed.source.ghost_name (search rules) (sym (name ∙ same))
+    (service_unmet _ _ _ _ _ _ c.serve-2.ensures.cause
+    (λ dry. dry.1 ∙ (met ∙ c.new-feed.ensures.met))))

@@ -4,8 +4,8 @@ use Rattle.machines.specs.Machines.{IsState}
 use Rattle.state_codec.specs.Shapes.{Shape, fields_at}
 use Rattle.state_codec.specs.Ranges.{InRange}
 use Rattle.plan_machine.specs.PlanMachines.{machine_of_plan}
-use Rattle.workbench.proofs.Engines.{node_of_shape, stands_begun}
-use Rattle.workbench.proofs.node_word.PlanNodesConstruction.engine.Goals as goal
+use Rattle.workbench.proofs.NodeEngines.{node_of_shape}
+use Rattle.workbench.proofs.node_word.engine_of.Goals as goal
 
 pub new-requires-clause-id : goal.new-requires-clause-id
 new-requires-clause-id c =
