@@ -7,7 +7,7 @@ use Rattle.texts.specs.Limits.{Limited}
 use Rattle.edge_io.specs.FedParts.{limited_part}
 use Rattle.sync_types.specs.declared.answers.Rule.{Rule}
 use Rattle.sync_types.specs.declared.answers.Rule.TheVariants as rule
-use Rattle.state_codec.specs.Shapes.{Fields, IsShape, fields_at, shape_nodes}
+use Rattle.state_codec.specs.Shapes.{Fields, IsShape}
 use Rattle.state_codec.specs.Ranges.{InRange}
 use Rattle.machines.specs.Laws.{IsSound}
 use Rattle.node_header.specs.declared.header_lines.NodeHeader.{NodeHeader}
@@ -16,7 +16,7 @@ use Rattle.node_header.specs.Fits.{IsFit}
 use Rattle.node_header.specs.HeaderParts.{behind_node, behind_plan, header_in}
 use Rattle.node_header.proofs.HeaderFits.{part_fits}
 use Rattle.node_header.proofs.Unlimited.{without_room, is_found, whole_text}
-use Rattle.node_words.specs.Constructions.{Words}
+use Rattle.node_words.specs.Constructions.{Words, IsShaped}
 use Rattle.node_promises.specs.Headers.{IsOfMachine, HeadersAreOfMachines}
 
 -- a plan is a sound machine, whose states have the shape with which a header is read
@@ -24,9 +24,7 @@ pub record IsServed {Reader Plan Premise : Type 0} (words : Words Reader Plan Pr
     (plan : Plan) : Type 0 where
   pub sound : IsSound (words.machine plan)
   pub shape : IsShape (words.part.shape plan)
-  pub nodes : shape_nodes (words.part.shape plan) ≡ (words.machine plan).nodes
-  pub fields : (v : ℕ) → v < (words.machine plan).nodes
-      → fields_at (words.part.shape plan) v ≡ (words.machine plan).fields v
+  pub shaped : IsShaped words plan
 
 module _ {Reader Plan Premise : Type 0} (words : Words Reader Plan Premise)
     (Accepted : Plan → Type 0) (serve : (plan : Plan) → Accepted plan → IsServed words plan)
@@ -47,12 +45,12 @@ module _ {Reader Plan Premise : Type 0} (words : Words Reader Plan Premise)
   of_machine plan node lines accepted fit =
       let served = serve plan accepted in
       let within : node.id < (words.machine plan).nodes =
-      subst (λ n. node.id < n) served.nodes fit.node in
+      subst (λ n. node.id < n) served.shaped.nodes fit.node in
       record {
         accepted = accepted;
         sound = served.sound;
         node = within;
-        state = subst (λ (f : Fields). InRange f node.state) (served.fields node.id within)
+        state = subst (λ (f : Fields). InRange f node.state) (served.shaped.fields node.id within)
             fit.range;
       }
 

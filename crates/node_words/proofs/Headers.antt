@@ -13,6 +13,7 @@ use Rattle.node_header.specs.HeaderParts.{header_in}
 use Rattle.node_header.specs.FedHeaders.{HeaderDecided, HeaderTooLong, HeaderLost}
 use Rattle.node_words.specs.declared.errors.NodeError.TheVariants as error
 use Rattle.node_words.specs.Constructions.{Words}
+use Rattle.node_words.specs.Rules.{header_line}
 use Rattle.node_words.specs.NodeAnswers.{Outcome, too_long, refused_header, pending_behind}
 use Rattle.node_words.specs.NodeAnswers.{behind_header, node_outcome, cells_so_far, node_so_far}
 use Rattle.node_words.specs.Conduct.{NodeDoes}
@@ -69,7 +70,7 @@ module _ {Reader Plan Premise : Type 0} (words : Words Reader Plan Premise)
         (d.decides (ltb (2 ^ 20) (length (d.bytes ++ whole_input.rest))) whole_input.rest
         whole_input.follows)
 
-    pub header_cut : (t u : Told) → Cut (words.refusal r) t u
+    pub header_cut : (t u : Told) → Cut (header_line words r) t u
         → NodeDoes words (Err error.WriteFault) s l before now t u
     header_cut t u is =
         record {
@@ -79,7 +80,7 @@ module _ {Reader Plan Premise : Type 0} (words : Words Reader Plan Premise)
           cut = rw refused_is is;
         }
 
-    pub header_refused : (t u : Told) → Wrote (words.refusal r) t u
+    pub header_refused : (t u : Told) → Wrote (header_line words r) t u
         → NodeDoes words (Err (error.Refused r)) s l before now t u
     header_refused t u is =
         record {

@@ -13,6 +13,7 @@ use Rattle.node_stepper.specs.Packets.{Ending, whole, cut, beyond, IsWithin, Pac
 use Rattle.node_words.specs.declared.errors.NodeError.{NodeError}
 use Rattle.node_words.specs.declared.errors.NodeError.TheVariants as error
 use Rattle.node_words.specs.Constructions.{Words}
+use Rattle.node_words.specs.Rules.{header_line}
 
 -- how a call ends where no read or write fails, and the text that is written
 pub record Outcome (Premise : Type 0) : Type 0 where
@@ -42,7 +43,7 @@ module _ {Reader Plan Premise : Type 0} (words : Words Reader Plan Premise) wher
   abbrev pub refused_header : Option (HeaderRefusal Premise) → Outcome Premise
   refused_header None = too_long
   refused_header (Some refused) =
-      record { ended = Err (error.Refused refused); text = words.refusal refused }
+      record { ended = Err (error.Refused refused); text = header_line words refused }
 
   -- the packets that follow
   abbrev pub packets_for : HeaderOf Plan → List ℕ → Packets

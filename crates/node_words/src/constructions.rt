@@ -3,12 +3,12 @@ ghost use Rattle.texts.specs.Growth.{Puts};
 ghost use Rattle.edge_io.specs.Feeds.{feed_left, IsDry};
 ghost use Rattle.node_header.specs.Fits.{IsFit};
 ghost use Rattle.node_header.specs.FedHeaders.{HeaderFed, HasHeaderCause};
-ghost use Rattle.node_words.specs.Engines.{StandsFor};
+ghost use Rattle.node_words.specs.Constructions.{IsShaped};
 
 use edge_io::{Feed, LineBuf, Sink, Source, WriteFault};
 use machines::Machine;
-use node_header::{HeaderError, HeaderRead, HeaderRefusal};
-use node_stepper::NodeEngine;
+use node_header::{HeaderError, HeaderRead};
+use state_codec::StateShape;
 use std::alloc::Global;
 use sync_types::NoMemory;
 
@@ -28,7 +28,7 @@ pub trait Construction {
 
     ghost use Rattle.node_words.specs.Constructions.{Words};
 
-    // How a plan is read, which machine it is, and the line of a refusal.
+    // How a plan is read, which machine it is, and the line that refuses a line of it.
     ghost words: { Words Self.Reader Self.Plan Self.Premise };
 
     /// Reads a header from a feed of which no line was read, and no byte after its last line. It
@@ -49,21 +49,21 @@ pub trait Construction {
         ensures shape { IfOk result (λ x. x.shape ≡ words.part.shape x.plan) }
         ensures fits { IfOk result (λ x. IsFit x.shape x.header) };
 
-    /// The node of a header that was read, which has heard nobody. The only error is want of
-    /// memory.
-    fn engine(
+    /// The machine of a plan whose shape was made. The only error is want of memory.
+    fn counter(
         alloc: Global,
-        read: HeaderRead<Self::Plan>,
-    ) -> Result<NodeEngine<Self::Counter>, NoMemory>
-        requires shape { read.shape ≡ words.part.shape read.plan }
-        requires fits { IsFit read.shape read.header }
-        ensures { IfOk result (λ e. StandsFor Self.Counter.machine (words.machine read.plan)
-            read.header.id read.header.state e) };
+        plan: Self::Plan,
+        shape: StateShape,
+    ) -> Result<Self::Counter, NoMemory>
+        requires { shape ≡ words.part.shape plan }
+        ensures machine { IfOk result (λ c. Self.Counter.machine c ≡ words.machine plan) }
+        ensures shaped { IfOk result (λ _. IsShaped words plan) };
 
-    /// Writes the line of a refusal.
+    /// Writes the line that refuses a line of the plan.
     fn put_refusal<K: Sink>(
         sink: &mut K,
-        refusal: HeaderRefusal<Self::Premise>,
+        line: u64,
+        premise: Self::Premise,
     ) -> Result<(), WriteFault>
-        ensures { Puts result (words.refusal refusal) (K.told sink.old) (K.told sink.new) };
+        ensures { Puts result (words.refusal line premise) (K.told sink.old) (K.told sink.new) };
 }

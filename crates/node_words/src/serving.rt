@@ -1,12 +1,36 @@
-ghost use Rattle.std.specs.Prelude.{◌≡◌};
+ghost use Rattle.std.specs.Prelude.{◌≡◌, IfOk};
+ghost use Rattle.node_header.specs.Fits.{IsFit};
+ghost use Rattle.node_words.specs.Engines.{StandsFor};
 ghost use Rattle.node_words.specs.Conduct.{NodeDoes, LeavesUnmet, LeavesUntouched};
 
 use crate::Construction;
 use crate::errors::{NodeError, ended_by};
+use crate::rules::put_header_refusal;
 use edge_io::{Feed, LineBuf, PlainSource, Sink, Source, WriteFault};
-use node_header::HeaderError;
+use node_header::{HeaderError, HeaderRead};
+use node_stepper::NodeEngine;
 use std::alloc::Global;
 use sync_types::NoMemory;
+
+/// The node of a header that was read, which has heard nobody.
+fn engine_of<C: Construction>(
+    alloc: Global,
+    read: HeaderRead<C::Plan>,
+) -> Result<NodeEngine<C::Counter>, NoMemory>
+    requires shape { read.shape ≡ C.words.part.shape read.plan }
+    requires fits { IsFit read.shape read.header }
+    ensures { IfOk result (λ e. StandsFor C.Counter.machine (C.words.machine read.plan)
+        read.header.id read.header.state e) }
+{
+    let HeaderRead {
+        plan,
+        shape,
+        header,
+        ended: _,
+    } = read;
+    let counter = C::counter(alloc, plan, shape)?;
+    NodeEngine::new(alloc, counter, header.id, header.state)
+}
 
 /// Reads a header, and then packets, and writes the node's cell at the start and behind each whole
 /// packet: the answer is how many these were. Each cell is written before any byte behind its packet
@@ -39,13 +63,13 @@ pub fn serve_node<C: Construction, S: Source, K: Sink>(
         Err(HeaderError::ReadFault) => return Err(NodeError::ReadFault),
         Err(HeaderError::TooLong) => return Err(NodeError::TooLong),
         Err(HeaderError::NoMemory) => return Err(NodeError::NoMemory),
-        Err(HeaderError::Refused(refusal)) => match C::put_refusal(sink, refusal) {
+        Err(HeaderError::Refused(refusal)) => match put_header_refusal::<C, K>(sink, refusal) {
             Ok(()) => return Err(NodeError::Refused(refusal)),
             Err(WriteFault) => return Err(NodeError::WriteFault),
         },
     };
     let ended = read.ended;
-    let mut engine = match C::engine(alloc, read) {
+    let mut engine = match engine_of::<C>(alloc, read) {
         Ok(engine) => engine,
         Err(NoMemory) => return Err(NodeError::NoMemory),
     };

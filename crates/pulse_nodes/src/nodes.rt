@@ -1,12 +1,12 @@
 use crate::refusals::put_refusal;
 use edge_io::{Feed, LineBuf, Sink, Source, WriteFault};
-use node_header::{HeaderError, HeaderRead, HeaderRefusal};
-use node_stepper::NodeEngine;
-use node_words::{Construction, put_node_refusal};
+use node_header::{HeaderError, HeaderRead};
+use node_words::Construction;
 use pulse_header::{PulsesHeader, read_pulses_header};
 use pulse_machine::PulseMachine;
 use pulse_plan::PulsePlan;
 use pulse_texts::{LinePremise, PulsesRefusal};
+use state_codec::StateShape;
 use std::alloc::Global;
 use sync_types::NoMemory;
 
@@ -34,30 +34,20 @@ impl Construction for PulseNodes {
         read_pulses_header(alloc, feed, line)
     }
 
-    fn engine(
+    fn counter(
         alloc: Global,
-        read: HeaderRead<PulsePlan>,
-    ) -> Result<NodeEngine<PulseMachine>, NoMemory> {
-        let HeaderRead {
-            plan,
-            shape: _shape,
-            header,
-            ended: _,
-        } = read;
+        plan: PulsePlan,
+        _shape: StateShape,
+    ) -> Result<PulseMachine, NoMemory> {
         plan.tell();
-        let machine = PulseMachine::new(alloc, plan)?;
-        NodeEngine::new(alloc, machine, header.id, header.state)
+        PulseMachine::new(alloc, plan)
     }
 
     fn put_refusal<K: Sink>(
         sink: &mut K,
-        refusal: HeaderRefusal<LinePremise>,
+        line: u64,
+        premise: LinePremise,
     ) -> Result<(), WriteFault> {
-        match refusal {
-            HeaderRefusal::Plan { line, premise } => {
-                put_refusal(sink, PulsesRefusal { line, premise })
-            }
-            HeaderRefusal::Node { line, rule } => put_node_refusal(sink, line, rule),
-        }
+        put_refusal(sink, PulsesRefusal { line, premise })
     }
 }

@@ -34,8 +34,8 @@ returns-in-Err-TooLong-clause-does g c =
     (search rules) (sym (name ∙ same))
     (header_long words _ _ _ _ _ _ c.new-feed.ensures.left _ header cause)
 
-pub returns-in-Ok-put_refusal-clause-does : goal.returns-in-Ok-put_refusal-clause-does
-returns-in-Ok-put_refusal-clause-does g c =
+pub returns-in-Ok-put_header_refusal-clause-does : goal.returns-in-Ok-put_header_refusal-clause-does
+returns-in-Ok-put_header_refusal-clause-does g c =
     let words = g.C.Construction.words in
     let same = c.new-feed.ensures.same_reference in
     let name = c.read_header.ensures.same_reference in
@@ -48,10 +48,10 @@ returns-in-Ok-put_refusal-clause-does g c =
     c.read_header.new.feed.source.now _ c.read_header.new.feed.source.ghost_name _ _
     (search rules) (sym (name ∙ same))
     (header_refused words _ _ _ _ _ _ c.new-feed.ensures.left _ header cause _ _
-    (rw c.in-Err-Refused.refusal-is at c.in-Ok-put_refusal.ensures)))
+    (rw c.in-Err-Refused.refusal-is at c.in-Ok-put_header_refusal.ensures)))
 
-pub returns-in-Err-put_refusal-clause-does : goal.returns-in-Err-put_refusal-clause-does
-returns-in-Err-put_refusal-clause-does g c =
+pub returns-in-Err-put_header_refusal-clause-does : goal.returns-in-Err-put_header_refusal-clause-does
+returns-in-Err-put_header_refusal-clause-does g c =
     let words = g.C.Construction.words in
     let same = c.new-feed.ensures.same_reference in
     let name = c.read_header.ensures.same_reference in
@@ -62,7 +62,7 @@ returns-in-Err-put_refusal-clause-does g c =
     c.read_header.new.feed.source.now _ c.read_header.new.feed.source.ghost_name _ _
     (search rules) (sym (name ∙ same))
     (header_cut words _ _ _ _ _ _ c.new-feed.ensures.left _ header cause _ _
-    (rw c.in-Err-Refused.refusal-is at c.in-Err-put_refusal.ensures))
+    (rw c.in-Err-Refused.refusal-is at c.in-Err-put_header_refusal.ensures))
 
 pub returns-then-ended-clause-does : goal.returns-then-ended-clause-does
 returns-then-ended-clause-does g c =
@@ -71,7 +71,7 @@ returns-then-ended-clause-does g c =
     let same = c.new-feed.ensures.same_reference in
     let name = c.read_header.ensures.same_reference in
     let read = c.in-Ok-read_header.ensures in
-    let node = is_node_of words machine _ _ _ read.header _ c.in-Ok-engine.ensures in
+    let node = is_node_of words machine _ _ _ read.header _ c.in-Ok-engine_of.ensures in
     let still = read.cause ∙ c.new-feed.ensures.faults in
     rw c.ended_by.ensures
     (does_end words g.S.Source.left g.S.Source.faults _ _ _
@@ -88,7 +88,7 @@ returns-clause-does g c =
     let same = c.new-feed.ensures.same_reference in
     let name = c.serve-2.ensures.same_reference ∙ c.read_header.ensures.same_reference in
     let read = c.in-Ok-read_header.ensures in
-    let node = is_node_of words machine _ _ _ read.header _ c.in-Ok-engine.ensures in
+    let node = is_node_of words machine _ _ _ read.header _ c.in-Ok-engine_of.ensures in
     let still = read.cause ∙ c.new-feed.ensures.faults in
     rw c.ended_by-2.ensures
     (does_end words g.S.Source.left g.S.Source.faults _ _ _
