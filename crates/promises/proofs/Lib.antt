@@ -17,3 +17,5 @@ pub mod HeardCalls
 pub mod Restarts
 pub mod NodeInputs
 pub mod DemoTexts
+pub mod RestartInputs
+pub mod Processes

@@ -15,3 +15,5 @@ pub mod NodeCalls
 pub mod CallWindows
 pub mod Restarts
 pub mod NodePromises
+pub mod RestartInputs
+pub mod Processes
