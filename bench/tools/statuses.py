@@ -70,13 +70,26 @@ def counterlab_cases():
     ]
 
 
+FOUR_PULSES = b"pulses 1\ngroup 4 1 10\nend\n"
+NODE_OF_FOUR = FOUR_PULSES + b"node 1\nid 1\nstate 000000\nend\n"
+ZERO_CELL, CELL_BEHIND_ZEROS = b"\x00\x03\x00\x00\x00", b"\x00\x03\x22\x20\xd0"
+
+
 def pulselab_cases():
     refused = b"refused pulses line 2 premise quorum\n"
+    too_few = b"pulses 1\ngroup 3 1 10\nend\n"
+    no_such = FOUR_PULSES + b"node 1\nid 4\n"
+    cut = b"the input ends in packet 0, in the cell of node 1"
     return [
         own_run("pulselab"),
-        (1, ["plan"], b"pulses 1\ngroup 3 1 10\nend\n", refused, b""),
+        (0, ["node"], NODE_OF_FOUR + 4 * ZERO_CELL, ZERO_CELL + CELL_BEHIND_ZEROS, b""),
+        (1, ["plan"], too_few, refused, b""),
+        (1, ["node"], too_few, refused, b""),
         told(2, [], b"", b"usage: pulselab "),
+        (3, ["node"], no_such, b"refused node line 5 rule node\n", b""),
         told(8, ["plan"], TOO_LONG, b"the input is too long"),
+        told(8, ["node"], TOO_LONG, b"the input is too long"),
+        (9, ["node"], NODE_OF_FOUR + ZERO_CELL, ZERO_CELL, cut),
     ]
 
 

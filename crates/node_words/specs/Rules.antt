@@ -1,0 +1,23 @@
+-- The words of rules, and the line of a node part that is refused.
+use Rattle.std.specs.Prelude.{ℕ, List, [], ◌∷◌, codes, decimal}
+use Rattle.std.specs.List.{concat}
+use Rattle.sync_types.specs.declared.answers.Rule.{Rule}
+use Rattle.sync_types.specs.declared.answers.Rule.TheVariants as rule
+
+abbrev pub rule_word : Rule → List ℕ
+rule_word rule.Form = codes "form"
+rule_word rule.Limit = codes "limit"
+rule_word rule.Node = codes "node"
+rule_word rule.Order = codes "order"
+rule_word rule.Faults = codes "faults"
+rule_word rule.Range = codes "range"
+rule_word rule.Hex = codes "hex"
+rule_word rule.Name = codes "name"
+rule_word rule.Slot = codes "slot"
+rule_word rule.Overlap = codes "overlap"
+
+abbrev pub node_refusal : (line : ℕ) → Rule → List ℕ
+node_refusal line r = concat (
+    codes "refused node line " ∷ decimal line
+    ∷ codes " rule " ∷ rule_word r
+    ∷ codes "\n" ∷ [])

@@ -1,0 +1,10 @@
+//! A node of a pulse plan that reads a header and packets, and what calls of such nodes promise.
+#![tactic(auto)]
+
+mod nodes;
+mod refusals;
+
+pub mod laws;
+
+pub use nodes::PulseNodes;
+pub use refusals::put_refusal;
