@@ -30,6 +30,7 @@ SAY_VERSION = {
     "bindings/counterlab.h": f'#define COUNTERLAB_VERSION "{VERSION}"',
     "bindings/rust/Cargo.toml": f'version = "{VERSION}.0"',
 }
+DRAWN = CRATES / "try_pictures" / "data" / "pictures"
 NAMES = ["counterlab", "pulselab", "choose", "draw", "states", "sweep", "trace"]
 # How many bytes an input of `run` may have.
 LIMIT = 2**20
@@ -160,8 +161,10 @@ def sweep_cases():
 
 
 def draw_cases():
+    traced = "four_nodes_traced"
     return [
         own_run("draw"),
+        (0, ["--page"], (DRAWN / f"{traced}.txt").read_bytes(), (DRAWN / f"{traced}.html").read_bytes(), b""),
         told(1, [], b"refused plan line 1 premise form\n", b"no run to draw: refused plan line 1"),
         told(1, [], b"", b"no run to draw: "),
     ]

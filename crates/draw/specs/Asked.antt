@@ -1,16 +1,20 @@
--- The texts that words ask for: `--help` or `--version`, alone.
+-- What words ask for: `--help` or `--version`, alone, for a text, and `--page` for a page.
 use Rattle.std.specs.Prelude.{◌≡◌, ℕ, List, [], ◌∷◌, Option, Some, None, Bool, true, false}
 use Rattle.std.specs.Prelude.{Result, MatchResult, if◌then◌else◌, codes}
 use Rattle.std.specs.List.{concat}
 use Rattle.std.specs.Str.{bytes_eq}
 use Rattle.texts.specs.Growth.{Told, Wrote, Cut}
+use Rattle.run_pictures.specs.declared.pages.Form.{Form}
+use Rattle.run_pictures.specs.declared.pages.Form.TheVariants.{Picture, Page}
 
 abbrev pub help_text : List ℕ
 help_text = concat (
     codes "usage: draw < RUN > PICTURE.svg\n       draw < TRACE > PICTURE.svg\n"
+    ∷ codes "       draw --page < TRACE > PAGE.html\n"
     ∷ codes "Draws what `counterlab run` or `trace` writes: a picture in SVG with a column\n"
     ∷ codes "for each configuration and a line of cells for each node. Of a trace it\n"
-    ∷ codes "draws each level too, with the kings' turns.\n" ∷ [])
+    ∷ codes "draws each level too, with the kings' turns. With --page it writes a page for a\n"
+    ∷ codes "browser, which says of the cell under the pointer what its lines say.\n" ∷ [])
 
 abbrev pub version_text : List ℕ
 version_text = codes "draw 1.0\n"
@@ -27,6 +31,16 @@ abbrev pub text_for : List (List ℕ) → Option (List ℕ)
 text_for [] = None
 text_for (word ∷ []) = text_alone word
 text_for (word ∷ other ∷ words) = None
+
+-- what is drawn for a single word
+abbrev pub form_alone : List ℕ → Form
+form_alone word = if bytes_eq word (codes "--page") then Page else Picture
+
+-- what is drawn for words that ask for no text
+abbrev pub form_for : List (List ℕ) → Form
+form_for [] = Picture
+form_for (word ∷ []) = form_alone word
+form_for (word ∷ other ∷ words) = Picture
 
 -- Whether a text was asked for is answered, and it was written, or a front of it where a write
 -- failed; where none was asked for nothing was written.

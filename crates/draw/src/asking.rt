@@ -1,10 +1,12 @@
-//! Tells how the program is used, and its version.
+//! Tells how the program is used, and its version, and what is to be drawn.
 
-ghost use Rattle.std.specs.Prelude.{map, string_bytes};
+ghost use Rattle.std.specs.Prelude.{◌≡◌, map, string_bytes};
 ghost use Rattle.texts.specs.Growth.{Puts};
-ghost use Rattle.draw.specs.Asked.{Tells, help_text, text_alone, text_for, version_text};
+ghost use Rattle.draw.specs.Asked.{Tells, form_alone, form_for, help_text, text_alone, text_for};
+ghost use Rattle.draw.specs.Asked.{version_text};
 
 use edge_io::{Sink, WriteFault, put_all};
+use run_pictures::Form;
 
 /// Writes how the program is used.
 fn put_help<K: Sink>(sink: &mut K) -> Result<(), WriteFault>
@@ -12,10 +14,12 @@ fn put_help<K: Sink>(sink: &mut K) -> Result<(), WriteFault>
 {
     put_all(
         sink,
-        b"usage: draw < RUN > PICTURE.svg\n       draw < TRACE > PICTURE.svg\n\
+        b"usage: draw < RUN > PICTURE.svg\n       draw < TRACE > PICTURE.svg\n       \
+        draw --page < TRACE > PAGE.html\n\
         Draws what `counterlab run` or `trace` writes: a picture in SVG with a column\n\
         for each configuration and a line of cells for each node. Of a trace it\n\
-        draws each level too, with the kings' turns.\n",
+        draws each level too, with the kings' turns. With --page it writes a page for a\n\
+        browser, which says of the cell under the pointer what its lines say.\n",
     )
 }
 
@@ -53,5 +57,25 @@ pub fn tell<K: Sink>(words: &[String], sink: &mut K) -> Result<bool, WriteFault>
     match words {
         [word] => tell_alone(word.as_str(), sink),
         _ => Ok(false),
+    }
+}
+
+/// What is to be drawn for a single word.
+fn form_alone(word: &str) -> Form
+    ensures { result ≡ form_alone word.now }
+{
+    if word == "--page" {
+        return Form::Page;
+    }
+    Form::Picture
+}
+
+/// What is to be drawn: a page where `--page` is the only word, and else a picture.
+pub fn form_for(words: &[String]) -> Form
+    ensures { result ≡ form_for (map string_bytes words.now) }
+{
+    match words {
+        [word] => form_alone(word.as_str()),
+        _ => Form::Picture,
     }
 }

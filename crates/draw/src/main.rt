@@ -20,10 +20,10 @@ macro_rules! written {
 
 mod asking;
 
-use crate::asking::tell;
+use crate::asking::{form_for, tell};
 use edge_io::{Sink, StdSink, StdSource, first_line, read_all};
 use program_words::{arguments, words};
-use run_pictures::draw;
+use run_pictures::{Form, draw};
 use std::io;
 use std::process::ExitCode;
 
@@ -41,12 +41,17 @@ fn refusal(input: &[u8]) -> Option<&str> {
 }
 
 /// Draws what was read, or tells why it does not.
-fn draw_input<K: Sink>(rt: &HostRuntime, input: &[u8], sink: &mut K) -> anyhow::Result<ExitCode> {
+fn draw_input<K: Sink>(
+    rt: &HostRuntime,
+    input: &[u8],
+    form: Form,
+    sink: &mut K,
+) -> anyhow::Result<ExitCode> {
     if let Some(line) = refusal(input) {
         eprintln!(rt; "no run to draw: {line}")?;
         return Ok(ExitCode::FAILURE);
     }
-    if let Err(error) = draw(rt.alloc(), input, sink) {
+    if let Err(error) = draw(rt.alloc(), input, form, sink) {
         eprintln!(rt; "no run to draw: {error}")?;
         return Ok(ExitCode::FAILURE);
     }
@@ -54,21 +59,16 @@ fn draw_input<K: Sink>(rt: &HostRuntime, input: &[u8], sink: &mut K) -> anyhow::
 }
 
 /// Reads standard input and draws it.
-fn draw_stdin<K: Sink>(rt: &HostRuntime, sink: &mut K) -> anyhow::Result<ExitCode> {
+fn draw_stdin<K: Sink>(rt: &HostRuntime, form: Form, sink: &mut K) -> anyhow::Result<ExitCode> {
     let input = read_all(rt.alloc(), &mut StdSource::new(rt.stdin()), LONGEST_INPUT)?;
-    draw_input(rt, &input, sink)
-}
-
-/// Whether a word asked for a text, which was then written.
-fn is_told<K: Sink>(rt: &HostRuntime, sink: &mut K) -> anyhow::Result<bool> {
-    let arguments = arguments(rt)?;
-    Ok(tell(words(&arguments), sink)?)
+    draw_input(rt, &input, form, sink)
 }
 
 fn main(rt: HostRuntime) -> anyhow::Result<ExitCode> {
     let mut sink = StdSink::new(io::writer(&rt));
-    if is_told(&rt, &mut sink)? {
+    let arguments = arguments(&rt)?;
+    if tell(words(&arguments), &mut sink)? {
         return Ok(ExitCode::SUCCESS);
     }
-    draw_stdin(&rt, &mut sink)
+    draw_stdin(&rt, form_for(words(&arguments)), &mut sink)
 }

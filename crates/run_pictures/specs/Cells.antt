@@ -1,12 +1,15 @@
 -- The cells of a picture, and the numbers and words beside them, in SVG.
-use Rattle.std.specs.Prelude.{ℕ, ◌+◌, ◌*◌, ◌%◌, ◌==◌, List, [], ◌∷◌, ◌++◌, Bool, true, false}
-use Rattle.std.specs.Prelude.{Option, Some, None, if◌then◌else◌, codes, decimal}
+use Rattle.std.specs.Prelude.{ℕ, ◌+◌, ◌-◌, ◌%◌, ◌==◌, List, [], ◌∷◌, ◌++◌, Bool, true, false}
+use Rattle.std.specs.Prelude.{if◌then◌else◌, codes, decimal}
 use Rattle.std.specs.List.{concat}
 use Rattle.run_pictures.specs.declared.charts.Cell.{Cell}
+use Rattle.run_pictures.specs.declared.faces.Face.{Face}
+use Rattle.run_pictures.specs.declared.faces.Face.TheVariants as face
 use Rattle.run_pictures.specs.declared.frames.Frame.{Frame}
 use Rattle.run_pictures.specs.declared.frames.Spot.{Spot}
-use Rattle.run_pictures.specs.Frames.{band_top, column_middle, left, line_top, middle, spot_top}
-use Rattle.run_pictures.specs.Frames.{width}
+use Rattle.run_pictures.specs.Faces.{face_of, lead_of, shade}
+use Rattle.run_pictures.specs.Frames.{band_top, column_middle, configuration, left, line_top}
+use Rattle.run_pictures.specs.Frames.{middle, spot_top, width}
 
 -- ---- beside the cells
 
@@ -45,10 +48,21 @@ node_label spot node =
 
 -- ---- cells
 
--- one of three parts of an output's colour: neighbours differ much, and outputs that have the same
--- three parts are more than a million apart
-abbrev pub shade : (turn size output : ℕ) → ℕ
-shade turn size output = 128 + output % size * turn % size
+-- What is told of a node where the pointer rests on its cell: the front of a group, which the cell
+-- is in.
+abbrev pub hover_front : Spot → (node : ℕ) → List ℕ
+hover_front spot node = concat (
+    codes "<g><title>node " ∷ decimal node
+    ∷ codes ", configuration " ∷ decimal (configuration spot) ∷ [])
+
+-- what it shows, at the end of that
+abbrev pub face_word : Face → List ℕ
+face_word face.Faulty = codes ": faulty</title>\n"
+face_word face.Nothing = codes ": no value</title>\n"
+face_word (face.Value output) = concat (codes ": " ∷ decimal output ∷ codes "</title>\n" ∷ [])
+
+abbrev pub hover : Spot → (node : ℕ) → Face → List ℕ
+hover spot node face = hover_front spot node ++ face_word face
 
 -- the front of a rectangle, up to its filling
 abbrev pub rectangle_front : Spot → List ℕ
@@ -58,35 +72,50 @@ rectangle_front spot = concat (
     ∷ codes "' width='" ∷ decimal (width spot)
     ∷ codes "' height='18' stroke='white' fill='" ∷ [])
 
--- the rest of it: hatched for a faulty node, else the output's colour
-abbrev pub filling : Option ℕ → List ℕ
-filling None = codes "url(#faulty)'/>\n"
-filling (Some output) = concat (
-    codes "rgb(" ∷ decimal (shade 41 113 output)
-    ∷ codes "," ∷ decimal (shade 67 109 output)
-    ∷ codes "," ∷ decimal (shade 89 107 output)
+-- the colour of a lead, and the end of a rectangle
+abbrev pub colour : (lead : ℕ) → List ℕ
+colour lead = concat (
+    codes "rgb(" ∷ decimal (shade 20 41 113 lead)
+    ∷ codes "," ∷ decimal (shade 90 67 109 lead)
+    ∷ codes "," ∷ decimal (shade 100 89 107 lead)
     ∷ codes ")'/>\n" ∷ [])
 
--- an output within its rectangle
-abbrev pub inscription : Spot → Option ℕ → List ℕ
-inscription spot None = []
-inscription spot (Some output) = number_text (middle spot) (spot_top spot + 13) output
+-- the rest of a rectangle: nodes that count keep one colour
+abbrev pub filling : Spot → Face → List ℕ
+filling spot face.Faulty = codes "url(#faulty)'/>\n"
+filling spot face.Nothing = codes "whitesmoke'/>\n"
+filling spot (face.Value output) =
+    colour (lead_of spot.frame.modulus (configuration spot) output)
+
+-- a cross, where there is no value
+abbrev pub cross : Spot → List ℕ
+cross spot = concat (
+    codes "<path d='M" ∷ decimal (middle spot - 3)
+    ∷ codes " " ∷ decimal (spot_top spot + 6)
+    ∷ codes "l6 6m0 -6l-6 6' stroke='dimgray'/>\n" ∷ [])
+
+-- what is written within a rectangle
+abbrev pub inscription : Spot → Face → List ℕ
+inscription spot face.Faulty = []
+inscription spot face.Nothing = cross spot
+inscription spot (face.Value output) = number_text (middle spot) (spot_top spot + 13) output
 
 -- a rectangle with what a node shows
-abbrev pub square : Spot → Option ℕ → List ℕ
-square spot shown = rectangle_front spot ++ (filling shown ++ inscription spot shown)
+abbrev pub square : Spot → Face → List ℕ
+square spot face = rectangle_front spot ++ (filling spot face ++ inscription spot face)
 
--- a corner, black where the start of an era put a node into another state
-abbrev pub hit_mark : Spot → Bool → List ℕ
-hit_mark spot true = concat (
+-- a corner, black where the start of an era put a node into another state, and the end of a group
+abbrev pub cell_close : Spot → Bool → List ℕ
+cell_close spot true = concat (
     codes "<path d='M" ∷ decimal (left spot)
     ∷ codes " " ∷ decimal (spot_top spot)
-    ∷ codes "h8l-8 8z'/>\n" ∷ [])
-hit_mark spot false = []
+    ∷ codes "h8l-8 8z'/></g>\n" ∷ [])
+cell_close spot false = codes "</g>\n"
 
 -- what a node shows, with that corner
-abbrev pub shown_at : Spot → Option ℕ → (hit : Bool) → List ℕ
-shown_at spot shown hit = square spot shown ++ hit_mark spot hit
+abbrev pub shown_at : Spot → (node : ℕ) → Face → (hit : Bool) → List ℕ
+shown_at spot node face hit =
+    hover spot node face ++ (square spot face ++ cell_close spot hit)
 
 -- what stands above a column, drawn with the first cell
 abbrev pub cell_head : Frame → Cell → List ℕ
@@ -104,7 +133,7 @@ cell_spot frame cell = record {
 abbrev pub cell_at : Spot → Cell → List ℕ
 cell_at spot cell =
     cell_head spot.frame cell
-    ++ (node_label spot cell.node ++ shown_at spot cell.shown cell.is_hit)
+    ++ (node_label spot cell.node ++ shown_at spot cell.node (face_of cell.shown) cell.is_hit)
 
 abbrev pub cell_picture : Frame → Cell → List ℕ
 cell_picture frame cell = cell_at (cell_spot frame cell) cell

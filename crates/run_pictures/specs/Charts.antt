@@ -61,4 +61,5 @@ frame_of chart = record {
   columns = chart.rows;
   digits = chart.digits;
   height = band_height chart.nodes;
+  modulus = chart.modulus;
 }

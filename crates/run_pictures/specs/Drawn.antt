@@ -6,7 +6,9 @@ use Rattle.run_pictures.specs.declared.traces.Trace.{Trace}
 use Rattle.run_pictures.specs.declared.drawing.DrawError.{DrawError}
 use Rattle.run_pictures.specs.declared.drawing.DrawError.TheVariants as error
 use Rattle.run_pictures.specs.Charts.{chart_text}
+use Rattle.run_pictures.specs.declared.pages.Form.{Form}
 use Rattle.run_pictures.specs.Laid.{IsLaid}
+use Rattle.run_pictures.specs.Pages.{formed}
 use Rattle.run_pictures.specs.Pictures.{picture_text}
 use Rattle.run_pictures.specs.Traces.{trace_text}
 use Rattle.run_pictures.specs.TraceLaid.{IsTraceLaid}
@@ -29,6 +31,16 @@ pub record DrawsTrace (text : List ℕ) (holds : List ℕ → Type 0) : Type 0 w
 -- a text is drawn as one of the two
 abbrev pub Draws : (text : List ℕ) → (holds : List ℕ → Type 0) → Type 0
 Draws text holds = DrawsRows text holds ⊎ DrawsTrace text holds
+
+-- the text is drawn, and the picture, or its page, has this
+abbrev pub DrawsAs : Form → (text : List ℕ) → (holds : List ℕ → Type 0) → Type 0
+DrawsAs form text holds = Draws text (λ picture. holds (formed form text picture))
+
+abbrev pub RowsAs : Form → (text : List ℕ) → (holds : List ℕ → Type 0) → Type 0
+RowsAs form text holds = DrawsRows text (λ picture. holds (formed form text picture))
+
+abbrev pub TraceAs : Form → (text : List ℕ) → (holds : List ℕ → Type 0) → Type 0
+TraceAs form text holds = DrawsTrace text (λ picture. holds (formed form text picture))
 
 -- What was written of a text: its picture, or a front of it, or nothing.
 abbrev pub Does : {T : Type 0} → Result T DrawError

@@ -20,6 +20,10 @@ column_middle digits column = column_left digits column + column_width digits / 
 abbrev pub band_top : (height column : ℕ) → ℕ
 band_top height column = column / 120 * height
 
+-- the configuration of a spot
+abbrev pub configuration : Spot → ℕ
+configuration spot = spot.frame.first + spot.column
+
 -- the left side of a spot, and its middle
 abbrev pub left : Spot → ℕ
 left spot = column_left spot.frame.digits spot.column

@@ -1,4 +1,5 @@
 pub mod Frames
+pub mod Faces
 pub mod Charts
 pub mod Laid
 pub mod Cells
@@ -7,5 +8,7 @@ pub mod Hits
 pub mod Traces
 pub mod Strips
 pub mod TracePictures
+pub mod TraceSaid
 pub mod TraceLaid
+pub mod Pages
 pub mod Drawn

@@ -114,6 +114,8 @@ abbrev pub picture_front : (width height : ℕ) → List ℕ
 picture_front width height = concat (
     codes "<svg xmlns='http://www.w3.org/2000/svg' width='" ∷ decimal width
     ∷ codes "' height='" ∷ decimal height
+    ∷ codes "' viewBox='0 0 " ∷ decimal width
+    ∷ codes " " ∷ decimal height
     ∷ codes "' font-family='monospace' font-size='11' text-anchor='middle'>\n" ∷ [])
 
 -- how faulty nodes are hatched, and the ground
@@ -123,15 +125,15 @@ picture_ground = concat (
     ∷ codes "<path d='M0 0H6V6H0Z' fill='white'/><path d='M0 6L6 0' stroke='black'/>"
     ∷ codes "</pattern></defs>\n<rect width='100%' height='100%' fill='white'/>\n" ∷ [])
 
--- how wide a picture is, with a line of the caption that has two configurations
+-- how wide a picture is, with a legend and a line of the caption that has two configurations
 abbrev pub picture_width : Frame → ℕ
-picture_width frame = max (right frame) (141 + 14 * frame.digits)
+picture_width frame = max (right frame) (max 330 (141 + 14 * frame.digits))
 
 -- the front, with the picture's width and height
 abbrev pub sized_front : Chart → List ℕ
 sized_front chart =
     picture_front (picture_width (frame_of chart))
-    (bottom (frame_of chart) + 50 + 16 * length chart.ends.items)
+    (bottom (frame_of chart) + 102 + 16 * length chart.ends.items)
 
 -- what the picture is of: configurations, nodes and the bound
 abbrev pub facts_in : Frame → (nodes bound : ℕ) → List ℕ
@@ -143,10 +145,37 @@ facts_in frame nodes bound =
 abbrev pub facts : Chart → List ℕ
 facts chart = facts_in (frame_of chart) chart.nodes chart.bound
 
+-- what the colours of outputs mean, from that height on
+abbrev pub colour_legend : (y modulus : ℕ) → List ℕ
+colour_legend y modulus = concat (
+    codes "<g text-anchor='start' transform='translate(4," ∷ decimal y
+    ∷ codes ")'>\n<rect width='18' height='18' fill='rgb(148,218,228)'/>"
+    ∷ codes "<text x='24' y='13'>colour: (output - configuration) mod " ∷ decimal modulus
+    ∷ codes "</text>\n</g>\n" ∷ [])
+
+-- what else the cells mean
+abbrev pub cell_legend : (y : ℕ) → List ℕ
+cell_legend y = concat (
+    codes "<g text-anchor='start' transform='translate(4," ∷ decimal y
+    ∷ codes ")'>\n<rect width='18' height='18' fill='url(#faulty)'/>"
+    ∷ codes "<text x='24' y='13'>faulty</text>\n"
+    ∷ codes "<rect x='110' width='18' height='18' fill='silver'/><path d='M110 0h8l-8 8z'/>"
+    ∷ codes "<text x='134' y='13'>hit by an era's start</text>\n</g>\n" ∷ [])
+
+-- both, below so many lines of the caption
+abbrev pub legend_in : Frame → (lines : ℕ) → List ℕ
+legend_in frame lines =
+    colour_legend (bottom frame + 54 + 16 * lines) frame.modulus
+    ++ cell_legend (bottom frame + 76 + 16 * lines)
+
+abbrev pub chart_legend : Chart → List ℕ
+chart_legend chart = legend_in (frame_of chart) (length chart.ends.items)
+
 abbrev pub picture_text : Chart → List ℕ
 picture_text chart =
     sized_front chart
     ++ (picture_ground
     ++ (flat_map (cell_picture (frame_of chart)) chart.cells.items
     ++ (facts chart
-    ++ (flat_map (end_picture chart) chart.ends.items ++ codes "</svg>\n"))))
+    ++ (flat_map (end_picture chart) chart.ends.items
+    ++ (chart_legend chart ++ codes "</svg>\n")))))

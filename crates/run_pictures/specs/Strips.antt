@@ -2,6 +2,8 @@
 use Rattle.std.specs.Prelude.{ℕ, ◌+◌, ◌-◌, ◌*◌, ◌/◌, List, [], ◌∷◌, ◌++◌, Bool, true, false, Option}
 use Rattle.std.specs.Prelude.{Some, None, if◌then◌else◌, codes, decimal}
 use Rattle.std.specs.List.{concat}
+use Rattle.run_pictures.specs.declared.faces.Face.{Face}
+use Rattle.run_pictures.specs.declared.faces.Face.TheVariants as face
 use Rattle.run_pictures.specs.declared.frames.Frame.{Frame}
 use Rattle.run_pictures.specs.declared.traces.Held.{Held}
 use Rattle.run_pictures.specs.declared.traces.Held.TheVariants.{Unmarked, Marked, Locked}
@@ -14,9 +16,10 @@ use Rattle.run_pictures.specs.declared.traces.Note.{Note}
 use Rattle.run_pictures.specs.declared.traces.Reign.{Reign}
 use Rattle.run_pictures.specs.declared.traces.Title.{Title}
 use Rattle.run_pictures.specs.declared.frames.Spot.{Spot}
-use Rattle.run_pictures.specs.Frames.{band_top, left, middle, spot_top, width}
-use Rattle.run_pictures.specs.Cells.{column_head, node_label, number_text, rectangle_front}
-use Rattle.run_pictures.specs.Cells.{shown_at}
+use Rattle.run_pictures.specs.Frames.{band_top, configuration, left, middle, spot_top, width}
+use Rattle.run_pictures.specs.Cells.{column_head, cross, hover_front, node_label, number_text}
+use Rattle.run_pictures.specs.Cells.{rectangle_front, shown_at}
+use Rattle.run_pictures.specs.Traces.{held_word, number_or_none, turn_word}
 
 -- ---- registers
 
@@ -26,6 +29,19 @@ ground None held = codes "whitesmoke'/>\n"
 ground (Some value) Unmarked = codes "#fde9b0'/>\n"
 ground (Some value) Marked = codes "#b5d3f2'/>\n"
 ground (Some value) Locked = codes "#a6dba0'/>\n"
+
+-- what is told of a register where the pointer rests on it
+abbrev pub level_told : (level : ℕ) → List ℕ
+level_told level = concat (codes ", level " ∷ decimal level ∷ codes ": " ∷ [])
+
+abbrev pub held_told : Held → List ℕ
+held_told held = held_word held ++ codes "</title>\n"
+
+abbrev pub register_hover : Spot → (node : ℕ) → Register → List ℕ
+register_hover spot node register =
+    hover_front spot node
+    ++ (level_told register.level
+    ++ (number_or_none register.value ++ held_told register.held))
 
 -- what lies on it: nothing, dots, or a frame
 abbrev pub cover : Spot → Held → List ℕ
@@ -46,33 +62,37 @@ cover spot Locked = concat (
 -- the value, or a cross, in the middle
 abbrev pub value_text : Spot → Option ℕ → List ℕ
 value_text spot (Some value) = number_text (middle spot) (spot_top spot + 13) value
-value_text spot None = concat (
-    codes "<path d='M" ∷ decimal (middle spot - 3)
-    ∷ codes " " ∷ decimal (spot_top spot + 6)
-    ∷ codes "l6 6m0 -6l-6 6' stroke='dimgray'/>\n" ∷ [])
+value_text spot None = cross spot
 
-abbrev pub register_at : Spot → Register → List ℕ
-register_at spot register =
+-- a register within its group
+abbrev pub register_in : Spot → Register → List ℕ
+register_in spot register =
     rectangle_front spot
     ++ (ground register.value register.held
     ++ (cover spot register.held ++ value_text spot register.value))
 
+abbrev pub register_at : Spot → (node : ℕ) → Register → List ℕ
+register_at spot node register =
+    register_hover spot node register ++ (register_in spot register ++ codes "</g>\n")
+
 -- ---- lines of a trace
 
--- what is drawn of an output: that of a faulty node counts for nothing
-abbrev pub output_of : (faulty : Bool) → ℕ → Option ℕ
-output_of true output = None
-output_of false output = Some output
+-- what is drawn of an output: that of a faulty node counts for nothing, and where a node has no
+-- value it shows none
+abbrev pub face_in : (faulty lost : Bool) → ℕ → Face
+face_in true lost output = face.Faulty
+face_in false true output = face.Nothing
+face_in false false output = face.Value output
 
 -- a faulty node is hatched, whatever it holds
-abbrev pub held_cell : Spot → (faulty : Bool) → Register → List ℕ
-held_cell spot true register = shown_at spot None false
-held_cell spot false register = register_at spot register
+abbrev pub held_cell : Spot → (node : ℕ) (faulty : Bool) → Register → List ℕ
+held_cell spot node true register = shown_at spot node face.Faulty false
+held_cell spot node false register = register_at spot node register
 
 abbrev pub seen_cell : Spot → Note → Seen → List ℕ
 seen_cell spot note (Shows shown) =
-    shown_at spot (output_of note.is_faulty shown.output) note.is_hit
-seen_cell spot note (Holds register) = held_cell spot note.is_faulty register
+    shown_at spot note.node (face_in note.is_faulty note.is_lost shown.output) note.is_hit
+seen_cell spot note (Holds register) = held_cell spot note.node note.is_faulty register
 
 abbrev pub note_head : Frame → Note → List ℕ
 note_head frame note = if note.is_first then column_head frame note.column else []
@@ -123,9 +143,25 @@ gold_part spot part edge = concat (
 abbrev pub reign_box : Spot → Reign → List ℕ
 reign_box spot reign = gold_part spot (share (width spot) reign.turn) (edge reign.is_common)
 
+-- what is told of a turn where the pointer rests on it
+abbrev pub reign_hover : Spot → Reign → List ℕ
+reign_hover spot reign = concat (
+    codes "<g><title>configuration " ∷ decimal (configuration spot)
+    ∷ codes ", level " ∷ decimal reign.level
+    ∷ codes ":" ∷ turn_word reign.turn ∷ decimal reign.king
+    ∷ codes "</title>\n" ∷ [])
+
+-- the king, and the end of a group
+abbrev pub king_text : Spot → (king : ℕ) → List ℕ
+king_text spot king = concat (
+    codes "<text x='" ∷ decimal (middle spot)
+    ∷ codes "' y='" ∷ decimal (spot_top spot + 11)
+    ∷ codes "'>" ∷ decimal king
+    ∷ codes "</text></g>\n" ∷ [])
+
 abbrev pub reign_at : Spot → Reign → List ℕ
 reign_at spot reign =
-    reign_box spot reign ++ number_text (middle spot) (spot_top spot + 11) reign.king
+    reign_hover spot reign ++ (reign_box spot reign ++ king_text spot reign.king)
 
 -- where a turn is drawn
 abbrev pub reign_spot : Frame → Reign → Spot

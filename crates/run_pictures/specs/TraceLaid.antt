@@ -4,7 +4,6 @@ use Rattle.std.specs.Prelude.{length, take, Bool, true, false, Option, Some, Non
 use Rattle.std.specs.Prelude.{All}
 use Rattle.std.specs.List.{count_by}
 use Rattle.run_pictures.specs.declared.traces.Heard.{Heard}
-use Rattle.run_pictures.specs.declared.traces.Register.{Register}
 use Rattle.run_pictures.specs.declared.traces.Seen.{Seen}
 use Rattle.run_pictures.specs.declared.traces.Seen.TheVariants.{Shows, Holds}
 use Rattle.run_pictures.specs.declared.traces.Note.{Note}
@@ -13,6 +12,7 @@ use Rattle.run_pictures.specs.declared.traces.Title.{Title}
 use Rattle.run_pictures.specs.declared.traces.Level.{Level}
 use Rattle.run_pictures.specs.declared.traces.Trace.{Trace}
 use Rattle.run_pictures.specs.Frames.{line_top}
+use Rattle.run_pictures.specs.TraceSaid.{IsTraceSaid}
 
 -- ---- lines
 
@@ -117,7 +117,7 @@ pub record IsTitleLaid (levels : List Level) (title : Title) : Type 0 where
 
 -- Each configuration has a column, and in it each node its lines: its output, and its registers in
 -- the strips of their levels. Each turn that a correct node hears is drawn. Nothing else covers the
--- outputs and the strips.
+-- outputs and the strips. The lines say what is drawn.
 pub record IsTraceLaid (trace : Trace) : Type 0 where
   pub some : 1 ≤ trace.nodes
   pub whole : count_by shows trace.notes.items ≡ trace.frame.columns * trace.nodes
@@ -127,3 +127,4 @@ pub record IsTraceLaid (trace : Trace) : Type 0 where
   pub titles : All (IsTitleLaid trace.levels.items) trace.titles.items
   pub strips : AreStacked trace.nodes 0 (line_top trace.nodes) trace.levels.items trace.cells
   pub high : trace.cells ≤ trace.frame.height
+  pub said : IsTraceSaid trace

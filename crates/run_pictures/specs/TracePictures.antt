@@ -1,13 +1,13 @@
 -- The picture of a trace, in SVG.
-use Rattle.std.specs.Prelude.{ℕ, ◌+◌, ◌*◌, max, length, List, [], ◌∷◌, ◌++◌, Option, Some, None}
+use Rattle.std.specs.Prelude.{ℕ, ◌+◌, ◌*◌, length, List, [], ◌∷◌, ◌++◌, Option, Some, None}
 use Rattle.std.specs.Prelude.{codes, decimal}
 use Rattle.std.specs.List.{concat, flat_map}
 use Rattle.run_pictures.specs.declared.frames.Frame.{Frame}
 use Rattle.run_pictures.specs.declared.traces.Level.{Level}
 use Rattle.run_pictures.specs.declared.traces.Trace.{Trace}
 use Rattle.run_pictures.specs.Frames.{bottom}
-use Rattle.run_pictures.specs.Pictures.{mark_at, number_caption, picture_front, picture_ground}
-use Rattle.run_pictures.specs.Pictures.{picture_width, span_caption}
+use Rattle.run_pictures.specs.Pictures.{colour_legend, mark_at, number_caption, picture_front}
+use Rattle.run_pictures.specs.Pictures.{picture_ground, picture_width, span_caption}
 use Rattle.run_pictures.specs.Strips.{note_picture, reign_picture, title_picture}
 
 -- the dots on what is marked
@@ -42,7 +42,7 @@ abbrev pub legend : (y : ℕ) → List ℕ
 legend y = concat (
     codes "<g text-anchor='start' transform='translate(4," ∷ decimal y
     ∷ codes ")'>\n<rect width='18' height='18' fill='whitesmoke'/>"
-    ∷ codes "<path d='M6 6l6 6m0 -6l-6 6' stroke='dimgray'/><text x='24' y='13'>none</text>\n"
+    ∷ codes "<path d='M6 6l6 6m0 -6l-6 6' stroke='dimgray'/><text x='24' y='13'>no value</text>\n"
     ∷ codes "<rect x='110' width='18' height='18' fill='#fde9b0'/>"
     ∷ codes "<text x='134' y='13'>unmarked</text>\n"
     ∷ codes "<rect y='22' width='18' height='18' fill='#b5d3f2'/>"
@@ -72,12 +72,14 @@ trace_facts trace =
 
 abbrev pub trace_front : Trace → List ℕ
 trace_front trace =
-    picture_front (max (picture_width trace.frame) 284)
-    (bottom trace.frame + 146 + 16 * length trace.levels.items)
+    picture_front (picture_width trace.frame)
+    (bottom trace.frame + 168 + 16 * length trace.levels.items)
 
--- what the cells mean, below the captions of so many levels
+-- what the colours and the cells mean, below the captions of so many levels
 abbrev pub legend_below : Frame → (levels : ℕ) → List ℕ
-legend_below frame levels = legend (bottom frame + 40 + 16 * levels)
+legend_below frame levels =
+    colour_legend (bottom frame + 40 + 16 * levels) frame.modulus
+    ++ legend (bottom frame + 62 + 16 * levels)
 
 -- the captions of the levels, and what the cells mean
 abbrev pub trace_captions : Trace → List ℕ

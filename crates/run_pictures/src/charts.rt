@@ -39,6 +39,8 @@ pub struct Chart {
     pub rows: u32,
     /// How many digits the longest number of a row has, that of its configuration too.
     pub digits: u16,
+    /// One more than the largest output, or 0 where there is none.
+    pub modulus: u64,
     /// The words of all rows, one after the other.
     pub cells: Vec<Cell>,
     pub ends: Vec<End>,
@@ -53,6 +55,7 @@ impl Drop for Chart {
             nodes: _,
             rows: _,
             digits: _,
+            modulus: _,
             cells,
             ends,
         } = self;
@@ -85,6 +88,7 @@ impl Chart {
             columns: self.rows,
             digits: self.digits,
             height: band_height(self.nodes),
+            modulus: self.modulus,
         }
     }
 }

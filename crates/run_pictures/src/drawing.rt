@@ -3,17 +3,16 @@
 ghost use Rattle.std.specs.Prelude.{◌≡◌, true, IfOk};
 ghost use Rattle.run_pictures.specs.Charts.{chart_text};
 ghost use Rattle.run_pictures.specs.Traces.{trace_text};
-ghost use Rattle.run_pictures.specs.Drawn.{Does, Draws, DrawsRows, DrawsTrace};
+ghost use Rattle.run_pictures.specs.Drawn.{Does, DrawsAs, RowsAs, TraceAs};
 
 use crate::charts::Chart;
 use crate::hits::mark_trace;
 use crate::laid::is_laid;
 use crate::layouts::lay_out;
-use crate::pictures::put_picture;
+use crate::pages::{Form, put_formed_chart, put_formed_trace};
 use crate::printing::put_chart;
 use crate::reading::{ChartError, read_chart};
 use crate::trace_laid::is_trace_laid;
-use crate::trace_pictures::put_trace_picture;
 use crate::trace_printing::put_trace;
 use crate::trace_reading::{is_trace, read_trace};
 use crate::traces::Trace;
@@ -85,25 +84,26 @@ fn draw_chart<K: Sink>(
     alloc: Global,
     chart: &Chart,
     text: &[u8],
+    form: Form,
     sink: &mut K,
 ) -> Result<(), DrawError>
-    ensures { Does result (DrawsRows text.now) (K.told sink.old) (K.told sink.new) }
+    ensures { Does result (RowsAs form text.now) (K.told sink.old) (K.told sink.new) }
 {
     if !is_text_of(alloc, chart, text)? || !is_laid(chart) {
         return Err(DrawError::Open);
     }
-    match put_picture(sink, chart) {
+    match put_formed_chart(sink, form, text, chart) {
         Ok(()) => Ok(()),
         Err(WriteFault) => Err(DrawError::Write),
     }
 }
 
 /// Draws a text that `run` wrote.
-fn draw_rows<K: Sink>(alloc: Global, text: &[u8], sink: &mut K) -> Result<(), DrawError>
-    ensures { Does result (DrawsRows text.now) (K.told sink.old) (K.told sink.new) }
+fn draw_rows<K: Sink>(alloc: Global, text: &[u8], form: Form, sink: &mut K) -> Result<(), DrawError>
+    ensures { Does result (RowsAs form text.now) (K.told sink.old) (K.told sink.new) }
 {
     let chart = read_chart(alloc, text)?;
-    draw_chart(alloc, &chart, text, sink)
+    draw_chart(alloc, &chart, text, form, sink)
 }
 
 /// Reads a trace, with all that is drawn of it.
@@ -119,39 +119,45 @@ fn draw_lines<K: Sink>(
     alloc: Global,
     trace: &Trace,
     text: &[u8],
+    form: Form,
     sink: &mut K,
 ) -> Result<(), DrawError>
-    ensures { Does result (DrawsTrace text.now) (K.told sink.old) (K.told sink.new) }
+    ensures { Does result (TraceAs form text.now) (K.told sink.old) (K.told sink.new) }
 {
     if !is_text_of_trace(alloc, trace, text)? || !is_trace_laid(trace) {
         return Err(DrawError::Open);
     }
-    match put_trace_picture(sink, trace) {
+    match put_formed_trace(sink, form, text, trace) {
         Ok(()) => Ok(()),
         Err(WriteFault) => Err(DrawError::Write),
     }
 }
 
 /// Draws a text that `trace` wrote.
-fn draw_trace<K: Sink>(alloc: Global, text: &[u8], sink: &mut K) -> Result<(), DrawError>
-    ensures { Does result (DrawsTrace text.now) (K.told sink.old) (K.told sink.new) }
+fn draw_trace<K: Sink>(
+    alloc: Global,
+    text: &[u8],
+    form: Form,
+    sink: &mut K,
+) -> Result<(), DrawError>
+    ensures { Does result (TraceAs form text.now) (K.told sink.old) (K.told sink.new) }
 {
     let trace = trace_of(alloc, text)?;
-    draw_lines(alloc, &trace, text, sink)
+    draw_lines(alloc, &trace, text, form, sink)
 }
 
 /// Draws a text that `run` or `trace` wrote. Where it answers Ok, the text is that of a chart or of
-/// a trace, letter for letter, and the picture of this was written.
+/// a trace, letter for letter, and the picture of this was written, or the page of it.
 ///
 /// `Chart` comes where a line is not what should stand there, `Open` where the last newline is
 /// missing, `NoMemory` where memory ran out; then nothing was written. `Write` comes where the sink
 /// counted a fault; a front of the picture was then taken.
-pub fn draw<K: Sink>(alloc: Global, text: &[u8], sink: &mut K) -> Result<(), DrawError>
-    ensures { Does result (Draws text.now) (K.told sink.old) (K.told sink.new) }
+pub fn draw<K: Sink>(alloc: Global, text: &[u8], form: Form, sink: &mut K) -> Result<(), DrawError>
+    ensures { Does result (DrawsAs form text.now) (K.told sink.old) (K.told sink.new) }
 {
     if is_trace(alloc, text)? {
-        draw_trace(alloc, text, sink)
+        draw_trace(alloc, text, form, sink)
     } else {
-        draw_rows(alloc, text, sink)
+        draw_rows(alloc, text, form, sink)
     }
 }

@@ -2,7 +2,7 @@
 
 ghost use Rattle.std.specs.Prelude.{◌≡◌, ◌≤◌, ◌<◌, ◌^◌};
 ghost use Rattle.run_pictures.specs.Frames.{band_height, band_top, bottom, column_left};
-ghost use Rattle.run_pictures.specs.Frames.{column_middle};
+ghost use Rattle.run_pictures.specs.Frames.{column_middle, configuration};
 ghost use Rattle.run_pictures.specs.Frames.{column_width, left, line_top, middle, right, spot_top};
 ghost use Rattle.run_pictures.specs.Frames.{width};
 
@@ -19,6 +19,9 @@ pub struct Frame {
     pub digits: u16,
     /// How high a band is.
     pub height: u32,
+    /// What outputs count by, as far as they show it: one more than the largest one, or 0 where
+    /// there is none.
+    pub modulus: u64,
 }
 
 /// Where something is drawn: in a column, from a height of its band on.
@@ -58,6 +61,13 @@ pub fn band_top(height: u32, column: u32) -> u64
     ensures most { result < 2 ^ 58 }
 {
     u64::from(column / MOST_COLUMNS) * u64::from(height)
+}
+
+/// The configuration of a spot.
+pub fn configuration(spot: Spot) -> u64
+    ensures { result ≡ configuration spot }
+{
+    u64::from(spot.frame.first) + u64::from(spot.column)
 }
 
 /// The left side of a spot.

@@ -5,6 +5,7 @@ ghost use Rattle.run_pictures.specs.Hits.{may_follow};
 
 use crate::charts::{Cell, Chart, End};
 use crate::reading::ChartError;
+use crate::trace_said::{is_lost_before, value_before};
 use crate::traces::{Note, Seen, Trace};
 use std::alloc::{AllocFailed, Global};
 
@@ -153,9 +154,19 @@ fn mark_notes(trace: &mut Trace, pasts: &mut Vec<Past>) -> Result<(), ChartError
     Ok(())
 }
 
+/// Marks the outputs that stand for no value, as the lines behind them say.
+fn mark_lost(notes: &mut [Note]) {
+    let mut later = None;
+    for note in notes.iter_mut().rev() {
+        note.is_lost = is_lost_before(&note.seen, later);
+        later = value_before(&note.seen, later);
+    }
+}
+
 /// Marks the nodes that the starts of eras hit, as far as their numbers show it, and finds where an
-/// era must begin.
+/// era must begin. Marks the outputs that stand for no value.
 pub fn mark_trace(alloc: Global, trace: &mut Trace) -> Result<(), ChartError> {
     let mut pasts = Vec::new(alloc);
+    mark_lost(&mut trace.notes);
     mark_notes(trace, &mut pasts)
 }

@@ -2,7 +2,7 @@
 
 ghost use Rattle.std.specs.Prelude.{◌≡◌, ◌+◌, ◌*◌, ◌<◌, length, map, All, true};
 ghost use Rattle.std.specs.List.{range_with_len};
-ghost use Rattle.run_pictures.specs.Laid.{AreNext, IsLaid};
+ghost use Rattle.run_pictures.specs.Laid.{AreNext, HasOutput, IsBelow, IsLaid, IsModulusOf};
 
 use crate::charts::{Cell, Chart, End};
 
@@ -52,7 +52,49 @@ fn are_next(ends: &[End]) -> bool
     }
 }
 
-/// Whether the words of a chart stand where they belong, and the lines behind its rows.
+/// Whether an output is below a number.
+pub fn is_below(modulus: u64, shown: Option<u64>) -> bool
+    ensures { result ≡ true → IsBelow modulus shown }
+{
+    match shown {
+        None => true,
+        Some(output) => output < modulus,
+    }
+}
+
+/// Whether all outputs are.
+fn are_below(modulus: u64, cells: &[Cell]) -> bool
+    ensures { result ≡ true → All (λ cell. IsBelow modulus cell.shown) cells.now }
+{
+    for k in 0..cells.len() {
+        if !is_below(modulus, cells[k].shown) {
+            return false;
+        }
+    }
+    true
+}
+
+/// Whether an output is shown.
+fn has_output(cells: &[Cell], wanted: u64) -> bool
+    ensures { result ≡ true → HasOutput (λ cell. cell.shown) cells.now wanted }
+{
+    for k in 0..cells.len() {
+        if cells[k].shown == Some(wanted) {
+            return true;
+        }
+    }
+    false
+}
+
+/// Whether a number is the least one above all outputs.
+fn is_modulus_of(cells: &[Cell], modulus: u64) -> bool
+    ensures { result ≡ true → IsModulusOf (λ cell. cell.shown) cells.now modulus }
+{
+    are_below(modulus, cells) && (modulus == 0 || has_output(cells, modulus - 1))
+}
+
+/// Whether the words of a chart stand where they belong, and the lines behind its rows, and whether
+/// colours go by what the outputs count by.
 pub fn is_laid(chart: &Chart) -> bool
     ensures { result ≡ true → IsLaid chart.now }
 {
@@ -61,4 +103,5 @@ pub fn is_laid(chart: &Chart) -> bool
         && are_words_laid(chart.nodes, &chart.cells)
         && are_lines_laid(&chart.ends)
         && are_next(&chart.ends)
+        && is_modulus_of(&chart.cells, chart.modulus)
 }

@@ -3,9 +3,9 @@
 //!
 //! That each picture is the defined one of a chart or a trace, whose own text is just what was
 //! read, is proved ([`draw`]), of a chart that its words stand row by row and node by node, and of
-//! a trace that its lines stand in their columns, lines and strips, and that the kings' turns are
-//! there which correct nodes hear. That all that `run` and `trace` write is read, how wide columns
-//! are, and who is found hit, is not.
+//! a trace that its lines stand in their columns, lines and strips, and that just the kings' turns
+//! are there which correct nodes hear. Outputs that count have one colour. That all that `run` and
+//! `trace` write is read, how wide columns are, and who is found hit, is not.
 #![tactic(auto)]
 
 // As `?` behind a part of a text that is written, but with no call of its own.
@@ -20,12 +20,14 @@ macro_rules! written {
 
 mod charts;
 mod drawing;
+mod faces;
 mod frames;
 mod hits;
 mod laid;
 mod layouts;
 mod lines;
 mod marks;
+mod pages;
 mod pictures;
 mod printing;
 mod reading;
@@ -36,8 +38,12 @@ mod trace_lines;
 mod trace_pictures;
 mod trace_printing;
 mod trace_reading;
+mod trace_said;
 mod traces;
 mod turns;
+mod turns_said;
 
 pub use drawing::{DrawError, draw};
+pub use pages::{Form, put_page_behind, put_page_front};
+pub use pictures::{put_front, put_ground};
 pub use reading::{ChartError, Wanted};

@@ -1,13 +1,13 @@
 //! Draws a chart.
 
-ghost use Rattle.std.specs.Prelude.{◌≡◌};
+ghost use Rattle.std.specs.Prelude.{◌≡◌, length};
 ghost use Rattle.texts.specs.Growth.{Puts};
-ghost use Rattle.run_pictures.specs.Pictures.{facts, facts_in, last_of, number_caption};
+ghost use Rattle.run_pictures.specs.Pictures.{cell_legend, chart_legend, colour_legend, facts};
+ghost use Rattle.run_pictures.specs.Pictures.{facts_in, last_of, legend_in, number_caption};
 ghost use Rattle.run_pictures.specs.Pictures.{picture_front, picture_ground, picture_text};
-ghost use Rattle.run_pictures.specs.Pictures.{picture_width};
-ghost use Rattle.run_pictures.specs.Pictures.{sized_front, span_at, span_caption};
+ghost use Rattle.run_pictures.specs.Pictures.{picture_width, sized_front, span_at, span_caption};
 
-use crate::charts::Chart;
+use crate::charts::{Chart, End};
 use crate::frames::{Frame, bottom, right};
 use crate::marks::put_ends;
 use crate::squares::put_cells;
@@ -24,16 +24,20 @@ pub fn put_front<K: Sink>(sink: &mut K, width: u64, height: u64) -> Result<(), W
             Piece::Number(width),
             Piece::Text(b"' height='"),
             Piece::Number(height),
+            Piece::Text(b"' viewBox='0 0 "),
+            Piece::Number(width),
+            Piece::Text(b" "),
+            Piece::Number(height),
             Piece::Text(b"' font-family='monospace' font-size='11' text-anchor='middle'>\n"),
         ],
     )
 }
 
-/// How wide a picture is, with a line of the caption that has two configurations.
+/// How wide a picture is, with a legend and a line of the caption that has two configurations.
 pub fn picture_width(frame: Frame) -> u64
     ensures { result ≡ picture_width frame }
 {
-    right(frame).max(141 + 14 * u64::from(frame.digits))
+    right(frame).max((141 + 14 * u64::from(frame.digits)).max(330))
 }
 
 /// Writes the front, with the picture's width and height.
@@ -44,7 +48,7 @@ fn put_sized_front<K: Sink>(sink: &mut K, chart: &Chart) -> Result<(), WriteFaul
     put_front(
         sink,
         picture_width(frame),
-        bottom(frame) + 50 + 16 * chart.lines().len() as u64,
+        bottom(frame) + 102 + 16 * chart.lines().len() as u64,
     )
 }
 
@@ -142,6 +146,60 @@ fn put_facts<K: Sink>(sink: &mut K, chart: &Chart) -> Result<(), WriteFault>
     put_facts_in(sink, chart.frame(), u64::from(chart.nodes), chart.bound)
 }
 
+/// Writes what the colours of outputs mean.
+pub fn put_colour_legend<K: Sink>(sink: &mut K, y: u64, modulus: u64) -> Result<(), WriteFault>
+    ensures { Puts result (colour_legend y modulus) (K.told sink.old) (K.told sink.new) }
+{
+    put_pieces(
+        sink,
+        &[
+            Piece::Text(b"<g text-anchor='start' transform='translate(4,"),
+            Piece::Number(y),
+            Piece::Text(
+                b")'>\n<rect width='18' height='18' fill='rgb(148,218,228)'/>\
+                <text x='24' y='13'>colour: (output - configuration) mod ",
+            ),
+            Piece::Number(modulus),
+            Piece::Text(b"</text>\n</g>\n"),
+        ],
+    )
+}
+
+/// Writes what else the cells mean.
+fn put_cell_legend<K: Sink>(sink: &mut K, y: u64) -> Result<(), WriteFault>
+    ensures { Puts result (cell_legend y) (K.told sink.old) (K.told sink.new) }
+{
+    put_pieces(
+        sink,
+        &[
+            Piece::Text(b"<g text-anchor='start' transform='translate(4,"),
+            Piece::Number(y),
+            Piece::Text(
+                b")'>\n<rect width='18' height='18' fill='url(#faulty)'/>\
+                <text x='24' y='13'>faulty</text>\n\
+                <rect x='110' width='18' height='18' fill='silver'/><path d='M110 0h8l-8 8z'/>\
+                <text x='134' y='13'>hit by an era's start</text>\n</g>\n",
+            ),
+        ],
+    )
+}
+
+/// Writes what the colours and the cells mean, below these lines of the caption.
+fn put_legend_in<K: Sink>(sink: &mut K, frame: Frame, ends: &[End]) -> Result<(), WriteFault>
+    ensures { Puts result (legend_in frame (length ends.now)) (K.told sink.old) (K.told sink.new) }
+{
+    let lines = 16 * ends.len() as u64;
+    written!(put_colour_legend(sink, bottom(frame) + 54 + lines, frame.modulus));
+    put_cell_legend(sink, bottom(frame) + 76 + lines)
+}
+
+/// Writes the legend of a chart.
+fn put_chart_legend<K: Sink>(sink: &mut K, chart: &Chart) -> Result<(), WriteFault>
+    ensures { Puts result (chart_legend chart.now) (K.told sink.old) (K.told sink.new) }
+{
+    put_legend_in(sink, chart.frame(), chart.lines())
+}
+
 /// Writes all parts of a picture.
 fn put_parts<K: Sink>(sink: &mut K, chart: &Chart) -> Result<(), WriteFault>
     ensures { Puts result (picture_text chart.now) (K.told sink.old) (K.told sink.new) }
@@ -151,6 +209,7 @@ fn put_parts<K: Sink>(sink: &mut K, chart: &Chart) -> Result<(), WriteFault>
     written!(put_cells(sink, chart.frame(), chart.words()));
     written!(put_facts(sink, chart));
     written!(put_ends(sink, chart, chart.lines()));
+    written!(put_chart_legend(sink, chart));
     put_all(sink, b"</svg>\n")
 }
 

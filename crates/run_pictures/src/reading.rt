@@ -27,6 +27,7 @@ pub enum Wanted {
     Nothing,
     Trace,
     Node,
+    Tally,
 }
 
 impl fmt::Display for Wanted {
@@ -45,6 +46,9 @@ impl fmt::Display for Wanted {
                 "the next line of a trace: the next node, or the next level of the same one"
             }
             Wanted::Node => "the line of a trace for the next node",
+            Wanted::Tally => {
+                "the next line of a sweep: `era`, `locked`, `runs` and `seed`, each with its number"
+            }
         })
     }
 }
@@ -250,7 +254,7 @@ fn take(draft: &mut Draft, line: &[u8]) -> Result<(), LineError> {
             }
         }
         Wanted::Era => take_era(draft, line),
-        Wanted::Nothing | Wanted::Trace | Wanted::Node => Err(LineError::Unwanted),
+        Wanted::Nothing | Wanted::Trace | Wanted::Node | Wanted::Tally => Err(LineError::Unwanted),
     }
 }
 
@@ -262,6 +266,7 @@ fn empty(alloc: Global) -> Chart {
         nodes: 0,
         rows: 0,
         digits: 1,
+        modulus: 0,
         cells: Vec::new(alloc),
         ends: Vec::new(alloc),
     }
@@ -285,11 +290,23 @@ fn take_lines(draft: &mut Draft, text: &[u8]) -> Result<(), ChartError> {
     Ok(())
 }
 
-/// Ends a chart whose lines are all taken: its columns are as wide as configurations need, and hits
-/// are marked.
+/// One more than the largest output, or 0 where there is none.
+fn modulus_of(cells: &[Cell]) -> u64 {
+    let mut modulus = 0;
+    for cell in cells {
+        if let Some(output) = cell.shown {
+            modulus = output.saturating_add(1).max(modulus);
+        }
+    }
+    modulus
+}
+
+/// Ends a chart whose lines are all taken: its columns are as wide as configurations need, the
+/// modulus is found, and hits are marked.
 fn end_chart(chart: &mut Chart) {
     let last = chart.first.saturating_add(chart.rows);
     chart.digits = chart.digits.max(digits_of(last.saturating_sub(1)));
+    chart.modulus = modulus_of(&chart.cells);
     mark_hits(chart);
 }
 

@@ -1,30 +1,22 @@
 //! Draws cells, and the numbers and words beside them.
 
-ghost use Rattle.std.specs.Prelude.{◌≡◌, ◌<◌};
+ghost use Rattle.std.specs.Prelude.{◌≡◌};
 ghost use Rattle.std.specs.List.{flat_map};
 ghost use Rattle.texts.specs.Growth.{Puts};
-ghost use Rattle.run_pictures.specs.Cells.{axes, axes_at, cell_at, cell_head, cell_picture};
-ghost use Rattle.run_pictures.specs.Cells.{cell_spot};
-ghost use Rattle.run_pictures.specs.Cells.{column_head, column_number, filling, hit_mark};
-ghost use Rattle.run_pictures.specs.Cells.{inscription};
-ghost use Rattle.run_pictures.specs.Cells.{node_label, number_text, rectangle_front, shade};
-ghost use Rattle.run_pictures.specs.Cells.{shown_at};
-ghost use Rattle.run_pictures.specs.Cells.{square};
+ghost use Rattle.run_pictures.specs.Cells.{axes, axes_at, cell_at, cell_close, cell_head};
+ghost use Rattle.run_pictures.specs.Cells.{cell_picture, cell_spot, colour, column_head};
+ghost use Rattle.run_pictures.specs.Cells.{column_number, cross, face_word, filling, hover};
+ghost use Rattle.run_pictures.specs.Cells.{hover_front, inscription, node_label, number_text};
+ghost use Rattle.run_pictures.specs.Cells.{rectangle_front, shown_at, square};
 ghost use Rattle.run_pictures.specs.Frames.{band_top};
 
 use crate::charts::Cell;
+use crate::faces::{Face, face_of, lead_of, shade};
 use crate::frames::{
-    Frame, MOST_COLUMNS, Spot, band_top, column_middle, left, line_top, middle, spot_top, width,
+    Frame, MOST_COLUMNS, Spot, band_top, column_middle, configuration, left, line_top, middle,
+    spot_top, width,
 };
 use edge_io::{Piece, Sink, WriteFault, put_all, put_pieces};
-
-/// One of three parts of an output's colour.
-fn shade(turn: u8, size: u8, output: u64) -> u64
-    requires { 0 < size }
-    ensures { result ≡ shade turn size output }
-{
-    128 + output % u64::from(size) * u64::from(turn) % u64::from(size)
-}
 
 /// Writes a number, in the middle of x.
 pub fn put_number_at<K: Sink>(sink: &mut K, x: u64, y: u64, n: u64) -> Result<(), WriteFault>
@@ -104,6 +96,47 @@ pub fn put_node_label<K: Sink>(sink: &mut K, spot: Spot, node: u64) -> Result<()
     }
 }
 
+/// Writes what is told of a node where the pointer rests on its cell, up to what it shows there.
+pub fn put_hover_front<K: Sink>(sink: &mut K, spot: Spot, node: u64) -> Result<(), WriteFault>
+    ensures { Puts result (hover_front spot node) (K.told sink.old) (K.told sink.new) }
+{
+    put_pieces(
+        sink,
+        &[
+            Piece::Text(b"<g><title>node "),
+            Piece::Number(node),
+            Piece::Text(b", configuration "),
+            Piece::Number(configuration(spot)),
+        ],
+    )
+}
+
+/// Writes what a node shows, at the end of that.
+fn put_face_word<K: Sink>(sink: &mut K, face: Face) -> Result<(), WriteFault>
+    ensures { Puts result (face_word face) (K.told sink.old) (K.told sink.new) }
+{
+    match face {
+        Face::Faulty => put_all(sink, b": faulty</title>\n"),
+        Face::Nothing => put_all(sink, b": no value</title>\n"),
+        Face::Value(output) => put_pieces(
+            sink,
+            &[
+                Piece::Text(b": "),
+                Piece::Number(output),
+                Piece::Text(b"</title>\n"),
+            ],
+        ),
+    }
+}
+
+/// Writes what is told of a node where the pointer rests on its cell.
+fn put_hover<K: Sink>(sink: &mut K, spot: Spot, node: u64, face: Face) -> Result<(), WriteFault>
+    ensures { Puts result (hover spot node face) (K.told sink.old) (K.told sink.new) }
+{
+    written!(put_hover_front(sink, spot, node));
+    put_face_word(sink, face)
+}
+
 /// Writes the front of a rectangle, up to its filling.
 pub fn put_rectangle<K: Sink>(sink: &mut K, spot: Spot) -> Result<(), WriteFault>
     ensures { Puts result (rectangle_front spot) (K.told sink.old) (K.told sink.new) }
@@ -122,49 +155,77 @@ pub fn put_rectangle<K: Sink>(sink: &mut K, spot: Spot) -> Result<(), WriteFault
     )
 }
 
-/// Writes the rest of a rectangle: hatched for a faulty node, else in the output's colour.
-fn put_filling<K: Sink>(sink: &mut K, shown: Option<u64>) -> Result<(), WriteFault>
-    ensures { Puts result (filling shown) (K.told sink.old) (K.told sink.new) }
+/// Writes the colour of a lead, and the end of a rectangle.
+fn put_colour<K: Sink>(sink: &mut K, lead: u64) -> Result<(), WriteFault>
+    ensures { Puts result (colour lead) (K.told sink.old) (K.told sink.new) }
 {
-    match shown {
-        None => put_all(sink, b"url(#faulty)'/>\n"),
-        Some(output) => put_pieces(
-            sink,
-            &[
-                Piece::Text(b"rgb("),
-                Piece::Number(shade(41, 113, output)),
-                Piece::Text(b","),
-                Piece::Number(shade(67, 109, output)),
-                Piece::Text(b","),
-                Piece::Number(shade(89, 107, output)),
-                Piece::Text(b")'/>\n"),
-            ],
-        ),
+    put_pieces(
+        sink,
+        &[
+            Piece::Text(b"rgb("),
+            Piece::Number(shade(20, 41, 113, lead)),
+            Piece::Text(b","),
+            Piece::Number(shade(90, 67, 109, lead)),
+            Piece::Text(b","),
+            Piece::Number(shade(100, 89, 107, lead)),
+            Piece::Text(b")'/>\n"),
+        ],
+    )
+}
+
+/// Writes the rest of a rectangle: nodes that count keep one colour.
+fn put_filling<K: Sink>(sink: &mut K, spot: Spot, face: Face) -> Result<(), WriteFault>
+    ensures { Puts result (filling spot face) (K.told sink.old) (K.told sink.new) }
+{
+    match face {
+        Face::Faulty => put_all(sink, b"url(#faulty)'/>\n"),
+        Face::Nothing => put_all(sink, b"whitesmoke'/>\n"),
+        Face::Value(output) => {
+            let lead = lead_of(spot.frame.modulus, configuration(spot), output);
+            put_colour(sink, lead)
+        }
     }
 }
 
-/// Writes an output within its rectangle.
-fn put_inscription<K: Sink>(sink: &mut K, spot: Spot, shown: Option<u64>) -> Result<(), WriteFault>
-    ensures { Puts result (inscription spot shown) (K.told sink.old) (K.told sink.new) }
+/// Draws a cross, where there is no value.
+pub fn put_cross<K: Sink>(sink: &mut K, spot: Spot) -> Result<(), WriteFault>
+    ensures { Puts result (cross spot) (K.told sink.old) (K.told sink.new) }
 {
-    match shown {
-        None => Ok(()),
-        Some(output) => put_number_at(sink, middle(spot), spot_top(spot) + 13, output),
+    put_pieces(
+        sink,
+        &[
+            Piece::Text(b"<path d='M"),
+            Piece::Number(middle(spot) - 3),
+            Piece::Text(b" "),
+            Piece::Number(spot_top(spot) + 6),
+            Piece::Text(b"l6 6m0 -6l-6 6' stroke='dimgray'/>\n"),
+        ],
+    )
+}
+
+/// Writes what stands within a rectangle.
+fn put_inscription<K: Sink>(sink: &mut K, spot: Spot, face: Face) -> Result<(), WriteFault>
+    ensures { Puts result (inscription spot face) (K.told sink.old) (K.told sink.new) }
+{
+    match face {
+        Face::Faulty => Ok(()),
+        Face::Nothing => put_cross(sink, spot),
+        Face::Value(output) => put_number_at(sink, middle(spot), spot_top(spot) + 13, output),
     }
 }
 
 /// Draws a rectangle with what a node shows.
-fn put_square<K: Sink>(sink: &mut K, spot: Spot, shown: Option<u64>) -> Result<(), WriteFault>
-    ensures { Puts result (square spot shown) (K.told sink.old) (K.told sink.new) }
+fn put_square<K: Sink>(sink: &mut K, spot: Spot, face: Face) -> Result<(), WriteFault>
+    ensures { Puts result (square spot face) (K.told sink.old) (K.told sink.new) }
 {
     written!(put_rectangle(sink, spot));
-    written!(put_filling(sink, shown));
-    put_inscription(sink, spot, shown)
+    written!(put_filling(sink, spot, face));
+    put_inscription(sink, spot, face)
 }
 
-/// Draws a black corner where the start of an era put a node into another state.
-fn put_hit_mark<K: Sink>(sink: &mut K, spot: Spot, hit: bool) -> Result<(), WriteFault>
-    ensures { Puts result (hit_mark spot hit) (K.told sink.old) (K.told sink.new) }
+/// Draws a black corner where the start of an era put a node into another state, and ends a group.
+fn put_cell_close<K: Sink>(sink: &mut K, spot: Spot, hit: bool) -> Result<(), WriteFault>
+    ensures { Puts result (cell_close spot hit) (K.told sink.old) (K.told sink.new) }
 {
     match hit {
         true => put_pieces(
@@ -174,10 +235,10 @@ fn put_hit_mark<K: Sink>(sink: &mut K, spot: Spot, hit: bool) -> Result<(), Writ
                 Piece::Number(left(spot)),
                 Piece::Text(b" "),
                 Piece::Number(spot_top(spot)),
-                Piece::Text(b"h8l-8 8z'/>\n"),
+                Piece::Text(b"h8l-8 8z'/></g>\n"),
             ],
         ),
-        false => Ok(()),
+        false => put_all(sink, b"</g>\n"),
     }
 }
 
@@ -185,13 +246,15 @@ fn put_hit_mark<K: Sink>(sink: &mut K, spot: Spot, hit: bool) -> Result<(), Writ
 pub fn put_shown<K: Sink>(
     sink: &mut K,
     spot: Spot,
-    shown: Option<u64>,
+    node: u64,
+    face: Face,
     hit: bool,
 ) -> Result<(), WriteFault>
-    ensures { Puts result (shown_at spot shown hit) (K.told sink.old) (K.told sink.new) }
+    ensures { Puts result (shown_at spot node face hit) (K.told sink.old) (K.told sink.new) }
 {
-    written!(put_square(sink, spot, shown));
-    put_hit_mark(sink, spot, hit)
+    written!(put_hover(sink, spot, node, face));
+    written!(put_square(sink, spot, face));
+    put_cell_close(sink, spot, hit)
 }
 
 /// Writes what stands above a column, with the first cell.
@@ -222,7 +285,13 @@ fn put_cell_at<K: Sink>(sink: &mut K, spot: Spot, cell: Cell) -> Result<(), Writ
 {
     written!(put_cell_head(sink, spot.frame, cell));
     written!(put_node_label(sink, spot, u64::from(cell.node)));
-    put_shown(sink, spot, cell.shown, cell.is_hit)
+    put_shown(
+        sink,
+        spot,
+        u64::from(cell.node),
+        face_of(cell.shown),
+        cell.is_hit,
+    )
 }
 
 /// Draws a cell.

@@ -3,13 +3,18 @@
 ghost use Rattle.std.specs.Prelude.{◌≡◌};
 ghost use Rattle.std.specs.List.{flat_map};
 ghost use Rattle.texts.specs.Growth.{Puts};
-ghost use Rattle.run_pictures.specs.Strips.{cover, ground, held_cell, note_at, note_head};
-ghost use Rattle.run_pictures.specs.Strips.{note_picture};
-ghost use Rattle.run_pictures.specs.Strips.{note_spot, output_of, register_at, seen_cell, title_at};
-ghost use Rattle.run_pictures.specs.Strips.{title_picture, value_text};
+ghost use Rattle.run_pictures.specs.Strips.{cover, face_in, ground, held_cell, held_told};
+ghost use Rattle.run_pictures.specs.Strips.{level_told, note_at, note_head, note_picture};
+ghost use Rattle.run_pictures.specs.Strips.{note_spot, register_at, register_hover, register_in};
+ghost use Rattle.run_pictures.specs.Strips.{seen_cell, title_at, title_picture, value_text};
 
+use crate::faces::Face;
 use crate::frames::{Frame, Spot, band_top, left, middle, spot_top, width};
-use crate::squares::{put_column_head, put_node_label, put_number_at, put_rectangle, put_shown};
+use crate::squares::{
+    put_column_head, put_cross, put_hover_front, put_node_label, put_number_at, put_rectangle,
+    put_shown,
+};
+use crate::trace_printing::{held_word, put_number_or_none};
 use crate::traces::{Held, Note, Register, Seen, Title};
 use edge_io::{Piece, Sink, WriteFault, put_all, put_pieces};
 
@@ -77,22 +82,66 @@ fn put_value<K: Sink>(sink: &mut K, spot: Spot, value: Option<u64>) -> Result<()
 {
     match value {
         Some(value) => put_number_at(sink, middle(spot), spot_top(spot) + 13, value),
-        None => put_pieces(
-            sink,
-            &[
-                Piece::Text(b"<path d='M"),
-                Piece::Number(middle(spot) - 3),
-                Piece::Text(b" "),
-                Piece::Number(spot_top(spot) + 6),
-                Piece::Text(b"l6 6m0 -6l-6 6' stroke='dimgray'/>\n"),
-            ],
-        ),
+        None => put_cross(sink, spot),
     }
 }
 
-/// Draws a register.
-fn put_register_at<K: Sink>(sink: &mut K, spot: Spot, register: &Register) -> Result<(), WriteFault>
-    ensures { Puts result (register_at spot register.now) (K.told sink.old) (K.told sink.new) }
+/// Writes which level a register is of, where the pointer rests on it.
+fn put_level_told<K: Sink>(sink: &mut K, level: u64) -> Result<(), WriteFault>
+    ensures { Puts result (level_told level) (K.told sink.old) (K.told sink.new) }
+{
+    put_pieces(
+        sink,
+        &[
+            Piece::Text(b", level "),
+            Piece::Number(level),
+            Piece::Text(b": "),
+        ],
+    )
+}
+
+/// Writes how it holds its value.
+fn put_held_told<K: Sink>(sink: &mut K, held: Held) -> Result<(), WriteFault>
+    ensures { Puts result (held_told held) (K.told sink.old) (K.told sink.new) }
+{
+    written!(put_all(sink, held_word(held)));
+    put_all(sink, b"</title>\n")
+}
+
+/// Writes what is told of a register where the pointer rests on it.
+fn put_register_hover<K: Sink>(
+    sink: &mut K,
+    spot: Spot,
+    node: u64,
+    register: &Register,
+) -> Result<(), WriteFault>
+    ensures { Puts result (register_hover spot node register.now)
+        (K.told sink.old) (K.told sink.new) }
+{
+    written!(put_hover_front(sink, spot, node));
+    written!(put_level_told(sink, register.level));
+    written!(put_number_or_none(sink, register.value));
+    put_held_told(sink, register.held)
+}
+
+/// Draws a register, with what is told of it.
+fn put_register_at<K: Sink>(
+    sink: &mut K,
+    spot: Spot,
+    node: u64,
+    register: &Register,
+) -> Result<(), WriteFault>
+    ensures { Puts result (register_at spot node register.now)
+        (K.told sink.old) (K.told sink.new) }
+{
+    written!(put_register_hover(sink, spot, node, register));
+    written!(put_register_in(sink, spot, register));
+    put_all(sink, b"</g>\n")
+}
+
+/// Draws a register within its group.
+fn put_register_in<K: Sink>(sink: &mut K, spot: Spot, register: &Register) -> Result<(), WriteFault>
+    ensures { Puts result (register_in spot register.now) (K.told sink.old) (K.told sink.new) }
 {
     written!(put_rectangle(sink, spot));
     written!(put_register_ground(sink, register.value, register.held));
@@ -100,13 +149,15 @@ fn put_register_at<K: Sink>(sink: &mut K, spot: Spot, register: &Register) -> Re
     put_value(sink, spot, register.value)
 }
 
-/// What is drawn of an output: that of a faulty node counts for nothing.
-fn output_of(is_faulty: bool, output: u64) -> Option<u64>
-    ensures { result ≡ output_of is_faulty output }
+/// What is drawn of an output: that of a faulty node counts for nothing, and where a node has no
+/// value it shows none.
+fn face_in(is_faulty: bool, is_lost: bool, output: u64) -> Face
+    ensures { result ≡ face_in is_faulty is_lost output }
 {
-    match is_faulty {
-        true => None,
-        false => Some(output),
+    match (is_faulty, is_lost) {
+        (true, _) => Face::Faulty,
+        (false, true) => Face::Nothing,
+        (false, false) => Face::Value(output),
     }
 }
 
@@ -114,15 +165,16 @@ fn output_of(is_faulty: bool, output: u64) -> Option<u64>
 fn put_held_cell<K: Sink>(
     sink: &mut K,
     spot: Spot,
+    node: u64,
     is_faulty: bool,
     register: &Register,
 ) -> Result<(), WriteFault>
-    ensures { Puts result (held_cell spot is_faulty register.now)
+    ensures { Puts result (held_cell spot node is_faulty register.now)
         (K.told sink.old) (K.told sink.new) }
 {
     match is_faulty {
-        true => put_shown(sink, spot, None, false),
-        false => put_register_at(sink, spot, register),
+        true => put_shown(sink, spot, node, Face::Faulty, false),
+        false => put_register_at(sink, spot, node, register),
     }
 }
 
@@ -139,10 +191,11 @@ fn put_seen_cell<K: Sink>(
         Seen::Shows(shown) => put_shown(
             sink,
             spot,
-            output_of(note.is_faulty, shown.output),
+            note.node,
+            face_in(note.is_faulty, note.is_lost, shown.output),
             note.is_hit,
         ),
-        Seen::Holds(register) => put_held_cell(sink, spot, note.is_faulty, register),
+        Seen::Holds(register) => put_held_cell(sink, spot, note.node, note.is_faulty, register),
     }
 }
 

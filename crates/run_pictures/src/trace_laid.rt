@@ -7,6 +7,7 @@ ghost use Rattle.run_pictures.specs.TraceLaid.{IsAtHeight, IsNoteLaid, IsStripOf
 ghost use Rattle.run_pictures.specs.TraceLaid.{IsTraceLaid, IsTurnLaid, IsTurnOf, shows};
 
 use crate::frames::{MOST_COLUMNS, line_top};
+use crate::trace_said::is_trace_said;
 use crate::traces::{Heard, Level, Note, Reign, Seen, Title, Trace};
 
 /// Whether a line says what its node shows.
@@ -234,6 +235,9 @@ pub fn is_trace_laid(trace: &Trace) -> bool
         return false;
     }
     if !are_titles_laid(&trace.levels, &trace.titles) {
+        return false;
+    }
+    if !is_trace_said(trace) {
         return false;
     }
     let from = u64::from(line_top(trace.nodes));

@@ -55,6 +55,7 @@ impl TraceLine {
             is_first,
             is_faulty,
             is_hit: false,
+            is_lost: false,
             seen,
         }
     }

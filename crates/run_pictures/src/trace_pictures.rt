@@ -11,7 +11,9 @@ ghost use Rattle.run_pictures.specs.TracePictures.{trace_picture};
 
 use crate::frames::{Frame, bottom};
 use crate::marks::put_mark_at;
-use crate::pictures::{picture_width, put_front, put_ground, put_number_caption, put_span};
+use crate::pictures::{
+    picture_width, put_colour_legend, put_front, put_ground, put_number_caption, put_span,
+};
 use crate::strips::{put_note_pictures, put_titles};
 use crate::traces::{Level, Trace};
 use crate::turns::put_reigns;
@@ -124,7 +126,8 @@ fn put_legend<K: Sink>(sink: &mut K, y: u64) -> Result<(), WriteFault>
             Piece::Number(y),
             Piece::Text(
                 b")'>\n<rect width='18' height='18' fill='whitesmoke'/>\
-                <path d='M6 6l6 6m0 -6l-6 6' stroke='dimgray'/><text x='24' y='13'>none</text>\n\
+                <path d='M6 6l6 6m0 -6l-6 6' stroke='dimgray'/>\
+                <text x='24' y='13'>no value</text>\n\
                 <rect x='110' width='18' height='18' fill='#fde9b0'/>\
                 <text x='134' y='13'>unmarked</text>\n\
                 <rect y='22' width='18' height='18' fill='#b5d3f2'/>\
@@ -149,12 +152,14 @@ fn put_legend<K: Sink>(sink: &mut K, y: u64) -> Result<(), WriteFault>
     )
 }
 
-/// Writes what the cells mean, below the captions of these levels.
+/// Writes what the colours and the cells mean, below the captions of these levels.
 fn put_legend_below<K: Sink>(sink: &mut K, frame: Frame, levels: &[Level]) -> Result<(), WriteFault>
     ensures { Puts result (legend_below frame (length levels.now))
         (K.told sink.old) (K.told sink.new) }
 {
-    put_legend(sink, bottom(frame) + 40 + 16 * levels.len() as u64)
+    let lines = 16 * levels.len() as u64;
+    written!(put_colour_legend(sink, bottom(frame) + 40 + lines, frame.modulus));
+    put_legend(sink, bottom(frame) + 62 + lines)
 }
 
 /// Writes what a picture is of.
@@ -174,8 +179,8 @@ fn put_trace_facts<K: Sink>(sink: &mut K, trace: &Trace) -> Result<(), WriteFaul
 fn put_trace_front<K: Sink>(sink: &mut K, trace: &Trace) -> Result<(), WriteFault>
     ensures { Puts result (trace_front trace.now) (K.told sink.old) (K.told sink.new) }
 {
-    let height = bottom(trace.frame) + 146 + 16 * trace.captions().len() as u64;
-    put_front(sink, picture_width(trace.frame).max(284), height)
+    let height = bottom(trace.frame) + 168 + 16 * trace.captions().len() as u64;
+    put_front(sink, picture_width(trace.frame), height)
 }
 
 /// Writes the captions of the levels, and what the cells mean.

@@ -46,7 +46,7 @@ pub fn turn_word(turn: Turn) -> &'static [u8]
 }
 
 /// Writes a number, or that there is none.
-fn put_number_or_none<K: Sink>(sink: &mut K, n: Option<u64>) -> Result<(), WriteFault>
+pub fn put_number_or_none<K: Sink>(sink: &mut K, n: Option<u64>) -> Result<(), WriteFault>
     ensures { Puts result (number_or_none n) (K.told sink.old) (K.told sink.new) }
 {
     match n {

@@ -142,6 +142,8 @@ fn take(draft: &mut Draft, line: &TraceLine) -> Result<(), TraceFault> {
     let digits = match &line.seen {
         Seen::Shows(shown) => {
             take_state(draft, line.t, line.node)?;
+            let modulus = shown.output.saturating_add(1);
+            draft.trace.frame.modulus = draft.trace.frame.modulus.max(modulus);
             length_of(shown.output)
         }
         Seen::Holds(register) => {
@@ -169,6 +171,7 @@ fn empty(alloc: Global) -> Trace {
             columns: 0,
             digits: 1,
             height: 0,
+            modulus: 0,
         },
         nodes: 0,
         cells: 0,

@@ -95,6 +95,8 @@ pub struct Note {
     pub is_faulty: bool,
     /// Whether the numbers show that the start of an era put the node into another state.
     pub is_hit: bool,
+    /// Whether it is an output of a node that has no value, which shows as 0.
+    pub is_lost: bool,
     pub seen: Seen,
 }
 
@@ -108,6 +110,7 @@ impl Drop for Note {
             is_first: _,
             is_faulty: _,
             is_hit: _,
+            is_lost: _,
             seen,
         } = self;
         drop(seen);

@@ -4,11 +4,11 @@ ghost use Rattle.std.specs.Prelude.{◌≡◌};
 ghost use Rattle.std.specs.List.{flat_map};
 ghost use Rattle.texts.specs.Growth.{Puts};
 ghost use Rattle.run_pictures.specs.Frames.{width};
-ghost use Rattle.run_pictures.specs.Strips.{edge, gold_part, reign_at, reign_box, reign_picture};
-ghost use Rattle.run_pictures.specs.Strips.{reign_spot, share};
+ghost use Rattle.run_pictures.specs.Strips.{edge, gold_part, king_text, reign_at, reign_box};
+ghost use Rattle.run_pictures.specs.Strips.{reign_hover, reign_picture, reign_spot, share};
 
-use crate::frames::{Frame, Spot, left, middle, spot_top, width};
-use crate::squares::put_number_at;
+use crate::frames::{Frame, Spot, configuration, left, middle, spot_top, width};
+use crate::trace_printing::turn_word;
 use crate::traces::{Reign, Turn};
 use edge_io::{Piece, Sink, WriteFault, put_pieces};
 
@@ -75,12 +75,50 @@ fn put_reign_box<K: Sink>(sink: &mut K, spot: Spot, reign: Reign) -> Result<(), 
     put_gold_part(sink, spot, share(spot, reign.turn), edge(reign.is_common))
 }
 
+/// Writes what is told of a turn where the pointer rests on it.
+fn put_reign_hover<K: Sink>(sink: &mut K, spot: Spot, reign: Reign) -> Result<(), WriteFault>
+    ensures { Puts result (reign_hover spot reign) (K.told sink.old) (K.told sink.new) }
+{
+    put_pieces(
+        sink,
+        &[
+            Piece::Text(b"<g><title>configuration "),
+            Piece::Number(configuration(spot)),
+            Piece::Text(b", level "),
+            Piece::Number(reign.level),
+            Piece::Text(b":"),
+            Piece::Text(turn_word(reign.turn)),
+            Piece::Number(reign.king),
+            Piece::Text(b"</title>\n"),
+        ],
+    )
+}
+
+/// Writes the king, and ends a group.
+fn put_king<K: Sink>(sink: &mut K, spot: Spot, king: u64) -> Result<(), WriteFault>
+    ensures { Puts result (king_text spot king) (K.told sink.old) (K.told sink.new) }
+{
+    put_pieces(
+        sink,
+        &[
+            Piece::Text(b"<text x='"),
+            Piece::Number(middle(spot)),
+            Piece::Text(b"' y='"),
+            Piece::Number(spot_top(spot) + 11),
+            Piece::Text(b"'>"),
+            Piece::Number(king),
+            Piece::Text(b"</text></g>\n"),
+        ],
+    )
+}
+
 /// Draws a turn, with its king.
 fn put_reign_at<K: Sink>(sink: &mut K, spot: Spot, reign: Reign) -> Result<(), WriteFault>
     ensures { Puts result (reign_at spot reign) (K.told sink.old) (K.told sink.new) }
 {
+    written!(put_reign_hover(sink, spot, reign));
     written!(put_reign_box(sink, spot, reign));
-    put_number_at(sink, middle(spot), spot_top(spot) + 11, reign.king)
+    put_king(sink, spot, reign.king)
 }
 
 /// Where a turn is drawn.

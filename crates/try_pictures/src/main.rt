@@ -1,19 +1,19 @@
 //! Tries the pictures: what is drawn of each text that `run` or `trace` wrote is compared with the
-//! picture that stands beside it. It fails where one differs.
+//! picture that stands beside it, and the page. It fails where one differs.
 #![tactic(auto)]
 
 use edge_io::MemSink;
-use run_pictures::draw;
+use run_pictures::{Form, draw};
 use std::alloc::Global;
 use std::process::ExitCode;
 use std::rt::Files;
 use std::{env, fs, io};
 
-/// Whether what is drawn of a text is the picture that is wanted. There is room for one byte more.
-fn is_drawn(alloc: Global, text: &[u8], wanted: &[u8]) -> anyhow::Result<bool> {
+/// Whether what is drawn of a text is what is wanted. There is room for one byte more.
+fn is_drawn(alloc: Global, text: &[u8], form: Form, wanted: &[u8]) -> anyhow::Result<bool> {
     let room = wanted.len().saturating_add(1);
     let mut sink = MemSink::new(alloc, room, Vec::new(alloc), Vec::new(alloc))?;
-    draw(alloc, text, &mut sink)?;
+    draw(alloc, text, form, &mut sink)?;
     Ok(sink.taken() == wanted)
 }
 
@@ -28,11 +28,13 @@ fn bytes_of<R: Files + AllocGlobal>(
     fs::read(rt, path.as_str())
 }
 
-/// Tries a text of a folder. Whether its picture is as it should be.
+/// Tries a text of a folder. Whether its picture and its page are as they should be.
 fn try_picture(rt: &HostRuntime, folder: &str, name: &str) -> anyhow::Result<bool> {
     let text = bytes_of(rt, folder, name, ".txt")?;
-    let wanted = bytes_of(rt, folder, name, ".svg")?;
-    let same = is_drawn(rt.alloc(), &text, &wanted)?;
+    let picture = bytes_of(rt, folder, name, ".svg")?;
+    let page = bytes_of(rt, folder, name, ".html")?;
+    let same = is_drawn(rt.alloc(), &text, Form::Picture, &picture)?
+        && is_drawn(rt.alloc(), &text, Form::Page, &page)?;
     let but = if same { "" } else { " with other bytes" };
     println!(rt; "{name}{but}")?;
     Ok(same)

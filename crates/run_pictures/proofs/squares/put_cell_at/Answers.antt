@@ -16,4 +16,5 @@ pub returns : goal.returns
 returns g c =
     puts_then _ _ _ _ (cell_head c.args.spot.frame c.args.cell) _ c.in-Ok.ensures
     (puts_then _ _ _ _ (node_label c.args.spot c.args.cell.node) _
-    (rw c.from.ensures at c.in-Ok-put_node_label.ensures) c.put_shown.ensures)
+    (rw c.from.ensures at c.in-Ok-put_node_label.ensures)
+    (rw (c.from-2.ensures, c.face_of.ensures) at c.put_shown.ensures))

@@ -9,11 +9,10 @@ returns-in-Err g c =
 pub returns-in-Err-put_filling : goal.returns-in-Err-put_filling
 returns-in-Err-put_filling g c =
     cut_then _ _ _ (rectangle_front c.args.spot) _ c.in-Ok.ensures
-    (cut_more _ _ (filling c.args.shown) _ c.in-Err-put_filling.ensures)
+    (cut_more _ _ (filling c.args.spot c.args.face) _ c.in-Err-put_filling.ensures)
 
 pub returns : goal.returns
 returns g c =
-    puts_then _ _ _ _ (rectangle_front c.args.spot) _
-    c.in-Ok.ensures
-    (puts_then _ _ _ _ (filling c.args.shown) _ c.in-Ok-put_filling.ensures
+    puts_then _ _ _ _ (rectangle_front c.args.spot) _ c.in-Ok.ensures
+    (puts_then _ _ _ _ (filling c.args.spot c.args.face) _ c.in-Ok-put_filling.ensures
     c.put_inscription.ensures)

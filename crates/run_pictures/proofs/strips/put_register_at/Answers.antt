@@ -1,31 +1,19 @@
 use Rattle.texts.proofs.Growth.{cut_more, cut_then, puts_then}
-use Rattle.run_pictures.specs.Cells.{rectangle_front}
-use Rattle.run_pictures.specs.Strips.{cover, ground}
+use Rattle.run_pictures.specs.Strips.{register_hover, register_in}
 use Rattle.run_pictures.proofs.strips.put_register_at.Goals as goal
 
 pub returns-in-Err : goal.returns-in-Err
 returns-in-Err g c =
-    cut_more _ _ (rectangle_front c.args.spot) _ c.in-Err.ensures
+    cut_more _ _ (register_hover c.args.spot c.args.node c.args.register.now) _ c.in-Err.ensures
 
-pub returns-in-Err-put_register_ground : goal.returns-in-Err-put_register_ground
-returns-in-Err-put_register_ground g c =
-    cut_then _ _ _ (rectangle_front c.args.spot) _ c.in-Ok.ensures
-    (cut_more _ _ (ground c.args.register.now.value c.args.register.now.held) _
-    c.in-Err-put_register_ground.ensures)
-
-pub returns-in-Err-put_cover : goal.returns-in-Err-put_cover
-returns-in-Err-put_cover g c =
-    cut_then _ _ _ (rectangle_front c.args.spot) _ c.in-Ok.ensures
-    (cut_then _ _ _ (ground c.args.register.now.value c.args.register.now.held) _
-    c.in-Ok-put_register_ground.ensures
-    (cut_more _ _ (cover c.args.spot c.args.register.now.held) _
-    c.in-Err-put_cover.ensures))
+pub returns-in-Err-put_register_in : goal.returns-in-Err-put_register_in
+returns-in-Err-put_register_in g c =
+    cut_then _ _ _ (register_hover c.args.spot c.args.node c.args.register.now) _ c.in-Ok.ensures
+    (cut_more _ _ (register_in c.args.spot c.args.register.now) _ c.in-Err-put_register_in.ensures)
 
 pub returns : goal.returns
 returns g c =
-    puts_then _ _ _ _ (rectangle_front c.args.spot) _
-    c.in-Ok.ensures
-    (puts_then _ _ _ _ (ground c.args.register.now.value c.args.register.now.held) _
-    c.in-Ok-put_register_ground.ensures
-    (puts_then _ _ _ _ (cover c.args.spot c.args.register.now.held) _
-    c.in-Ok-put_cover.ensures c.put_value.ensures))
+    puts_then _ _ _ _ (register_hover c.args.spot c.args.node c.args.register.now) _ c.in-Ok.ensures
+    (puts_then _ _ _ _ (register_in c.args.spot c.args.register.now) _
+    c.in-Ok-put_register_in.ensures
+    c.put_all.ensures)

@@ -6,6 +6,4 @@ returns-in-Some g c =
     (rw (c.middle.ensures.value, c.spot_top.ensures.value) at c.put_number_at.ensures)
 
 pub returns-in-None : goal.returns-in-None
-returns-in-None g c =
-    rw c.in-None.is
-    (rw (c.middle-in-None.ensures.value, c.spot_top-in-None.ensures.value) at c.put_pieces.ensures)
+returns-in-None g c = rw c.in-None.is c.put_cross.ensures

@@ -1,4 +1,4 @@
-use Rattle.std.proofs.Common.{◌≡◌, ◌*◌, sym, ap₂, ◌∙◌, arith}
+use Rattle.std.proofs.Common.{◌*◌, sym, ap₂, ◌∙◌, arith}
 use Rattle.run_pictures.proofs.trace_laid.is_trace_laid.Goals as goal
 
 pub returns : goal.returns
@@ -16,4 +16,5 @@ returns c = λ stacked. record {
   strips = rw (c.deref-7.ensures.value, c.from-from.ensures, c.line_top.ensures.value)
       at c.are_stacked.ensures stacked;
   high = omega (arith, c.if-trace.false);
+  said = c.is_trace_said.ensures c.if-not-is_trace_said.false;
 }

@@ -1,5 +1,4 @@
-use Rattle.texts.proofs.Growth.{wrote_none}
-use Rattle.run_pictures.proofs.squares.put_hit_mark.Goals as goal
+use Rattle.run_pictures.proofs.squares.put_cell_close.Goals as goal
 
 pub returns-in-true : goal.returns-in-true
 returns-in-true g c =
@@ -7,4 +6,4 @@ returns-in-true g c =
     (rw (c.left.ensures.value, c.spot_top.ensures.value) at c.put_pieces.ensures)
 
 pub returns-in-false : goal.returns-in-false
-returns-in-false g c = rw c.in-false.is (wrote_none _)
+returns-in-false g c = rw c.in-false.is c.put_all.ensures
