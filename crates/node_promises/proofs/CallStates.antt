@@ -96,7 +96,7 @@ module _ {Reader Plan Premise : Type 0} (words : Words Reader Plan Premise) wher
 
 module _ {Reader Plan Premise : Type 0} (words : Words Reader Plan Premise)
     {Accepted : Plan → Type 0} (law : HeadersAreOfMachines words Accepted) (m : Machine)
-        (faulty : List ℕ)
+    (faulty : List ℕ)
     (some : SomeIsCorrect m faulty) (calls : ℕ → Call) (begins : ℕ → ℕ) (rounds : ℕ)
     (is : AreCalls words m faulty calls begins rounds) where
   abbrev pub nodes : Nodes

@@ -17,7 +17,7 @@ use Rattle.node_promises.proofs.CallStates.{some_written}
 
 module _ {Reader Plan Premise : Type 0} (words : Words Reader Plan Premise)
     {Accepted : Plan → Type 0} (law : HeadersAreOfMachines words Accepted) (m : Machine)
-        (faulty : List ℕ) (borne : IsBorne m faulty)
+    (faulty : List ℕ) (borne : IsBorne m faulty)
     (some : SomeIsCorrect m faulty) (calls : ℕ → Call) (begins : ℕ → ℕ) (rounds : ℕ)
     (is : CallsConnect words m faulty calls begins rounds) where
   abbrev own : Nodes
@@ -61,6 +61,6 @@ module _ {Reader Plan Premise : Type 0} (words : Words Reader Plan Premise)
 
 pub connected_count : {Reader Plan Premise : Type 0} (words : Words Reader Plan Premise)
     {Accepted : Plan → Type 0} → HeadersAreOfMachines words Accepted → (m : Machine)
-        → ConnectedCallsCount words m
+    → ConnectedCallsCount words m
 connected_count words law m faulty borne some calls begins rounds is =
     keep words law m faulty borne some calls begins rounds is

@@ -90,6 +90,6 @@ module _ {Reader Plan Premise : Type 0} (words : Words Reader Plan Premise)
     whole = λ text.
         let whole = whole_text text in
         subst (λ lines. IfOk (header_in words.part None lines) (IsOfMachine words Accepted))
-            whole.is
+        whole.is
         (all_lines None whole.text);
   }

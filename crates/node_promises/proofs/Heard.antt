@@ -15,7 +15,7 @@ use Rattle.node_promises.proofs.CallStates.{nodes, sound, start_is_one, given_is
 
 module _ {Reader Plan Premise : Type 0} (words : Words Reader Plan Premise)
     {Accepted : Plan → Type 0} (law : HeadersAreOfMachines words Accepted) (m : Machine)
-        (faulty : List ℕ)
+    (faulty : List ℕ)
     (some : SomeIsCorrect m faulty) (calls : ℕ → Call) (begins : ℕ → ℕ) (rounds : ℕ)
     (is : CallsAreHeard words m faulty calls begins rounds) where
   abbrev own : Nodes
@@ -41,7 +41,7 @@ module _ {Reader Plan Premise : Type 0} (words : Words Reader Plan Premise)
 
 pub heard_stay_locked : {Reader Plan Premise : Type 0} (words : Words Reader Plan Premise)
     {Accepted : Plan → Type 0} → HeadersAreOfMachines words Accepted → (m : Machine)
-        → HeardCallsStayLocked words m
+    → HeardCallsStayLocked words m
 heard_stay_locked words law m faulty borne some calls begins rounds is from le locked =
     let heard = own words law m faulty some calls begins rounds is in
     let is_sound = sound words law m faulty some calls begins rounds is.are_calls in

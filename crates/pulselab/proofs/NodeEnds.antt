@@ -12,7 +12,7 @@ use Rattle.pulselab.specs.Faults.{error_of, KeptAt, UnmetAt}
 use Rattle.pulselab.specs.NodeWord.{NodeFails}
 
 pub fails_so : (e : NodeError LinePremise) (left left' : Option (List ℕ)) (before now : ℕ)
-      (old new : Told)
+    (old new : Told)
     → NodeDoes pulse_words (Err e) left left' before now old new
     → NodeFails left left' before now old new (error_of e)
 fails_so (node.Refused (header.Plan line premise)) left left' before now old new did = did

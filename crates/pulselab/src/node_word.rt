@@ -12,11 +12,7 @@ use pulse_nodes::PulseNodes;
 use std::alloc::Global;
 
 /// Reads a header and then packets, and writes the node's cells.
-pub fn node<S: Source, K: Sink>(
-    alloc: Global,
-    source: &mut S,
-    sink: &mut K,
-) -> Result<(), LabError>
+pub fn node<S: Source, K: Sink>(alloc: Global, source: &mut S, sink: &mut K) -> Result<(), LabError>
     ensures does { MatchResult result
         (λ _. NodeDone (S.left source.old) (S.left source.new) (S.faults source.old)
         (S.faults source.new) (K.told sink.old) (K.told sink.new))

@@ -19,11 +19,7 @@ const CUT: &[u8] = b"pulses 1\ngroup 4 1 10\nend\nnode 1\nid 1\nstate 000000\nen
 type Row<'a> = (&'a [u8], Result<u64, NodeError<LinePremise>>, &'a [u8]);
 
 const ROWS: [Row<'static>; 4] = [
-    (
-        PACKET,
-        Ok(1),
-        b"\x00\x03\x00\x00\x00\x00\x03\x22\x20\xd0",
-    ),
+    (PACKET, Ok(1), b"\x00\x03\x00\x00\x00\x00\x03\x22\x20\xd0"),
     (
         CUT,
         Err(NodeError::Cut {
