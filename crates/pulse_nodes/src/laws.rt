@@ -1,5 +1,5 @@
-//! What calls of nodes of a pulse plan promise that are given one another's cells. The function does
-//! nothing: its clause is the law.
+//! What calls of nodes of a pulse plan promise that are given one another's cells. The function
+//! does nothing: its clause is the law.
 
 ghost use Rattle.pulse_nodes.specs.NodePromises.{PulseNodesKeepPromise};
 

@@ -5,7 +5,8 @@
 //! cell at the start and behind each packet. `--help` and `--version` write what they say.
 //!
 //! A plan that is refused is answered by one line, `refused pulses line L premise P`, and a node
-//! part by `refused node line L rule R`. What else fails is said in one line on standard error. The exit codes are those of `counterlab`.
+//! part by `refused node line L rule R`. What else fails is said in one line on standard error. The
+//! exit codes are those of `counterlab`.
 //!
 //! What is written is proved, of [`calling::pulselab`]. That `main` hands on words and streams,
 //! ends with the code of the status and writes the line on standard error is tried, and not
