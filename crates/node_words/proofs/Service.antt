@@ -216,7 +216,8 @@ module _ {Reader Plan Premise M : Type 0} (words : Words Reader Plan Premise)
         let h : whole 0 ≡ cut p v = subst
         (λ (b : List ℕ). (served machine e b).ending ≡ cut p v)
         (no_bytes n m d.bytes none d.read) ending in absurd cc
-    serves_last n m Dry (Err fault.TooLong) none (d, past, at_once) cause = let h : whole 0 ≡ beyond =
+    serves_last n m Dry (Err fault.TooLong) none (d, past, at_once) cause =
+        let h : whole 0 ≡ beyond =
         subst (λ (b : List ℕ). (served machine e (b ++ [])).ending ≡ beyond)
         (no_bytes n m d.bytes none d.read) (ap (λ (p : Packets). p.ending) (past [])) in absurd cc
     serves_last n m Dry (Err fault.ReadFault) none d cause = absurd (never_counted (cause.0))

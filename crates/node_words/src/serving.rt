@@ -32,8 +32,8 @@ fn engine_of<C: Construction>(
     NodeEngine::new(alloc, counter, header.id, header.state)
 }
 
-/// Reads a header, and then packets, and writes the node's cell at the start and after each whole
-/// packet: the answer is how many these were. Each cell is written before any byte after its
+/// Reads a header, and then packets, and writes the node's cell at the start and behind each whole
+/// packet: the answer is how many these were. Each cell is written before any byte behind its
 /// packet is read.
 ///
 /// `Refused` is the first line of the header that fails, and the line that says so was written.

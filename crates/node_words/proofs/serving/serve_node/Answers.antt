@@ -50,7 +50,8 @@ returns-in-Ok-put_header_refusal-clause-does g c =
     (header_refused words _ _ _ _ _ _ c.new-feed.ensures.left _ header cause _ _
     (rw c.in-Err-Refused.refusal-is at c.in-Ok-put_header_refusal.ensures)))
 
-pub returns-in-Err-put_header_refusal-clause-does : goal.returns-in-Err-put_header_refusal-clause-does
+pub returns-in-Err-put_header_refusal-clause-does :
+    goal.returns-in-Err-put_header_refusal-clause-does
 returns-in-Err-put_header_refusal-clause-does g c =
     let words = g.C.Construction.words in
     let same = c.new-feed.ensures.same_reference in
