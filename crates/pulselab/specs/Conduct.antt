@@ -7,6 +7,7 @@ use Rattle.pulselab.specs.declared.requests.Request.{Request}
 use Rattle.pulselab.specs.declared.requests.Request.TheVariants as request
 use Rattle.pulselab.specs.HelpText.{help_text, version_text}
 use Rattle.pulselab.specs.PlanWord.{PlanDone, PlanFails}
+use Rattle.pulselab.specs.NodeWord.{NodeDone, NodeFails}
 
 -- nothing was read
 pub record IsUnread (left left' : Option (List ℕ)) (before now : ℕ) : Type 0 where
@@ -30,6 +31,8 @@ Answers (Some request.Version) left left' before now old new =
     IsUnread left left' before now × Wrote version_text old new
 Answers (Some request.Plan) left left' before now old new =
     PlanDone left left' before now old new
+Answers (Some request.Node) left left' before now old new =
+    NodeDone left left' before now old new
 
 -- the words ask for nothing, and nothing was done
 abbrev pub IsUsage : (left left' : Option (List ℕ)) (before now : ℕ) (old new : Told)
@@ -46,3 +49,5 @@ Fails (Some request.Version) left left' before now old new error =
     IsCut version_text left left' before now old new error
 Fails (Some request.Plan) left left' before now old new error =
     PlanFails left left' before now old new error
+Fails (Some request.Node) left left' before now old new error =
+    NodeFails left left' before now old new error

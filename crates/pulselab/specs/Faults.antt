@@ -1,27 +1,49 @@
 -- How the program ends by its errors.
-use Rattle.std.specs.Prelude.{◌≡◌, ℕ, Bool}
+use Rattle.std.specs.Prelude.{◌≡◌, ℕ, Bool, Option, Some}
 use Rattle.sync_types.specs.declared.status.Status.TheVariants as status
 use Rattle.sync_types.specs.Codes as codes
+use Rattle.node_header.specs.declared.headers.HeaderRefusal.TheVariants as header
+use Rattle.node_words.specs.declared.errors.NodeError.{NodeError}
+use Rattle.node_words.specs.declared.errors.NodeError.TheVariants as node
+use Rattle.pulse_texts.specs.declared.premises.LinePremise.{LinePremise}
 use Rattle.pulselab.specs.declared.faults.LabError.{LabError}
 use Rattle.pulselab.specs.declared.faults.LabError.TheVariants as error
+use Rattle.pulselab.specs.declared.requests.Request.{Request}
+use Rattle.pulselab.specs.declared.requests.Request.TheVariants as request
 
--- the exit code: 1 for a refused plan, and else that of `counterlab`'s status for the same cause
+-- the exit code: 1 for a refused plan, 3 for a refused node part, and else that of `counterlab`'s
+-- status for the same cause
 abbrev pub code_of : LabError → ℕ
 code_of (error.Refused refusal) = 1
+code_of (error.NodeRefused line rule) = 3
 code_of error.Usage = codes.code_of status.Usage
 code_of error.ReadFault = codes.code_of status.ReadFault
 code_of error.TooLong = codes.code_of status.TooLong
 code_of error.WriteFault = codes.code_of status.WriteFault
+code_of (error.Cut packet sender) = codes.code_of (status.Cut packet sender)
 code_of error.NoMemory = codes.code_of status.NoMemory
 
--- nothing is written where it ends so
-abbrev pub KeptAt : {K : Type 0} → (old new : K) → LabError → Type 0
-KeptAt old new error.Usage = new ≡ old
-KeptAt old new error.ReadFault = new ≡ old
-KeptAt old new error.TooLong = new ≡ old
-KeptAt old new error.NoMemory = new ≡ old
-KeptAt old new error.WriteFault = Unit {0}
-KeptAt old new (error.Refused refusal) = Unit {0}
+-- the error of a node that did not answer all of its input
+abbrev pub error_of : NodeError LinePremise → LabError
+error_of (node.Refused (header.Plan line premise)) =
+    error.Refused (record { line = line; premise = premise })
+error_of (node.Refused (header.Node line rule)) = error.NodeRefused line rule
+error_of node.ReadFault = error.ReadFault
+error_of node.WriteFault = error.WriteFault
+error_of node.TooLong = error.TooLong
+error_of (node.Cut packet sender) = error.Cut packet sender
+error_of node.NoMemory = error.NoMemory
+
+-- Nothing is written where it ends so. A node that loses its input, or is given too much, has
+-- written its cells before.
+abbrev pub KeptAt : {K : Type 0} → Option Request → (old new : K) → LabError → Type 0
+KeptAt asked old new error.Usage = new ≡ old
+KeptAt asked old new error.NoMemory = new ≡ old
+KeptAt (Some request.Node) old new error.ReadFault = Unit {0}
+KeptAt (Some request.Node) old new error.TooLong = Unit {0}
+KeptAt asked old new error.ReadFault = new ≡ old
+KeptAt asked old new error.TooLong = new ≡ old
+KeptAt asked old new other = Unit {0}
 
 -- a read failed before the end was met
 abbrev pub UnmetAt : (before now : Bool) → LabError → Type 0
@@ -31,8 +53,10 @@ UnmetAt before now other = Unit {0}
 -- the answer says it
 abbrev pub IsAnswered : LabError → Type 0
 IsAnswered (error.Refused refusal) = Unit {0}
+IsAnswered (error.NodeRefused line rule) = Unit {0}
 IsAnswered error.Usage = ⊥
 IsAnswered error.ReadFault = ⊥
 IsAnswered error.TooLong = ⊥
 IsAnswered error.WriteFault = ⊥
+IsAnswered (error.Cut packet sender) = ⊥
 IsAnswered error.NoMemory = ⊥

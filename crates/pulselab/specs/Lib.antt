@@ -2,4 +2,5 @@ pub mod HelpText
 pub mod Requests
 pub mod Faults
 pub mod PlanWord
+pub mod NodeWord
 pub mod Conduct

@@ -1,8 +1,5 @@
 -- What the word `plan` does: it reads all of its input, and writes the table of the plan.
-use Rattle.std.specs.Prelude.{◌≡◌, ℕ, ◌≤◌, ◌^◌, List, [], ◌∷◌, Option, Result, Ok, Err, length}
-use Rattle.std.specs.Prelude.{codes}
-use Rattle.std.specs.Prelude.{decimal}
-use Rattle.std.specs.List.{concat}
+use Rattle.std.specs.Prelude.{◌≡◌, ℕ, ◌≤◌, ◌^◌, List, Option, Result, Ok, Err, length}
 use Rattle.std.specs.Io.KnownBytes.{Consumes, IsAtEnd}
 use Rattle.texts.specs.Causes.{Counted}
 use Rattle.texts.specs.Growth.{Told, Wrote, Cut}
@@ -10,18 +7,11 @@ use Rattle.texts.specs.Parts.{At}
 use Rattle.edge_io.specs.Reading.{LosesWithin, LosesMore}
 use Rattle.pulse_plan.specs.Plans.{PulseNumbers}
 use Rattle.pulse_texts.specs.declared.premises.LinePremise.{LinePremise}
-use Rattle.pulse_texts.specs.PulsesRefusals.{premise_word}
 use Rattle.pulse_texts.specs.PulsesPart.{whole_pulses_of}
 use Rattle.pulse_tables.specs.Tables.{table_text}
+use Rattle.pulse_nodes.specs.PulseWords.{refusal_line}
 use Rattle.pulselab.specs.declared.faults.LabError.{LabError}
 use Rattle.pulselab.specs.declared.faults.LabError.TheVariants as error
-
--- the line of a refusal
-abbrev pub refusal_line : (line : ℕ) (premise : LinePremise) → List ℕ
-refusal_line line premise = concat (
-    codes "refused pulses line " ∷ decimal line
-    ∷ codes " premise " ∷ premise_word premise
-    ∷ codes "\n" ∷ [])
 
 -- what is written of a plan, or of its refusal
 abbrev pub text_of : Result PulseNumbers (At LinePremise) → List ℕ
@@ -68,6 +58,8 @@ pub record FailsAfter (left left' : Option (List ℕ)) (before now : ℕ) (old n
 abbrev pub PlanFails : (left left' : Option (List ℕ)) (before now : ℕ) (old new : Told)
     → LabError → Type 0
 PlanFails left left' before now old new error.Usage = ⊥
+PlanFails left left' before now old new (error.NodeRefused line rule) = ⊥
+PlanFails left left' before now old new (error.Cut packet sender) = ⊥
 PlanFails left left' before now old new error.ReadFault =
     LosesWithin (2 ^ 20) left left' × Counted before now × (new ≡ old)
 PlanFails left left' before now old new error.TooLong =

@@ -12,10 +12,15 @@ pub fn write_help<K: Sink>(sink: &mut K) -> Result<(), WriteFault>
     put_pieces(
         sink,
         &[
-            Piece::Text(b"usage: pulselab plan < PLAN\n"),
+            Piece::Text(b"usage: pulselab plan < PLAN, or pulselab node < HEADER_AND_PACKETS\n"),
             Piece::Text(b"plan: reads a pulse plan, the lines `pulses 1`, `group N F C` and\n"),
             Piece::Text(b"`end`, and writes its table: its numbers and bound, what a state\n"),
             Piece::Text(b"takes, and a line for each group, from all nodes down to single ones.\n"),
+            Piece::Text(
+                b"node: reads a pulse plan and the lines `node 1`, `id V`, `state H` and\n",
+            ),
+            Piece::Text(b"`end`, and then packets, and writes the state of node V at the start\n"),
+            Piece::Text(b"and behind each packet, as bytes.\n"),
         ],
     )
 }

@@ -4,29 +4,36 @@ ghost use Rattle.std.specs.Prelude.{◌≡◌, map, string_bytes, MatchResult, I
 ghost use Rattle.pulse_plan.specs.Laws.{EveryPlanSettles};
 ghost use Rattle.pulse_texts.specs.PulsesTexts.{PulsesTextIsWhole};
 ghost use Rattle.pulse_tables.specs.TableLaws.{TablesAreRead, OnlyTablesAreRead};
+ghost use Rattle.pulse_nodes.specs.NodePromises.{PulseNodesKeepPromise};
 ghost use Rattle.pulselab.specs.Faults.{KeptAt, UnmetAt};
 ghost use Rattle.pulselab.specs.Requests.{request_of};
 ghost use Rattle.pulselab.specs.Conduct.{Answers, Fails};
 
 use crate::asking::{write_help, write_version};
 use crate::faults::LabError;
+use crate::node_word::node;
 use crate::plan_word::table_plan;
 use crate::requests::{Request, request_of};
 use edge_io::{Sink, Source};
+use pulse_nodes::laws::pulse_nodes_keep_promise;
 use pulse_plan::laws::every_plan_settles;
 use pulse_tables::tables_read_back;
 use pulse_texts::pulses_texts_read_back;
 use std::alloc::Global;
 
 /// Does what the words ask for. `plan` reads all of the input as a pulse plan, which has at most
-/// 2^20 bytes, and writes its table. `--help` and `--version` read nothing, and write what they
-/// say.
+/// 2^20 bytes, and writes its table. `node` reads a header, which has at most 2^20 bytes, and then
+/// packets, and writes the node's cell when the header has been read, and one behind each packet
+/// before the next one is read. `--help` and `--version` read nothing, and write what they say.
 ///
 /// `Usage` comes exactly where the words ask for nothing; nothing was read or written then.
-/// `Refused` is the first line of the input that fails, and why, and the line of the refusal was
-/// written. `ReadFault`, `TooLong` and `NoMemory` come only where a plan is to be read, and nothing
-/// was written. `WriteFault` comes only where the sink counted a fault; a prefix of the answer was
-/// then taken.
+/// `Refused` and `NodeRefused` are the first line of the input that fails, and why, and the line of
+/// the refusal was written. `ReadFault`, `TooLong` and `NoMemory` come only where a plan is to be
+/// read, and nothing was written; or a header, and the cells of the whole packets that were read
+/// were written, at `NoMemory` none. Of `node`, `TooLong` comes also where there was a byte of
+/// packet 1,000,001, and then all cells were written; `Cut` comes of it alone, exactly where the
+/// input ends inside a packet. `WriteFault` comes only where the sink counted a fault; a prefix of
+/// the answer was then taken.
 pub fn pulselab<S: Source, K: Sink>(
     alloc: Global,
     words: &[String],
@@ -42,7 +49,8 @@ pub fn pulselab<S: Source, K: Sink>(
         (S.faults source.old) (S.faults source.new) (K.told sink.old) (K.told sink.new)) }
 
     // The same of a sink that tells nothing, and of the source's end.
-    ensures untouched { IfErr result (KeptAt sink.old sink.new) }
+    ensures untouched { IfErr result (KeptAt (request_of (map string_bytes words.now))
+        sink.old sink.new) }
     ensures unmet { IfErr result (UnmetAt (S.met source.old) (S.met source.new)) }
 
     // A plan that is accepted settles by its bound, from any start and under any lies.
@@ -52,14 +60,22 @@ pub fn pulselab<S: Source, K: Sink>(
     ensures texts { PulsesTextIsWhole }
     ensures tables { TablesAreRead }
     ensures no_others { OnlyTablesAreRead }
+
+    // N calls of `node`, over a window of rounds that begins in each at a packet of its own: where
+    // each is given the cells that the correct ones write, and any bytes as those of few faulty
+    // ones, what they write is a run of the plan, and counts. Once they are locked they stay so
+    // where cells are lost too. A call that takes the place of another comes to count with them.
+    ensures nodes { PulseNodesKeepPromise }
 {
     every_plan_settles();
     pulses_texts_read_back();
     tables_read_back();
+    pulse_nodes_keep_promise();
     match request_of(words) {
         None => Err(LabError::Usage),
         Some(Request::Help) => Ok(write_help(sink)?),
         Some(Request::Version) => Ok(write_version(sink)?),
         Some(Request::Plan) => table_plan(alloc, source, sink),
+        Some(Request::Node) => node(alloc, source, sink),
     }
 }

@@ -2,25 +2,45 @@ ghost use Rattle.std.specs.Prelude.{◌≡◌, ◌↔◌, IsTrue};
 ghost use Rattle.pulselab.specs.Faults.{code_of, IsAnswered};
 
 use edge_io::WriteFault;
-use pulse_texts::PulsesRefusal;
+use node_header::HeaderRefusal;
+use node_words::{NodeError, rule_word};
+use pulse_texts::{LinePremise, PulsesRefusal};
 use std::alloc::AllocError;
+use sync_types::Rule;
 use thiserror::Error;
 
 /// Why what the words ask for was not written, or not all of it.
 #[derive(Clone, Copy, Debug, PartialEq, Eq, Error)]
 pub enum LabError {
     /// The words ask for nothing.
-    #[error("usage: pulselab plan, or pulselab --help")]
+    #[error("usage: pulselab plan, pulselab node, or pulselab --help")]
     Usage,
     /// The plan is refused, and a line that says so was written.
     #[error("refused pulses line {} premise {}", .0.line, .0.premise.word())]
     Refused(PulsesRefusal),
+    /// The node part behind the plan is refused, and a line that says so was written.
+    #[error("refused node line {line} rule {}", rule_word(*rule))]
+    NodeRefused {
+        /// The line's number, from 1 through the whole input.
+        line: u64,
+        /// The first rule that the line fails.
+        rule: Rule,
+    },
     /// A read failed.
     #[error("the input could not be read")]
     ReadFault,
-    /// The input is longer than 2^20 bytes.
+    /// The plan, or the header of a node, is longer than 2^20 bytes, or there are more than
+    /// 1,000,000 packets.
     #[error("the input is too long")]
     TooLong,
+    /// The input ended inside a packet.
+    #[error("the input ends in packet {packet}, in the cell of node {sender}")]
+    Cut {
+        /// The number of the packet, from 0.
+        packet: u64,
+        /// The first node whose cell is not whole.
+        sender: u32,
+    },
     /// A write failed.
     #[error("the answer could not be written")]
     WriteFault,
@@ -37,9 +57,11 @@ impl LabError {
         match self {
             LabError::Refused(_) => 1,
             LabError::Usage => 2,
+            LabError::NodeRefused { .. } => 3,
             LabError::ReadFault => 6,
             LabError::WriteFault => 7,
             LabError::TooLong => 8,
+            LabError::Cut { .. } => 9,
             LabError::NoMemory => 10,
         }
     }
@@ -49,7 +71,7 @@ impl LabError {
         ensures { IsTrue result ↔ IsAnswered self }
     {
         match self {
-            LabError::Refused(_) => true,
+            LabError::Refused(_) | LabError::NodeRefused { .. } => true,
             _ => false,
         }
     }
@@ -72,5 +94,27 @@ impl From<WriteFault> for LabError {
 
     fn from(_: WriteFault) -> Self {
         LabError::WriteFault
+    }
+}
+
+impl From<NodeError<LinePremise>> for LabError {
+    ghost use Rattle.pulselab.specs.Faults.{error_of};
+
+    ghost from_gives = { λ n e. e ≡ error_of n };
+
+    fn from(error: NodeError<LinePremise>) -> Self {
+        match error {
+            NodeError::Refused(HeaderRefusal::Plan { line, premise }) => {
+                LabError::Refused(PulsesRefusal { line, premise })
+            }
+            NodeError::Refused(HeaderRefusal::Node { line, rule }) => {
+                LabError::NodeRefused { line, rule }
+            }
+            NodeError::ReadFault => LabError::ReadFault,
+            NodeError::WriteFault => LabError::WriteFault,
+            NodeError::TooLong => LabError::TooLong,
+            NodeError::Cut { packet, sender } => LabError::Cut { packet, sender },
+            NodeError::NoMemory => LabError::NoMemory,
+        }
     }
 }

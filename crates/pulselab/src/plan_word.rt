@@ -1,43 +1,27 @@
 //! The table of the plan that is read.
 
-ghost use Rattle.std.specs.Prelude.{◌≡◌, MatchResult, IfErr};
-ghost use Rattle.texts.specs.Growth.{Puts};
+ghost use Rattle.std.specs.Prelude.{◌≡◌, Some, MatchResult, IfErr};
 ghost use Rattle.pulselab.specs.Faults.{KeptAt, UnmetAt};
 ghost use Rattle.pulselab.specs.declared.faults.LabError.TheVariants as error;
-ghost use Rattle.pulselab.specs.PlanWord.{refusal_line, IsTabled, FailsOn, PlanDone, PlanFails};
+ghost use Rattle.pulselab.specs.declared.requests.Request.TheVariants as request;
+ghost use Rattle.pulselab.specs.PlanWord.{IsTabled, FailsOn, PlanDone, PlanFails};
 
 use crate::faults::LabError;
-use edge_io::{InputFault, Piece, Sink, Source, WriteFault, put_pieces, read_all};
+use edge_io::{InputFault, Sink, Source, WriteFault, read_all};
+use pulse_nodes::put_refusal;
 use pulse_tables::write_table;
-use pulse_texts::{PulsesError, PulsesRefusal, read_whole_pulses};
+use pulse_texts::{PulsesError, read_whole_pulses};
 use std::alloc::Global;
 
 /// How many bytes an input may have.
 const LONGEST_INPUT: usize = 1 << 20;
-
-/// Writes the line of a refusal.
-fn put_refusal<K: Sink>(sink: &mut K, refusal: PulsesRefusal) -> Result<(), WriteFault>
-    ensures { Puts result (refusal_line refusal.line refusal.premise) (K.told sink.old)
-        (K.told sink.new) }
-{
-    put_pieces(
-        sink,
-        &[
-            Piece::Text(b"refused pulses line "),
-            Piece::Number(refusal.line),
-            Piece::Text(b" premise "),
-            Piece::Text(refusal.premise.word().as_bytes()),
-            Piece::Text(b"\n"),
-        ],
-    )
-}
 
 /// Writes the table of the plan that an input is, or the line of its refusal.
 fn answer<K: Sink>(input: &[u8], sink: &mut K) -> Result<(), LabError>
     ensures does { MatchResult result
         (λ _. IsTabled input.now (K.told sink.old) (K.told sink.new))
         (FailsOn input.now (K.told sink.old) (K.told sink.new)) }
-    ensures untouched { IfErr result (KeptAt sink.old sink.new) }
+    ensures untouched { IfErr result (KeptAt (Some request.Plan) sink.old sink.new) }
     ensures read { IfErr result (λ e. e ≡ error.ReadFault → ⊥) }
 {
     match read_whole_pulses(input) {
@@ -61,7 +45,7 @@ pub fn table_plan<S: Source, K: Sink>(
         (S.faults source.new) (K.told sink.old) (K.told sink.new))
         (PlanFails (S.left source.old) (S.left source.new) (S.faults source.old)
         (S.faults source.new) (K.told sink.old) (K.told sink.new)) }
-    ensures untouched { IfErr result (KeptAt sink.old sink.new) }
+    ensures untouched { IfErr result (KeptAt (Some request.Plan) sink.old sink.new) }
     ensures unmet { IfErr result (UnmetAt (S.met source.old) (S.met source.new)) }
 {
     match read_all(alloc, source, LONGEST_INPUT) {

@@ -12,6 +12,8 @@ pub enum Request {
     Version,
     /// The table of the plan that is read.
     Plan,
+    /// One node that is given packets: its cell at the start and behind each packet.
+    Node,
 }
 
 /// What a single word asks for.
@@ -24,6 +26,8 @@ fn asked_alone(word: &str) -> Option<Request>
         Some(Request::Version)
     } else if word == "plan" {
         Some(Request::Plan)
+    } else if word == "node" {
+        Some(Request::Node)
     } else {
         None
     }

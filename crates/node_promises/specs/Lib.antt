@@ -1,0 +1,4 @@
+pub mod Calls
+pub mod Headers
+pub mod CallWindows
+pub mod Restarts

@@ -1,0 +1,4 @@
+pub mod Returns
+pub mod Headers
+pub mod Engines
+pub mod Service

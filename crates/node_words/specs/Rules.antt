@@ -1,0 +1,33 @@
+-- The words of rules, and the line of a header that is refused.
+use Rattle.std.specs.Prelude.{ℕ, List, [], ◌∷◌, codes, decimal}
+use Rattle.std.specs.List.{concat}
+use Rattle.sync_types.specs.declared.answers.Rule.{Rule}
+use Rattle.sync_types.specs.declared.answers.Rule.TheVariants as rule
+use Rattle.node_header.specs.declared.headers.HeaderRefusal.{HeaderRefusal}
+use Rattle.node_header.specs.declared.headers.HeaderRefusal.TheVariants as header
+use Rattle.node_words.specs.Constructions.{Words}
+
+abbrev pub rule_word : Rule → List ℕ
+rule_word rule.Form = codes "form"
+rule_word rule.Limit = codes "limit"
+rule_word rule.Node = codes "node"
+rule_word rule.Order = codes "order"
+rule_word rule.Faults = codes "faults"
+rule_word rule.Range = codes "range"
+rule_word rule.Hex = codes "hex"
+rule_word rule.Name = codes "name"
+rule_word rule.Slot = codes "slot"
+rule_word rule.Overlap = codes "overlap"
+
+-- of a line of the node part
+abbrev pub node_refusal : (line : ℕ) → Rule → List ℕ
+node_refusal line r = concat (
+    codes "refused node line " ∷ decimal line
+    ∷ codes " rule " ∷ rule_word r
+    ∷ codes "\n" ∷ [])
+
+-- of any line
+abbrev pub header_line : {Reader Plan Premise : Type 0} → Words Reader Plan Premise
+    → HeaderRefusal Premise → List ℕ
+header_line words (header.Plan line premise) = words.refusal line premise
+header_line words (header.Node line r) = node_refusal line r

@@ -1,0 +1,2 @@
+pub mod PulseWords
+pub mod NodePromises

@@ -1,0 +1,20 @@
+//! What calls of nodes of a pulse plan promise that are given one another's cells. The function
+//! does nothing: its clause is the law.
+
+ghost use Rattle.pulse_nodes.specs.NodePromises.{PulseNodesKeepPromise};
+
+use pulse_plan::laws::accepted_are_sound;
+
+/// N calls, one for each node of a pulse plan, of which few are faulty. For a window of rounds each
+/// of the others is given, in each packet, the cells that they wrote after as many rounds, and of
+/// the faulty ones any bytes. The window begins in each call at a packet of its own. Then their
+/// cells are the states of a run, whatever came before: T rounds later they show one number, which
+/// grows by one modulo C with each packet, and so they do from any locked configuration on. From
+/// there on they do so where cells are lost too, as long as each is given in each round those of
+/// N - F correct nodes, its own among them. A process that is started anew is a faulty node of the
+/// whole window and a correct one of its rest.
+pub fn pulse_nodes_keep_promise()
+    ensures { PulseNodesKeepPromise }
+{
+    accepted_are_sound();
+}
