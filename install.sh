@@ -47,17 +47,16 @@ ADDLIB $kit/c/liblibc_c.a
 SAVE
 END
 AR
-install -D -m 644 bench/library/counterlab.h "$prefix/include/counterlab.h"
-version=$(crates/choose/out/choose --version | cut -d ' ' -f 2)
+install -D -m 644 bindings/counterlab.h "$prefix/include/counterlab.h"
 mkdir -p "$prefix/lib/pkgconfig"
 cat > "$prefix/lib/pkgconfig/counterlab.pc" <<PC
-prefix=$prefix
+prefix=\${pcfiledir}/../..
 libdir=\${prefix}/lib
 includedir=\${prefix}/include
 
 Name: counterlab
 Description: the step of a node of a self-stabilising Byzantine synchronous counter
-Version: $version
+Version: $(cat VERSION)
 Libs: -L\${libdir} -lcounterlab
 Cflags: -I\${includedir}
 PC

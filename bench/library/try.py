@@ -31,6 +31,8 @@ import vectors
 HERE = pathlib.Path(__file__).resolve().parent
 TOP = HERE.parent.parent
 CRATES = TOP / "crates"
+BINDINGS = TOP / "bindings"
+FIRST = TOP / "examples" / "library"
 ARCHIVE = CRATES / "counterlab_c" / "out" / "libcounterlab_c.a"
 PROGRAM = CRATES / "counterlab" / "out" / "counterlab"
 PLAN_EXAMPLES = CRATES / "try_examples" / "data" / "plans"
@@ -339,12 +341,13 @@ class Tried:
         self.plan_count = sum(1 for _ in plan_numbers())
         self.plan_text = "".join(plan_numbers()).encode()
 
-    def link(self, compiler, name, *more, heap=None, flags=()):
-        """Compiles and links a program of this folder with the archive."""
+    def link(self, compiler, name, *more, heap=None, flags=(), at=HERE):
+        """Compiles and links a program of this folder, or another, with the archive."""
         needs_compiler(compiler, "c")
         to = self.room / f"{name}.{compiler}"
-        sources = [HERE / f"{name}.c", *more]
-        run([compiler, "-std=c11", "-O2", *flags, "-o", to, *sources, self.made, heap or self.heap])
+        sources = [at / f"{name}.c", *more]
+        options = ["-std=c11", "-O2", "-I", BINDINGS, *flags]
+        run([compiler, *options, "-o", to, *sources, self.made, heap or self.heap])
         return to
 
     def cases_by(self, program):
@@ -370,12 +373,12 @@ class Tried:
         source, to = self.room / "plans.cc", self.room / f"plans.{compiler}"
         source.write_bytes((HERE / "plans.c").read_bytes())
         strict = ["-std=c++11", "-pedantic-errors", "-Wall", "-Wextra", "-Werror"]
-        run([compiler, *strict, "-I", HERE, "-o", to, source, self.made, self.heap])
+        run([compiler, *strict, "-I", BINDINGS, "-o", to, source, self.made, self.heap])
         return self.plans_by(to)
 
     def first(self):
         """four_nodes.c against the same rounds by the plain step."""
-        plan, found = PLANS[1], run([self.link("gcc", "four_nodes")]).decode()
+        plan, found = PLANS[1], run([self.link("gcc", "four_nodes", at=FIRST)]).decode()
         states = [b"\x3f\xff", b"\x12\x34", b"\x00\x14", b"\xff"]
         rows = []
         for t in range(13):
@@ -428,11 +431,12 @@ class Tried:
              "-Wl,--no-whole-archive", self.heap, "-Wl,-z,defs"])
         cases = self.room / "cases.txt"
         cases.write_bytes(self.text + self.plan_text)
-        how = {"env": {**os.environ, "COUNTERLAB_SO": str(shared)}}
-        said = run([sys.executable, HERE / "four_nodes.py"], **how).decode().splitlines()
+        found = {"COUNTERLAB_SO": str(shared), "PYTHONPATH": str(BINDINGS)}
+        how = {"env": {**os.environ, **found}}
+        said = run([sys.executable, FIRST / "four_nodes.py"], **how).decode().splitlines()
         if said[-1:] != ["4 0112 0112 0112 48"]:
             raise Failed(f"four_nodes.py ended with {said[-1:]}")
-        run([sys.executable, HERE / "thirteen_nodes.py"], **how)
+        run([sys.executable, FIRST / "thirteen_nodes.py"], **how)
         return run([sys.executable, HERE / "by_ctypes.py", cases], **how).decode().strip()
 
     def rust(self):
@@ -451,7 +455,7 @@ class Tried:
         (empty / "Cargo.toml").write_text(head)
         if status_of(build, cwd=empty, env=env)[0]:
             raise Skipped("cargo builds no program here")
-        shutil.copytree(HERE / "rust", crate)
+        shutil.copytree(BINDINGS / "rust", crate)
         run(build, cwd=crate, env=env)
         program = self.room / "cargo" / "release" / "steps"
         self.cases_by(program)

@@ -19,6 +19,10 @@ plan of F faults or more.
                               from what the built `choose boosting` writes at modulus 10
   fronts.py pulses BINARY     the table of both constructions there, from what the built `choose`
                               writes at modulus 10
+  fronts.py within BINARY     tests that the built `choose within N T 10` tolerates the most faults,
+                              at each bound of a pulse plan and just below it, for some N
+  fronts.py none BINARY       tests what the built `choose` says on standard error where there is no
+                              plan, for some N and each F
   fronts.py times BINARY      how long the built `choose boosting` takes, for the five slowest F from
                               0 to 85: the least of nine runs each
 
@@ -210,6 +214,55 @@ def print_pulses(binary):
               f'| {few} | {least} |')
 
 
+SOME_NODES = (1, 2, 3, 4, 6, 7, 9, 10, 12, 13, 14, 20, 36, 100, 255, 256)
+
+
+def pairs_of(rows):
+    """Faults, nodes and least bound of plans: of boosting, of pulses, and of both."""
+    boosting = [(f, n, bound) for n, row in enumerate(rows) for f, bound in row.items()]
+    pulses = [(f, 3 * f + 1, pulse_numbers.BOUNDS[f]) for f in range(86)]
+    return boosting, pulses, boosting + pulses
+
+
+def told(binary, *words):
+    said = subprocess.run([binary, *map(str, words)], capture_output=True, check=True)
+    return said.stdout.decode(), said.stderr.decode()
+
+
+def check_within(binary):
+    """`within` writes the line of the front of the most faults that fit."""
+    pairs, tried = pairs_of(least_bounds(256))[2], 0
+    bounds = sorted({b - less for b in pulse_numbers.BOUNDS[:86] for less in (0, 1) if b >= less})
+    for nodes in SOME_NODES:
+        for bound in [*bounds, 10**15 - 1]:
+            most = max(f for f, n, t in pairs if n <= nodes and t <= bound)
+            found = told(binary, 'within', nodes, bound, 10)
+            assert found == told(binary, most, 10, nodes), (nodes, bound, most, found)
+            tried += 1
+    print(f'{tried} limits are tolerated as searched')
+
+
+def check_none(binary):
+    boosting, _, both = pairs_of(least_bounds(256))
+    tried = 0
+    for words, pairs in ((['boosting'], boosting), ([], both)):
+        for nodes in SOME_NODES:
+            for faults in range(86):
+                fewest = min((n for f, n, _ in pairs if f >= faults), default=None)
+                most = max(f for f, n, _ in pairs if n <= nodes)
+                found = told(binary, *words, faults, 10, nodes)
+                if fewest is not None and fewest <= nodes:
+                    assert found[0] != 'none\n' and found[1] == '', (words, faults, nodes, found)
+                    continue
+                need = (f'takes MOST_NODES of at least {fewest}' if fewest else
+                        'is more than any plan of at most 256 nodes tolerates')
+                line = (f'none: FAULTS {faults} {need}; MOST_NODES {nodes} allows FAULTS of at most '
+                        f'{most}\n')
+                assert found == ('none\n', line), (words, faults, nodes, found)
+                tried += 1
+    print(f'{tried} wants without a plan are told as searched')
+
+
 def print_times(binary):
     times = []
     for faults in range(86):
@@ -255,6 +308,10 @@ def main(words):
         print_table(words[1], int(words[2]) if len(words) > 2 else 7)
     elif words[:1] == ['pulses'] and len(words) == 2:
         print_pulses(words[1])
+    elif words[:1] == ['within'] and len(words) == 2:
+        check_within(words[1])
+    elif words[:1] == ['none'] and len(words) == 2:
+        check_none(words[1])
     elif words[:1] == ['times'] and len(words) == 2:
         print_times(words[1])
     else:

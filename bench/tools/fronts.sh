@@ -5,9 +5,9 @@
 #   sh bench/tools/fronts.sh [BINARY]          BINARY: crates/choose/out/choose where it is left out
 #
 # For each F from 0 to 85, five moduli, and 256 nodes at most; and for eight F, three moduli and ten
-# numbers of nodes at most: of the plans of `counterlab` alone, and of both constructions. It stops at
-# the first front that differs, and then ends with a status that is not 0. It takes about half a
-# minute.
+# numbers of nodes at most: of the plans of `counterlab` alone, and of both constructions. Then what
+# `within` tolerates, and what is said where there is no plan. It stops at the first that differs,
+# and then ends with a status that is not 0. It takes about a minute.
 set -e
 binary=${1:-crates/choose/out/choose}
 here=$(dirname "$0")
@@ -34,3 +34,5 @@ compare 256 "$(seq -s ' ' 0 85)" "2 10 1000 1048576 1099511627776"
 for most in 1 3 4 9 13 14 36 81 100 255; do
   compare "$most" "0 1 2 3 5 8 17 33" "2 1000 1099511627776"
 done
+python3 "$here/fronts.py" within "$binary"
+python3 "$here/fronts.py" none "$binary"

@@ -2,7 +2,7 @@
 """Draws which nodes of a plan stand where: blocks, leaders, kings and spares.
 
     python3 bench/tools/groups.py crates/try_examples/data/plans/spares_of_two_levels.txt \\
-        > docs/thirteen_nodes.svg
+        > docs/pictures/thirteen_nodes.svg
 
 Each group is a box; its blocks stand in it from the left, those that lead in blue, and its spares
 after them in grey. In the corner of a box stands what its level counts by and how many faults it

@@ -1,8 +1,8 @@
 #!/usr/bin/env python3
 """Draws the pulses of docs/PULSES.md, and writes their numbers.
 
-    python3 bench/tools/halves.py tree 4 > docs/pulses_thirteen.svg     the halves, for 4 faults
-    python3 bench/tools/halves.py run > docs/pulses_four.svg            a run of four nodes
+    python3 bench/tools/halves.py tree 4 > docs/pictures/pulses_thirteen.svg     the halves, for 4 faults
+    python3 bench/tools/halves.py run > docs/pictures/pulses_four.svg            a run of four nodes
     python3 bench/tools/halves.py numbers                               the numbers of the page
 
 The run is played from the rules of the page, with a liar that is said at its head. Written from

@@ -7,10 +7,11 @@ PROGRAM is the path of a built `counterlab`, `pulselab`, `choose`, `draw`, `stat
 `trace`; where none is named these are crates/NAME/out/NAME, as `rt ci` and `rt run` leave them. One
 that is not there is told in a line, and not tried. It is what the contracts of these programs leave
 to `main`: that all arguments are the words, that standard input, output and error are the source
-and the sinks, and that the status is the exit code. A case is an exit code, words, an input, the bytes that
-must come out, and of the programs beside `counterlab` how the line on standard error must begin.
-The status is 1 where a case ends otherwise. A case that this machine cannot make is told in a line,
-and is no failure, nor is a machine that takes more than a minute.
+and the sinks, and that the status is the exit code. A case is an exit code, words, an input, the
+bytes that must come out, and how the line on standard error must begin, or that there is none. It
+also looks whether programs, header and crate say the version that the file VERSION has. The status
+is 1 where a case ends otherwise. A case that this machine cannot make is told in a line, and is no
+failure, nor is a machine that takes more than a minute.
 """
 
 import os
@@ -23,6 +24,12 @@ TOP = pathlib.Path(__file__).resolve().parent.parent.parent
 CRATES = TOP / "crates"
 EXAMPLES = CRATES / "try_examples" / "data"
 FAULTS = CRATES / "try_faults" / "data"
+VERSION = (TOP / "VERSION").read_text().strip()
+# how the header and the crate for Rust say it
+SAY_VERSION = {
+    "bindings/counterlab.h": f'#define COUNTERLAB_VERSION "{VERSION}"',
+    "bindings/rust/Cargo.toml": f'version = "{VERSION}.0"',
+}
 NAMES = ["counterlab", "pulselab", "choose", "draw", "states", "sweep", "trace"]
 # How many bytes an input of `run` may have.
 LIMIT = 2**20
@@ -54,19 +61,28 @@ def told(code, words, text, begin):
     return code, words, text, b"", begin
 
 
+def command_words():
+    """How `counterlab` tells its words: those of the table in README.md."""
+    rows = (TOP / "README.md").read_text().split("| word | reads | writes |")[1].split("\n\n")[0]
+    words = [row.split("|")[1].replace("`", "").strip() for row in rows.splitlines()[2:]]
+    told = f"one of {', '.join(words[:-1])}, or {words[-1]}; the words are in `man counterlab`\n"
+    return told.encode()
+
+
 def counterlab_cases():
     liar, usage = example("runs/two_faced_liar"), b"usage: counterlab COMMAND\n"
+    words = command_words()
     return [
         stored(0, EXAMPLES, "runs/two_faced_liar", "run"),
         stored(1, EXAMPLES, "refused_plans/blocks", "plan"),
-        (2, (), liar, usage, b""),
-        (2, ("run", "run"), liar, usage, b""),
-        (2, ("demo", "seven"), b"", usage, b""),
+        (2, (), liar, usage, words),
+        (2, ("run", "run"), liar, usage, words),
+        (2, ("demo", "seven"), b"", usage, words),
         stored(3, EXAMPLES, "refused_scripts/faulty_node", "run"),
         stored(4, EXAMPLES, "certificates/no_end", "check"),
         stored(5, EXAMPLES, "certificates/row_differs", "check"),
-        (8, ("run",), TOO_LONG, b"", b""),
-        stored(9, FAULTS, "short/cut_packet", "node"),
+        (8, ("run",), TOO_LONG, b"", b"the input is too long"),
+        (*stored(9, FAULTS, "short/cut_packet", "node")[:4], b"the input ends in packet "),
     ]
 
 
@@ -94,6 +110,12 @@ def pulselab_cases():
 
 
 FRONT_OF_BOTH = b"nodes 10 bound 124 bytes 7 levels 2 pulses 1;group 10 3 1000;end\n"
+NONE_OF_BOTH = (
+    b"none: FAULTS 3 takes MOST_NODES of at least 10; MOST_NODES 9 allows FAULTS of at most 2\n"
+)
+NONE_BOOSTING = (
+    b"none: FAULTS 5 takes MOST_NODES of at least 20; MOST_NODES 14 allows FAULTS of at most 4\n"
+)
 
 
 def choose_cases():
@@ -101,8 +123,13 @@ def choose_cases():
         own_run("choose"),
         (0, ["3", "1000", "14"], b"", FRONT_OF_BOTH, b""),
         (0, ["3", "1000", "14", "plan"], b"", b"pulses 1\ngroup 10 3 1000\nend\n", b""),
-        (0, ["3", "1000", "9"], b"", b"none\n", b""),
+        (0, ["3", "1000", "9"], b"", b"none\n", NONE_OF_BOTH),
+        (0, ["boosting", "5", "10", "14"], b"", b"none\n", NONE_BOOSTING),
+        (0, ["boosting", "40", "10"], b"", b"none\n", b"none: FAULTS 40 is more than any plan "),
+        (0, ["within", "14", "130", "1000"], b"", FRONT_OF_BOTH, b""),
+        (0, ["within", "3", "0", "8", "plan"], b"", b"plan 2\nbase 8\nend\n", b""),
         told(2, [], b"", b"usage: choose "),
+        told(2, ["within", "0", "130", "1000"], b"", b"usage: choose "),
         told(2, ["1", "ten"], b"", b"usage: choose "),
     ]
 
@@ -186,7 +213,7 @@ def least_room(program):
 def folder_read(program, words):
     folder = os.open("/", os.O_RDONLY)
     try:
-        return ended(program, words, stdin=folder)[0]
+        return ended(program, words, stdin=folder)
     finally:
         os.close(folder)
 
@@ -194,7 +221,7 @@ def folder_read(program, words):
 def full_written(program, words, text):
     full = os.open("/dev/full", os.O_WRONLY)
     try:
-        return ended(program, words, input=text, stdout=full)[0]
+        return ended(program, words, input=text, stdout=full)
     finally:
         os.close(full)
 
@@ -202,7 +229,7 @@ def full_written(program, words, text):
 def memory_refused(program, words):
     """An input as long as it may be, and no room for it."""
     text = TOO_LONG[:LIMIT]
-    return ended(program, words, input=text, preexec_fn=within(least_room(program)))[0]
+    return ended(program, words, input=text, preexec_fn=within(least_room(program)))
 
 
 class Looks:
@@ -224,7 +251,7 @@ class Looks:
     @staticmethod
     def fits(found, wanted):
         if isinstance(wanted, int):
-            return found == wanted
+            return found[0] == wanted
         begins = found[2].startswith(wanted[2]) and bool(found[2]) == bool(wanted[2])
         return found[:2] == wanted[:2] and begins
 
@@ -233,16 +260,21 @@ def look_at(name, program, looks):
     for code, words, text, answer, begin in CASES[name]():
         what = " ".join([name, *words])
         looks.look(what, (code, answer, begin), ended, program, words, input=text)
+    if name != "counterlab":  # it has no such word
+        said = (0, f"{name} {VERSION}\n".encode(), b"")
+        looks.look(f"{name} --version", said, ended, program, ["--version"], input=b"")
     _, words, text, _, _ = CASES[name]()[0]
+    unread, unwritten = b"the input could not be read", b"the answer could not be written"
     if name == "draw" or name == "states":  # all that goes wrong is 1
         looks.look(f"{name}, a folder as input", 1, folder_read, program, words)
         looks.look(f"{name}, output that is full", 1, full_written, program, words, text)
         return
-    looks.look(f"{name}, output that is full", 7, full_written, program, words, text)
+    full = (7, None, unwritten)
+    looks.look(f"{name}, output that is full", full, full_written, program, words, text)
     if name == "choose":  # it reads nothing, and takes little memory
         return
-    looks.look(f"{name}, a folder as input", 6, folder_read, program, words)
-    looks.look(f"{name}, no memory", 10, memory_refused, program, words)
+    looks.look(f"{name}, a folder as input", (6, b"", unread), folder_read, program, words)
+    looks.look(f"{name}, no memory", (10, b"", b"out of memory"), memory_refused, program, words)
 
 
 def main():
@@ -255,6 +287,10 @@ def main():
             print(f"statuses: {program.name}: not tried, since {program} is not there")
             continue
         look_at(program.name, program, looks)
+    for name, line in SAY_VERSION.items():
+        looks.tried += 1
+        if line not in (TOP / name).read_text():
+            looks.wrong.append(f"{name} does not say {line}")
     for it in looks.wrong:
         print(f"statuses: {it}")
     print(f"statuses: {looks.tried - len(looks.wrong)} of {looks.tried} calls end as they must")

@@ -1,7 +1,7 @@
 /* A node of a counter over UDP on 127.0.0.1, a process of its own. It steps by the proved step of
  * the library; nothing else of this file is proved. docs/ROUNDS.md says why it does what it does.
  *
- *   gcc -std=c11 -O2 -I bench/library -o node examples/udp/node.c \
+ *   gcc -std=c11 -O2 -I bindings -o node examples/udp/node.c \
  *       crates/counterlab_c/out/libcounterlab_c.a KIT/c/liblibc_c.a
  *   ./node [-p] PLAN ID PORT WAIT < TICKS
  *   ./node PLAN                              prints the numbers of the plan

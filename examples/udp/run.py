@@ -74,7 +74,7 @@ def build(room):
     if not ARCHIVE.is_file():
         raise Skipped(f"{ARCHIVE} is not there: it is built by `rt lib`")
     heap = pathlib.Path(output(["rt", "doc"]).strip()).parent / "c" / "liblibc_c.a"
-    header = TOP / "bench" / "library"
+    header = TOP / "bindings"
     options = ["gcc", "-std=c11", "-O2"]
     output([*options, "-I", header, "-o", room / "node", HERE / "node.c", ARCHIVE, heap])
     output([*options, "-shared", "-fPIC", "-o", room / "faults.so", HERE / "faults.c"])

@@ -59,7 +59,7 @@ above_first a (b ∷ xs) (suc k) rises lt =
     omega arith
 
 -- numbers that rise, and behind them one above the last
-rising_pushed : (a b : ℕ) (xs : List ℕ) → IsStrictlyIncreasing (a ∷ xs)
+pub rising_pushed : (a b : ℕ) (xs : List ℕ) → IsStrictlyIncreasing (a ∷ xs)
     → get_or (a ∷ xs) (length xs) 0 < b → IsStrictlyIncreasing (a ∷ xs ++ b ∷ [])
 rising_pushed a b [] rises above zero lt = above
 rising_pushed a b [] rises above (suc k) lt = absurd (omega arith)

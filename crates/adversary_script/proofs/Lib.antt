@@ -7,6 +7,7 @@ pub mod Linked
 pub mod FaultyIds
 pub mod Shifted
 pub mod Fitted
+pub mod FittedSame
 pub mod EraLists
 pub mod FormedEras
 pub mod DraftEras
@@ -15,3 +16,14 @@ pub mod SoundLines
 pub mod ReadScripts
 pub mod LiesInRange
 pub mod Hits
+pub mod WrittenWords
+pub mod ReadOn
+pub mod WrittenHead
+pub mod WrittenStarts
+pub mod WrittenEras
+pub mod WrittenGroups
+pub mod WrittenLies
+pub mod ScriptTexts
+pub mod SaidWords
+pub mod SaidLines
+pub mod ReadWritable

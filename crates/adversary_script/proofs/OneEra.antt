@@ -32,12 +32,12 @@ use Rattle.adversary_script.specs.LieSteps.{lie_tested}
 use Rattle.adversary_script.specs.Steps.{done, head_tested, key_of_digits, with_key, seed_tested}
 use Rattle.adversary_script.specs.Steps.{group_tested, group_step, rounds_tested, show_tested}
 use Rattle.adversary_script.specs.Steps.{line_step}
-use Rattle.adversary_script.specs.ScriptPart.{IsAnswer}
+use Rattle.adversary_script.specs.ScriptPart.{IsAnswer, script_of}
 use Rattle.adversary_script.proofs.LineByLine.{script_has}
 use Rattle.adversary_script.proofs.SoundLines.{guarded}
 
 -- in version 1 there is none
-abbrev HasEras : Script → Type 0
+abbrev pub HasEras : Script → Type 0
 HasEras s = s.version ≡ 1 → s.eras ≡ []
 
 either_keeps : (b : Bool) (x y : Result Script Rule) → IfOk x HasEras → IfOk y HasEras
@@ -192,11 +192,17 @@ line_keeps f last kind.Rounds s words may h = rounds_keeps s (behind last s h) (
 line_keeps f last kind.Show s words may h = show_keeps s (behind last s h) (numbers_in words)
 line_keeps f last kind.End s words may h = done_keeps s words (behind last s h)
 
+-- so it is of every script that is read
+pub script_has_eras : (plan : Plan) (shape : Shape) (number : ℕ) (lines : List (List ℕ))
+    → IfOk (script_of plan shape number lines) HasEras
+script_has_eras plan shape number lines =
+    script_has plan shape HasErasBehind
+    (λ last k s words may h. line_keeps (plan_faults plan) last k s words may h) refl number lines
+
 -- a reading that is exact gives a script of which this holds
 pub read_has_eras : (plan : Plan) (shape : Shape) (number : ℕ) (lines : List (List ℕ))
     (r : Result Script ScriptError)
     → IsAnswer plan shape number lines r → IfOk r (λ script. script.version ≡ 1 → script.eras ≡ [])
 read_has_eras plan shape number lines (Ok script) is =
-    rw is at (script_has plan shape HasErasBehind
-    (λ last k s words may h. line_keeps (plan_faults plan) last k s words may h) refl number lines)
+    rw is at (script_has_eras plan shape number lines)
 read_has_eras plan shape number lines (Err e) is = tt

@@ -53,7 +53,7 @@ pub guarded : (P : Script → Type 0) (b : Bool) (r : Rule) (x : Result Script R
 guarded P true r x h = tt
 guarded P false r x h = h refl
 
-kept_if : (P : Script → Type 0) (b : Bool) (x y : Result Script Rule) → IfOk x P → IfOk y P
+pub kept_if : (P : Script → Type 0) (b : Bool) (x y : Result Script Rule) → IfOk x P → IfOk y P
     → IfOk (if b then x else y) P
 kept_if P true x y h k = h
 kept_if P false x y h k = k
@@ -100,7 +100,7 @@ module _ (n : ℕ) (sets : List (List ℕ)) (l : LieSaid) (ids : are_ids n sets 
       (and_parts (nat_lt l.sender n && list_any (λ ids. is_in ids l.sender) sets && who_below n
       l.who) (what_below n l.what) ids).1
 
-rises : (ids : List ℕ) → is_rising ids ≡ true → IsStrictlyIncreasing ids
+pub rises : (ids : List ℕ) → is_rising ids ≡ true → IsStrictlyIncreasing ids
 rises ids rising k lt = rw add-one (rises_at ids k 0 rising (omega arith))
 
 -- a script that is well formed and for a plan

@@ -2,6 +2,7 @@ pub mod Answers
 pub mod Eras
 pub mod FaultySteps
 pub mod Kinds
+pub mod LieLaws
 pub mod LieSteps
 pub mod LieWords
 pub mod Lies
@@ -9,10 +10,13 @@ pub mod Links
 pub mod Lookup
 pub mod Noise
 pub mod NoiseSaid
+pub mod ScriptLaws
 pub mod ScriptPart
 pub mod ScriptRefusals
+pub mod ScriptTexts
 pub mod Scripts
 pub mod Seen
 pub mod StartSteps
 pub mod Steps
 pub mod WordTests
+pub mod Writable

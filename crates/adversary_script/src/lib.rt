@@ -20,6 +20,7 @@ mod group_lines;
 mod id_sets;
 mod keys;
 mod kinds;
+pub mod laws;
 mod lie_lines;
 mod lie_words;
 mod lies;

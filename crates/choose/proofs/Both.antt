@@ -1,16 +1,15 @@
 -- No plan is better than the pulse plan of fewest nodes, where a fault is to be tolerated.
-use Rattle.std.proofs.Common.{◌≡◌, ℕ, zero, suc, ◌+◌, ◌-◌, ◌*◌, ◌<◌, ◌≤◌, ◌^◌, List, [], ◌∷◌, refl}
-use Rattle.std.proofs.Common.{sym, ap, ◌∙◌, subst, arith}
-use Rattle.std.specs.Prelude.{Option, Some, None}
-use Rattle.std.specs.List.{All, Any, AllPairs}
+use Rattle.std.proofs.Common.{ℕ, ◌+◌, ◌-◌, ◌*◌, ◌<◌, ◌≤◌, ◌^◌, List, [], ◌∷◌, refl}
+use Rattle.std.proofs.Common.{arith}
+use Rattle.std.specs.Prelude.{Some, None}
 use Rattle.std.specs.Int.{div_ceil}
 use Rattle.std.proofs.lemmas.List.Elements.{All-nil, All-cons}
 use Rattle.std.proofs.Math.Nat.{pow-le-pow_left, pow-le-pow_right, mul-le-mul}
-use Rattle.construction.specs.Plans.{Level, Plan, plan_nodes, plan_bound, bound_of}
+use Rattle.construction.specs.Plans.{Level, Plan, bound_of}
 use Rattle.plan_numbers.specs.Numbers.{below_of}
 use Rattle.plan_numbers.proofs.Accepted.{meets, accepted_sized}
 use Rattle.plan_finder.specs.Steps.{cost_of}
-use Rattle.pulse_construction.specs.Halvings.{halving_of, halving_bound}
+use Rattle.pulse_construction.specs.Halvings.{halving_bound}
 use Rattle.pulse_construction.proofs.Numbers.{bound_of_halving}
 use Rattle.pulse_plan.specs.Plans.{PulseNumbers, tree_of}
 use Rattle.pulse_plan.specs.Plans as pulses
@@ -49,7 +48,7 @@ slow_by n f some version base (level ∷ below) bears =
     let top = bound_top n f level.blocks version base level below blocks bears refl in
     omega (arith, top, cost_some level.blocks f blocks)
 
-boosting_bears : (n f : ℕ) (plan : Plan) → Tolerates n f (Boosting plan) → Bears n f plan
+pub boosting_bears : (n f : ℕ) (plan : Plan) → Tolerates n f (Boosting plan) → Bears n f plan
 boosting_bears n f plan tolerates = record {
   accepted = tolerates.accepted;
   nodes = tolerates.nodes;
@@ -59,11 +58,12 @@ boosting_bears n f plan tolerates = record {
 -- ---- plans of either
 
 -- a plan has more than three nodes for each fault
-quorum_of : (plan : AnyPlan) → both.IsAccepted plan → 3 * both.faults_of plan < both.nodes_of plan
+pub quorum_of : (plan : AnyPlan) → both.IsAccepted plan
+    → 3 * both.faults_of plan < both.nodes_of plan
 quorum_of (Boosting plan) accepted = (accepted_sized plan.base plan.levels accepted.levels).quorum
 quorum_of (Pulses plan) accepted = accepted.quorum
 
-more_nodes : (n f : ℕ) (plan : AnyPlan) → Tolerates n f plan → 3 * f < both.nodes_of plan
+pub more_nodes : (n f : ℕ) (plan : AnyPlan) → Tolerates n f plan → 3 * f < both.nodes_of plan
 more_nodes n f plan tolerates =
     let quorum = quorum_of plan tolerates.accepted in
     let faults = tolerates.faults in
@@ -110,7 +110,8 @@ lone_front c most some least_c most_c =
 abbrev pub fewest : (f c : ℕ) → PulseNumbers
 fewest f c = record { nodes = 3 * f + 1; faults = f; modulus = c }
 
-fewest_accepted : (f c : ℕ) → 1 ≤ f → f ≤ 85 → 2 ≤ c → c ≤ 2 ^ 40 → pulses.IsAccepted (fewest f c)
+pub fewest_accepted : (f c : ℕ) → 1 ≤ f → f ≤ 85 → 2 ≤ c → c ≤ 2 ^ 40
+    → pulses.IsAccepted (fewest f c)
 fewest_accepted f c some few least_c most_c = record {
   most_nodes = omega (arith, few);
   least_modulus = least_c;
@@ -121,7 +122,7 @@ fewest_accepted f c some few least_c most_c = record {
 
 module _ (f c most : ℕ) (some : 1 ≤ f) (few : f ≤ 85) (least_c : 2 ≤ c) (most_c : c ≤ 2 ^ 40)
     (room : 3 * f < most) where
-  no_slower : (other : AnyPlan) → Tolerates most f other
+  pub no_slower : (other : AnyPlan) → Tolerates most f other
       → halving_bound (tree_of (fewest f c)) ≤ both.bound_of other
   no_slower (Boosting plan) tolerates =
       let fast = bound_of_halving f (3 * f + 1 - (3 * f + 1)) in

@@ -5,3 +5,5 @@ pub mod Grown
 pub mod Texts
 pub mod Both
 pub mod PulseTexts
+pub mod MostFaults
+pub mod Short

@@ -1,6 +1,5 @@
 -- What is written of a pulse plan is read as that plan.
-use Rattle.std.proofs.Common.{◌≡◌, ℕ, ◌<◌, ◌≤◌, ◌^◌, ◌++◌, refl, arith}
-use Rattle.std.specs.Prelude.{decimal, codes}
+use Rattle.std.proofs.Common.{◌≡◌, refl, arith}
 use Rattle.pulse_plan.specs.Plans.{PulseNumbers, IsAccepted}
 use Rattle.pulse_texts.proofs.ReadBack.{text_is_whole}
 use Rattle.pulse_texts.specs.PulsesTexts.{pulses_text}

@@ -6,3 +6,5 @@ pub mod FrontsOfBothText
 pub mod HelpText
 pub mod Requests
 pub mod Conduct
+pub mod MostFaults
+pub mod Shortages

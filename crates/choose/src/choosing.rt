@@ -1,17 +1,20 @@
 //! Does what the words ask for.
 
-ghost use Rattle.std.specs.Prelude.{◌≡◌, map, string_bytes, Some, MatchResult};
+ghost use Rattle.std.specs.Prelude.{◌≡◌, map, string_bytes, Some, MatchResult, IfOk};
 ghost use Rattle.choose.specs.Requests.{request_of};
-ghost use Rattle.choose.specs.Conduct.{Answers, Fails, status_of};
+ghost use Rattle.choose.specs.Conduct.{Answers, Fails, Explains, ExplainsWants, status_of};
 ghost use Rattle.choose.specs.FrontText.{TextsArePlans};
 ghost use Rattle.choose.specs.FrontsOfBothText.{PulseTextsArePlans};
 ghost use Rattle.choose.specs.declared.requests.Request.TheVariants as request;
+ghost use Rattle.choose.specs.Requests.{IsRoom};
 ghost use Rattle.plan_finder.specs.FindPart.{IsFit};
 
 use crate::fronts::front;
 use crate::fronts_of_both::front_of_both;
 use crate::laws::{pulse_texts_are_plans, texts_are_plans};
-use crate::requests::{Request, Scope, request_of};
+use crate::most_faults::most_plan;
+use crate::requests::{Request, Room, Scope, request_of};
+use crate::shortages::{shortage_of, write_shortage};
 use crate::writing::{write_front, write_help, write_last_plan, write_version};
 use crate::writing_both::{write_both_front, write_both_plan};
 use edge_io::{Sink, WriteFault};
@@ -24,7 +27,8 @@ use thiserror::Error;
 #[derive(Clone, Copy, Debug, PartialEq, Eq, Error)]
 pub enum ChooseError {
     /// The words ask for nothing.
-    #[error("usage: choose [boosting] FAULTS MODULUS [MOST_NODES] [plan], or choose --help")]
+    #[error("usage: choose [boosting] FAULTS MODULUS [MOST_NODES] [plan], \
+        choose within NODES BOUND MODULUS [plan], or choose --help")]
     Usage,
     /// Memory was refused.
     #[error("out of memory")]
@@ -125,19 +129,74 @@ fn write_plan_alone<K: Sink>(
     }
 }
 
+/// Writes the line of the plan of most faults within this room.
+fn write_most<K: Sink>(alloc: Global, room: &Room, sink: &mut K) -> Result<(), ChooseError>
+    requires { IsRoom room.now }
+    ensures { MatchResult result
+        (λ _. Answers (Some (request.Most room.now)) (K.told sink.old) (K.told sink.new))
+        (Fails (Some (request.Most room.now)) (K.told sink.old) (K.told sink.new)) }
+{
+    let plan = most_plan(alloc, room.nodes, room.bound, room.modulus)?;
+    Ok(write_both_front(&Some(plan), sink)?)
+}
+
+/// Writes the text of that plan.
+fn write_most_plan<K: Sink>(alloc: Global, room: &Room, sink: &mut K) -> Result<(), ChooseError>
+    requires { IsRoom room.now }
+    ensures { MatchResult result
+        (λ _. Answers (Some (request.MostPlan room.now)) (K.told sink.old) (K.told sink.new))
+        (Fails (Some (request.MostPlan room.now)) (K.told sink.old) (K.told sink.new)) }
+{
+    let plan = most_plan(alloc, room.nodes, room.bound, room.modulus)?;
+    Ok(write_both_plan(&Some(plan), sink)?)
+}
+
+/// Writes the line that says why there is no plan for these wants, and nothing where there is one.
+fn write_why<K: Sink>(
+    alloc: Global,
+    scope: Scope,
+    want: &Want,
+    sink: &mut K,
+) -> Result<(), ChooseError>
+    requires { IsFit want.now }
+    ensures { IfOk result (λ _. ExplainsWants scope want.now (K.told sink.old) (K.told sink.new)) }
+{
+    let shortage = shortage_of(alloc, scope, want)?;
+    Ok(write_shortage(want, shortage, sink)?)
+}
+
+/// Where the words ask for a front and there is no plan, writes why: how many nodes its faults
+/// take, and how many faults its nodes tolerate. Else it writes nothing.
+pub fn explain_none<K: Sink>(
+    alloc: Global,
+    words: &[String],
+    sink: &mut K,
+) -> Result<(), ChooseError>
+    ensures { IfOk result (λ _. Explains (request_of (map string_bytes words.now))
+        (K.told sink.old) (K.told sink.new)) }
+{
+    match request_of(words) {
+        Some(Request::Front(scope, want)) => write_why(alloc, scope, &want, sink),
+        Some(Request::LastPlan(scope, want)) => write_why(alloc, scope, &want, sink),
+        _ => Ok(()),
+    }
+}
+
 /// Writes what the words ask for. `FAULTS MODULUS [MOST_NODES]` asks for a front of nodes and bound
 /// of the plans of both constructions: a line for each of its plans, or `none`. With `plan` after
 /// these words it is the text of the last of its plans, or `none`. With `boosting` before them it
-/// is a front of the plans of the boosting construction alone. `--help` and `--version`, alone, ask
-/// for what they say.
+/// is a front of the plans of the boosting construction alone. `within NODES BOUND MODULUS` asks
+/// for a plan of most faults of those of both constructions with at most so many nodes and a bound
+/// of at most so many rounds: for its line, or with `plan` after these words for its text. `--help`
+/// and `--version`, alone, ask for what they say.
 ///
-/// FAULTS is at most 85, MODULUS from 2 to 2^40, MOST_NODES from 1 to 256, and 256 where it is left
-/// out. `Usage` comes exactly where the words ask for nothing; nothing was written then. `NoMemory`
-/// comes only where a front is asked for, and nothing was written. `WriteFault` comes only where
-/// the sink counted a fault; a prefix of the answer was then taken.
+/// FAULTS is at most 85, MODULUS from 2 to 2^40, MOST_NODES and NODES from 1 to 256, and MOST_NODES
+/// 256 where it is left out. `Usage` comes exactly where the words ask for nothing; nothing was
+/// written then. `NoMemory` comes only where a plan is asked for, and nothing was written.
+/// `WriteFault` comes only where the sink counted a fault; a prefix of the answer was then taken.
 pub fn choose<K: Sink>(alloc: Global, words: &[String], sink: &mut K) -> Result<(), ChooseError>
     // Which bytes were written: of a front, whose plans no accepted plan is better than, its lines
-    // or the text of its last plan.
+    // or the text of its last plan; or the line or the text of a plan of most faults.
     ensures does { MatchResult result
         (λ _. Answers (request_of (map string_bytes words.now)) (K.told sink.old) (K.told sink.new))
         (Fails (request_of (map string_bytes words.now)) (K.told sink.old) (K.told sink.new)) }
@@ -156,5 +215,7 @@ pub fn choose<K: Sink>(alloc: Global, words: &[String], sink: &mut K) -> Result<
         Request::Version => Ok(write_version(sink)?),
         Request::Front(scope, want) => write_lines(alloc, scope, &want, sink),
         Request::LastPlan(scope, want) => write_plan_alone(alloc, scope, &want, sink),
+        Request::Most(room) => write_most(alloc, &room, sink),
+        Request::MostPlan(room) => write_most_plan(alloc, &room, sink),
     }
 }

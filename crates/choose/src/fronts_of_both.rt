@@ -10,7 +10,7 @@ use std::alloc::Global;
 use sync_types::NoMemory;
 
 /// The pulse plan of fewest nodes that tolerates `f` faults.
-fn fewest_nodes(f: u64, c: u64) -> PulsePlan
+pub fn fewest_nodes(f: u64, c: u64) -> PulsePlan
     requires faults { (1 ≤ f) × (f ≤ 85) }
     requires modulus { (2 ≤ c) × (c ≤ 2 ^ 40) }
     ensures { result ≡ record { nodes = 3 * f + 1; faults = f; modulus = c } }

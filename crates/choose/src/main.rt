@@ -5,13 +5,19 @@
 //! than all lines: each has at least the nodes and the bound of one of them. With the word
 //! `boosting` before, it looks at the plans of `counterlab` alone, of either version. With the word
 //! `plan` after, it writes the plan of the last line alone, in lines. `none` stands where there is
-//! no such plan.
+//! no such plan, and a line on standard error then says how many nodes the faults take, and how
+//! many faults the nodes tolerate.
+//!
+//! `choose within NODES BOUND MODULUS` writes, of all accepted plans of both constructions with at
+//! most so many nodes and a bound of at most so many rounds, the line of one that tolerates the
+//! most faults.
 //!
 //! `--help` and `--version` write what they say. Other words are answered by one line of usage on
 //! standard error. The exit codes are those of `counterlab`.
 //!
-//! What is written is proved, of [`choosing::choose`]. That `main` hands on the words, ends with
-//! the code of the status and writes the line on standard error is tried, and not proved.
+//! What is written is proved, of [`choosing::choose`] and [`choosing::explain_none`]. That `main`
+//! hands on the words, ends with the code of the status and writes the lines on standard error is
+//! tried, and not proved.
 #![tactic(auto)]
 
 mod any_plans;
@@ -19,22 +25,29 @@ mod choosing;
 mod fronts;
 mod fronts_of_both;
 mod laws;
+mod most_faults;
 mod requests;
 mod searching;
+mod shortages;
 mod writing;
 mod writing_both;
 
-use crate::choosing::{ChooseError, choose};
+use crate::choosing::{ChooseError, choose, explain_none};
 use edge_io::StdSink;
 use program_words::{arguments, exit_code, words};
 use std::io;
 use std::process::ExitCode;
 
-/// Does what the words ask for.
+/// Does what the words ask for. Where there is no plan for them, standard error says why.
 fn run(rt: &HostRuntime) -> Result<(), ChooseError> {
     let arguments = arguments(rt)?;
     let mut sink = StdSink::new(io::writer(rt));
-    choose(rt.alloc(), words(&arguments), &mut sink)
+    choose(rt.alloc(), words(&arguments), &mut sink)?;
+    let stderr = rt.stderr();
+    let mut remarks = StdSink::new(io::writer(&stderr));
+    // Where it cannot be said, the answer alone stands.
+    let _ = explain_none(rt.alloc(), words(&arguments), &mut remarks);
+    Ok(())
 }
 
 fn main(rt: HostRuntime) -> ExitCode {

@@ -4,7 +4,7 @@ ghost use Rattle.std.specs.Prelude.{◌≡◌, map, string_bytes, IfSome};
 ghost use Rattle.texts.specs.Numbers.{number_of};
 ghost use Rattle.plan_finder.specs.FindPart.{IsFit};
 ghost use Rattle.choose.specs.Requests.{want_with, want_by, asked_alone, search_of, request_of};
-ghost use Rattle.choose.specs.Requests.{HasFitWant};
+ghost use Rattle.choose.specs.Requests.{room_with, room_by, within_of, IsRoom, HasFitWant};
 
 use edge_io::number;
 use plan_finder::Want;
@@ -18,6 +18,17 @@ pub enum Scope {
     Boosting,
 }
 
+/// What a plan may take, and what it is to count by.
+#[derive(Clone, Copy, Debug, PartialEq, Eq)]
+pub struct Room {
+    /// How many nodes it has at most, 1 to 256.
+    pub nodes: u64,
+    /// Its bound at most, in rounds.
+    pub bound: u64,
+    /// The modulus that it counts by, 2 to 2^40.
+    pub modulus: u64,
+}
+
 /// What is asked for.
 #[derive(Clone, Copy, Debug, PartialEq, Eq)]
 pub enum Request {
@@ -29,6 +40,10 @@ pub enum Request {
     Front(Scope, Want),
     /// The text of the last plan of a front for these wants.
     LastPlan(Scope, Want),
+    /// The line of the plan that tolerates the most faults within this room.
+    Most(Room),
+    /// The text of that plan.
+    MostPlan(Room),
 }
 
 /// The most nodes, where they are left out.
@@ -113,6 +128,54 @@ fn search_of(scope: Scope, words: &[String]) -> Option<Request>
     }
 }
 
+/// The room with these numbers, if they keep the limits.
+fn room_with(nodes: u64, bound: u64, modulus: u64) -> Option<Room>
+    ensures value { result ≡ room_with nodes bound modulus }
+    ensures fits { IfSome result IsRoom }
+{
+    if nodes < 1 || nodes > 256 || modulus < 2 || modulus > 1 << 40 {
+        return None;
+    }
+    Some(Room {
+        nodes,
+        bound,
+        modulus,
+    })
+}
+
+/// The room of three words.
+fn room_by(nodes: &str, bound: &str, modulus: &str) -> Option<Room>
+    ensures value { result ≡ room_by (number_of nodes.now) (number_of bound.now)
+        (number_of modulus.now) }
+    ensures fits { IfSome result IsRoom }
+{
+    let nodes = number(nodes.as_bytes())?;
+    let bound = number(bound.as_bytes())?;
+    let modulus = number(modulus.as_bytes())?;
+    room_with(nodes, bound, modulus)
+}
+
+/// What words behind `within` ask for.
+fn within_of(words: &[String]) -> Option<Request>
+    ensures value { result ≡ within_of (map string_bytes words.now) }
+    ensures fits { IfSome result HasFitWant }
+{
+    match words {
+        [nodes, bound, modulus] => {
+            let room = room_by(nodes.as_str(), bound.as_str(), modulus.as_str())?;
+            Some(Request::Most(room))
+        }
+        [nodes, bound, modulus, last] => {
+            if last.as_str() != "plan" {
+                return None;
+            }
+            let room = room_by(nodes.as_str(), bound.as_str(), modulus.as_str())?;
+            Some(Request::MostPlan(room))
+        }
+        _ => None,
+    }
+}
+
 /// What these words ask for: None exactly where they ask for nothing.
 pub fn request_of(words: &[String]) -> Option<Request>
     ensures value { result ≡ request_of (map string_bytes words.now) }
@@ -124,6 +187,8 @@ pub fn request_of(words: &[String]) -> Option<Request>
         [first, ..] => {
             if first.as_str() == "boosting" {
                 search_of(Scope::Boosting, &words[1..])
+            } else if first.as_str() == "within" {
+                within_of(&words[1..])
             } else {
                 search_of(Scope::Both, words)
             }

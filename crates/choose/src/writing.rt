@@ -145,12 +145,17 @@ pub fn write_help<K: Sink>(sink: &mut K) -> Result<(), WriteFault>
         sink,
         &[
             Piece::Text(b"usage: choose [boosting] FAULTS MODULUS [MOST_NODES] [plan]\n"),
+            Piece::Text(b"       choose within NODES BOUND MODULUS [plan]\n"),
             Piece::Text(b"Writes the front of nodes and bound of the plans that tolerate FAULTS\n"),
             Piece::Text(b"faults or more (0 to 85), count by MODULUS (2 to 2^40) and have at\n"),
             Piece::Text(b"most MOST_NODES nodes (1 to 256; left out 256): a line for each plan,\n"),
             Piece::Text(b"with more nodes and a lesser bound than the one before, or none.\n"),
             Piece::Text(b"boosting: of the plans of counterlab alone, not of pulselab.\n"),
             Piece::Text(b"plan: the plan of the last line alone, in lines.\n"),
+            Piece::Text(
+                b"within: a plan that tolerates the most faults of all plans with at most\n",
+            ),
+            Piece::Text(b"NODES nodes (1 to 256) and a bound of at most BOUND rounds.\n"),
         ],
     )
 }

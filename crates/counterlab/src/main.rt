@@ -1,4 +1,5 @@
-//! The program: the workbench over standard input and standard output.
+//! The program: the workbench over standard input and standard output. Where the answer does not
+//! say what failed, or the words are none, one line on standard error does ([`put_remark`]).
 #![tactic(auto)]
 
 #[cfg(test)]
@@ -9,9 +10,11 @@ mod node_tests;
 mod one_node_tests;
 #[cfg(test)]
 mod record_tests;
+mod remarks;
 #[cfg(test)]
 mod tests;
 
+use crate::remarks::put_remark;
 use edge_io::{StdSink, StdSource};
 use program_words::{arguments, exit_code, words};
 use std::io;
@@ -30,5 +33,9 @@ fn run(rt: &HostRuntime) -> Status {
 }
 
 fn main(rt: HostRuntime) -> ExitCode {
-    exit_code(run(&rt))
+    let status = run(&rt);
+    let stderr = rt.stderr();
+    // Where standard error is closed, the code alone says it.
+    let _ = put_remark(&mut StdSink::new(io::writer(&stderr)), status);
+    exit_code(status)
 }

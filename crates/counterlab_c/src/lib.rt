@@ -9,6 +9,8 @@ ghost use Rattle.std.specs.Prelude.{◌≡◌, ◌≤◌};
 ghost use Rattle.node_calls.specs.Answers.{bytes_answer, output_answer, step_answer};
 ghost use Rattle.node_calls.specs.Counters.{counter_answer, TextsHaveCounters};
 ghost use Rattle.node_calls.specs.Counting.{NodesCount, LossyNodesCount};
+ghost use Rattle.node_calls.specs.Lossy.{AnyLossesAreTold};
+ghost use Rattle.node_calls.specs.MixedNodes.{MixedNodesCount, MixedNodesStayLocked};
 ghost use Rattle.counterlab_c.specs.Codes.{numbers_of};
 ghost use Rattle.counterlab_c.specs.Exports.{Gives, GivesNumber};
 
@@ -17,7 +19,10 @@ mod answers;
 use answers::{answer_of, numbers_of};
 pub use answers::{Answer, PlanNumbers};
 use machines::Machine;
-use node_calls::laws::{lossy_nodes_count, nodes_count, texts_have_counters};
+use node_calls::laws::{
+    any_losses_are_told, lossy_nodes_count, mixed_nodes_count, mixed_nodes_stay_locked,
+    nodes_count, texts_have_counters,
+};
 use node_calls::{counter_in, output, state_bytes, step};
 use std::alloc::Global;
 
@@ -84,8 +89,19 @@ pub extern "C" fn counterlab_step(
     // From there on they do so where states are lost too, as long as each is told in each round
     // those of N - F correct nodes, its own among them, whichever these are.
     ensures losses { LossyNodesCount }
+
+    // There are such rounds, whatever is lost.
+    ensures lossy { AnyLossesAreTold }
+
+    // Nodes of which some step by this call, and others are processes over packets, count as one
+    // network, and go on where states are lost.
+    ensures mixed { MixedNodesCount }
+    ensures mixed_losses { MixedNodesStayLocked }
 {
     nodes_count();
     lossy_nodes_count();
+    any_losses_are_told();
+    mixed_nodes_count();
+    mixed_nodes_stay_locked();
     answer_of(step(alloc, plan, id, state, packets))
 }

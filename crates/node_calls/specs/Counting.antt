@@ -1,16 +1,14 @@
 -- Nodes that keep their states as bytes, and step in rounds as the calls answer.
 use Rattle.std.specs.Prelude.{◌≡◌, ◌≢◌, ℕ, ◌+◌, ◌%◌, ◌<◌, ◌≤◌, List, [], length, slice_index_or, Ok}
-use Rattle.std.specs.Prelude.{map, false}
-use Rattle.std.specs.List.{range_with_len}
-use Rattle.sync_types.specs.States.{State}
+use Rattle.std.specs.Prelude.{false}
 use Rattle.construction.specs.Runs.{is_in}
-use Rattle.state_codec.specs.Reading.{read}
 use Rattle.state_codec.specs.Shapes.{bytes_in}
 use Rattle.machines.specs.Machines.{Machine, IsBorne, IsLocked}
 use Rattle.any_machine.specs.declared.any_machines.AnyMachine.{AnyMachine}
 use Rattle.any_machine.specs.Machines.{machine_of}
 use Rattle.node_runs.specs.NodeRuns.{IsCorrect}
 use Rattle.node_runs.specs.Losses.{AreMissed}
+use Rattle.node_runs.specs.Rounds.{states_said}
 use Rattle.node_calls.specs.Counters.{counter_answer}
 use Rattle.node_calls.specs.Answers.{packets_for, output_answer, step_answer}
 
@@ -32,10 +30,6 @@ pub record InRounds (text : List ℕ) (m : Machine) (faulty : List ℕ) (count :
   pub steps : (t v : ℕ) → t < count → IsCorrect m faulty v
       → step_answer text v (bytes t v) (packets t v) ≡ Ok (1, bytes (t + 1) v)
 
--- the states of all nodes before round t
-abbrev pub states_of : Machine → (bytes : ℕ → ℕ → List ℕ) → (t : ℕ) → List State
-states_of m bytes t = map (λ v. read (m.fields v) (bytes t v)) (range_with_len 0 m.nodes)
-
 module _ (text : List ℕ) (m : Machine) (faulty : List ℕ) (count : ℕ) (bytes : ℕ → ℕ → List ℕ) where
   -- from a round on all correct nodes show one number, which grows by one modulo C in each round
   pub record CountFrom (from : ℕ) : Type 0 where
@@ -46,14 +40,14 @@ module _ (text : List ℕ) (m : Machine) (faulty : List ℕ) (count : ℕ) (byte
 
   -- they are locked, and count
   pub record StayLockedFrom (from : ℕ) : Type 0 where
-    pub locked : (t : ℕ) → from ≤ t → t ≤ count → IsLocked m faulty (states_of m bytes t)
+    pub locked : (t : ℕ) → from ≤ t → t ≤ count → IsLocked m faulty (states_said m bytes t)
     pub counts : CountFrom from
 
   -- They count from the bound on, where they are locked, and from any locked round on.
   pub record CountByBytes : Type 0 where
     pub settles : CountFrom m.bound
-    pub locks : m.bound ≤ count → IsLocked m faulty (states_of m bytes m.bound)
-    pub stays : (from : ℕ) → from ≤ count → IsLocked m faulty (states_of m bytes from)
+    pub locks : m.bound ≤ count → IsLocked m faulty (states_said m bytes m.bound)
+    pub stays : (from : ℕ) → from ≤ count → IsLocked m faulty (states_said m bytes from)
         → StayLockedFrom from
 
 -- Nodes that step so count, with each faulty set that the counter tolerates. A round is a call in
@@ -87,5 +81,5 @@ LossyNodesCount = (text : List ℕ) (counter : AnyMachine) → counter_answer te
     → (count : ℕ) (bytes packets : ℕ → ℕ → List ℕ)
     → InLossyRounds text (machine_of counter) faulty count bytes packets
     → (from : ℕ) → from ≤ count → IsLocked (machine_of counter) faulty
-    (states_of (machine_of counter) bytes from)
+    (states_said (machine_of counter) bytes from)
     → StayLockedFrom text (machine_of counter) faulty count bytes from

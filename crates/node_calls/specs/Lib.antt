@@ -3,3 +3,5 @@ pub mod Answers
 pub mod Hearing
 pub mod Counting
 pub mod Counters
+pub mod Lossy
+pub mod MixedNodes

@@ -3,6 +3,8 @@
 
 ghost use Rattle.node_calls.specs.Counters.{TextsHaveCounters};
 ghost use Rattle.node_calls.specs.Counting.{NodesCount, LossyNodesCount};
+ghost use Rattle.node_calls.specs.Lossy.{AnyLossesAreTold};
+ghost use Rattle.node_calls.specs.MixedNodes.{MixedNodesCount, MixedNodesStayLocked};
 
 /// Each text of an accepted plan, of either construction, has the counter of that plan.
 pub fn texts_have_counters()
@@ -22,4 +24,21 @@ pub fn nodes_count()
 /// whichever these are.
 pub fn lossy_nodes_count()
     ensures { LossyNodesCount }
+{}
+
+/// There are such rounds, whatever states the nodes begin in, and whatever is lost that the plan
+/// tolerates, to each node in each round something else.
+pub fn any_losses_are_told()
+    ensures { AnyLossesAreTold }
+{}
+
+/// Nodes of which some are processes over packets and others step by calls, whichever these are,
+/// are one network: what they say is a run of the counter, and they count as the others do.
+pub fn mixed_nodes_count()
+    ensures { MixedNodesCount }
+{}
+
+/// From any locked round on they stay locked and count where states are lost.
+pub fn mixed_nodes_stay_locked()
+    ensures { MixedNodesStayLocked }
 {}

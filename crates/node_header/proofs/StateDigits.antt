@@ -70,7 +70,7 @@ one_counts (c ∷ cs) (suc i) lt two =
 -- ---- the fields of a node of a low
 
 module _ (all : Fields) (sound : AreAll all) (low : ℕ) where
-  some_bits : low ≤ length all.moduli → 0 < bits_in (fields_from all low)
+  pub some_bits : low ≤ length all.moduli → 0 < bits_in (fields_from all low)
   some_bits le = by_low low le refl where
     by_low : (l : ℕ) → l ≤ length all.moduli → l ≡ low → 0 < bits_in (fields_from all low)
     by_low zero within is =
@@ -92,8 +92,8 @@ module _ (all : Fields) (sound : AreAll all) (low : ℕ) where
         (omega (arith, length-moduli_from low all.moduli)) (omega (arith, seen, two)) in
         omega (arith, some)
 
-  most_bits : length all.moduli ≤ 5 → bits_in (fields_from all low) ≤ 251
-  most_bits few =
+  pub most_bits : bits_in (fields_from all low) ≤ 42 * length all.moduli + 41
+  most_bits =
       let fields = from_limited all low sound in
       omega (
         arith,
@@ -141,6 +141,5 @@ module _ (plan : Plan) (accepted : IsAccepted plan) (v : ℕ) (lt : v < plan_nod
     pub digits_few : length (digits_of plan v s) ≤ 64
     digits_few =
         let five = accepted_depth plan.base plan.levels accepted.levels in
-        let most = most_bits (all_of plan) (all_of_accepted plan accepted) (plan_low plan v)
-        (omega (arith, length-moduli_of plan.levels, five)) in
-        omega (arith, taken.0, most, ap bits_in own_is)
+        let most = most_bits (all_of plan) (all_of_accepted plan accepted) (plan_low plan v) in
+        omega (arith, taken.0, most, five, length-moduli_of plan.levels, ap bits_in own_is)

@@ -1,6 +1,6 @@
 -- Nodes that are connected, whatever is sent: packets before the window hold what is sent, and
 -- round by round each packet gets what the correct nodes write after the packets so far.
-use Rattle.std.proofs.Common.{◌≡◌, ℕ, zero, suc, ◌+◌, ◌-◌, ◌<◌, ◌≤◌, true, cond, ◌⊎◌}
+use Rattle.std.proofs.Common.{◌≡◌, ℕ, zero, suc, ◌+◌, ◌-◌, ◌<◌, ◌≤◌, Bool, true, false, cond, ◌⊎◌}
 use Rattle.std.proofs.Common.{inl, inr, List, [], ◌∷◌, ◌++◌, length, map, take, get_or, refl, sym}
 use Rattle.std.proofs.Common.{ap, subst, ◌∙◌, arith, length-append}
 use Rattle.std.specs.Prelude.{if◌then◌else◌}
@@ -17,7 +17,10 @@ use Rattle.machines.specs.Laws.{IsSound}
 use Rattle.node_stepper.specs.Nodes.{state_behind}
 use Rattle.node_stepper.specs.Laws.{AreFull}
 use Rattle.node_runs.specs.NodeRuns.{Nodes, cell_given, IsCorrect, state_in, AreConnected}
-use Rattle.node_runs.specs.Laws.{AnyLiesConnect}
+use Rattle.node_runs.specs.Laws.{Connects, AnyLiesConnect}
+use Rattle.node_runs.specs.Losses.{AreMissed, AreHeard}
+use Rattle.node_runs.specs.Lossy.{ConnectsMost, AnyLossesConnect}
+use Rattle.node_runs.proofs.Losses.{not_so}
 use Rattle.node_runs.proofs.States.{reads_back, behind_is_state}
 
 full_push : (nodes : ℕ) (packets : List (List (List ℕ))) (packet : List (List ℕ))
@@ -26,8 +29,9 @@ full_push nodes [] packet full size = (size, tt)
 full_push nodes (p ∷ packets) packet (this, full) size =
     (this, full_push nodes packets packet full size)
 
-module _ (m : Machine) (faulty : List ℕ) (starts : ℕ → State) (sent : ℕ → ℕ → ℕ → List ℕ)
-    (begins : ℕ → ℕ) where
+-- `lost i v u`: in round i node v is given what is sent as the cell of node u, not what that writes
+module _ (m : Machine) (lost : (i v u : ℕ) → Bool) (starts : ℕ → State)
+    (sent : ℕ → ℕ → ℕ → List ℕ) (begins : ℕ → ℕ) where
   -- a packet of node v that holds what is sent, and so many of them
   abbrev sent_packet : (t v : ℕ) → List (List ℕ)
   sent_packet t v = map (sent t v) (range_with_len 0 m.nodes)
@@ -67,7 +71,7 @@ module _ (m : Machine) (faulty : List ℕ) (starts : ℕ → State) (sent : ℕ 
   -- the cell of node u for node v in round i, where u has these packets before
   abbrev cell_from : (i v u : ℕ) → List (List (List ℕ)) → List ℕ
   cell_from i v u packets =
-      if is_in faulty u then sent (begins v + i) v u else written_behind u packets
+      if lost i v u then sent (begins v + i) v u else written_behind u packets
 
   -- the packets of node v to the end of so many rounds
   abbrev packets_by : (rounds v : ℕ) → List (List (List ℕ))
@@ -82,11 +86,11 @@ module _ (m : Machine) (faulty : List ℕ) (starts : ℕ → State) (sent : ℕ 
   abbrev packet_by : (i v : ℕ) → List (List ℕ)
   packet_by i v = map (cell_by i v) (range_with_len 0 m.nodes)
 
-  long : (rounds v : ℕ) → length (packets_by rounds v) ≡ begins v + rounds
+  pub long : (rounds v : ℕ) → length (packets_by rounds v) ≡ begins v + rounds
   long zero v = omega (arith, sent_long (begins v) v)
   long (suc i) v = omega (arith, length-append (packets_by i v) (packet_by i v ∷ []), long i v)
 
-  are_full : (rounds v : ℕ) → AreFull m.nodes (packets_by rounds v)
+  pub are_full : (rounds v : ℕ) → AreFull m.nodes (packets_by rounds v)
   are_full zero v = sent_full (begins v) v
   are_full (suc i) v =
       full_push m.nodes (packets_by i v) (packet_by i v) (are_full i v)
@@ -133,7 +137,7 @@ module _ (m : Machine) (faulty : List ℕ) (starts : ℕ → State) (sent : ℕ 
       ∙ early_is r t v lt
 
   module _ (rounds : ℕ) where
-    abbrev nodes : Nodes
+    abbrev pub nodes : Nodes
     nodes = record { starts = starts; packets = packets_by rounds }
 
     given_is : (i v u : ℕ) → i < rounds → u < m.nodes
@@ -142,55 +146,120 @@ module _ (m : Machine) (faulty : List ℕ) (starts : ℕ → State) (sent : ℕ 
         ap (λ (packet : List (List ℕ)). get_or packet u []) (packet_is rounds i v lt)
         ∙ get_or-map-range_with_len (cell_by i v) 0 m.nodes u u [] ult (omega arith)
 
-    given_early : (t v u : ℕ) → t < begins v → u < m.nodes → cell_given nodes t v u ≡ sent t v u
+    pub given_early : (t v u : ℕ) → t < begins v → u < m.nodes → cell_given nodes t v u ≡ sent t v u
     given_early t v u lt ult =
         ap (λ (packet : List (List ℕ)). get_or packet u []) (early_is rounds t v lt)
         ∙ get_or-map-range_with_len (sent t v) 0 m.nodes u u [] ult (omega arith)
 
-    given_faulty : (i v u : ℕ) → i < rounds → u < m.nodes → is_in faulty u ≡ true
+    pub given_lost : (i v u : ℕ) → i < rounds → u < m.nodes → lost i v u ≡ true
         → cell_given nodes (begins v + i) v u ≡ sent (begins v + i) v u
-    given_faulty i v u lt ult is =
+    given_lost i v u lt ult is =
         given_is i v u lt ult
         ∙ ap (λ b. cond b (sent (begins v + i) v u) (written_behind u (packets_by i u))) is
 
-    given : (t v u : ℕ) → t < begins v + rounds → u < m.nodes
-        → (t < begins v) ⊎ (is_in faulty u ≡ true) → cell_given nodes t v u ≡ sent t v u
-    given t v u lt ult (inl early) = given_early t v u early ult
-    given t v u lt ult (inr is) = elim (cases_lt t (begins v)) [
-      | inl early ↦ given_early t v u early ult
-      | inr late ↦
-          let at : begins v + (t - begins v) ≡ t = omega arith in
-          subst (λ k. cell_given nodes k v u ≡ sent k v u) at
-          (given_faulty (t - begins v) v u (omega arith) ult is)
-    ]
-
-    wrote : (i v u : ℕ) → i < rounds → IsCorrect m faulty u
+    pub wrote : (i v u : ℕ) → i < rounds → u < m.nodes → lost i v u ≡ false
         → cell_given nodes (begins v + i) v u ≡ written (m.fields u) (state_in m nodes begins i u)
-    wrote i v u lt correct =
-        given_is i v u lt correct.0
-        ∙ ap (λ b. cond b (sent (begins v + i) v u) (written_behind u (packets_by i u))) correct.1
+    wrote i v u lt ult is =
+        given_is i v u lt ult
+        ∙ ap (λ b. cond b (sent (begins v + i) v u) (written_behind u (packets_by i u))) is
         ∙ ap (written_behind u) (sym (prefix rounds i u (omega arith)))
 
-    -- so they hear what the correct ones wrote
-    connected : IsSound m → ((v : ℕ) → IsCorrect m faulty v → IsState m v (starts v))
-        → AreConnected m faulty nodes begins rounds
-    connected sound begun = record {
-      starts = begun;
-      enough = λ v correct. omega (arith, long rounds v);
-      cells = λ i v u lt v_correct u_correct other.
-          ap (read (m.fields u)) (wrote i v u lt u_correct)
-          ∙ reads_back m sound u u_correct.0 (state_in m nodes begins i u)
-          (behind_is_state m sound u u_correct.0 (starts u)
-          (take (begins u + i) (packets_by rounds u)) (begun u u_correct));
-    }
+    -- what is given as it was written is read as the state
+    pub read_back : IsSound m → (i v u : ℕ) → i < rounds → u < m.nodes → IsState m u (starts u)
+        → lost i v u ≡ false
+        → read (m.fields u) (cell_given nodes (begins v + i) v u) ≡ state_in m nodes begins i u
+    read_back sound i v u lt ult begun is =
+        ap (read (m.fields u)) (wrote i v u lt ult is)
+        ∙ reads_back m sound u ult (state_in m nodes begins i u)
+        (behind_is_state m sound u ult (starts u) (take (begins u + i) (packets_by rounds u))
+        begun)
+
+-- ---- whatever faulty nodes send
+
+module _ (m : Machine) (sound : IsSound m) (faulty : List ℕ) (starts : ℕ → State)
+    (sent : ℕ → ℕ → ℕ → List ℕ) (begins : ℕ → ℕ) (rounds : ℕ)
+    (begun : (v : ℕ) → IsCorrect m faulty v → IsState m v (starts v)) where
+  abbrev lies : (i v u : ℕ) → Bool
+  lies i v u = is_in faulty u
+
+  abbrev own : Nodes
+  own = nodes m lies starts sent begins rounds
+
+  given : (t v u : ℕ) → t < begins v + rounds → u < m.nodes
+      → (t < begins v) ⊎ (is_in faulty u ≡ true) → cell_given own t v u ≡ sent t v u
+  given t v u lt ult (inl early) = given_early m lies starts sent begins rounds t v u early ult
+  given t v u lt ult (inr is) = elim (cases_lt t (begins v)) [
+    | inl early ↦ given_early m lies starts sent begins rounds t v u early ult
+    | inr late ↦
+        let at : begins v + (t - begins v) ≡ t = omega arith in
+        subst (λ k. cell_given own k v u ≡ sent k v u) at
+        (given_lost m lies starts sent begins rounds (t - begins v) v u (omega arith) ult is)
+  ]
+
+  -- so they hear what the correct ones wrote
+  connected : AreConnected m faulty own begins rounds
+  connected = record {
+    starts = begun;
+    enough = λ v correct. omega (arith, long m lies starts sent begins rounds v);
+    cells = λ i v u lt v_correct u_correct other.
+        read_back m lies starts sent begins rounds sound i v u lt u_correct.0 (begun u u_correct)
+        u_correct.1;
+  }
+
+  pub lies_connect : Connects m faulty starts sent begins rounds
+  lies_connect = record {
+    nodes = own;
+    begin = refl;
+    are = connected;
+    long = long m lies starts sent begins rounds;
+    full = are_full m lies starts sent begins rounds;
+    given = given;
+    wrote = λ i v u lt correct.
+        wrote m lies starts sent begins rounds i v u lt correct.0 correct.1;
+  }
 
 pub any_lies_connect : AnyLiesConnect
-any_lies_connect m sound faulty starts sent begins rounds begun = record {
-  nodes = nodes m faulty starts sent begins rounds;
-  begin = refl;
-  are = connected m faulty starts sent begins rounds sound begun;
-  long = long m faulty starts sent begins rounds;
-  full = are_full m faulty starts sent begins rounds;
-  given = given m faulty starts sent begins rounds;
-  wrote = wrote m faulty starts sent begins rounds;
-}
+any_lies_connect m sound faulty starts sent begins rounds begun =
+    lies_connect m sound faulty starts sent begins rounds begun
+
+-- ---- whatever is lost
+
+module _ (m : Machine) (sound : IsSound m) (faulty : List ℕ) (starts : ℕ → State)
+    (sent : ℕ → ℕ → ℕ → List ℕ) (missed : (i v : ℕ) → List ℕ) (begins : ℕ → ℕ) (rounds : ℕ)
+    (begun : (v : ℕ) → IsCorrect m faulty v → IsState m v (starts v))
+    (are : (i v : ℕ) → i < rounds → IsCorrect m faulty v → AreMissed m faulty v (missed i v)) where
+  abbrev losses : (i v u : ℕ) → Bool
+  losses i v u = is_in (missed i v) u
+
+  abbrev lossy : Nodes
+  lossy = nodes m losses starts sent begins rounds
+
+  heard : AreHeard m faulty lossy begins rounds
+  heard = record {
+    starts = begun;
+    enough = λ v correct. omega (arith, long m losses starts sent begins rounds v);
+    missed = missed;
+    are = are;
+    cells = λ i v u lt correct ult not_missed other.
+        let not_faulty : is_in faulty u ≡ false =
+        not_so (is_in faulty u) (is_in (missed i v) u) ((are i v lt correct).faulty_too u)
+        not_missed in
+        read_back m losses starts sent begins rounds sound i v u lt ult
+        (begun u (ult, not_faulty)) not_missed;
+  }
+
+  pub losses_connect : ConnectsMost m faulty starts sent missed begins rounds
+  losses_connect = record {
+    nodes = lossy;
+    begin = refl;
+    are = heard;
+    long = long m losses starts sent begins rounds;
+    full = are_full m losses starts sent begins rounds;
+    early = λ t v u lt ult. given_early m losses starts sent begins rounds t v u lt ult;
+    lost = λ i v u lt ult is. given_lost m losses starts sent begins rounds i v u lt ult is;
+    wrote = λ i v u lt ult is. wrote m losses starts sent begins rounds i v u lt ult is;
+  }
+
+pub any_losses_connect : AnyLossesConnect
+any_losses_connect m sound faulty starts sent missed begins rounds begun are =
+    losses_connect m sound faulty starts sent missed begins rounds begun are

@@ -9,3 +9,5 @@ pub mod Connected
 pub mod LossySteps
 pub mod Losses
 pub mod Heard
+pub mod Rounds
+pub mod Restarts

@@ -4,6 +4,9 @@ ghost use Rattle.node_runs.specs.Cells.{NodeWritesStates};
 ghost use Rattle.node_runs.specs.Laws.{AnyLiesConnect, BorneLeavesSome, NodesRun, NodesSettle};
 ghost use Rattle.node_runs.specs.Laws.{NodesLock, NodesStayLocked, HeardNodesStayLocked};
 ghost use Rattle.node_runs.specs.Losses.{LossesKeepLocked};
+ghost use Rattle.node_runs.specs.Lossy.{AnyLossesConnect};
+ghost use Rattle.node_runs.specs.Restarts.{AnyRestartConnects};
+ghost use Rattle.node_runs.specs.Rounds.{NodesInRoundsRun, NodesInRoundsStayLocked};
 
 /// What a node writes is, cell by cell, its states: the first, and that after each packet.
 pub fn node_writes_states()
@@ -57,4 +60,29 @@ pub fn losses_keep_locked()
 /// So do nodes over packets: a cell that is lost, or late, or wrong may be any bytes.
 pub fn heard_nodes_stay_locked()
     ensures { HeardNodesStayLocked }
+{}
+
+/// There are such nodes for all states in which the correct ones begin, whatever is lost of what
+/// the machine tolerates, to each node in each round something else, and whatever comes in its
+/// place.
+pub fn any_losses_connect()
+    ensures { AnyLossesConnect }
+{}
+
+/// There are connected nodes of which one is started anew while the others go on, in whatever state
+/// of it, after however many rounds, and whatever the faulty ones send.
+pub fn any_restart_connects()
+    ensures { AnyRestartConnects }
+{}
+
+/// Nodes that say bytes to one another in rounds, from which each makes its step, are a run of the
+/// machine, and count: however each of them keeps its state, so that processes over packets and
+/// calls of a library may be mixed.
+pub fn nodes_in_rounds_run()
+    ensures { NodesInRoundsRun }
+{}
+
+/// From any locked round on they stay locked and count where states are lost.
+pub fn nodes_in_rounds_stay_locked()
+    ensures { NodesInRoundsStayLocked }
 {}

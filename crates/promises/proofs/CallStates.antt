@@ -97,14 +97,15 @@ module _ (law : HeadersAreOfPlans) (plan : Plan) (v : ℕ) (call : Call) (is : I
       subst IsAccepted is.names (accepted_newer is.header.plan header_is.accepted),
     )
 
-    node_text_is : text_of call ≡ node_text newer v (start_by (header_of call)) (packets_in call)
+    pub node_text_is : text_of call
+        ≡ node_text newer v (start_by (header_of call)) (packets_in call)
     node_text_is =
         let start = start_by (header_of call) in
         text_is call is.header is.is
         ∙ ap (λ p. node_text p is.header.node.id start (packets_in call)) is.names
         ∙ ap (λ i. node_text newer i start (packets_in call)) is.id
 
-    start_is_state : IsState newer v (start_by (header_of call))
+    pub start_is_state : IsState newer v (start_by (header_of call))
     start_is_state =
         let s = is.header.node.state in
         let of_plan : IsState newer is.header.node.id s =

@@ -1,6 +1,7 @@
 -- What the word `explain` writes is true.
 use Rattle.std.proofs.Common.{◌≡◌, ℕ, ◌+◌, ◌<◌, ◌≤◌, inl, inr, Bool, List, [], ◌∷◌, length, Option}
-use Rattle.std.proofs.Common.{Some, None, IfSome, if◌then◌else◌, refl, ap, subst, arith}
+use Rattle.std.proofs.Common.{◌++◌, Some, None, IfSome, if◌then◌else◌, codes, decimal, refl, sym}
+use Rattle.std.proofs.Common.{ap, ◌∙◌, append_assoc, subst, arith}
 use Rattle.std.proofs.lemmas.Bool.{cases_lt, le-ltb}
 use Rattle.sync_types.specs.States.{State}
 use Rattle.construction.specs.Plans.{Level, Plan, plan_bound, plan_depth}
@@ -16,9 +17,43 @@ use Rattle.run_explanations.specs.Explanations.{ExplainsIn, ExplainsEra, IsFirst
 use Rattle.run_explanations.specs.Explanations.{explanation_of}
 use Rattle.run_explanations.specs.Laws.{ExplainedErasLock, IsExplainedByBound, LongErasAreExplained}
 use Rattle.run_explanations.specs.Laws.{FoundIsFirst}
-use Rattle.promises.specs.ExplainLaws.{LocksByPhase, IsSaidBefore, WhyIsTrue}
+use Rattle.run_promises.specs.WrittenLines.{text_of_words, around}
+use Rattle.run_promises.proofs.WrittenLines.{all_lines}
+use Rattle.outcomes.specs.ExplainText.{explanation_lines, why_lines, explain_text}
+use Rattle.promises.specs.ExplainLaws.{explanation_words, LocksByPhase, IsSaidBefore, WhyIsTrue}
 use Rattle.run_lines.specs.RowTexts.{lock_played}
 use Rattle.outcomes.proofs.ExplainTexts.{levelled_is}
+
+-- ---- the words of the lines
+
+-- two numbers and a word between them, to the end of a line
+line_part : (first between second rest : List ℕ)
+    → first ++ (between ++ (second ++ 10 ∷ rest))
+    ≡ ((first ++ (between ++ second)) ++ 10 ∷ []) ++ rest
+line_part first between second rest =
+    sym (append_assoc (first ++ (between ++ second)) (10 ∷ []) rest
+    ∙ append_assoc first (between ++ second) (10 ∷ rest)
+    ∙ ap (λ behind. first ++ behind) (append_assoc between second (10 ∷ rest)))
+
+why_words : (said : Option Explanation)
+    → explanation_lines said ≡ text_of_words (explanation_words said)
+why_words None = refl
+why_words (Some e) =
+    let phase : List ℕ =
+    codes "phase " ++ (decimal e.phase ++ (codes " king " ++ (decimal e.king ++ 10 ∷ []))) in
+    ap (λ rest. codes "window " ++ rest)
+    (line_part (decimal e.window) (codes " leader ") (decimal e.leader) phase
+    ∙ ap (λ rest. ((decimal e.window ++ (codes " leader " ++ decimal e.leader)) ++ 10 ∷ [])
+    ++ (codes "phase " ++ rest))
+    (line_part (decimal e.phase) (codes " king ") (decimal e.king) []))
+
+explain_is : (plan : Plan) (script : Script) (said : Option Explanation)
+    → why_lines plan script ≡ explanation_lines said
+    → explain_text plan script
+    ≡ text_of_words (around plan script (played_at plan script) (explanation_words said))
+explain_is plan script said is =
+    all_lines plan script (played_at plan script) (why_lines plan script) (explanation_words said)
+    (is ∙ why_words said)
 
 -- a phase begins in its window, and ends by the last configuration
 within_in : (levels : List Level) (script : Script) (config_at : ℕ → List State) (t b s k : ℕ)
@@ -102,9 +137,13 @@ pub why_is_true : EachIsOfOneEra → ErasStayLocked → ExplainedErasLock → Lo
     (lock_played plan script (length script.eras))
     → 1 ≤ plan_depth plan → WhyIsTrue plan script
 why_is_true each stays locks long found plan script read known some =
-    let first = found plan script read.accepted some in record {
+    let first = found plan script read.accepted some in
+    let lines =
+    levelled_is plan.levels plan script (λ none. absurd (omega (arith, some, none))) in
+    record {
       said = explanation_of plan script;
-      lines = levelled_is plan.levels plan script (λ none. absurd (omega (arith, some, none)));
+      lines = lines;
+      written = explain_is plan script (explanation_of plan script) lines;
       first = first;
       locks = said_locks plan script read each stays locks known (explanation_of plan script) first;
       by_bound = λ reaches. said_before plan script (explanation_of plan script) first

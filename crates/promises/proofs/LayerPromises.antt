@@ -4,6 +4,7 @@ use Rattle.construction.specs.Plans.{Plan, plan_nodes, plan_faults, plan_modulus
 use Rattle.counter_core.specs.Overlays.{Layer}
 use Rattle.round_runner.specs.Laws as bare
 use Rattle.round_runner.specs.Played.{played_at}
+use Rattle.layer_laws.specs.Slots.{slot_length}
 use Rattle.layer_laws.proofs.PlanSlots.{quorum_of}
 use Rattle.slot_table.specs.declared.lines.SlotLine.{SlotLine}
 use Rattle.slot_table.specs.SlotPart as slots
@@ -16,6 +17,7 @@ use Rattle.firing.specs.Firings.{fire_layer, unfired}
 use Rattle.firing.specs.FirePart as fire
 use Rattle.firing.specs.FireLaws.{fire_keeps}
 use Rattle.replicated_log.specs.declared.entries.Entry.{Entry}
+use Rattle.replicated_log.specs.EntryLength.{entry_length}
 use Rattle.replicated_log.specs.LogSaid.{LogSaid}
 use Rattle.replicated_log.specs.Logs.{log_layer}
 use Rattle.replicated_log.specs.LogPart as log
@@ -24,7 +26,10 @@ use Rattle.run_lines.specs.LayerLaws.{AtMostOneInALine, HoldWordsAreExact}
 use Rattle.run_promises.specs.LayeredEras.{IsReadFor, ScriptsArePlayed}
 use Rattle.run_promises.specs.PlainRuns.{PlainScriptsArePlayed}
 use Rattle.run_promises.specs.Promises.{LinesDecide, LinesFireTogether, LinesPutOne}
+use Rattle.run_promises.proofs.CountedSlots.{slots_are_exact}
 use Rattle.run_promises.proofs.Lines.{kept_for}
+use Rattle.run_promises.proofs.WrittenLines.{holds_are_written, decisions_are_written}
+use Rattle.run_promises.proofs.WrittenLines.{fires_are_written, entries_are_written}
 use Rattle.outcomes.specs.Layered.{Layered, slots_shape}
 use Rattle.outcomes.proofs.LayeredRead.{IsRead, IsToPlay, so, agreed_layer, slots_read}
 use Rattle.outcomes.proofs.LayeredRead.{decisions_to_play, fires_to_play, entries_to_play}
@@ -54,6 +59,7 @@ module _ (plays : PlainScriptsArePlayed) (exact : HoldWordsAreExact) (law : AtMo
       record { accepted = read.accepted; right = read.right; whole = read.whole } in
       record {
         played = plays l.plan l.script is;
+        written = holds_are_written l.plan l.script l.said;
         words = λ t v. exact l.plan l.said read.fits.apart (played_at l.plan l.script t) v;
         one = law l.plan l.script is l.said read.fits.apart;
       }
@@ -68,6 +74,11 @@ module _ (plays : (layer : Layer ℕ) → ScriptsArePlayed layer) (law : LinesDe
       record {
         played = plays (agreed_layer l.plan l.said) l.plan l.script keeps (played l read)
             (replicate (plan_nodes l.plan) 0) (kept_for (plan_nodes l.plan) 0);
+        written = decisions_are_written l.plan l.script l.said;
+        slots =
+            slots_are_exact l.plan l.script (agreed_layer l.plan l.said) keeps (played l read)
+            (replicate (plan_nodes l.plan) 0) (kept_for (plan_nodes l.plan) 0)
+            (slot_length (plan_faults l.plan));
         lines = law l.plan l.script l.said read.fits (played l read);
       }
 
@@ -80,6 +91,11 @@ module _ (plays : (layer : Layer Fire) → ScriptsArePlayed layer) (law : LinesF
       record {
         played = plays (fire_layer l.plan l.said) l.plan l.script keeps (played l read)
             (replicate (plan_nodes l.plan) unfired) (kept_for (plan_nodes l.plan) unfired);
+        written = fires_are_written l.plan l.script l.said;
+        slots =
+            slots_are_exact l.plan l.script (fire_layer l.plan l.said) keeps (played l read)
+            (replicate (plan_nodes l.plan) unfired) (kept_for (plan_nodes l.plan) unfired)
+            (slot_length (plan_faults l.plan));
         lines = law l.plan l.script l.said read.fits (played l read);
       }
 
@@ -93,6 +109,11 @@ module _ (plays : (layer : Layer (List Entry)) → ScriptsArePlayed layer) (law 
       record {
         played = plays (log_layer l.plan l.said) l.plan l.script keeps (played l read)
             (replicate (plan_nodes l.plan) []) (kept_for (plan_nodes l.plan) []);
+        written = entries_are_written l.plan l.script l.said;
+        slots =
+            slots_are_exact l.plan l.script (log_layer l.plan l.said) keeps (played l read)
+            (replicate (plan_nodes l.plan) []) (kept_for (plan_nodes l.plan) [])
+            (entry_length (plan_faults l.plan));
         lines = law l.plan l.script l.said read.fits (played l read);
       }
 

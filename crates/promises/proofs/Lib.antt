@@ -7,6 +7,7 @@ pub mod Complete
 pub mod LayerPromises
 pub mod LockPromises
 pub mod FindPromises
+pub mod ScriptInputs
 pub mod PlanPromises
 pub mod Printed
 pub mod NodeCalls
@@ -16,3 +17,5 @@ pub mod HeardCalls
 pub mod Restarts
 pub mod NodeInputs
 pub mod DemoTexts
+pub mod RestartInputs
+pub mod Processes

@@ -66,13 +66,13 @@ module _ (headers : HeaderTextIsRead) (writes : NodeWritesStates) (read_back : P
   abbrev packets : ℕ → List (List (List ℕ))
   packets v = c.nodes.packets v
 
-  abbrev inputs : ℕ → List ℕ
+  abbrev pub inputs : ℕ → List ℕ
   inputs v = header_text plan v (starts v) ++ flat_map packet_text (packets v)
 
   few_packets : (v : ℕ) → length (packets v) ≤ 1000000
   few_packets v = omega (arith, c.long v, few v)
 
-  begin : (v : ℕ) → IsCorrect plan faulty v
+  pub begin : (v : ℕ) → IsCorrect plan faulty v
       → header_of (whole (inputs v)) ≡ Ok (header_stated plan v (starts v))
   begin v correct =
       header_is headers read_back plan accepted v correct.0 (starts v) (begun v correct) (packets v)
@@ -83,7 +83,7 @@ module _ (headers : HeaderTextIsRead) (writes : NodeWritesStates) (read_back : P
       packets_are headers read_back plan accepted v correct.0 (starts v) (begun v correct)
       (packets v) (c.full v) (few_packets v)
 
-  same_cell : (t v u : ℕ) → IsCorrect plan faulty v
+  pub same_cell : (t v u : ℕ) → IsCorrect plan faulty v
       → cell_heard (whole (inputs v)) t u ≡ cell_given c.nodes t v u
   same_cell t v u correct =
       ap (λ (ps : List (List (List ℕ))). get_or (get_or ps t []) u []) (same_packets v correct)
@@ -96,7 +96,7 @@ module _ (headers : HeaderTextIsRead) (writes : NodeWritesStates) (read_back : P
       (packets v) (c.full v) (few_packets v)
 
   -- each writes its states
-  wrote : (t u : ℕ) → t ≤ begins u + rounds → IsCorrect plan faulty u
+  pub wrote : (t u : ℕ) → t ≤ begins u + rounds → IsCorrect plan faulty u
       → cell_written plan (λ v. whole (inputs v)) t u
       ≡ Some (written (fields_of plan u) (state_at plan c.nodes t u))
   wrote t u le correct =
@@ -106,7 +106,7 @@ module _ (headers : HeaderTextIsRead) (writes : NodeWritesStates) (read_back : P
       Some (written (fields_of plan u) (state_behind plan u (s u) (take t (packets u)))))
       (sym c.begin)
 
-  connect : CallsConnect plan faulty (λ v. whole (inputs v)) begins rounds
+  pub connect : CallsConnect plan faulty (λ v. whole (inputs v)) begins rounds
   connect = record {
     headers = λ v correct. record {
       header = header_stated plan v (starts v);

@@ -22,7 +22,9 @@ use Rattle.node_header.specs.HeaderTexts.{HeaderTextIsRead}
 use Rattle.sync_types.specs.declared.answers.Part.TheVariants as part
 use Rattle.outcomes.specs.Inputs.{in_plan, in_part, in_table, or_refusal}
 use Rattle.outcomes.specs.Answers.{text_by}
+use Rattle.adversary_script.specs.ScriptLaws.{ScriptTextIsWhole, ReadIsWritable}
 use Rattle.promises.specs.PlanPromises.{AreTextsOf, IsTableOf, TextsAreKept, TextsAreRead}
+use Rattle.promises.proofs.ScriptInputs.{script_inputs_read}
 
 module _ (whole : PlanTextIsWhole) (read : TablesAreRead) (only : OnlyTablesAreRead)
     (versions : VersionsAgree) where
@@ -52,8 +54,9 @@ module _ (whole : PlanTextIsWhole) (read : TablesAreRead) (only : OnlyTablesAreR
   }
 
 pub texts_read : PlanTextIsRead → PlanTextIsWhole → TablesAreRead → WantTextIsRead → SlotTextIsRead
-    → AgreeTextIsRead → RequestTextIsRead → LogTextIsRead → HeaderTextIsRead → TextsAreRead
-texts_read front whole tables wants slots inputs requests logs headers = record {
+    → AgreeTextIsRead → RequestTextIsRead → LogTextIsRead → HeaderTextIsRead → ScriptTextIsWhole
+    → ReadIsWritable → TextsAreRead
+texts_read front whole tables wants slots inputs requests logs headers scripts writable = record {
   plans = λ plan version accepted later most.
       ap (or_refusal in_plan) (whole plan version accepted later most);
   fronts = front;
@@ -64,4 +67,5 @@ texts_read front whole tables wants slots inputs requests logs headers = record 
   requests = requests;
   logs = logs;
   headers = headers;
+  scripts = script_inputs_read front scripts writable slots inputs requests logs;
 }

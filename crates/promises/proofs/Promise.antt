@@ -16,6 +16,7 @@ use Rattle.round_runner.specs.Laws.{ErasStayLocked}
 use Rattle.round_runner.proofs.FirstLocked.{first_is_locked}
 use Rattle.run_explanations.specs.Laws.{ExplainedErasLock, LongErasAreExplained, FoundIsFirst}
 use Rattle.run_promises.specs.PlainRuns.{PlainScriptsArePlayed}
+use Rattle.run_promises.proofs.WrittenLines.{rows_are_written}
 use Rattle.run_lines.specs.RunTexts.{number_word}
 use Rattle.run_lines.proofs.FirstListed.{first_listed}
 use Rattle.promises.proofs.ExplainLaws.{why_is_true}
@@ -89,6 +90,7 @@ module _ (plays : PlainScriptsArePlayed) (each : EachIsOfOneEra) (runs : ErasAre
   whichever (Err refusal) read = tt
   whichever (Ok s) read = record {
     played = plays s.plan s.script read.for;
+    written = rows_are_written s.plan s.script;
     shown = read.for.whole.formed.shown;
     all = each s.script read.for.whole;
     eras = era_keeps s.plan s.script read.for;

@@ -40,11 +40,11 @@ locked_same (level ∷ below) faulty old new same is = record {
 module _ (plan : Plan) (faulty meanwhile : List ℕ) (restart : Restart)
     (too : AreFaultyMeanwhile restart.node faulty meanwhile) (calls : ℕ → Call)
     (begins : ℕ → ℕ) where
-  apart : (v : ℕ) → IsCorrect plan meanwhile v → (v == restart.node) ≡ false
+  pub apart : (v : ℕ) → IsCorrect plan meanwhile v → (v == restart.node) ≡ false
   apart v correct =
       not_it (v == restart.node) restart.node v refl meanwhile too.own correct.1
 
-  correct_too : (v : ℕ) → IsCorrect plan meanwhile v → IsCorrect plan faulty v
+  pub correct_too : (v : ℕ) → IsCorrect plan meanwhile v → IsCorrect plan faulty v
   correct_too v correct =
       (correct.0, sym (too.others v (eqb-false v restart.node (apart v correct))) ∙ correct.1)
 

@@ -4,11 +4,12 @@ use Rattle.slot_table.specs.HoldLaws.{AtMostOneHolds}
 use Rattle.consensus_layer.specs.Agreements.{EveryRunDecides}
 use Rattle.consensus_layer.specs.ChangingInputs.{ChangingInputsDecide}
 use Rattle.firing.specs.Firings.{EveryRunFiresTogether}
+use Rattle.replicated_log.specs.ChangingCommands.{ChangingCommandsPutOne, ChangingLogsAreOne}
 use Rattle.replicated_log.specs.PutEntries.{EverySlotPutsOne, LogsAreOne}
 
 -- From the bound on at most one correct node holds; each slot of consensus ends with one decision,
 -- also where inputs change from round to round, of firing with all firing or none, of a log with
--- one entry in all logs, and these grow as one.
+-- one entry in all logs, and these grow as one, also where commands change from round to round.
 pub record EveryRunKeeps : Type 0 where
   pub holds : AtMostOneHolds
   pub decides : EveryRunDecides
@@ -16,3 +17,5 @@ pub record EveryRunKeeps : Type 0 where
   pub fires : EveryRunFiresTogether
   pub puts : EverySlotPutsOne
   pub logs : LogsAreOne
+  pub changing_puts : ChangingCommandsPutOne
+  pub changing_logs : ChangingLogsAreOne

@@ -1,13 +1,16 @@
 -- What the lines of the word `explain` promise, of a plan with levels.
-use Rattle.std.specs.Prelude.{◌≡◌, ℕ, ◌+◌, ◌≤◌, length, Option, Some, IfSome}
+use Rattle.std.specs.Prelude.{◌≡◌, ℕ, ◌+◌, ◌≤◌, List, [], ◌∷◌, length, Option, Some, None, IfSome}
+use Rattle.std.specs.Prelude.{codes, decimal}
 use Rattle.construction.specs.Plans.{Plan, plan_bound}
 use Rattle.adversary_script.specs.Scripts.{Script}
 use Rattle.round_runner.specs.Laws.{IsUpTo, EraStaysLocked}
 use Rattle.run_explanations.specs.declared.explanations.Explanation.{Explanation}
 use Rattle.run_explanations.specs.Explanations.{IsFirstOrNone, era_begin}
 use Rattle.run_explanations.specs.Tops.{top_of}
+use Rattle.round_runner.specs.Played.{played_at}
 use Rattle.run_lines.specs.RowTexts.{lock_played}
-use Rattle.outcomes.specs.ExplainText.{explanation_lines, why_lines}
+use Rattle.run_promises.specs.WrittenLines.{text_of_words, around}
+use Rattle.outcomes.specs.ExplainText.{explanation_lines, why_lines, explain_text}
 
 -- From the end of the phase on the last era is locked, and counts. The W of the era's line
 -- `locked W` comes no later.
@@ -21,12 +24,22 @@ pub record IsSaidBefore (plan : Plan) (end : ℕ) (said : Option Explanation) : 
   pub is : said ≡ Some explanation
   pub ends : explanation.window + (top_of plan).beat ≤ end
 
--- What is written is the first explanation why the last era locks, or that there is none, exactly
--- where there is none. What is explained locks when its phase has ended. Where the era goes on to
+-- the words of the lines that say it
+abbrev pub explanation_words : Option Explanation → List (List (List ℕ))
+explanation_words None = (codes "explain" ∷ codes "none" ∷ []) ∷ []
+explanation_words (Some e) =
+    (codes "window" ∷ decimal e.window ∷ codes "leader" ∷ decimal e.leader ∷ [])
+    ∷ (codes "phase" ∷ decimal e.phase ∷ codes "king" ∷ decimal e.king ∷ []) ∷ []
+
+-- Lines say the first explanation why the last era locks, or that there is none, exactly where
+-- there is none; the text of `explain` is these, between the bound and the first locked
+-- configurations. What is explained locks when its phase has ended. Where the era goes on to
 -- the bound, which is counted from its first configuration, there is one within it.
 pub record WhyIsTrue (plan : Plan) (script : Script) : Type 0 where
   pub said : Option Explanation
   pub lines : why_lines plan script ≡ explanation_lines said
+  pub written : explain_text plan script
+      ≡ text_of_words (around plan script (played_at plan script) (explanation_words said))
   pub first : IsFirstOrNone plan script said
   pub locks : IfSome said (LocksByPhase plan script)
   pub by_bound : era_begin script + plan_bound plan ≤ script.rounds

@@ -14,6 +14,7 @@ use Rattle.round_runner.specs.Laws.{IsUpTo, IsOfOneEra, EraIsRun}
 use Rattle.round_runner.specs.Locks.{IsFirstLocked}
 use Rattle.round_runner.specs.Played.{played_at}
 use Rattle.run_promises.specs.PlainRuns.{PlaysPlain}
+use Rattle.run_promises.specs.WrittenLines.{RowsAreWritten}
 use Rattle.run_lines.specs.RunTexts.{number_word}
 use Rattle.run_lines.specs.RowTexts.{node_word, lock_played}
 use Rattle.outcomes.specs.Inputs.{scripted_of}
@@ -74,11 +75,13 @@ pub record EraKeepsPromise (plan : Plan) (script : Script) (j : ℕ) : Type 0 wh
       → IsLocked plan (faulty_at script t) (played_at plan script t)
   pub locked_rows : (w : ℕ) → lock_played plan script j ≡ Some w → RowsCountFrom plan script j w
 
--- What is played is the script's: its starts, its faulty sets, its lies. All rows that are shown
--- are of configurations that are played, each of these is of one era, and each era keeps the
--- promise. Of a plan with levels, what is written of why the last era locks is true.
+-- What is played is the script's: its starts, its faulty sets, its lies. The text of `run` has just
+-- a row of each configuration that is shown, between the bound and the first locked configurations.
+-- All of these are played, each is of one era, and each era keeps the promise. Of a plan with
+-- levels, what is written of why the last era locks is true.
 pub record KeepsPromise (plan : Plan) (script : Script) : Type 0 where
   pub played : PlaysPlain plan script
+  pub written : RowsAreWritten plan script
   pub shown : script.last ≤ script.rounds
   pub all : (t : ℕ) → t ≤ script.rounds → IsOfOneEra script t
   pub eras : (j : ℕ) → j ≤ length script.eras → EraKeepsPromise plan script j

@@ -20,15 +20,20 @@ use Rattle.run_lines.specs.LayerLaws.{HoldWordIs}
 use Rattle.run_lines.specs.DecisionTexts.{slot_of, agree_scene}
 use Rattle.run_lines.specs.FireTexts.{fire_scene}
 use Rattle.run_lines.specs.EntryTexts.{log_scene}
+use Rattle.run_promises.specs.CountedSlots.{SlotsAreExact}
 use Rattle.run_promises.specs.LayeredEras.{PlaysScript}
 use Rattle.run_promises.specs.PlainRuns.{PlaysPlain}
 use Rattle.run_promises.specs.Promises.{LineDecides, LineFires, LinePuts}
+use Rattle.run_promises.specs.WrittenLines.{HoldsAreWritten, DecisionsAreWritten, FiresAreWritten}
+use Rattle.run_promises.specs.WrittenLines.{EntriesAreWritten}
 use Rattle.outcomes.specs.Layered.{slotted_of, agreed_of, firing_of, logging_of}
 
--- What is played is the script's. A node's word in a line is 1 exactly where the table gives it the
--- output that it shows; from the bound on, in each era, at most one word of a line is.
+-- What is played is the script's, and what is written are its lines. A node's word in a line is 1
+-- exactly where the table gives it the output that it shows; from the bound on, in each era, at
+-- most one word of a line is.
 pub record KeepsHolds (plan : Plan) (script : Script) (table : List SlotLine) : Type 0 where
   pub played : PlaysPlain plan script
+  pub written : HoldsAreWritten plan script table
   pub words : (t v : ℕ) → HoldWordIs plan table (played_at plan script t) v
   pub one : (t : ℕ) → first_of_era script (era_of script t) + plan_bound plan ≤ t
       → t ≤ script.rounds
@@ -41,11 +46,14 @@ abbrev pub HoldsAreKept : Type 0
 HoldsAreKept = (input : List ℕ)
     → IfOk (slotted_of input) (λ read. KeepsHolds read.plan read.script read.said)
 
--- What is played is the script's, where each decision is 0 at first. Each line of a slot of
--- consensus has one decision.
+-- What is played is the script's, where each decision is 0 at first. There is a line of each slot
+-- that counts and begins in a configuration that is shown, and it has one decision.
 pub record KeepsDecisions (plan : Plan) (script : Script) (said : AgreeSaid) : Type 0 where
   pub played : PlaysScript plan script (agree_layer plan said.values said.inputs)
       (replicate (plan_nodes plan) 0)
+  pub written : DecisionsAreWritten plan script said
+  pub slots : SlotsAreExact plan script (λ c. (agree_scene plan script said c).states)
+      (slot_of plan script said)
   pub lines : (t : ℕ)
       → begins_at plan script (slot_of plan script said) t (agree_scene plan script said t).states
       ≡ true
@@ -55,11 +63,14 @@ abbrev pub DecisionsAreKept : Type 0
 DecisionsAreKept = (input : List ℕ)
     → IfOk (agreed_of input) (λ read. KeepsDecisions read.plan read.script read.said)
 
--- What is played is the script's, where none fires at first. In each line of a slot of firing all
--- fire, or none does.
+-- What is played is the script's, where none fires at first. There is a line of each slot that
+-- counts and begins in a configuration that is shown, and in it all fire, or none does.
 pub record KeepsFires (plan : Plan) (script : Script) (requests : List Request) : Type 0 where
   pub played : PlaysScript plan script (fire_layer plan requests)
       (replicate (plan_nodes plan) unfired)
+  pub written : FiresAreWritten plan script requests
+  pub slots : SlotsAreExact plan script (λ c. (fire_scene plan script requests c).states)
+      (slot_length (plan_faults plan))
   pub lines : (t : ℕ)
       → begins_at plan script (slot_length (plan_faults plan)) t
       (fire_scene plan script requests t).states ≡ true
@@ -69,10 +80,14 @@ abbrev pub FiresAreKept : Type 0
 FiresAreKept = (input : List ℕ)
     → IfOk (firing_of input) (λ read. KeepsFires read.plan read.script read.said)
 
--- What is played is the script's, where all logs are empty at first. Each line of a slot of the log
--- has one value, which its owner commands where it is correct.
+-- What is played is the script's, where all logs are empty at first. There is a line of each slot
+-- that counts and begins in a configuration that is shown, and it has one value, which its owner
+-- commands where it is correct.
 pub record KeepsEntries (plan : Plan) (script : Script) (said : LogSaid) : Type 0 where
   pub played : PlaysScript plan script (log_layer plan said) (replicate (plan_nodes plan) [])
+  pub written : EntriesAreWritten plan script said
+  pub slots : SlotsAreExact plan script (λ c. (log_scene plan script said c).states)
+      (entry_length (plan_faults plan))
   pub lines : (t : ℕ)
       → begins_at plan script (entry_length (plan_faults plan)) t
       (log_scene plan script said t).states ≡ true

@@ -3,6 +3,7 @@ pub mod RecordLaws
 pub mod Completeness
 pub mod ExplainLaws
 pub mod Laws
+pub mod ScriptInputs
 pub mod PlanPromises
 pub mod EveryRun
 pub mod LayerPromises
@@ -14,3 +15,5 @@ pub mod NodeCalls
 pub mod CallWindows
 pub mod Restarts
 pub mod NodePromises
+pub mod RestartInputs
+pub mod Processes

@@ -1,10 +1,12 @@
 -- A process of `node` that is started anew while others go on.
-use Rattle.std.specs.Prelude.{◌≡◌, ◌≢◌, ℕ, ◌+◌, ◌≤◌, ◌==◌, true, List, if◌then◌else◌}
+use Rattle.std.specs.Prelude.{◌≡◌, ℕ, ◌+◌, ◌≤◌, ◌==◌, List, if◌then◌else◌}
 use Rattle.construction.specs.Plans.{Plan}
 use Rattle.construction.specs.Steps.{state_of}
-use Rattle.construction.specs.Runs.{is_in, IsBorne, IsLocked}
+use Rattle.construction.specs.Runs.{IsBorne, IsLocked}
 use Rattle.plan_node_runs.specs.NodeRuns.{IsCorrect, SomeIsCorrect}
 use Rattle.plan_node_runs.specs.Laws.{StayLockedThrough}
+pub use Rattle.node_runs.specs.Restarts.{AreFaultyMeanwhile}
+use Rattle.node_runs.specs.Restarts.{begins_later}
 use Rattle.promises.specs.NodeCalls.{Call}
 use Rattle.promises.specs.CallWindows.{cell_written, states_written, CallsConnect}
 use Rattle.promises.specs.CallWindows.{NodesKeepPromise}
@@ -21,13 +23,7 @@ abbrev pub calls_after : Restart → (calls : ℕ → Call) → ℕ → Call
 calls_after restart calls v = if v == restart.node then restart.call else calls v
 
 abbrev pub begins_after : Restart → (begins : ℕ → ℕ) → ℕ → ℕ
-begins_after restart begins v =
-    if v == restart.node then 0 else begins v + restart.after
-
--- the faulty nodes of the whole window: those of the rest, and the node that is started anew
-pub record AreFaultyMeanwhile (node : ℕ) (faulty meanwhile : List ℕ) : Type 0 where
-  pub own : is_in meanwhile node ≡ true
-  pub others : (v : ℕ) → v ≢ node → is_in meanwhile v ≡ is_in faulty v
+begins_after restart begins v = begins_later restart.node restart.after begins v
 
 -- The other correct nodes keep their promise all the time; with the one that is started anew all
 -- keep it in the rest; the others are in the same states in both; and where it goes on from the

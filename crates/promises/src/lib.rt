@@ -11,3 +11,5 @@ pub mod lock_promises;
 pub mod node_promises;
 pub mod plan_promises;
 pub mod printed_promises;
+pub mod processes;
+pub mod restart_promises;

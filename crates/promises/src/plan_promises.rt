@@ -3,6 +3,7 @@
 
 ghost use Rattle.promises.specs.PlanPromises.{TextsAreKept, TextsAreRead};
 
+use adversary_script::laws::{read_scripts_have_texts, script_texts_read_back};
 use consensus_layer::laws::agree_texts_read_back;
 use firing::laws::request_texts_read_back;
 use node_header::laws::header_texts_read_back;
@@ -25,7 +26,7 @@ pub fn texts_are_kept()
 
 /// Each of these values has a text that is read as it: an accepted plan, in its own version and in
 /// each later one, and its table; wants, a slot table, inputs to agree on, requests to fire, a log
-/// and a header of a node.
+/// and a header of a node; and a script, behind the texts of its plan and of a part.
 pub fn texts_are_read()
     ensures { TextsAreRead }
 {
@@ -37,4 +38,6 @@ pub fn texts_are_read()
     request_texts_read_back();
     log_texts_read_back();
     header_texts_read_back();
+    script_texts_read_back();
+    read_scripts_have_texts();
 }

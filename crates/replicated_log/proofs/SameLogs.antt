@@ -16,18 +16,18 @@ use Rattle.construction.specs.Runs.{is_in, IsBorne, Counts}
 use Rattle.plan_numbers.specs.Premises.{IsAccepted}
 use Rattle.counter_core.specs.Meanings.{cut}
 use Rattle.counter_core.specs.Overlays.{Layer}
-use Rattle.layer_laws.specs.Scenes.{Scene}
+use Rattle.layer_laws.specs.Scenes.{Scene, kept_of}
 use Rattle.layer_laws.specs.LayerRuns.{LayerRun, scene, without_layer}
 use Rattle.layer_laws.specs.Slots.{slot_length, AllAre}
 use Rattle.layer_laws.proofs.NodesSteps.{node_steps, common_rest, shown_at}
 use Rattle.layer_laws.proofs.PlanSlots.{quorum_of, few_of, counts_of}
 use Rattle.replicated_log.specs.declared.entries.Entry.{Entry}
 use Rattle.replicated_log.specs.EntryLength.{entry_length}
-use Rattle.replicated_log.specs.LogSaid.{LogSaid}
-use Rattle.replicated_log.specs.Logs.{agreement_after, log_layer, log_of}
-use Rattle.replicated_log.specs.PutEntries.{PutsEntry, HasEntries, SameSince}
-use Rattle.replicated_log.specs.PutEntries.{LogsAreOne}
-use Rattle.replicated_log.proofs.SlotEntries.{keeps_log, every_slot_puts_one}
+use Rattle.replicated_log.specs.Logs.{agreement_after, log_layer}
+use Rattle.replicated_log.specs.PutEntries.{Puts, HasEntries, SameSince, LogsAreOne}
+use Rattle.replicated_log.specs.PutEntries.{commands_in_turn}
+use Rattle.replicated_log.proofs.Logging.{IsLogging, keeps_log, log_is}
+use Rattle.replicated_log.proofs.SlotEntries.{puts_one, takes_turns}
 
 -- the front of a list with one more before it
 one_more : (keep : ℕ) (entry : Entry) (a b : List Entry) → take keep a ≡ take keep b
@@ -53,19 +53,21 @@ none_ends x e short other =
     let parts = div-add-mod x e in
     div-eq_of_lt-le e (omega (arith, parts, short, other)) (omega (arith, parts, short, other))
 
-module _ (plan : Plan) (accepted : IsAccepted plan) (multiple : HasEntries plan) (said : LogSaid)
-    (faulty : List ℕ) (borne : IsBorne plan faulty) (first : ℕ) (run : List (Scene (List Entry)))
-    (is : LayerRun plan (log_layer plan said) faulty first run) (t : ℕ) (lo : plan_bound plan ≤ t)
+module _ {Kept : Type 0} (plan : Plan) (accepted : IsAccepted plan) (multiple : HasEntries plan)
+    (layer : Layer Kept) (keep : ℕ) (logs : Kept → List Entry) (says : (t v slot : ℕ) → ℕ)
+    (first : ℕ) (logging : IsLogging plan layer keep logs says first) (faulty : List ℕ)
+    (borne : IsBorne plan faulty) (run : List (Scene Kept))
+    (is : LayerRun plan layer faulty first run) (t : ℕ) (lo : plan_bound plan ≤ t)
     (inside : t < length run)
     (begins : AllAre plan faulty (scene run t).states (entry_length (plan_faults plan)) 0) where
   abbrev e : ℕ
   e = entry_length (plan_faults plan)
 
-  abbrev keep : ℕ
-  keep = said.keep
+  abbrev log : Scene Kept → (v : ℕ) → List Entry
+  log s v = logs (kept_of layer s v)
 
-  abbrev layer : Layer (List Entry)
-  layer = log_layer plan said
+  abbrev Same : (x : ℕ) → Type 0
+  Same x = SameSince plan keep log says faulty run t x
 
   abbrev counts : Counts plan faulty (without_layer plan run)
   counts = counts_of plan layer accepted faulty borne first run is
@@ -87,7 +89,7 @@ module _ (plan : Plan) (accepted : IsAccepted plan) (multiple : HasEntries plan)
       let s : t + suc x ≡ t + x + 1 = omega arith in
       let next : x + 1 ≡ suc x = omega arith in
       let long : length (without_layer plan run) ≡ length run =
-      length-map run (λ (s : Scene (List Entry)). map (cut (plan_depth plan)) s.states) in
+      length-map run (λ (s : Scene Kept). map (cut (plan_depth plan)) s.states) in
       ap (λ y. counts.output y % e) s
       ∙ (ap (λ y. y % e) (counts.grows (t + x) (omega arith) (omega (arith, lt, long)))
       ∙ (mod-mod_of_dvd e (counts.output (t + x) + 1) (dvd_of_mod-eq-zero e whole)
@@ -103,8 +105,7 @@ module _ (plan : Plan) (accepted : IsAccepted plan) (multiple : HasEntries plan)
       ∙ rest x lt
 
   -- where a slot ends in round t + x, it puts one entry more
-  more : (x : ℕ) → t + suc x < length run → x % e + 1 ≡ e → SameSince plan said faulty run t x
-      → SameSince plan said faulty run t (suc x)
+  more : (x : ℕ) → t + suc x < length run → x % e + 1 ≡ e → Same x → Same (suc x)
   more x lt end before =
       let q : ℕ = slot_length (plan_faults plan) in
       let start : ℕ = t + x / e * e in
@@ -113,29 +114,29 @@ module _ (plan : Plan) (accepted : IsAccepted plan) (multiple : HasEntries plan)
       let there : start + e ≡ t + suc x = omega (arith, parts, end) in
       let number : t + length before.put * e ≡ start = ap (λ m. t + m * e) before.many in
       let begun : (x / e * e) % e ≡ 0 = mul-mod_left (x / e) e in
-      let one = every_slot_puts_one plan accepted multiple said faulty borne first run is start
+      let one =
+      puts_one plan accepted multiple layer keep logs says first logging faulty borne run is start
       (omega (arith, lo)) (omega (arith, there, lt))
       (λ v vlt ok. node_rest (x / e * e) v (omega (arith, here, lt)) vlt ok ∙ begun) in
       record {
         put = one.entry ∷ before.put;
         many = ap suc before.many ∙ sym (one_ends x e end);
         entries = (
-          subst (λ s. PutsEntry plan said faulty run s one.entry) (sym number) one.is,
+          subst (λ s. Puts plan keep log says faulty run s one.entry) (sym number) one.is,
           before.entries,
         );
         each = λ v vlt ok.
-            ap (λ y. take keep (log_of (scene run y) v)) (sym there)
+            ap (λ y. take keep (log (scene run y) v)) (sym there)
             ∙ (ap (take keep) (one.is.puts v vlt ok
             ∙ ap (λ l. take keep (one.entry ∷ l)) (sym (one.is.quiet q v (omega arith) vlt ok)
-            ∙ ap (λ y. log_of (scene run y) v) here))
-            ∙ (take-take keep keep (one.entry ∷ log_of (scene run (t + x)) v) (omega arith)
-            ∙ one_more keep one.entry (log_of (scene run (t + x)) v)
-            (before.put ++ log_of (scene run t) v) (before.each v vlt ok)));
+            ∙ ap (λ y. log (scene run y) v) here))
+            ∙ (take-take keep keep (one.entry ∷ log (scene run (t + x)) v) (omega arith)
+            ∙ one_more keep one.entry (log (scene run (t + x)) v)
+            (before.put ++ log (scene run t) v) (before.each v vlt ok)));
       }
 
   -- else none is put
-  quiet : (x : ℕ) → t + suc x < length run → (x % e + 1 ≡ e → ⊥)
-      → SameSince plan said faulty run t x → SameSince plan said faulty run t (suc x)
+  quiet : (x : ℕ) → t + suc x < length run → (x % e + 1 ≡ e → ⊥) → Same x → Same (suc x)
   quiet x lt other before =
       let s : t + suc x ≡ t + x + 1 = omega arith in
       let below : x % e < e = mod-lt x (omega arith) in
@@ -150,20 +151,22 @@ module _ (plan : Plan) (accepted : IsAccepted plan) (multiple : HasEntries plan)
             let here : o % e ≡ x % e =
             ap (λ st. shown (plan_depth plan) st % e) (steps.honest v vlt ok)
             ∙ node_rest x v (omega arith) vlt ok in
-            ap (λ y. take keep (log_of (scene run y) v)) s
-            ∙ (ap (take keep) (steps.steps.kept
+            ap (λ y. take keep (log (scene run y) v)) s
+            ∙ ap (take keep)
+            (log_is plan layer keep logs says first logging (first + (t + x)) v (scene run (t + x))
+            (scene run (t + x + 1)) steps.heard steps.steps
             ∙ keeps_log (plan_faults plan) keep o (x % e)
             (agreement_after (plan_nodes plan) (plan_faults plan) (plan_depth plan) v o
-            steps.heard) (log_of (scene run (t + x)) v) here (omega (arith, below, other)))
-            ∙ before.each v vlt ok);
+            steps.heard) (log (scene run (t + x)) v) here (omega (arith, below, other)))
+            ∙ before.each v vlt ok;
       }
 
-  same_since : (x : ℕ) → t + x < length run → SameSince plan said faulty run t x
+  pub same_since : (x : ℕ) → t + x < length run → Same x
   same_since zero lt = record {
     put = [];
     many = sym (none_ended e (omega arith));
     entries = tt;
-    each = λ v vlt ok. ap (λ y. take keep (log_of (scene run y) v)) (add-zero t);
+    each = λ v vlt ok. ap (λ y. take keep (log (scene run y) v)) (add-zero t);
   }
   same_since (suc x) lt = elim (cases_eq (x % e + 1) e) [
     | inl end ↦ more x lt end (same_since x (omega arith))
@@ -172,4 +175,6 @@ module _ (plan : Plan) (accepted : IsAccepted plan) (multiple : HasEntries plan)
 
 pub logs_are_one : LogsAreOne
 logs_are_one plan accepted multiple said faulty borne first run is t lo inside begins x lt =
-    same_since plan accepted multiple said faulty borne first run is t lo inside begins x lt
+    same_since plan accepted multiple (log_layer plan said) said.keep (λ log. log)
+    (commands_in_turn plan said) first (takes_turns plan said first) faulty borne run is t lo inside
+    begins x lt

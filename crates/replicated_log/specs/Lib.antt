@@ -1,3 +1,4 @@
+pub mod ChangingCommands
 pub mod EntryLength
 pub mod LogAnswers
 pub mod LogLaws

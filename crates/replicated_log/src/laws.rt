@@ -2,6 +2,7 @@
 
 ghost use Rattle.std.specs.Prelude.{ℕ, List, IfOk};
 ghost use Rattle.construction.specs.Plans.{Plan};
+ghost use Rattle.replicated_log.specs.ChangingCommands.{ChangingCommandsPutOne, ChangingLogsAreOne};
 ghost use Rattle.replicated_log.specs.PutEntries.{EverySlotPutsOne, LogsAreOne};
 ghost use Rattle.replicated_log.specs.LogPart.{part_of, IsFor};
 ghost use Rattle.replicated_log.specs.LogTexts.{LogTextIsRead};
@@ -18,6 +19,17 @@ pub fn every_slot_puts_one()
 /// same entries, one for each slot that ends.
 pub fn logs_are_one()
     ensures { LogsAreOne }
+{}
+
+/// So it is where each node may command something else in each round: where the slot's owner is
+/// correct, the entry has what it commands in the round before the slot.
+pub fn changing_commands_put_one()
+    ensures { ChangingCommandsPutOne }
+{}
+
+/// There, too, all correct nodes put the same entries.
+pub fn changing_logs_are_one()
+    ensures { ChangingLogsAreOne }
 {}
 
 /// What is read of a log has 2 to 65536 values, keeps 1 to 1024 entries, and has commands of each

@@ -69,7 +69,7 @@ module _ {Kept : Type 0} (plan : Plan) (script : Script) (layer : Layer Kept)
   pub same_era : era_of script (t + q) ≡ era
   same_era = eqb-true (era_of script (t + q)) era (and_parts late inside front).1
 
-  within_rounds : t + q ≤ script.rounds
+  pub within_rounds : t + q ≤ script.rounds
   within_rounds = leb-true (t + q) script.rounds
       (and_parts (late && inside) (nat_le (t + q) script.rounds) counting).1
 
@@ -110,7 +110,7 @@ module _ {Kept : Type 0} (plan : Plan) (script : Script) (layer : Layer Kept)
       (omega (arith, run_long, ends, le)) (omega arith)
       ∙ ap (scene_in plan script layer began) here
 
-  scene_here : scene run place ≡ scene_in plan script layer began t
+  pub scene_here : scene run place ≡ scene_in plan script layer began t
   scene_here =
       let zero : place ≡ place + 0 = omega arith in
       let same : t + 0 ≡ t = omega arith in

@@ -29,6 +29,7 @@ use Rattle.run_promises.specs.LayeredEras.{IsReadFor, played_scene, lies_played,
 use Rattle.run_promises.specs.LayeredEras.{PlaysScript, ScriptsArePlayed}
 use Rattle.run_promises.proofs.Told.{told_is}
 use Rattle.run_promises.proofs.States.{table_is, in_range_at, configuration_is}
+use Rattle.run_promises.proofs.SaidLines.{says_lines}
 
 module _ {Kept : Type 0} (plan : Plan) (script : Script) (layer : Layer Kept) (began : List Kept)
     (enough : IsKeptFor (plan_nodes plan) began) (nodes : script.nodes ≡ plan_nodes plan) where
@@ -199,6 +200,7 @@ module _ {Kept : Type 0} (layer : Layer Kept) (plan : Plan) (script : Script)
 
   plays_script : PlaysScript plan script layer began
   plays_script = record {
+    says = says_lines script;
     starts = refl;
     puts = λ t v state inside lt hit.
         put_is plan script layer began enough is.right.nodes t v state lt hit;

@@ -7,3 +7,6 @@ pub mod States
 pub mod EraRuns
 pub mod Columns
 pub mod PlainRuns
+pub mod SaidLines
+pub mod WrittenLines
+pub mod CountedSlots

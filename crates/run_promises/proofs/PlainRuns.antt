@@ -17,6 +17,7 @@ use Rattle.round_runner.specs.Laws.{IsReadFor, ErasAreRuns}
 use Rattle.round_runner.specs.Played.{heard_at, played_at}
 use Rattle.run_promises.specs.PlainRuns.{lies_played, PlainScriptsArePlayed}
 use Rattle.run_promises.proofs.Told.{told_is}
+use Rattle.run_promises.proofs.SaidLines.{says_lines}
 
 module _ (plan : Plan) (script : Script) (is : IsReadFor plan script) where
   abbrev at : ℕ → List State
@@ -49,6 +50,7 @@ module _ (plan : Plan) (script : Script) (is : IsReadFor plan script) where
 
 pub plain_scripts_are_played : ErasAreRuns → PlainScriptsArePlayed
 plain_scripts_are_played runs plan script is = record {
+  says = says_lines script;
   starts = refl;
   puts = λ t v state inside lt hit. behind plan script is t v lt (Some state) hit;
   steps = λ t v inside lt correct none.

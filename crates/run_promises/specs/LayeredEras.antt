@@ -20,6 +20,7 @@ use Rattle.layer_laws.specs.Played.{IsKeptFor}
 use Rattle.round_runner.specs.Runners.{IsFor}
 use Rattle.round_runner.specs.Played.{starts, lies_at}
 use Rattle.round_runner.specs.Scenes.{scene_at}
+use Rattle.run_promises.specs.SaidLines.{SaysLines}
 
 -- a script that was read for an accepted plan, with the layer's registers behind those of the plan
 pub record IsReadFor {Kept : Type 0} (plan : Plan) (layer : Layer Kept) (script : Script)
@@ -53,12 +54,13 @@ module _ {Kept : Type 0} (plan : Plan) (script : Script) (layer : Layer Kept)
         → LayerRound plan layer (faulty_of_era script j) t (played_scene t) (lies_played t)
         (played_scene (t + 1))
 
-  -- The first scene has the script's starts. After a round, also where an era begins there, a node
-  -- that has a start line there is in its state, and each other one that was correct steps from
-  -- what it hears. There the lies are the script's: what a faulty node tells another is what the
-  -- first lie of the script that says this gives, or else its puppet's state. Each era is a run,
-  -- with few faulty nodes.
+  -- The lines of the script say what its eras, its starts and its lies are. The first scene has the
+  -- starts. After a round, also where an era begins there, a node that has a start line there is in
+  -- its state, and each other one that was correct steps from what it hears. There the lies are the
+  -- script's: what a faulty node tells another is what the first lie of the script that says this
+  -- gives, or else its puppet's state. Each era is a run, with few faulty nodes.
   pub record PlaysScript : Type 0 where
+    pub says : SaysLines script
     pub starts : played_scene 0 ≡ record { states = starts script; kept = began }
     pub puts : (t v : ℕ) (state : State) → t < script.rounds → v < plan_nodes plan
         → hit_at script (t + 1) v ≡ Some state

@@ -12,17 +12,19 @@ use Rattle.adversary_script.specs.Lookup.{hit_at}
 use Rattle.adversary_script.specs.Lies.{lie_of}
 use Rattle.round_runner.specs.Laws.{IsReadFor, EraIsRun}
 use Rattle.round_runner.specs.Played.{starts, lies_at, played_at}
+use Rattle.run_promises.specs.SaidLines.{SaysLines}
 
 -- what the script lets each node tell each other in round t
 abbrev pub lies_played : Plan → Script → (t : ℕ) → List (List State)
 lies_played plan script t = lies_at script t (played_at plan script t)
 
--- Configuration 0 has the script's starts. After a round, also where an era begins there, a node
--- that has a start line there is in its state, and each other one that was correct steps from what
--- it hears. There the lies are the script's: what a faulty node tells another is what the first lie
--- of the script that says this gives, or else its puppet's state. Each era is a run, with few
--- faulty nodes.
+-- The lines of the script say what its eras, its starts and its lies are. Configuration 0 has the
+-- starts. After a round, also where an era begins there, a node that has a start line there is in
+-- its state, and each other one that was correct steps from what it hears. There the lies are the
+-- script's: what a faulty node tells another is what the first lie of the script that says this
+-- gives, or else its puppet's state. Each era is a run, with few faulty nodes.
 pub record PlaysPlain (plan : Plan) (script : Script) : Type 0 where
+  pub says : SaysLines script
   pub starts : played_at plan script 0 ≡ starts script
   pub puts : (t v : ℕ) (state : State) → t < script.rounds → v < plan_nodes plan
       → hit_at script (t + 1) v ≡ Some state → state_of (played_at plan script (t + 1)) v ≡ state

@@ -6,6 +6,7 @@ ghost use Rattle.run_promises.specs.PlainRuns.{PlainScriptsArePlayed};
 ghost use Rattle.run_promises.specs.LayeredEras.{ScriptsArePlayed};
 ghost use Rattle.run_promises.specs.Promises.{LinesDecide, LinesFireTogether, LinesPutOne};
 ghost use Rattle.run_promises.specs.Columns.{NodesMakeColumns, EraPacketsAreRead};
+ghost use Rattle.run_promises.specs.WrittenLines.{TextsAreWritten};
 
 use counter_core::Overlay;
 use node_stepper::laws::packets_read_back;
@@ -57,3 +58,10 @@ pub fn era_packets_are_read()
 {
     packets_read_back();
 }
+
+/// The text of each word that plays a script has just the lines that are said of it: the bound, a
+/// line of each configuration that is shown, or of each slot that counts and begins in one, with a
+/// word of each node, and the first locked configurations.
+pub fn texts_are_written()
+    ensures { TextsAreWritten }
+{}

@@ -134,7 +134,7 @@ pub fn counterlab<S: Source, K: Sink>(
     ensures texts { TextsAreKept }
 
     // Each of these values has a text that is read as it: a plan, its table, wants, a slot table,
-    // inputs, requests, a log and a header.
+    // inputs, requests, a log, a header and a script.
     ensures accepts { TextsAreRead }
 
     // Where it is a plan and a script, what is played is a run of the plan, what is written of it

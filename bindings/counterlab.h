@@ -12,6 +12,8 @@
 #include <stddef.h>
 #include <stdint.h>
 
+#define COUNTERLAB_VERSION "1.0" /* of the repository: its file VERSION */
+
 /* What a call answers. */
 struct counterlab_answer {
     uint32_t code;   /* one of those below */

@@ -1,0 +1,29 @@
+use Rattle.std.proofs.Common.{◌≡◌, ℕ, ◌<◌, ◌≤◌, List, [], ◌∷◌, length, map, refl, arith}
+use Rattle.std.specs.Prelude.{None, string_bytes}
+use Rattle.std.proofs.lemmas.List.{length-map}
+use Rattle.choose.specs.Requests.{within_of}
+use Rattle.choose.proofs.requests.within_of.Goals as goal
+
+none_short : (words : List (List ℕ)) → length words < 3 → None ≡ within_of words
+none_short [] few = refl
+none_short (word ∷ []) few = refl
+none_short (n ∷ t ∷ []) few = refl
+none_short (n ∷ t ∷ c ∷ words) few = absurd (omega (arith, few))
+
+none_long : (words : List (List ℕ)) → 5 ≤ length words → None ≡ within_of words
+none_long [] many = refl
+none_long (n ∷ []) many = absurd (omega (arith, many))
+none_long (n ∷ t ∷ []) many = absurd (omega (arith, many))
+none_long (n ∷ t ∷ c ∷ []) many = absurd (omega (arith, many))
+none_long (n ∷ t ∷ c ∷ last ∷ []) many = absurd (omega (arith, many))
+none_long (n ∷ t ∷ c ∷ last ∷ more ∷ words) many = refl
+
+pub returns-in_default-clause-value : goal.returns-in_default-clause-value
+returns-in_default-clause-value c =
+    none_short (map string_bytes c.args.words.now)
+    (omega (arith, length-map c.args.words.now string_bytes, c.in_default.len_below))
+
+pub returns-in_default-2-clause-value : goal.returns-in_default-2-clause-value
+returns-in_default-2-clause-value c =
+    none_long (map string_bytes c.args.words.now)
+    (omega (arith, length-map c.args.words.now string_bytes, c.in_default.len_at_least))

@@ -1,0 +1,69 @@
+#!/bin/sh
+# Packs what install.sh installs into one tar, for a machine that has no kit.
+#
+#     ./package.sh [FOLDER]      as in: ./package.sh /tmp
+#
+# It writes counterlab-VERSION-x86_64-linux.tar.gz and its checksum into FOLDER, or here. The tar
+# has one folder with the programs (bin), their manual pages (share/man), the library and its header
+# (lib, include), README.md, docs and examples, and the checksums of all these (SHA256SUMS). The programs run on any x86-64 Linux
+# whose C library is no older than the one that the line at the end names: unpack it anywhere. They
+# are tried in an empty root that has the C library alone, where this machine lets one be entered.
+set -eu
+[ $# -le 1 ] || { echo "usage: ./package.sh [FOLDER]" >&2; exit 2; }
+folder=$(cd "${1:-.}" && pwd)
+cd "$(dirname "$0")"
+name=counterlab-$(cat VERSION)-x86_64-linux
+room=$(mktemp -d)
+trap 'rm -rf "$room"' EXIT
+
+./install.sh "$room/$name" > /dev/null
+cp LICENSE README.md CHANGELOG.md VERSION "$room/$name"
+cp -r docs examples "$room/$name"
+find "$room/$name" -name __pycache__ -prune -exec rm -rf {} +
+(cd "$room/$name" && find . -type f ! -name SHA256SUMS | LC_ALL=C sort |
+    xargs sha256sum > SHA256SUMS)
+
+# the same files give the same tar
+stamp=$(git log -1 --format=@%ct 2> /dev/null || echo @0)
+tar -C "$room" --sort=name --owner=0 --group=0 --numeric-owner --mtime="$stamp" -cf - "$name" |
+    gzip -9n > "$folder/$name.tar.gz"
+(cd "$folder" && sha256sum "$name.tar.gz" > "$name.tar.gz.sha256")
+
+# ---- a look at it, in a root with nothing but the C library
+
+root=$room/root
+mkdir "$root"
+tar -xzf "$folder/$name.tar.gz" -C "$root"
+(cd "$root/$name" && sha256sum --quiet -c SHA256SUMS)
+for program in "$root/$name"/bin/*; do
+    ldd "$program" | grep -o '/[^ ]*'
+done | sort -u | while read -r library; do
+    install -D "$library" "$root$library"
+done
+cp crates/counterlab/stdin "$root/input"
+
+enter() { # runs a program of the package in that root
+    program=$1
+    shift
+    if [ "$(id -u)" = 0 ]; then
+        chroot "$root" "/$name/bin/$program" "$@"
+    else
+        unshare -r chroot "$root" "/$name/bin/$program" "$@"
+    fi
+}
+
+if enter counterlab-choose --version > /dev/null 2>&1; then
+    for program in pulselab counterlab-choose counterlab-draw counterlab-states counterlab-sweep \
+        counterlab-trace; do
+        [ "$(enter $program --version | cut -d ' ' -f 2)" = "$(cat VERSION)" ] ||
+            { echo "$program says another version than VERSION" >&2; exit 1; }
+    done
+    enter counterlab $(cat crates/counterlab/args) < "$root/input" | cmp - crates/counterlab/stdout
+    enter counterlab demo 7 | enter counterlab-draw > "$root/demo.svg"
+    enter counterlab-choose 3 1000 14 plan | enter pulselab plan > "$root/table"
+    echo "the programs run in an empty root"
+else
+    echo "not tried: no other root can be entered here"
+fi
+oldest=$(objdump -T "$root/$name"/bin/* | grep -o 'GLIBC_[0-9.]*' | sort -Vu | tail -n 1)
+echo "wrote $folder/$name.tar.gz; it wants a C library from $oldest on"
