@@ -1,10 +1,11 @@
 -- A process of a node that is started anew while others go on.
-use Rattle.std.specs.Prelude.{◌≡◌, ◌≢◌, ℕ, ◌+◌, ◌≤◌, ◌==◌, true, List, if◌then◌else◌}
+use Rattle.std.specs.Prelude.{◌≡◌, ℕ, ◌+◌, ◌≤◌, ◌==◌, List, if◌then◌else◌}
 use Rattle.construction.specs.Steps.{state_of}
-use Rattle.construction.specs.Runs.{is_in}
 use Rattle.machines.specs.Machines.{Machine, IsBorne, IsLocked}
 use Rattle.node_runs.specs.NodeRuns.{IsCorrect, SomeIsCorrect}
 use Rattle.node_runs.specs.Laws.{StayLockedThrough}
+pub use Rattle.node_runs.specs.Restarts.{AreFaultyMeanwhile}
+use Rattle.node_runs.specs.Restarts.{begins_later}
 use Rattle.node_words.specs.Constructions.{Words}
 use Rattle.node_promises.specs.Calls.{Call}
 use Rattle.node_promises.specs.CallWindows.{cell_written, states_written, CallsConnect}
@@ -22,13 +23,7 @@ abbrev pub calls_after : Restart → (calls : ℕ → Call) → ℕ → Call
 calls_after restart calls v = if v == restart.node then restart.call else calls v
 
 abbrev pub begins_after : Restart → (begins : ℕ → ℕ) → ℕ → ℕ
-begins_after restart begins v =
-    if v == restart.node then 0 else begins v + restart.after
-
--- the faulty nodes of the whole window: those of the rest, and the node that is started anew
-pub record AreFaultyMeanwhile (node : ℕ) (faulty meanwhile : List ℕ) : Type 0 where
-  pub own : is_in meanwhile node ≡ true
-  pub others : (v : ℕ) → v ≢ node → is_in meanwhile v ≡ is_in faulty v
+begins_after restart begins v = begins_later restart.node restart.after begins v
 
 module _ {Reader Plan Premise : Type 0} (words : Words Reader Plan Premise) (m : Machine) where
   -- The other correct nodes keep their promise all the time; with the one that is started anew all
