@@ -1,6 +1,6 @@
 -- What calls of a node write, as states of their nodes.
 use Rattle.std.proofs.Common.{◌≡◌, ℕ, ◌+◌, ◌<◌, ◌^◌, ◌≤◌, List, [], Option, Some, unwrap_or}
-use Rattle.std.proofs.Common.{take, length, Result, Ok, Err, refl, sym, ap, subst, ◌∙◌, arith}
+use Rattle.std.proofs.Common.{take, Result, Ok, Err, refl, sym, ap, subst, ◌∙◌, arith}
 use Rattle.std.specs.Prelude.{IfOk, IsSome}
 use Rattle.std.proofs.lemmas.List.FromFn.{get_or-map-range_with_len}
 use Rattle.texts.specs.Limits.{room_in, behind_lines}
@@ -10,7 +10,6 @@ use Rattle.state_codec.specs.Reading.{read}
 use Rattle.state_codec.specs.Writing.{written}
 use Rattle.machines.specs.Machines.{Machine, IsState}
 use Rattle.machines.specs.Laws.{IsSound}
-use Rattle.node_header.specs.declared.headers.HeaderRefusal.{HeaderRefusal}
 use Rattle.node_header.specs.HeaderParts.{HeaderOf}
 use Rattle.node_stepper.specs.Nodes.{node_text}
 use Rattle.node_runs.specs.Cells.{cell_number}

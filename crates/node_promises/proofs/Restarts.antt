@@ -1,11 +1,11 @@
 -- A process that is started anew is a faulty node of the whole window, and a correct one of its
 -- rest.
-use Rattle.std.proofs.Common.{◌≡◌, ℕ, ◌+◌, ◌<◌, Bool, true, false, List, [], refl}
+use Rattle.std.proofs.Common.{◌≡◌, ℕ, ◌+◌, Bool, true, false, List, [], refl}
 use Rattle.std.proofs.Common.{sym, ap, ◌∙◌, cond, subst, unwrap_or, arith}
 use Rattle.std.specs.Prelude.{◌==◌}
 use Rattle.std.proofs.lemmas.List.FromFn.{get_or-map-range_with_len}
 use Rattle.std.proofs.lemmas.Bool.{eqb-true, eqb-false}
-use Rattle.sync_types.specs.States.{State, zero_state}
+use Rattle.sync_types.specs.States.{zero_state}
 use Rattle.construction.specs.Steps.{state_of}
 use Rattle.construction.specs.Runs.{is_in}
 use Rattle.state_codec.specs.Reading.{read}

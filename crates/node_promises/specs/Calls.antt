@@ -1,5 +1,5 @@
 -- Calls of a node: what each reads and writes.
-use Rattle.std.specs.Prelude.{◌≡◌, ⊤, ℕ, ◌^◌, List, [], slice_index_or, Option, Some, None, Result}
+use Rattle.std.specs.Prelude.{◌≡◌, ⊤, ℕ, ◌^◌, List, [], slice_index_or, Option, None, Result}
 use Rattle.std.specs.Prelude.{Ok, Err}
 use Rattle.std.specs.Io.KnownBytes.{Consumes}
 use Rattle.texts.specs.Growth.{Told, Wrote}

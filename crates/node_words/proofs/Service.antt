@@ -18,7 +18,6 @@ use Rattle.node_stepper.specs.declared.faults.NodeFault.TheVariants as fault
 use Rattle.node_stepper.specs.Packets.{Packets, IsWithin, whole, cut, beyond}
 use Rattle.node_stepper.specs.Nodes.{Standing}
 use Rattle.node_stepper.specs.Serving.{served, answer, ServicePending, Serves, HasServeCause}
-use Rattle.node_words.specs.declared.errors.NodeError.TheVariants as error
 use Rattle.node_words.specs.Constructions.{Words}
 use Rattle.node_words.specs.NodeAnswers.{Outcome, IsNodePending, pending_behind, ending_of}
 use Rattle.node_words.specs.NodeAnswers.{ended_by}
