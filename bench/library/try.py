@@ -378,13 +378,14 @@ class Tried:
 
     def first(self):
         """four_nodes.c against the same rounds by the plain step."""
-        plan, found = PLANS[1], run([self.link("gcc", "four_nodes", at=FIRST)]).decode()
-        states = [b"\x3f\xff", b"\x12\x34", b"\x00\x14", b"\xff"]
+        found = run([self.link("gcc", "four_nodes", at=FIRST)]).decode()
+        plan = calls.pulse_plan_of(4, 1, 10)
+        states = [b"\x3f\xff\xff", b"\x12\x34\x56", b"\x00\x14\x07", b"\xff\x00\x00"]
         rows = []
         for t in range(13):
             held = [calls.output(plan, v, states[v]) for v in range(3)]
             rows.append(" ".join(map(str, [t, *held])))
-            lies = [bytes([(97 * t + 31 * v) % 256]) for v in range(3)]
+            lies = [bytes([(97 * t + 31 * v) % 256]) + states[3][1:] for v in range(3)]
             packets = [b"".join(map(cell, [*states[:3], lie])) for lie in lies]
             states[:3] = [calls.answer(plan, v, states[v], packets[v])[3] for v in range(3)]
         if found.splitlines() != rows:

@@ -16,6 +16,7 @@ failure, nor is a machine that takes more than a minute.
 
 import os
 import pathlib
+import re
 import resource
 import subprocess
 import sys
@@ -63,11 +64,15 @@ def told(code, words, text, begin):
 
 
 def command_words():
-    """How `counterlab` tells its words: those of the table in README.md."""
+    """How `counterlab` tells the words of the table of `outcomes`, which README.md has too."""
+    table = (CRATES / "outcomes" / "specs" / "Commands.antt").read_text()
+    words = [*re.findall(r'row \(codes "(\w+)"\)', table), "demo SEED"]
     rows = (TOP / "README.md").read_text().split("| word | reads | writes |")[1].split("\n\n")[0]
-    words = [row.split("|")[1].replace("`", "").strip() for row in rows.splitlines()[2:]]
-    told = f"one of {', '.join(words[:-1])}, or {words[-1]}; the words are in `man counterlab`\n"
-    return told.encode()
+    told = [row.split("|")[1].replace("`", "").strip() for row in rows.splitlines()[2:]]
+    if sorted(words) != sorted(told):
+        sys.exit("statuses: README.md has other words than the table of outcomes")
+    line = f"one of {', '.join(words[:-1])}, or {words[-1]}; the words are in `man counterlab`\n"
+    return line.encode()
 
 
 def counterlab_cases():

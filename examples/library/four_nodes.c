@@ -1,13 +1,14 @@
-/* Four nodes of which the last one lies: the outputs of the others, round by round. */
+/* Four nodes of a pulse plan, of which the last one lies: what the others show, round by round. */
 #include "counterlab.h"
 #include <stdio.h>
 #include <string.h>
 
 #define PLAN (const uint8_t *)text, strlen(text)
-static const char *text = "plan 2\nbase 576\nlevel 3 1 10 spare 1\nend\n";
+static const char *text = "pulses 1\ngroup 4 1 10\nend\n";
 
 int main(void) {
-    uint8_t states[4][COUNTERLAB_MOST_BYTES] = {"\x3f\xff", "\x12\x34", "\x00\x14", "\xff"};
+    uint8_t states[4][COUNTERLAB_MOST_BYTES] = {
+        "\x3f\xff\xff", "\x12\x34\x56", "\x00\x14\x07", "\xff"};
     size_t sizes[4];
     for (uint32_t v = 0; v < 4; v++) {
         struct counterlab_answer bytes = counterlab_state_bytes(PLAN, v);

@@ -70,11 +70,20 @@ Fails asked old new error.Usage = (asked ≡ None) × (new ≡ old)
 Fails asked old new error.NoMemory = IsSomeAnd asked IsSearch × (new ≡ old)
 Fails asked old new error.WriteFault = IsSomeAnd asked (OfAnswer (λ text. Cut text old new))
 
+-- a text that says why there is no plan for these wants, and the empty one where there is a plan
+abbrev pub OfShortage : (List ℕ → Type 0) → Scope → Want → Type 0
+OfShortage holds scope want =
+    (short : Option Shortage) × IsShortage scope want short × holds (shortage_text want short)
+
 -- where there is no plan for these wants, the line that says why was written, and else nothing
 abbrev pub ExplainsWants : Scope → Want → (old new : Told) → Type 0
-ExplainsWants scope want old new =
-    (short : Option Shortage) × IsShortage scope want short
-    × Wrote (shortage_text want short) old new
+ExplainsWants scope want old new = OfShortage (λ text. Wrote text old new) scope want
+
+-- or memory was refused and nothing was written, or the line was cut
+abbrev pub FailsOnWants : Scope → Want → (old new : Told) → ChooseError → Type 0
+FailsOnWants scope want old new error.Usage = ⊥
+FailsOnWants scope want old new error.NoMemory = new ≡ old
+FailsOnWants scope want old new error.WriteFault = OfShortage (λ text. Cut text old new) scope want
 
 abbrev pub Explains : Option Request → (old new : Told) → Type 0
 Explains (Some (request.Front scope want)) old new = ExplainsWants scope want old new
@@ -84,6 +93,16 @@ Explains (Some request.Version) old new = new ≡ old
 Explains (Some (request.Most room)) old new = new ≡ old
 Explains (Some (request.MostPlan room)) old new = new ≡ old
 Explains None old new = new ≡ old
+
+-- it fails only where a front, or its last plan, is asked for
+abbrev pub FailsToExplain : Option Request → (old new : Told) → ChooseError → Type 0
+FailsToExplain (Some (request.Front scope want)) old new e = FailsOnWants scope want old new e
+FailsToExplain (Some (request.LastPlan scope want)) old new e = FailsOnWants scope want old new e
+FailsToExplain (Some request.Help) old new e = ⊥
+FailsToExplain (Some request.Version) old new e = ⊥
+FailsToExplain (Some (request.Most room)) old new e = ⊥
+FailsToExplain (Some (request.MostPlan room)) old new e = ⊥
+FailsToExplain None old new e = ⊥
 
 -- how the program ends where this is the error
 abbrev pub status_of : ChooseError → Status

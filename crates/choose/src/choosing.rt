@@ -1,8 +1,9 @@
 //! Does what the words ask for.
 
-ghost use Rattle.std.specs.Prelude.{◌≡◌, map, string_bytes, Some, MatchResult, IfOk};
+ghost use Rattle.std.specs.Prelude.{◌≡◌, map, string_bytes, Some, MatchResult};
 ghost use Rattle.choose.specs.Requests.{request_of};
-ghost use Rattle.choose.specs.Conduct.{Answers, Fails, Explains, ExplainsWants, status_of};
+ghost use Rattle.choose.specs.Conduct.{Answers, Fails, status_of};
+ghost use Rattle.choose.specs.Conduct.{Explains, ExplainsWants, FailsOnWants, FailsToExplain};
 ghost use Rattle.choose.specs.FrontText.{TextsArePlans};
 ghost use Rattle.choose.specs.FrontsOfBothText.{PulseTextsArePlans};
 ghost use Rattle.choose.specs.declared.requests.Request.TheVariants as request;
@@ -159,7 +160,9 @@ fn write_why<K: Sink>(
     sink: &mut K,
 ) -> Result<(), ChooseError>
     requires { IsFit want.now }
-    ensures { IfOk result (λ _. ExplainsWants scope want.now (K.told sink.old) (K.told sink.new)) }
+    ensures { MatchResult result
+        (λ _. ExplainsWants scope want.now (K.told sink.old) (K.told sink.new))
+        (FailsOnWants scope want.now (K.told sink.old) (K.told sink.new)) }
 {
     let shortage = shortage_of(alloc, scope, want)?;
     Ok(write_shortage(want, shortage, sink)?)
@@ -167,12 +170,19 @@ fn write_why<K: Sink>(
 
 /// Where the words ask for a front and there is no plan, writes why: how many nodes its faults
 /// take, and how many faults its nodes tolerate. Else it writes nothing.
+///
+/// `NoMemory` comes only where a front is asked for, or its last plan, and nothing was written.
+/// `WriteFault` comes only where the sink counted a fault; a prefix of the line was then taken.
+/// `Usage` never comes.
 pub fn explain_none<K: Sink>(
     alloc: Global,
     words: &[String],
     sink: &mut K,
 ) -> Result<(), ChooseError>
-    ensures { IfOk result (λ _. Explains (request_of (map string_bytes words.now))
+    ensures { MatchResult result
+        (λ _. Explains (request_of (map string_bytes words.now))
+        (K.told sink.old) (K.told sink.new))
+        (FailsToExplain (request_of (map string_bytes words.now))
         (K.told sink.old) (K.told sink.new)) }
 {
     match request_of(words) {

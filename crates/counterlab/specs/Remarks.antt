@@ -1,15 +1,16 @@
 -- What the program adds on standard error.
-use Rattle.std.specs.Prelude.{ℕ, List, [], ◌∷◌, codes, decimal}
-use Rattle.std.specs.List.{concat}
+use Rattle.std.specs.Prelude.{ℕ, List, [], ◌∷◌, ◌++◌, codes, decimal}
+use Rattle.std.specs.List.{concat, flat_map}
 use Rattle.sync_types.specs.declared.status.Status.{Status}
 use Rattle.sync_types.specs.declared.status.Status.TheVariants as status
+use Rattle.outcomes.specs.Commands.{Row, table}
 
--- which words there are
+-- which words there are: those of the table, in its order, and `demo`
 abbrev pub words_line : List ℕ
 words_line = concat (
-    codes "one of plan, table, upgrade, find, run, record, check, explain, slots, "
-    ∷ codes "consensus, fire, log, node, or demo SEED; "
-    ∷ codes "the words are in `man counterlab`\n" ∷ [])
+    codes "one of "
+    ∷ flat_map (λ (row : Row). row.word ++ codes ", ") table
+    ∷ codes "or demo SEED; the words are in `man counterlab`\n" ∷ [])
 
 -- where the input ended
 abbrev pub cut_line : (packet sender : ℕ) → List ℕ

@@ -13,9 +13,9 @@ fn put_words<K: Sink>(sink: &mut K) -> Result<(), WriteFault>
     put_pieces(
         sink,
         &[
-            Piece::Text(b"one of plan, table, upgrade, find, run, record, check, explain, slots, "),
-            Piece::Text(b"consensus, fire, log, node, or demo SEED; "),
-            Piece::Text(b"the words are in `man counterlab`\n"),
+            Piece::Text(b"one of run, record, explain, plan, upgrade, table, find, slots, "),
+            Piece::Text(b"consensus, fire, log, check, node, "),
+            Piece::Text(b"or demo SEED; the words are in `man counterlab`\n"),
         ],
     )
 }
