@@ -33,8 +33,7 @@ fn engine_of<C: Construction>(
 }
 
 /// Reads a header, and then packets, and writes the node's cell at the start and behind each whole
-/// packet: the answer is how many these were. Each cell is written before any byte behind its
-/// packet is read.
+/// packet: the answer is how many these were. Each cell is written before it reads on.
 ///
 /// `Refused` is the first line of the header that fails, and the line that says so was written.
 /// `Cut` comes exactly where the input ends inside a packet, and `TooLong` where no line was

@@ -24,7 +24,7 @@ use std::alloc::Global;
 /// Does what the words ask for. `plan` reads all of the input as a pulse plan, which has at most
 /// 2^20 bytes, and writes its table. `node` reads a header, which has at most 2^20 bytes, and then
 /// packets, and writes the node's cell when the header has been read, and one behind each packet
-/// before the next one is read. `--help` and `--version` read nothing, and write what they say.
+/// before it reads on. `--help` and `--version` read nothing, and write what they say.
 ///
 /// `Usage` comes exactly where the words ask for nothing; nothing was read or written then.
 /// `Refused` and `NodeRefused` are the first line of the input that fails, and why, and the line of
