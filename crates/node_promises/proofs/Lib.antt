@@ -4,3 +4,4 @@ pub mod CallStates
 pub mod Connected
 pub mod Heard
 pub mod Restarts
+pub mod Inputs

@@ -2,3 +2,4 @@ pub mod Calls
 pub mod Headers
 pub mod CallWindows
 pub mod Restarts
+pub mod Inputs

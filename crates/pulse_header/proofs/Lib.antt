@@ -1,2 +1,5 @@
 pub mod Used
 pub mod Shaped
+pub mod StateDigits
+pub mod NodeParts
+pub mod HeaderTexts

@@ -1,1 +1,2 @@
 pub mod PulseShapes
+pub mod HeaderTexts

@@ -1,6 +1,7 @@
 //! The header of a node of a pulse plan: the plan's part, and then the node's id and state.
 #![tactic(auto)]
 
+pub mod laws;
 mod readers;
 mod shapes;
 

@@ -6,6 +6,7 @@ use Rattle.node_runs.specs.NodeRuns.{SomeIsCorrect}
 use Rattle.node_promises.specs.Calls.{Call, IsOfNode, CallsWriteTexts}
 use Rattle.node_promises.specs.CallWindows.{ConnectedCallsCount, HeardCallsStayLocked}
 use Rattle.node_promises.specs.Restarts.{RestartedNodesCount}
+use Rattle.node_promises.specs.Inputs.{AnyInputsConnect}
 use Rattle.pulse_plan.specs.Plans.{PulseNumbers, IsAccepted}
 use Rattle.pulse_plan.specs.Laws.{machine_in}
 use Rattle.pulse_nodes.specs.PulseWords.{pulse_words}
@@ -23,3 +24,8 @@ pub record PulseNodesKeepPromise : Type 0 where
       → IsAccepted is.header.plan × IsSound (machine_in plan)
   pub some : (plan : PulseNumbers) → IsAccepted plan → (faulty : List ℕ)
       → IsBorne (machine_in plan) faulty → SomeIsCorrect (machine_in plan) faulty
+
+-- The premise can be met: there are inputs of connected calls, whatever states of theirs the
+-- correct nodes begin in, and whatever is sent. Their headers have seven lines.
+abbrev pub AnyPulseInputsConnect : Type 0
+AnyPulseInputsConnect = AnyInputsConnect pulse_words 7 IsAccepted

@@ -1,8 +1,9 @@
-//! What calls of nodes of a pulse plan promise that are given one another's cells. The function
-//! does nothing: its clause is the law.
+//! What calls of nodes of a pulse plan promise that are given one another's cells. The functions do
+//! nothing: their clauses are the laws.
 
-ghost use Rattle.pulse_nodes.specs.NodePromises.{PulseNodesKeepPromise};
+ghost use Rattle.pulse_nodes.specs.NodePromises.{PulseNodesKeepPromise, AnyPulseInputsConnect};
 
+use pulse_header::laws::header_texts_read_back;
 use pulse_plan::laws::accepted_are_sound;
 
 /// N calls, one for each node of a pulse plan, of which few are faulty. For a window of rounds each
@@ -16,5 +17,15 @@ use pulse_plan::laws::accepted_are_sound;
 pub fn pulse_nodes_keep_promise()
     ensures { PulseNodesKeepPromise }
 {
+    accepted_are_sound();
+}
+
+/// There are inputs of such calls, whatever states of theirs the correct nodes begin in, wherever
+/// the window begins in each of them, and whatever is given as the cells of faulty ones, and of all
+/// nodes before the window.
+pub fn any_inputs_connect()
+    ensures { AnyPulseInputsConnect }
+{
+    header_texts_read_back();
     accepted_are_sound();
 }

@@ -4,7 +4,8 @@ ghost use Rattle.std.specs.Prelude.{◌≡◌, map, string_bytes, MatchResult, I
 ghost use Rattle.pulse_plan.specs.Laws.{EveryPlanSettles};
 ghost use Rattle.pulse_texts.specs.PulsesTexts.{PulsesTextIsWhole};
 ghost use Rattle.pulse_tables.specs.TableLaws.{TablesAreRead, OnlyTablesAreRead};
-ghost use Rattle.pulse_nodes.specs.NodePromises.{PulseNodesKeepPromise};
+ghost use Rattle.pulse_header.specs.HeaderTexts.{PulseHeaderTextIsRead};
+ghost use Rattle.pulse_nodes.specs.NodePromises.{PulseNodesKeepPromise, AnyPulseInputsConnect};
 ghost use Rattle.pulselab.specs.Faults.{KeptAt, UnmetAt};
 ghost use Rattle.pulselab.specs.Requests.{request_of};
 ghost use Rattle.pulselab.specs.Conduct.{Answers, Fails};
@@ -15,7 +16,8 @@ use crate::node_word::node;
 use crate::plan_word::table_plan;
 use crate::requests::{Request, request_of};
 use edge_io::{Sink, Source};
-use pulse_nodes::laws::pulse_nodes_keep_promise;
+use pulse_header::laws::header_texts_read_back;
+use pulse_nodes::laws::{any_inputs_connect, pulse_nodes_keep_promise};
 use pulse_plan::laws::every_plan_settles;
 use pulse_tables::tables_read_back;
 use pulse_texts::pulses_texts_read_back;
@@ -66,11 +68,18 @@ pub fn pulselab<S: Source, K: Sink>(
     // ones, what they write is a run of the plan, and counts. Once they are locked they stay so
     // where cells are lost too. A call that takes the place of another comes to count with them.
     ensures nodes { PulseNodesKeepPromise }
+
+    // Each node of each plan has a header, whose text is read as it is; and there are inputs of
+    // such calls, whatever states the nodes begin in, and whatever the faulty ones send.
+    ensures headers { PulseHeaderTextIsRead }
+    ensures inputs { AnyPulseInputsConnect }
 {
     every_plan_settles();
     pulses_texts_read_back();
     tables_read_back();
     pulse_nodes_keep_promise();
+    header_texts_read_back();
+    any_inputs_connect();
     match request_of(words) {
         None => Err(LabError::Usage),
         Some(Request::Help) => Ok(write_help(sink)?),
