@@ -204,7 +204,7 @@ module _ {Kept : Type 0} (layer : Layer Kept) (plan : Plan) (script : Script)
     starts = refl;
     puts = λ t v state inside lt hit.
         put_is plan script layer began enough is.right.nodes t v state lt hit;
-    steps = λ t v inside lt correct none.
+    steps = λ t v inside lt none.
         steps_as plan script layer began enough is.right.nodes t v (faulty_at script t) refl lt
         none;
     told = λ t u v inside. told_in t u v;

@@ -1,11 +1,11 @@
 -- What is played of a script with a layer is the script's: its starts, its faulty sets, its lies.
-use Rattle.std.specs.Prelude.{◌≡◌, ℕ, ◌+◌, ◌-◌, ◌<◌, ◌≤◌, List, length, map, false, Some, None}
+use Rattle.std.specs.Prelude.{◌≡◌, ℕ, ◌+◌, ◌-◌, ◌<◌, ◌≤◌, List, length, map, Some, None}
 use Rattle.std.specs.Prelude.{[], slice_index_or}
 use Rattle.std.specs.List.{range_with_len}
 use Rattle.sync_types.specs.States.{State}
 use Rattle.construction.specs.Plans.{Plan, plan_nodes}
 use Rattle.construction.specs.Steps.{state_of}
-use Rattle.construction.specs.Runs.{is_in, heard_by, IsBorne}
+use Rattle.construction.specs.Runs.{heard_by, IsBorne}
 use Rattle.plan_numbers.specs.Premises.{IsAccepted}
 use Rattle.plan_laws.specs.PlanMeaning.{plan_meaning}
 use Rattle.state_codec.specs.Shapes.{IsShape}
@@ -56,9 +56,9 @@ module _ {Kept : Type 0} (plan : Plan) (script : Script) (layer : Layer Kept)
 
   -- The lines of the script say what its eras, its starts and its lies are. The first scene has the
   -- starts. After a round, also where an era begins there, a node that has a start line there is in
-  -- its state, and each other one that was correct steps from what it hears. There the lies are the
-  -- script's: what a faulty node tells another is what the first lie of the script that says this
-  -- gives, or else its puppet's state. Each era is a run, with few faulty nodes.
+  -- its state, and each other one steps from what it hears, also the puppet of a faulty one. There
+  -- the lies are the script's: what a faulty node tells another is what the first lie of the script
+  -- that says this gives, or else its puppet's state. Each era is a run, with few faulty nodes.
   pub record PlaysScript : Type 0 where
     pub says : SaysLines script
     pub starts : played_scene 0 ≡ record { states = starts script; kept = began }
@@ -66,7 +66,7 @@ module _ {Kept : Type 0} (plan : Plan) (script : Script) (layer : Layer Kept)
         → hit_at script (t + 1) v ≡ Some state
         → state_of (played_scene (t + 1)).states v ≡ state
     pub steps : (t v : ℕ) → t < script.rounds → v < plan_nodes plan
-        → is_in (faulty_at script t) v ≡ false → hit_at script (t + 1) v ≡ None
+        → hit_at script (t + 1) v ≡ None
         → StepsAs plan layer t (played_scene t)
         (heard_by (plan_nodes plan) (faulty_at script t) (played_scene t).states (lies_played t) v)
         v (played_scene (t + 1))
