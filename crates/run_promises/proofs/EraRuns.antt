@@ -85,9 +85,9 @@ module _ {Kept : Type 0} (plan : Plan) (script : Script) (layer : Layer Kept) (b
       ∙ ap (λ h. unwrap_or h (played.new_state (plan_meaning plan) layer kept v
       (heard_at script t config v))) hit
 
-  -- a node that none puts into a state steps from what it hears
+  -- a node steps from what it hears, where none puts it into a state
   module _ (t v : ℕ) (faulty : List ℕ) (same : faulty_at script t ≡ faulty)
-      (lt : v < plan_nodes plan) (none : hit_at script (t + 1) v ≡ None) where
+      (lt : v < plan_nodes plan) where
     abbrev config : List State
     config = (scenes t).states
 
@@ -98,9 +98,9 @@ module _ {Kept : Type 0} (plan : Plan) (script : Script) (layer : Layer Kept) (b
     heard_same = ap (λ f. heard_by script.nodes f config (lies_at script t config) v) same
         ∙ ap (λ n. heard_by n faulty config (lies_at script t config) v) nodes
 
-    state_next : state_of (scenes (suc t)).states v
+    state_next : hit_at script (t + 1) v ≡ None → state_of (scenes (suc t)).states v
         ≡ new_state (plan_meaning plan) layer t (kept_of layer (scenes t) v) v hears
-    state_next =
+    state_next none =
         let kept : List Kept = begun_kept layer t (scenes t).kept in
         let heard : List State = heard_at script t config v in
         get_or-map-range_with_len (state_behind (plan_meaning plan) script layer t config kept) 0
@@ -125,8 +125,14 @@ module _ {Kept : Type 0} (plan : Plan) (script : Script) (layer : Layer Kept) (b
         ∙ ap (λ h. (layer_step (plan_meaning plan) layer t (kept_of layer (scenes t) v) v h).kept)
         heard_same
 
-    steps_as : StepsAs plan layer t (scenes t) hears v (scenes (t + 1))
-    steps_as = rw (add-one t) (record { state = state_next; kept = kept_next enough })
+    steps_as : hit_at script (t + 1) v ≡ None
+        → StepsAs plan layer t (scenes t) hears v (scenes (t + 1))
+    steps_as none = rw (add-one t) (record { state = state_next none; kept = kept_next enough })
+
+    -- what it keeps is what its step leaves, also where it is put into a state
+    keeps_as : kept_of layer (scenes (t + 1)) v
+        ≡ (layer_step (plan_meaning plan) layer t (kept_of layer (scenes t) v) v hears).kept
+    keeps_as = rw (add-one t) (kept_next enough)
 
 module _ {Kept : Type 0} (layer : Layer Kept) (plan : Plan) (script : Script)
     (keeps : KeepsRange layer) (is : IsReadFor plan layer script) (began : List Kept)
@@ -204,9 +210,11 @@ module _ {Kept : Type 0} (layer : Layer Kept) (plan : Plan) (script : Script)
     starts = refl;
     puts = λ t v state inside lt hit.
         put_is plan script layer began enough is.right.nodes t v state lt hit;
-    steps = λ t v inside lt correct none.
+    steps = λ t v inside lt none.
         steps_as plan script layer began enough is.right.nodes t v (faulty_at script t) refl lt
         none;
+    kept = λ t v inside lt.
+        keeps_as plan script layer began enough is.right.nodes t v (faulty_at script t) refl lt;
     told = λ t u v inside. told_in t u v;
     borne = borne_in;
     eras = λ j among. record { run = era_is_run j among; rounds = round_is j among };

@@ -10,3 +10,4 @@ pub mod PlainRuns
 pub mod SaidLines
 pub mod WrittenLines
 pub mod CountedSlots
+pub mod ChangingRuns

@@ -53,7 +53,7 @@ plain_scripts_are_played runs plan script is = record {
   says = says_lines script;
   starts = refl;
   puts = λ t v state inside lt hit. behind plan script is t v lt (Some state) hit;
-  steps = λ t v inside lt correct none.
+  steps = λ t v inside lt none.
       behind plan script is t v lt None none ∙ ap (step_of plan v) (heard_same plan script is t v);
   told = λ t u v inside. told_in plan script is t u v;
   borne = borne_in plan script is;

@@ -6,3 +6,4 @@ pub mod PlainRuns
 pub mod SaidLines
 pub mod WrittenLines
 pub mod CountedSlots
+pub mod ChangingRuns

@@ -4,6 +4,8 @@
 ghost use Rattle.counter_core.specs.Overlays.{Layer};
 ghost use Rattle.run_promises.specs.PlainRuns.{PlainScriptsArePlayed};
 ghost use Rattle.run_promises.specs.LayeredEras.{ScriptsArePlayed};
+ghost use Rattle.run_promises.specs.ChangingRuns.{ChangingInputsHaveRuns};
+ghost use Rattle.run_promises.specs.ChangingRuns.{ChangingCommandsHaveRuns};
 ghost use Rattle.run_promises.specs.Promises.{LinesDecide, LinesFireTogether, LinesPutOne};
 ghost use Rattle.run_promises.specs.Columns.{NodesMakeColumns, EraPacketsAreRead};
 ghost use Rattle.run_promises.specs.WrittenLines.{TextsAreWritten};
@@ -64,4 +66,15 @@ pub fn era_packets_are_read()
 /// word of each node, and the first locked configurations.
 pub fn texts_are_written()
     ensures { TextsAreWritten }
+{}
+
+/// The layer of consensus whose inputs change from round to round, each below the values, keeps
+/// range, and each scene goes on whatever faulty nodes tell. So there are runs with it.
+pub fn changing_inputs_have_runs()
+    ensures { ChangingInputsHaveRuns }
+{}
+
+/// The layer of the log whose commands change does so too.
+pub fn changing_commands_have_runs()
+    ensures { ChangingCommandsHaveRuns }
 {}
