@@ -18,4 +18,4 @@ pub mod Restarts
 pub mod NodeInputs
 pub mod DemoTexts
 pub mod RestartInputs
-pub mod Processes
+pub mod CallProcesses

@@ -1,4 +1,4 @@
-use Rattle.promises.proofs.Processes as law
+use Rattle.promises.proofs.CallProcesses as law
 use Rattle.promises.proofs.processes.calls_are_processes.Goals as goal
 
 pub returns : goal.returns
