@@ -1,0 +1,55 @@
+//! Plans that are drawn.
+
+use crate::draws::Draws;
+use reference_pulses::groups::Group;
+use reference_steps::premises::MOST;
+
+/// Moduli at the limits, and beyond them.
+const MODULI: [u64; 8] = [0, 1, 2, 3, 10, MOST, MOST + 1, 1_000_000_000_000_000];
+
+impl Draws {
+    /// A modulus that is accepted.
+    fn modulus(&mut self) -> u64 {
+        match self.below(5) {
+            0 => 2,
+            1 => MOST,
+            2 => self.between(2, MOST),
+            _ => self.between(3, 30),
+        }
+    }
+
+    /// An accepted plan with at most so many nodes.
+    pub fn plan(&mut self, most_nodes: u64) -> Group {
+        let faults = self.below(most_nodes.wrapping_add(2) / 3);
+        let fewest = faults.wrapping_mul(3).wrapping_add(1);
+        let room = most_nodes.saturating_sub(fewest).min(3);
+        let spares = if faults == 0 {
+            0
+        } else {
+            self.between(0, room)
+        };
+        Group {
+            first: 0,
+            nodes: fewest.wrapping_add(spares),
+            faults,
+            modulus: self.modulus(),
+        }
+    }
+
+    /// A plan whose numbers are at the limits, or beyond them.
+    pub fn plan_at_limits(&mut self) -> Group {
+        let nodes = match self.below(4) {
+            0 => self.below(5),
+            1 => self.between(250, 260),
+            _ => self.between(1, 40),
+        };
+        let faults = (nodes / 3).wrapping_add(self.below(3)).saturating_sub(1);
+        let place = self.below(8) as usize;
+        Group {
+            first: 0,
+            nodes,
+            faults,
+            modulus: MODULI.get(place).copied().unwrap_or(2),
+        }
+    }
+}

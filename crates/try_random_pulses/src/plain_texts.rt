@@ -1,0 +1,42 @@
+//! The texts of plans, read and written plainly.
+
+use reference::lines::Lines;
+use reference::refusals::Stop;
+use reference::texts::Text;
+use reference_pulses::groups::Group;
+use std::alloc::{AllocError, Global};
+
+/// The name of the part.
+const PART: &str = "pulses";
+
+/// The plan that the whole of a text is.
+pub fn plan_of(text: &[u8]) -> Result<Group, Stop> {
+    let mut lines = Lines::of(text);
+    lines.take_first(PART);
+    lines.take(PART);
+    lines.want_form(4, "group");
+    let plan = Group {
+        first: 0,
+        nodes: lines.number(1),
+        faults: lines.number(2),
+        modulus: lines.number(3),
+    };
+    if let Some(premise) = plan.broken() {
+        lines.want(false, premise);
+    }
+    lines.take_end(PART);
+    lines.want_none(PART);
+    lines.result()?;
+    Ok(plan)
+}
+
+/// The text of a plan, be it accepted or not.
+pub fn text_of(alloc: Global, plan: &Group) -> Result<String, AllocError> {
+    let mut text = String::new(alloc);
+    let mut out = Text::behind(&mut text);
+    out.line(PART, &[1]);
+    out.line("group", &[plan.nodes, plan.faults, plan.modulus]);
+    out.word("end\n");
+    out.end()?;
+    Ok(text)
+}
