@@ -3,9 +3,9 @@
 #
 #     ./install.sh PREFIX        as in: ./install.sh ~/.local
 #
-# What is not built yet is proved and built first, which takes the kit (`rt version`) and, from
-# nothing, an hour of one processor. The programs beside counterlab are installed as
-# counterlab-NAME, since other packages have programs of those names too.
+# It takes the kit (`rt version`). What is not built yet is proved and built first, from nothing an
+# hour of one processor. The programs beside counterlab are installed as counterlab-NAME, since
+# other packages have programs of those names too.
 set -eu
 [ $# -eq 1 ] || { echo "usage: ./install.sh PREFIX" >&2; exit 2; }
 case $1 in
@@ -13,6 +13,7 @@ case $1 in
 *) prefix=$PWD/$1 ;;
 esac
 cd "$(dirname "$0")"
+page=$(rt doc) # in the kit's folder
 
 build() { # a program, by its crate
     [ -x "crates/$1/out/$1" ] && return
@@ -36,17 +37,19 @@ if [ ! -f "$archive" ]; then
     echo "building the library: it is proved first" >&2
     (cd crates/counterlab_c && rt lib > /dev/null)
 fi
-# one archive of both: the library, and the kit's three functions over malloc, realloc and free
-kit=$(dirname "$(rt doc)")
-mkdir -p "$prefix/lib"
-rm -f "$prefix/lib/libcounterlab.a"
-ar -M <<AR
-CREATE $prefix/lib/libcounterlab.a
-ADDLIB $archive
-ADDLIB $kit/c/liblibc_c.a
+# one archive of both: the library, and the kit's three functions over malloc, realloc and free. A
+# script of ar can name no path with a blank or a comma, so it is made in a folder of its own.
+room=$(mktemp -d)
+trap 'rm -rf "$room"' EXIT
+cp "$archive" "$(dirname "$page")/c/liblibc_c.a" "$room"
+(cd "$room" && ar -M) <<'AR'
+CREATE libcounterlab.a
+ADDLIB libcounterlab_c.a
+ADDLIB liblibc_c.a
 SAVE
 END
 AR
+install -D -m 644 "$room/libcounterlab.a" "$prefix/lib/libcounterlab.a"
 install -D -m 644 bindings/counterlab.h "$prefix/include/counterlab.h"
 mkdir -p "$prefix/lib/pkgconfig"
 cat > "$prefix/lib/pkgconfig/counterlab.pc" <<PC

@@ -5,9 +5,11 @@
 #
 # It writes counterlab-VERSION-x86_64-linux.tar.gz and its checksum into FOLDER, or here. The tar
 # has one folder with the programs (bin), their manual pages (share/man), the library and its header
-# (lib, include), README.md, docs and examples, and the checksums of all these (SHA256SUMS). The programs run on any x86-64 Linux
-# whose C library is no older than the one that the line at the end names: unpack it anywhere. They
-# are tried in an empty root that has the C library alone, where this machine lets one be entered.
+# (lib, include), bindings, examples, docs, README.md, CHANGELOG.md, LICENSE and VERSION, and the
+# checksums of all these (SHA256SUMS). The programs run on any x86-64 Linux whose C library is no
+# older than the one that the line at the end names: unpack it anywhere. They are tried in an empty
+# root that has the C library alone, where this machine lets one be entered, and a first program is
+# linked with the library, where there is gcc.
 set -eu
 [ $# -le 1 ] || { echo "usage: ./package.sh [FOLDER]" >&2; exit 2; }
 folder=$(cd "${1:-.}" && pwd)
@@ -18,7 +20,7 @@ trap 'rm -rf "$room"' EXIT
 
 ./install.sh "$room/$name" > /dev/null
 cp LICENSE README.md CHANGELOG.md VERSION "$room/$name"
-cp -r docs examples "$room/$name"
+cp -r bindings docs examples "$room/$name"
 find "$room/$name" -name __pycache__ -prune -exec rm -rf {} +
 (cd "$room/$name" && find . -type f ! -name SHA256SUMS | LC_ALL=C sort |
     xargs sha256sum > SHA256SUMS)
@@ -64,6 +66,13 @@ if enter counterlab-choose --version > /dev/null 2>&1; then
     echo "the programs run in an empty root"
 else
     echo "not tried: no other root can be entered here"
+fi
+if command -v gcc > /dev/null; then
+    at=$root/$name
+    gcc -I "$at/include" -o "$room/first" "$at/examples/library/four_nodes.c" \
+        "$at/lib/libcounterlab.a"
+    "$room/first" > "$room/rows"
+    echo "the library links, and its first program runs"
 fi
 oldest=$(objdump -T "$root/$name"/bin/* | grep -o 'GLIBC_[0-9.]*' | sort -Vu | tail -n 1)
 echo "wrote $folder/$name.tar.gz; it wants a C library from $oldest on"

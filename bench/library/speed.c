@@ -2,6 +2,8 @@
  * cells have common bytes, and prints microseconds of processor time for a step with one packet a
  * call, for a step with all packets in one call, and for an output.
  *
+ *   gcc -O2 -I bindings -o speed bench/library/speed.c \
+ *       crates/counterlab_c/out/libcounterlab_c.a KIT/c/liblibc_c.a
  *   ./speed < crates/try_examples/data/plans/faults_2_nodes_12.txt
  */
 #include "counterlab.h"

@@ -457,8 +457,9 @@ class Tried:
         if status_of(build, cwd=empty, env=env)[0]:
             raise Skipped("cargo builds no program here")
         shutil.copytree(BINDINGS / "rust", crate)
+        shutil.copyfile(HERE / "steps.rs", crate / "src" / "main.rs")
         run(build, cwd=crate, env=env)
-        program = self.room / "cargo" / "release" / "steps"
+        program = self.room / "cargo" / "release" / "counterlab_nodes"
         self.cases_by(program)
         numbers = self.plans_by(program)
         archive.write_bytes(b"no archive")

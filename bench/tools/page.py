@@ -1,6 +1,6 @@
 """Tries a page of `draw --page` in a browser.
 
-    python3 page.py PAGE.html [CHROMIUM] [SHOT.png]
+    python3 bench/tools/page.py PAGE.html [CHROMIUM] [SHOT.png]
 
 PAGE.html is what `draw --page` wrote of a run or a trace, and CHROMIUM a program that behaves as
 headless Chromium does. The pointer is put on a cell, and arrow keys are pressed; what the page then
@@ -79,6 +79,8 @@ def tries(said):
 
 
 def main():
+    if len(sys.argv) < 2:
+        sys.exit(__doc__)
     text = pathlib.Path(sys.argv[1]).read_text()
     chromium = sys.argv[2] if len(sys.argv) > 2 else "chromium"
     shot = pathlib.Path(sys.argv[3]).resolve() if len(sys.argv) > 3 else None

@@ -122,6 +122,7 @@ NONE_OF_BOTH = (
 NONE_BOOSTING = (
     b"none: FAULTS 5 takes MOST_NODES of at least 20; MOST_NODES 14 allows FAULTS of at most 4\n"
 )
+NONE_AT_ALL = b"none: FAULTS 40 is more than any boosting plan of at most 256 nodes tolerates; "
 
 
 def choose_cases():
@@ -131,7 +132,7 @@ def choose_cases():
         (0, ["3", "1000", "14", "plan"], b"", b"pulses 1\ngroup 10 3 1000\nend\n", b""),
         (0, ["3", "1000", "9"], b"", b"none\n", NONE_OF_BOTH),
         (0, ["boosting", "5", "10", "14"], b"", b"none\n", NONE_BOOSTING),
-        (0, ["boosting", "40", "10"], b"", b"none\n", b"none: FAULTS 40 is more than any plan "),
+        (0, ["boosting", "40", "10"], b"", b"none\n", NONE_AT_ALL),
         (0, ["within", "14", "130", "1000"], b"", FRONT_OF_BOTH, b""),
         (0, ["within", "3", "0", "8", "plan"], b"", b"plan 2\nbase 8\nend\n", b""),
         told(2, [], b"", b"usage: choose "),

@@ -5,15 +5,16 @@
 
 A round takes MS milliseconds, or 20. PLAN is a plan's file, or that of thirteen nodes beside this
 script; that of twelve there is of the boosting construction. Each node is a process of node.c,
-which is built here with the library's archive (crates/counterlab_c/out/, by `rt lib`) and the
-kit's; this script gives them their ticks. As many of them lie as the plan tolerates. The stories:
+which is built here with the library of a package (lib/), or its archive in the repository
+(crates/counterlab_c/out/, by `rt lib`) and the kit's; this script gives them their ticks. As many
+of them lie as the plan tolerates. The stories:
 
     all      all start; a liar is repaired; one is killed, and begins again from nothing; a third of
              what is sent is lost for two seconds; the tick of one is half a round late for a second
     links    while all liars lie, then all but one, then all but two, few datagrams are lost for ten
              seconds; then the first liar floods for five
     told     four nodes start, and what they did for some seconds is written as a run certificate,
-             which bench/c/check.c has to find true, and the program where it is built
+             which bench/c/check.c and the program have to find true, where they are there
 
 Each event comes T rounds after the last, and some. Of each a line says from which round after it on
 all correct nodes show one number that grows by one, and how many rounds later than that did not
@@ -39,8 +40,10 @@ import time
 
 HERE = pathlib.Path(__file__).resolve().parent
 TOP = HERE.parent.parent
+PACKED = TOP / "lib" / "libcounterlab.a"
 ARCHIVE = TOP / "crates" / "counterlab_c" / "out" / "libcounterlab_c.a"
-PROGRAM = TOP / "crates" / "counterlab" / "out" / "counterlab"
+CHECKER = TOP / "bench" / "c" / "check.c"
+PROGRAM = TOP / ("bin" if PACKED.is_file() else "crates/counterlab/out") / "counterlab"
 FOUR_NODES = "plan 2\nbase 576\nlevel 3 1 10 spare 1\nend\n"
 TOLD_ROUNDS = 300
 MARGIN = 100  # rounds that are watched, beyond T
@@ -66,17 +69,28 @@ def output(command, **how):
     return ran.stdout.decode()
 
 
-def build(room):
-    """The node and what may befall it."""
-    for tool in ["gcc", "rt"]:
-        if not shutil.which(tool):
-            raise Skipped(f"there is no {tool} here")
+def needs(tool):
+    if not shutil.which(tool):
+        raise Skipped(f"there is no {tool} here")
+
+
+def library():
+    """The folder of the header, and the archives, of which that of a package has the kit's."""
+    if PACKED.is_file():
+        return TOP / "include", [PACKED]
+    needs("rt")
     if not ARCHIVE.is_file():
         raise Skipped(f"{ARCHIVE} is not there: it is built by `rt lib`")
-    heap = pathlib.Path(output(["rt", "doc"]).strip()).parent / "c" / "liblibc_c.a"
-    header = TOP / "bindings"
+    kit = pathlib.Path(output(["rt", "doc"]).strip()).parent
+    return TOP / "bindings", [ARCHIVE, kit / "c" / "liblibc_c.a"]
+
+
+def build(room):
+    """The node and what may befall it."""
+    needs("gcc")
+    header, archives = library()
     options = ["gcc", "-std=c11", "-O2"]
-    output([*options, "-I", header, "-o", room / "node", HERE / "node.c", ARCHIVE, heap])
+    output([*options, "-I", header, "-o", room / "node", HERE / "node.c", *archives])
     output([*options, "-shared", "-fPIC", "-o", room / "faults.so", HERE / "faults.c"])
 
 
@@ -421,10 +435,11 @@ def is_true(text, rows, room):
     if rows < 2:
         raise Skipped("no round was clean")
     check, right = room / "check", True
-    output(["gcc", "-O2", "-o", check, TOP / "bench" / "c" / "check.c"])
+    if CHECKER.is_file():
+        output(["gcc", "-O2", "-o", check, CHECKER])
     for name, command in [("check.c", [check]), ("counterlab check", [PROGRAM, "check"])]:
         if not os.access(command[0], os.X_OK):
-            print(f"udp: {name}: not tried, since it is not built")
+            print(f"udp: {name}: not tried, since it is not there")
             continue
         said = subprocess.run(command, input=text.encode(), stdout=subprocess.PIPE)
         answer = said.stdout.decode().strip()

@@ -1,7 +1,9 @@
 -- How many nodes faults take, and how many faults nodes tolerate.
-use Rattle.std.proofs.Common.{◌≡◌, ℕ, zero, suc, ◌+◌, ◌-◌, ◌*◌, ◌/◌, ◌<◌, ◌≤◌, []}
+use Rattle.std.proofs.Common.{◌≡◌, ℕ, zero, suc, ◌+◌, ◌-◌, ◌*◌, ◌/◌, ◌<◌, ◌≤◌, List, [], ◌∷◌}
 use Rattle.std.proofs.Common.{sym, subst, arith}
 use Rattle.std.specs.Prelude.{Option, Some, None, Bool, MatchBool, is_some}
+use Rattle.std.specs.List.{Any}
+use Rattle.std.proofs.lemmas.List.Elements.{All-head}
 use Rattle.construction.specs.Plans.{Plan}
 use Rattle.plan_finder.specs.declared.wants.Want.{Want}
 use Rattle.plan_finder.specs.FindPart.{IsFit}
@@ -9,10 +11,12 @@ use Rattle.choose.specs.declared.any_plans.AnyPlan.{AnyPlan}
 use Rattle.choose.specs.declared.any_plans.AnyPlan.TheVariants.{Boosting, Pulses}
 use Rattle.choose.specs.declared.requests.Scope.{Scope}
 use Rattle.choose.specs.declared.requests.Scope.TheVariants as scope
-use Rattle.choose.specs.Fronts.{Bears}
-use Rattle.choose.specs.FrontsOfBoth.{Tolerates}
+use Rattle.choose.specs.Fronts as boosting
+use Rattle.choose.specs.Fronts.{Bears, Serves, IsFront}
+use Rattle.choose.specs.FrontsOfBoth as both
+use Rattle.choose.specs.FrontsOfBoth.{Tolerates, Suits, IsFrontOf}
 use Rattle.choose.specs.Least.{IsLeast, IsLeastOf}
-use Rattle.choose.specs.Shortages.{IsIn, CanTolerate, IsShort}
+use Rattle.choose.specs.Shortages.{IsIn, CanTolerate, IsShort, IsTold, ModulusDecidesNothing}
 use Rattle.choose.proofs.Both.{boosting_bears, more_nodes, fewest, fewest_accepted}
 use Rattle.choose.proofs.Least.{lone_least}
 use Rattle.choose.proofs.Lower.{plan_of}
@@ -112,3 +116,28 @@ both_short want fit small = record {
     λ g can. omega (arith, quorum scope.Both want.most g can),
   );
 }
+
+-- ---- fronts
+
+none_of_none : {X : Type 0} (P : X → Type 0) → ¬ Any P []
+none_of_none P (k, x, lt, at, is) = absurd (omega (arith, lt))
+
+front_tells : (f c most : ℕ) (plans : List Plan) → IsFront f c most plans
+    → IsTold scope.Boosting most f plans
+front_tells f c most [] front = boosting_cannot most f
+    (λ plan bears. none_of_none (boosting.IsNoWorse plan) (front.best plan bears))
+front_tells f c most (plan ∷ rest) front =
+    boosting_can most f plan (All-head (Serves f c most) plan rest front.serve).bears
+
+both_cannot : (f c most : ℕ) → IsFrontOf f c most [] → ¬ CanTolerate scope.Both most f
+both_cannot f c most front (plan, within, tolerates) =
+    none_of_none (both.IsNoWorse plan) (front.best plan tolerates)
+
+front_of_both_tells : (f c most : ℕ) (plans : List AnyPlan) → IsFrontOf f c most plans
+    → IsTold scope.Both most f plans
+front_of_both_tells f c most [] front = both_cannot f c most front
+front_of_both_tells f c most (plan ∷ rest) front =
+    (plan, tt, (All-head (Suits f c most) plan rest front.suit).tolerates)
+
+pub modulus_decides_nothing : ModulusDecidesNothing
+modulus_decides_nothing f c most = (front_tells f c most, front_of_both_tells f c most)

@@ -6,13 +6,14 @@ ghost use Rattle.choose.specs.Conduct.{Answers, Fails, status_of};
 ghost use Rattle.choose.specs.Conduct.{Explains, ExplainsWants, FailsOnWants, FailsToExplain};
 ghost use Rattle.choose.specs.FrontText.{TextsArePlans};
 ghost use Rattle.choose.specs.FrontsOfBothText.{PulseTextsArePlans};
+ghost use Rattle.choose.specs.Shortages.{ModulusDecidesNothing};
 ghost use Rattle.choose.specs.declared.requests.Request.TheVariants as request;
 ghost use Rattle.choose.specs.Requests.{IsRoom};
 ghost use Rattle.plan_finder.specs.FindPart.{IsFit};
 
 use crate::fronts::front;
 use crate::fronts_of_both::front_of_both;
-use crate::laws::{pulse_texts_are_plans, texts_are_plans};
+use crate::laws::{modulus_decides_nothing, pulse_texts_are_plans, texts_are_plans};
 use crate::most_faults::most_plan;
 use crate::requests::{Request, Room, Scope, request_of};
 use crate::shortages::{shortage_of, write_shortage};
@@ -179,12 +180,16 @@ pub fn explain_none<K: Sink>(
     words: &[String],
     sink: &mut K,
 ) -> Result<(), ChooseError>
-    ensures { MatchResult result
+    ensures explains { MatchResult result
         (λ _. Explains (request_of (map string_bytes words.now))
         (K.told sink.old) (K.told sink.new))
         (FailsToExplain (request_of (map string_bytes words.now))
         (K.told sink.old) (K.told sink.new)) }
+
+    // There is no plan for these wants just where there is none, whatever it counts by.
+    ensures modulus { ModulusDecidesNothing }
 {
+    modulus_decides_nothing();
     match request_of(words) {
         Some(Request::Front(scope, want)) => write_why(alloc, scope, &want, sink),
         Some(Request::LastPlan(scope, want)) => write_why(alloc, scope, &want, sink),

@@ -2,6 +2,7 @@
 
 ghost use Rattle.choose.specs.FrontText.{TextsArePlans};
 ghost use Rattle.choose.specs.FrontsOfBothText.{PulseTextsArePlans};
+ghost use Rattle.choose.specs.Shortages.{ModulusDecidesNothing};
 
 /// The text of an accepted plan of version 2 is read as that plan, and is what a line says of the
 /// plan, with a newline in place of each semicolon.
@@ -13,4 +14,10 @@ pub fn texts_are_plans()
 /// with a newline in place of each semicolon.
 pub fn pulse_texts_are_plans()
     ensures { PulseTextsArePlans }
+{}
+
+/// Whether a front has a plan hangs on no modulus: it has none exactly where no accepted plan of
+/// those that are looked at, whatever it counts by, tolerates the faults within the nodes.
+pub fn modulus_decides_nothing()
+    ensures { ModulusDecidesNothing }
 {}

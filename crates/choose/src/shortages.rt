@@ -116,7 +116,7 @@ fn put_nodes<K: Sink>(sink: &mut K, faults: u64, nodes: Option<u64>) -> Result<(
             &[
                 Piece::Text(b"none: FAULTS "),
                 Piece::Number(faults),
-                Piece::Text(b" is more than any plan of at most 256 nodes tolerates"),
+                Piece::Text(b" is more than any boosting plan of at most 256 nodes tolerates"),
             ],
         ),
     }

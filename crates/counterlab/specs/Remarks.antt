@@ -21,9 +21,9 @@ cut_line packet sender = concat (
 -- Which inputs are too long.
 abbrev pub long_line : List ℕ
 long_line = concat (
-    codes "the input is too long: it has more than 1048576 bytes, "
-    ∷ codes "of check more than 2^44, "
-    ∷ codes "of node so many in its header or more than 1000000 packets\n" ∷ [])
+    codes "the input is too long: it has more than 1048576 bytes "
+    ∷ codes "(of check 2^44, of node in its header alone), "
+    ∷ codes "or of node more than 1000000 packets\n" ∷ [])
 
 -- A line that says what failed, where the answer does not say it; else nothing.
 abbrev pub remark_of : Status → List ℕ

@@ -27,9 +27,9 @@ fn put_long<K: Sink>(sink: &mut K) -> Result<(), WriteFault>
     put_pieces(
         sink,
         &[
-            Piece::Text(b"the input is too long: it has more than 1048576 bytes, "),
-            Piece::Text(b"of check more than 2^44, "),
-            Piece::Text(b"of node so many in its header or more than 1000000 packets\n"),
+            Piece::Text(b"the input is too long: it has more than 1048576 bytes "),
+            Piece::Text(b"(of check 2^44, of node in its header alone), "),
+            Piece::Text(b"or of node more than 1000000 packets\n"),
         ],
     )
 }

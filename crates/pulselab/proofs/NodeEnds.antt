@@ -1,27 +1,12 @@
--- How the word `node` ends, by what its call did.
-use Rattle.std.proofs.Common.{ℕ, Bool, List, Option, Some, Err}
-use Rattle.texts.specs.Growth.{Told}
+-- What the word `node` left as it was, by how its call ended.
+use Rattle.std.proofs.Common.{Bool, Some, Err}
 use Rattle.node_header.specs.declared.headers.HeaderRefusal.TheVariants as header
 use Rattle.node_words.specs.declared.errors.NodeError.{NodeError}
 use Rattle.node_words.specs.declared.errors.NodeError.TheVariants as node
-use Rattle.node_words.specs.Conduct.{NodeDoes, LeavesUnmet, LeavesUntouched}
+use Rattle.node_words.specs.Conduct.{LeavesUnmet, LeavesUntouched}
 use Rattle.pulse_texts.specs.declared.premises.LinePremise.{LinePremise}
-use Rattle.pulse_nodes.specs.PulseWords.{pulse_words}
 use Rattle.pulselab.specs.declared.requests.Request.TheVariants as request
 use Rattle.pulselab.specs.Faults.{error_of, KeptAt, UnmetAt}
-use Rattle.pulselab.specs.NodeWord.{NodeFails}
-
-pub fails_so : (e : NodeError LinePremise) (left left' : Option (List ℕ)) (before now : ℕ)
-    (old new : Told)
-    → NodeDoes pulse_words (Err e) left left' before now old new
-    → NodeFails left left' before now old new (error_of e)
-fails_so (node.Refused (header.Plan line premise)) left left' before now old new did = did
-fails_so (node.Refused (header.Node line rule)) left left' before now old new did = did
-fails_so node.ReadFault left left' before now old new did = did
-fails_so node.WriteFault left left' before now old new did = did
-fails_so node.TooLong left left' before now old new did = did
-fails_so (node.Cut packet sender) left left' before now old new did = did
-fails_so node.NoMemory left left' before now old new did = did
 
 pub kept_so : {K : Type 0} (e : NodeError LinePremise) (old new : K)
     → LeavesUntouched {Premise = LinePremise} (Err e) old new

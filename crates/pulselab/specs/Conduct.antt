@@ -34,6 +34,12 @@ Answers (Some request.Plan) left left' before now old new =
 Answers (Some request.Node) left left' before now old new =
     NodeDone left left' before now old new
 
+-- words that read nothing leave the source as it was, whatever it tells
+abbrev pub LeavesUnread : {S : Type 0} → Option Request → (old new : S) → Type 0
+LeavesUnread (Some request.Plan) old new = Unit {0}
+LeavesUnread (Some request.Node) old new = Unit {0}
+LeavesUnread other old new = new ≡ old
+
 -- the words ask for nothing, and nothing was done
 abbrev pub IsUsage : (left left' : Option (List ℕ)) (before now : ℕ) (old new : Told)
     → LabError → Type 0

@@ -1,5 +1,6 @@
 -- How the program ends by its errors.
 use Rattle.std.specs.Prelude.{◌≡◌, ℕ, Bool, Option, Some}
+use Rattle.sync_types.specs.declared.answers.Part.TheVariants as part
 use Rattle.sync_types.specs.declared.status.Status.TheVariants as status
 use Rattle.sync_types.specs.Codes as codes
 use Rattle.node_header.specs.declared.headers.HeaderRefusal.TheVariants as header
@@ -11,11 +12,10 @@ use Rattle.pulselab.specs.declared.faults.LabError.TheVariants as error
 use Rattle.pulselab.specs.declared.requests.Request.{Request}
 use Rattle.pulselab.specs.declared.requests.Request.TheVariants as request
 
--- the exit code: 1 for a refused plan, 3 for a refused node part, and else that of `counterlab`'s
--- status for the same cause
+-- the exit code: 1 for a refused plan, and else that of `counterlab`'s status for the same cause
 abbrev pub code_of : LabError → ℕ
 code_of (error.Refused refusal) = 1
-code_of (error.NodeRefused line rule) = 3
+code_of (error.NodeRefused line rule) = codes.code_of (status.PartRefused part.Node line rule)
 code_of error.Usage = codes.code_of status.Usage
 code_of error.ReadFault = codes.code_of status.ReadFault
 code_of error.TooLong = codes.code_of status.TooLong

@@ -8,7 +8,7 @@ ghost use Rattle.pulse_header.specs.HeaderTexts.{PulseHeaderTextIsRead};
 ghost use Rattle.pulse_nodes.specs.NodePromises.{PulseNodesKeepPromise, AnyPulseInputsConnect};
 ghost use Rattle.pulselab.specs.Faults.{KeptAt, UnmetAt};
 ghost use Rattle.pulselab.specs.Requests.{request_of};
-ghost use Rattle.pulselab.specs.Conduct.{Answers, Fails};
+ghost use Rattle.pulselab.specs.Conduct.{Answers, Fails, LeavesUnread};
 
 use crate::asking::{write_help, write_version};
 use crate::faults::LabError;
@@ -29,13 +29,13 @@ use std::alloc::Global;
 /// before it reads on. `--help` and `--version` read nothing, and write what they say.
 ///
 /// `Usage` comes exactly where the words ask for nothing; nothing was read or written then.
-/// `Refused` and `NodeRefused` are the first line of the input that fails, and why, and the line of
-/// the refusal was written. `ReadFault`, `TooLong` and `NoMemory` come only where a plan is to be
-/// read, and nothing was written; or a header, and the cells of the whole packets that were read
-/// were written, at `NoMemory` none. Of `node`, `TooLong` comes also where there was a byte of
-/// packet 1,000,001, and then all cells were written; `Cut` comes of it alone, exactly where the
-/// input ends inside a packet. `WriteFault` comes only where the sink counted a fault; a prefix of
-/// the answer was then taken.
+/// `Refused` and `NodeRefused` name the first line of the input that fails, and why; the line of
+/// the refusal was written. At `NoMemory` nothing was written; of `plan`, nor at `ReadFault` and
+/// `TooLong`. Of `node`, at `ReadFault` the cells of the whole packets that were read were
+/// written; `TooLong` comes where the header is too long, and nothing was written, or at the
+/// first byte of packet 1,000,001, and all cells were. `Cut` comes of `node` alone, exactly where
+/// the input ends inside a packet. `WriteFault` comes only where the sink counted a fault; a
+/// prefix of the answer was then taken.
 pub fn pulselab<S: Source, K: Sink>(
     alloc: Global,
     words: &[String],
@@ -50,7 +50,8 @@ pub fn pulselab<S: Source, K: Sink>(
         (Fails (request_of (map string_bytes words.now)) (S.left source.old) (S.left source.new)
         (S.faults source.old) (S.faults source.new) (K.told sink.old) (K.told sink.new)) }
 
-    // The same of a sink that tells nothing, and of the source's end.
+    // The same of a source and a sink that tell nothing, and of the source's end.
+    ensures unread { LeavesUnread (request_of (map string_bytes words.now)) source.old source.new }
     ensures untouched { IfErr result (KeptAt (request_of (map string_bytes words.now))
         sink.old sink.new) }
     ensures unmet { IfErr result (UnmetAt (S.met source.old) (S.met source.new)) }

@@ -99,16 +99,15 @@ fn king_after(
     Ok(agreed(king, &kings, 0, group.faults, turn).raised(1, group.modulus))
 }
 
-/// For which half a node fires.
-#[derive(Clone, Copy, PartialEq)]
-enum Fire {
+/// A half of a group.
+#[derive(Clone, Copy)]
+enum Half {
     Left,
     Right,
-    None,
 }
 
-/// For which half a node fires in a group of which this is heard.
-fn fire_of(group: &Group, depth: usize, own: &Level, heard: &[State]) -> Fire {
+/// For which half a node fires, if it does, in a group of which this is heard.
+fn fire_of(group: &Group, depth: usize, own: &Level, heard: &[State]) -> Option<Half> {
     let [_, instruction, age, _] = *own;
     let most = group.nodes.wrapping_sub(group.faults);
     // another instruction is to come after the next
@@ -118,11 +117,11 @@ fn fire_of(group: &Group, depth: usize, own: &Level, heard: &[State]) -> Fire {
     };
     let is_busy = instruction.mark && goes_on;
     if says(group, depth, LEFT, heard) >= most && age.value.is_none() {
-        Fire::Left
+        Some(Half::Left)
     } else if says(group, depth, RIGHT, heard) >= most && !is_busy {
-        Fire::Right
+        Some(Half::Right)
     } else {
-        Fire::None
+        None
     }
 }
 
@@ -157,9 +156,9 @@ fn level_after(
     let king = king_after(alloc, group, depth, &own, heard)?;
     let [_, instruction, _, _] = own;
     let (next, by_left) = match fire_of(group, depth, &own, heard) {
-        Fire::Left => (Some(0), true),
-        Fire::Right => (Some(0), false),
-        Fire::None => (
+        Some(Half::Left) => (Some(0), true),
+        Some(Half::Right) => (Some(0), false),
+        None => (
             above(instruction.value, group.instructions()),
             instruction.mark,
         ),

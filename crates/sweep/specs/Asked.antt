@@ -35,6 +35,11 @@ DoesAsked (Some request.Version) result left left' before now old new =
 DoesAsked (Some (request.Sweep numbers)) result left left' before now old new =
     Does result numbers.first numbers.count left left' before now old new
 
+-- words that read nothing leave the source as it was, whatever it tells
+abbrev pub LeavesUnread : {S : Type 0} → Option Request → (old new : S) → Type 0
+LeavesUnread (Some (request.Sweep numbers)) old new = Unit {0}
+LeavesUnread other old new = new ≡ old
+
 -- What was said of how far a sweep is: nothing where none is asked for.
 abbrev pub SaysAsked : Option Request → (is_on : Bool) → (old new : Told) → Type 0
 SaysAsked None is_on old new = new ≡ old

@@ -2,7 +2,7 @@
 
 ghost use Rattle.std.specs.Prelude.{◌≡◌, map, string_bytes, IsErrOf};
 ghost use Rattle.texts.specs.Growth.{Puts};
-ghost use Rattle.sweep.specs.Asked.{DoesAsked, SaysAsked};
+ghost use Rattle.sweep.specs.Asked.{DoesAsked, LeavesUnread, SaysAsked};
 ghost use Rattle.sweep.specs.HelpText.{help_text};
 ghost use Rattle.sweep.specs.Requests.{request_of};
 
@@ -55,6 +55,8 @@ pub fn answer<S: Source, K: Sink, E: Sink>(
     // What was said of how far a sweep is: nothing where progress is off, or no sweep is asked for.
     ensures progress { SaysAsked (request_of (map string_bytes words.now)) progress.old.is_on
         (E.told progress.old.sink) (E.told progress.new.sink) }
+    // Where nothing was read the source is as it was, whatever it tells.
+    ensures unread { LeavesUnread (request_of (map string_bytes words.now)) source.old source.new }
     // At `ReadFault` the end of the source was not met.
     ensures unmet { IsErrOf result SweepError.ReadFault → S.met source.new ≡ S.met source.old }
 {

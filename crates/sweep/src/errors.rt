@@ -9,31 +9,23 @@ use outcomes::{Refusal, put_refusal};
 use std::process::ExitCode;
 use sweeps::SweepFault;
 use sync_types::Status;
-use thiserror::Error;
 
 /// Why a sweep was not written, or not all of it.
-#[derive(Clone, Copy, Debug, PartialEq, Eq, Error)]
+#[derive(Clone, Copy, Debug, PartialEq, Eq)]
 pub enum SweepError {
     /// The words ask for nothing.
-    #[error("the words ask for nothing")]
     Usage,
     /// The input is refused, as `run` refuses it.
-    #[error("the input is refused: {0:?}")]
     Refused(Refusal),
     /// The script says no noise, so all runs would be one.
-    #[error("the script says no noise")]
     NoNoise,
     /// A read failed.
-    #[error("a read failed")]
     ReadFault,
     /// A write failed.
-    #[error("a write failed")]
     WriteFault,
     /// The input is longer than its limit.
-    #[error("the input is too long")]
     TooLong,
     /// Memory was refused.
-    #[error("out of memory")]
     NoMemory,
 }
 

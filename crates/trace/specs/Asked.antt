@@ -35,3 +35,8 @@ DoesAsked (Some request.Version) nodes result left left' before now old new =
     Tells result version_text left left' before now old new
 DoesAsked (Some (request.Trace want)) nodes result left left' before now old new =
     Does result want nodes left left' before now old new
+
+-- words that read nothing leave the source as it was, whatever it tells
+abbrev pub LeavesUnread : {S : Type 0} → Option Request → (old new : S) → Type 0
+LeavesUnread (Some (request.Trace want)) old new = Unit {0}
+LeavesUnread other old new = new ≡ old

@@ -2,7 +2,7 @@
 
 ghost use Rattle.std.specs.Prelude.{◌≡◌, map, string_bytes, IsErrOf};
 ghost use Rattle.texts.specs.Growth.{Puts};
-ghost use Rattle.trace.specs.Asked.{DoesAsked};
+ghost use Rattle.trace.specs.Asked.{DoesAsked, LeavesUnread};
 ghost use Rattle.trace.specs.HelpText.{help_text};
 ghost use Rattle.trace.specs.Requests.{node_words, request_of};
 
@@ -47,6 +47,8 @@ pub fn answer<S: Source, K: Sink>(
         (node_words (map string_bytes words.now)) result
         (S.left source.old) (S.left source.new) (S.faults source.old) (S.faults source.new)
         (K.told sink.old) (K.told sink.new) }
+    // Where nothing was read the source is as it was, whatever it tells.
+    ensures unread { LeavesUnread (request_of (map string_bytes words.now)) source.old source.new }
     // At `ReadFault` the end of the source was not met.
     ensures unmet { IsErrOf result TraceError.ReadFault → S.met source.new ≡ S.met source.old }
 {

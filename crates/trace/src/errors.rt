@@ -8,34 +8,25 @@ use edge_io::{InputFault, Sink, WriteFault, put_all};
 use outcomes::{Refusal, put_refusal};
 use std::process::ExitCode;
 use sync_types::{NoMemory, Status};
-use thiserror::Error;
 
 /// Why a trace was not written, or not all of it.
-#[derive(Clone, Copy, Debug, PartialEq, Eq, Error)]
+#[derive(Clone, Copy, Debug, PartialEq, Eq)]
 pub enum TraceError {
     /// The words ask for nothing.
-    #[error("the words ask for nothing")]
     Usage,
     /// The input is refused, as `run` refuses it.
-    #[error("the input is refused: {0:?}")]
     Refused(Refusal),
     /// The script does not play the last wanted configuration.
-    #[error("the script does not play the last configuration")]
     NotPlayed,
     /// A word names no node of the plan.
-    #[error("a word names no node")]
     NoNode,
     /// A read failed.
-    #[error("a read failed")]
     ReadFault,
     /// A write failed.
-    #[error("a write failed")]
     WriteFault,
     /// The input is longer than its limit.
-    #[error("the input is too long")]
     TooLong,
     /// Memory was refused.
-    #[error("out of memory")]
     NoMemory,
 }
 

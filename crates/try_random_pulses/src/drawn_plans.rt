@@ -18,9 +18,8 @@ impl Draws {
         }
     }
 
-    /// An accepted plan with at most so many nodes.
-    pub fn plan(&mut self, most_nodes: u64) -> Group {
-        let faults = self.below(most_nodes.wrapping_add(2) / 3);
+    /// An accepted plan that tolerates so many faults, with at most so many nodes.
+    fn plan_of(&mut self, faults: u64, most_nodes: u64) -> Group {
         let fewest = faults.wrapping_mul(3).wrapping_add(1);
         let room = most_nodes.saturating_sub(fewest).min(3);
         let spares = if faults == 0 {
@@ -34,6 +33,18 @@ impl Draws {
             faults,
             modulus: self.modulus(),
         }
+    }
+
+    /// An accepted plan with at most so many nodes.
+    pub fn plan(&mut self, most_nodes: u64) -> Group {
+        let faults = self.below(most_nodes.wrapping_add(2) / 3);
+        self.plan_of(faults, most_nodes)
+    }
+
+    /// One that tolerates a fault at least; it may have four nodes.
+    pub fn faulty_plan(&mut self, most_nodes: u64) -> Group {
+        let faults = self.between(1, most_nodes.wrapping_sub(1) / 3);
+        self.plan_of(faults, most_nodes)
     }
 
     /// A plan whose numbers are at the limits, or beyond them.

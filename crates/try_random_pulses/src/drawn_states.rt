@@ -40,8 +40,7 @@ impl Draws {
         }
     }
 
-    /// A state near to another: each number and register is mostly the same, `once_in` so many
-    /// times another.
+    /// A state near to another: one time in `once_in` a number or register is another.
     pub fn near_state(&mut self, other: &State, once_in: u64) -> State {
         let mut state = *other;
         if self.once_in(once_in) {

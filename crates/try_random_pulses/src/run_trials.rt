@@ -81,7 +81,7 @@ fn try_plan(rt: &HostRuntime, draws: &mut Draws, plan: &Group) -> anyhow::Result
 
 /// Tries runs.
 pub fn try_runs(rt: &HostRuntime, draws: &mut Draws) -> anyhow::Result<()> {
-    for faults in 0..=MOST_FAULTS {
+    for faults in 1..=MOST_FAULTS {
         let plan = Group {
             first: 0,
             nodes: faults * 3 + 1,
@@ -91,8 +91,8 @@ pub fn try_runs(rt: &HostRuntime, draws: &mut Draws) -> anyhow::Result<()> {
         try_plan(rt, draws, &plan)?;
     }
     for _ in 0..DRAWN {
-        let most_nodes = draws.between(1, MOST_NODES);
-        let plan = draws.plan(most_nodes);
+        let most_nodes = draws.between(4, MOST_NODES);
+        let plan = draws.faulty_plan(most_nodes);
         try_plan(rt, draws, &plan)?;
     }
     Ok(())

@@ -8,7 +8,7 @@ use edge_io::MemSink;
 use machines::Machine;
 use pulse_machine::PulseMachine;
 use pulse_plan::PulsePlan;
-use pulse_tables::write_table;
+use pulse_tables::{read_table, write_table};
 use pulse_texts::{PulsesError, read_whole_pulses};
 use reference::refusals::Stop;
 use reference_pulses::groups::Group;
@@ -48,13 +48,15 @@ impl Counts {
     }
 }
 
-/// Whether the table of a plan is as it should be. There is room for one byte more.
+/// Whether the table of a plan is as it should be, and is read as that plan. There is room for one
+/// byte more.
 fn is_tabled(alloc: Global, plan: &PulsePlan, wanted: &Group) -> anyhow::Result<bool> {
     let table = table_of(alloc, wanted)?;
     let room = table.len().saturating_add(1);
     let mut sink = MemSink::new(alloc, room, Vec::new(alloc), Vec::new(alloc))?;
     let is_written = write_table(plan, &mut sink).is_ok();
-    Ok(is_written && sink.taken() == table.as_bytes())
+    let is_read = read_table(alloc, table.as_bytes()) == Ok(*plan);
+    Ok(is_written && sink.taken() == table.as_bytes() && is_read)
 }
 
 /// Whether the states of each node of a plan have so many bytes as they should.

@@ -1,4 +1,4 @@
-use Rattle.pulselab.proofs.NodeEnds.{fails_so, kept_so, unmet_so}
+use Rattle.pulselab.proofs.NodeEnds.{kept_so, unmet_so}
 use Rattle.pulselab.proofs.node_word.node.Goals as goal
 
 pub returns-in-Ok-clause-does : goal.returns-in-Ok-clause-does
@@ -6,7 +6,7 @@ returns-in-Ok-clause-does g c = record { count = c.in-Ok.field-0; did = c.in-Ok.
 
 pub returns-in-Err-clause-does : goal.returns-in-Err-clause-does
 returns-in-Err-clause-does g c =
-    rw c.from.ensures (fails_so _ _ _ _ _ _ _ c.in-Err.ensures.does)
+    record { ended = c.in-Err.error; is = c.from.ensures; did = c.in-Err.ensures.does }
 
 pub returns-in-Err-clause-untouched : goal.returns-in-Err-clause-untouched
 returns-in-Err-clause-untouched g c =

@@ -1,6 +1,6 @@
 //! Reads lines of standard input as bench/library/steps.c and plans.c do, and prints how many of
 //! them say what the library answers: steps of nodes, which have eight words, and numbers of plans,
-//! which have six.
+//! which have six. try.py makes it the program of a copy of bindings/rust/.
 
 use std::io::BufRead;
 
