@@ -5,3 +5,4 @@ pub mod Laws
 pub mod Rounds
 pub mod Lossy
 pub mod Restarts
+pub mod Missed
