@@ -12,3 +12,4 @@ pub mod Heard
 pub mod Rounds
 pub mod Restarts
 pub mod Missed
+pub mod Bytes

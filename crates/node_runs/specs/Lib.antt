@@ -6,3 +6,4 @@ pub mod Rounds
 pub mod Lossy
 pub mod Restarts
 pub mod Missed
+pub mod Bytes
