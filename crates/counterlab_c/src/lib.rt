@@ -93,7 +93,8 @@ pub extern "C" fn counterlab_step(
     // those of N - F correct nodes, its own among them, whichever these are.
     ensures losses { LossyNodesCount }
 
-    // Those that it hears may be any N - F correct nodes, itself among them: it may miss all others.
+    // Those that it hears may be any N - F correct nodes, itself among them: it may miss all
+    // others.
     ensures missed { OthersAreMissed }
 
     // There are such rounds, whatever is lost.

@@ -88,7 +88,8 @@ pub fn nodes_in_rounds_stay_locked()
     ensures { NodesInRoundsStayLocked }
 {}
 
-/// Whichever N - F correct nodes a node hears in a round, itself among them, it may miss all others.
+/// Whichever N - F correct nodes a node hears in a round, itself among them, it may miss all
+/// others.
 pub fn others_are_missed()
     ensures { OthersAreMissed }
 {}

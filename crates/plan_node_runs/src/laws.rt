@@ -47,7 +47,8 @@ pub fn heard_nodes_stay_locked()
     ensures { HeardNodesStayLocked }
 {}
 
-/// Whichever N - F correct nodes a node hears in a round, itself among them, it may miss all others.
+/// Whichever N - F correct nodes a node hears in a round, itself among them, it may miss all
+/// others.
 pub fn others_are_missed()
     ensures { OthersAreMissed }
 {}
