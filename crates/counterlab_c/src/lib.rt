@@ -10,7 +10,9 @@ ghost use Rattle.node_calls.specs.Answers.{bytes_answer, output_answer, step_ans
 ghost use Rattle.node_calls.specs.Counters.{counter_answer, TextsHaveCounters};
 ghost use Rattle.node_calls.specs.Counting.{NodesCount, LossyNodesCount};
 ghost use Rattle.node_calls.specs.Lossy.{AnyLossesAreTold};
+ghost use Rattle.node_calls.specs.Members.{AnyMembersConnect, AnyMembersAreHeard};
 ghost use Rattle.node_calls.specs.MixedNodes.{MixedNodesCount, MixedNodesStayLocked};
+ghost use Rattle.node_runs.specs.Missed.{OthersAreMissed};
 ghost use Rattle.counterlab_c.specs.Codes.{numbers_of};
 ghost use Rattle.counterlab_c.specs.Exports.{Gives, GivesNumber};
 
@@ -20,10 +22,11 @@ use answers::{answer_of, numbers_of};
 pub use answers::{Answer, PlanNumbers};
 use machines::Machine;
 use node_calls::laws::{
-    any_losses_are_told, lossy_nodes_count, mixed_nodes_count, mixed_nodes_stay_locked,
-    nodes_count, texts_have_counters,
+    any_losses_are_told, any_members_are_heard, any_members_connect, lossy_nodes_count,
+    mixed_nodes_count, mixed_nodes_stay_locked, nodes_count, texts_have_counters,
 };
 use node_calls::{counter_in, output, state_bytes, step};
+use node_runs::laws::others_are_missed;
 use std::alloc::Global;
 
 /// Reads a plan, and puts its numbers into `numbers`; the value is 0. An error leaves `numbers` as
@@ -90,6 +93,10 @@ pub extern "C" fn counterlab_step(
     // those of N - F correct nodes, its own among them, whichever these are.
     ensures losses { LossyNodesCount }
 
+    // Those that it hears may be any N - F correct nodes, itself among them: it may miss all
+    // others.
+    ensures missed { OthersAreMissed }
+
     // There are such rounds, whatever is lost.
     ensures lossy { AnyLossesAreTold }
 
@@ -97,11 +104,18 @@ pub extern "C" fn counterlab_step(
     // network, and go on where states are lost.
     ensures mixed { MixedNodesCount }
     ensures mixed_losses { MixedNodesStayLocked }
+
+    // There are such networks, whichever nodes step by this call; also whatever is lost.
+    ensures members { AnyMembersConnect }
+    ensures members_heard { AnyMembersAreHeard }
 {
     nodes_count();
     lossy_nodes_count();
+    others_are_missed();
     any_losses_are_told();
     mixed_nodes_count();
     mixed_nodes_stay_locked();
+    any_members_connect();
+    any_members_are_heard();
     answer_of(step(alloc, plan, id, state, packets))
 }

@@ -1,19 +1,24 @@
--- The counter of a text is sound.
-use Rattle.std.proofs.Common.{◌≡◌, ℕ, Bool, true, false, cond, List, Option, Some, None, Result, Ok}
-use Rattle.std.proofs.Common.{Err, refl, sym, ap, subst}
+-- The counter of a text is that of an accepted plan: so it is sound, and its states are short.
+use Rattle.std.proofs.Common.{◌≡◌, ℕ, ◌<◌, ◌≤◌, Bool, true, false, cond, List, Option, Some, None}
+use Rattle.std.proofs.Common.{Result, Ok, Err, refl, sym, ap, subst, arith}
 use Rattle.std.specs.Prelude.{IfOk}
 use Rattle.texts.specs.Lines.{lines_of}
 use Rattle.texts.specs.Parts.{At, Found}
 use Rattle.sync_types.specs.declared.answers.Premise.{Premise}
 use Rattle.construction.specs.Plans.{Plan}
 use Rattle.plan_numbers.specs.Premises.{IsAccepted}
+use Rattle.plan_numbers.proofs.Accepted.{accepted_depth}
 use Rattle.plan_reader.specs.PlanPart.{whole_plan_of}
 use Rattle.plan_reader.specs.Skipped.{first_unskipped}
 use Rattle.plan_reader.proofs.AcceptedPlans.{whole_plan_accepted}
+use Rattle.state_codec.specs.Shapes.{bits_in, bytes_in}
+use Rattle.state_codec.proofs.FullNumbers.{fields_short}
+use Rattle.plan_machine.specs.PlanMachines.{machine_of_plan}
 use Rattle.plan_machine.proofs.Sound.{accepted_are_sound}
 use Rattle.machines.specs.Laws.{IsSound}
 use Rattle.pulse_plan.proofs.Sound.{accepted_are_sound as pulses_sound}
 use Rattle.pulse_plan.specs.Plans.{PulseNumbers, IsAccepted as IsAcceptedPulses}
+use Rattle.pulse_machine.proofs.Bits.{few_bits as pulses_few_bits}
 use Rattle.pulse_texts.specs.declared.premises.LinePremise.{LinePremise}
 use Rattle.pulse_texts.proofs.Rewritten.{texts_are_rewritten}
 use Rattle.pulse_texts.specs.PulsesPart.{pulses_of, whole_pulses_of, alone, unless_followed}
@@ -24,6 +29,11 @@ use Rattle.node_calls.specs.declared.errors.CallError.{CallError}
 use Rattle.node_calls.specs.Errors.{pulses_refused_at}
 use Rattle.node_calls.specs.Counters.{and_then, plan_or_refused, plan_answer, plan_counter}
 use Rattle.node_calls.specs.Counters.{is_first, counter_by, counter_answer}
+
+-- the plan of a counter is accepted
+abbrev pub IsAcceptedCounter : AnyMachine → Type 0
+IsAcceptedCounter (Boosting plan) = IsAccepted plan
+IsAcceptedCounter (Pulses plan) = IsAcceptedPulses plan
 
 accepted_of : (r : Result Plan (At Premise)) (plan : Plan) → plan_or_refused r ≡ Ok plan
     → IfOk r IsAccepted → IsAccepted plan
@@ -39,13 +49,12 @@ counter_of : (r : Result Plan CallError) (counter : AnyMachine)
 counter_of (Ok plan) counter is = (plan, refl, cc)
 counter_of (Err e) counter is = absurd cc
 
-plan_sound : (text : List ℕ) (counter : AnyMachine) → plan_counter text ≡ Ok counter
-    → IsSound (machine_of counter)
-plan_sound text counter is =
+plan_is : (text : List ℕ) (counter : AnyMachine) → plan_counter text ≡ Ok counter
+    → IsAcceptedCounter counter
+plan_is text counter is =
     let found = counter_of (plan_answer text) counter is in
-    subst (λ (c : AnyMachine). IsSound (machine_of c)) (sym found.2)
-    (accepted_are_sound found.0
-    (accepted_of (whole_plan_of text) found.0 found.1 (whole_plan_accepted text)))
+    subst IsAcceptedCounter (sym found.2)
+    (accepted_of (whole_plan_of text) found.0 found.1 (whole_plan_accepted text))
 
 -- numbers that are read are accepted
 whole_is : (first : Option ℕ) (read plan : PulseNumbers) → unless_followed first read ≡ Ok plan
@@ -72,24 +81,57 @@ test_is : (test : Bool) (answer : Result AnyMachine CallError) (e : CallError)
 test_is true answer e counter is = is
 test_is false answer e counter is = absurd cc
 
-sound_by : (text : List ℕ) (r : Result PulseNumbers (At LinePremise)) (counter : AnyMachine)
+read_by : (text : List ℕ) (r : Result PulseNumbers (At LinePremise)) (counter : AnyMachine)
     → counter_by (first_unskipped 1 (lines_of text)) text r ≡ Ok counter
     → ((plan : PulseNumbers) → r ≡ Ok plan → IsAcceptedPulses plan)
-    → IsSound (machine_of counter)
-sound_by text (Ok plan) counter is accepted =
+    → IsAcceptedCounter counter
+read_by text (Ok plan) counter is accepted =
     let same : counter ≡ Pulses plan = cc in
-    subst (λ (c : AnyMachine). IsSound (machine_of c)) (sym same)
-    (pulses_sound plan (accepted plan refl))
-sound_by text (Err at) counter is accepted =
-    plan_sound text counter
+    subst IsAcceptedCounter (sym same) (accepted plan refl)
+read_by text (Err at) counter is accepted =
+    plan_is text counter
     (test_is (is_first (first_unskipped 1 (lines_of text)) at.line) (plan_counter text) _ counter
     is)
 
--- the machine of the counter of a text is sound
+-- the counter of a text is that of an accepted plan
+pub read_is_accepted : (text : List ℕ) (counter : AnyMachine) → counter_answer text ≡ Ok counter
+    → IsAcceptedCounter counter
+read_is_accepted text counter is =
+    read_by text (whole_pulses_of text) counter is (pulses_accepted text)
+
+accepted_is_sound : (counter : AnyMachine) → IsAcceptedCounter counter
+    → IsSound (machine_of counter)
+accepted_is_sound (Boosting plan) accepted = accepted_are_sound plan accepted
+accepted_is_sound (Pulses plan) accepted = pulses_sound plan accepted
+
+-- so its machine is sound
 pub sound_of : (text : List ℕ) (counter : AnyMachine) → counter_answer text ≡ Ok counter
     → IsSound (machine_of counter)
-sound_of text counter is =
-    sound_by text (whole_pulses_of text) counter is (pulses_accepted text)
+sound_of text counter is = accepted_is_sound counter (read_is_accepted text counter is)
+
+-- ---- how long its states are
+
+few_bits : (counter : AnyMachine) → IsAcceptedCounter counter → IsSound (machine_of counter)
+    → (v : ℕ) → v < (machine_of counter).nodes → bits_in ((machine_of counter).fields v) ≤ 1024
+few_bits (Boosting plan) accepted sound v node =
+    let fields = (machine_of_plan plan).fields v in
+    fields_short fields.base fields.moduli (sound.fields v node)
+    (omega (
+      arith,
+      sound.depth v node,
+      accepted_depth plan.base plan.levels accepted.levels,
+    ))
+few_bits (Pulses plan) accepted sound v node = pulses_few_bits plan accepted v
+
+-- a state of a node fits into a cell
+pub states_fit : (text : List ℕ) (counter : AnyMachine) → counter_answer text ≡ Ok counter
+    → (v : ℕ) → v < (machine_of counter).nodes
+    → bytes_in ((machine_of counter).fields v) < 65536
+states_fit text counter is v node =
+    omega (
+      arith,
+      few_bits counter (read_is_accepted text counter is) (sound_of text counter is) v node,
+    )
 
 -- ---- what is answered by how the text is read
 

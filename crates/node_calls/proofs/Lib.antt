@@ -5,3 +5,5 @@ pub mod Counters
 pub mod FirstLines
 pub mod Lossy
 pub mod MixedNodes
+pub mod Callers
+pub mod Members

@@ -5,3 +5,4 @@ pub mod Counting
 pub mod Counters
 pub mod Lossy
 pub mod MixedNodes
+pub mod Members

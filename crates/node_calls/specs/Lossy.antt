@@ -6,13 +6,15 @@ use Rattle.state_codec.specs.Writing.{written}
 use Rattle.machines.specs.Machines.{Machine, IsState}
 use Rattle.any_machine.specs.declared.any_machines.AnyMachine.{AnyMachine}
 use Rattle.any_machine.specs.Machines.{machine_of}
+use Rattle.node_runs.specs.Bytes.{AreBytes, FitsCell}
 use Rattle.node_runs.specs.NodeRuns.{IsCorrect}
 use Rattle.node_runs.specs.Losses.{AreMissed}
 use Rattle.node_calls.specs.Counters.{counter_answer}
 use Rattle.node_calls.specs.Counting.{cell_in, InLossyRounds}
 
 -- Rounds of nodes that begin in these states, of which each misses these nodes in each round: in
--- round t node v is told `sent t v u` as the state of a node u that it misses then.
+-- round t node v is told `sent t v u` as the state of a node u that it misses then. Where these are
+-- bytes that fit into a cell, the packets are bytes.
 pub record MissIn (text : List ℕ) (m : Machine) (faulty : List ℕ) (starts : ℕ → State)
     (sent : ℕ → ℕ → ℕ → List ℕ) (missed : (t v : ℕ) → List ℕ) (count : ℕ) : Type 0 where
   pub bytes : ℕ → ℕ → List ℕ
@@ -22,6 +24,9 @@ pub record MissIn (text : List ℕ) (m : Machine) (faulty : List ℕ) (starts : 
   pub miss : rounds.missed ≡ missed
   pub lost : (t v u : ℕ) → t < count → IsCorrect m faulty v → u < m.nodes
       → is_in (missed t v) u ≡ true → cell_in m (packets t v) u ≡ sent t v u
+  pub in_bytes : ((t v u : ℕ) → t < count → IsCorrect m faulty v → u < m.nodes
+      → is_in (missed t v) u ≡ true → FitsCell (sent t v u))
+      → (t v : ℕ) → t < count → IsCorrect m faulty v → AreBytes (packets t v)
 
 -- There are such rounds, whatever states the nodes begin in, whatever is lost of what the counter
 -- tolerates, to each node in each round something else, and whatever is told in its place.

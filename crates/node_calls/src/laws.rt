@@ -4,6 +4,7 @@
 ghost use Rattle.node_calls.specs.Counters.{TextsHaveCounters};
 ghost use Rattle.node_calls.specs.Counting.{NodesCount, LossyNodesCount};
 ghost use Rattle.node_calls.specs.Lossy.{AnyLossesAreTold};
+ghost use Rattle.node_calls.specs.Members.{AnyMembersConnect, AnyMembersAreHeard};
 ghost use Rattle.node_calls.specs.MixedNodes.{MixedNodesCount, MixedNodesStayLocked};
 
 /// Each text of an accepted plan, of either construction, has the counter of that plan.
@@ -27,7 +28,8 @@ pub fn lossy_nodes_count()
 {}
 
 /// There are such rounds, whatever states the nodes begin in, and whatever is lost that the plan
-/// tolerates, to each node in each round something else.
+/// tolerates, to each node in each round something else: in bytes, where what is told in its place
+/// are bytes that fit into a cell.
 pub fn any_losses_are_told()
     ensures { AnyLossesAreTold }
 {}
@@ -41,4 +43,15 @@ pub fn mixed_nodes_count()
 /// From any locked round on they stay locked and count where states are lost.
 pub fn mixed_nodes_stay_locked()
     ensures { MixedNodesStayLocked }
+{}
+
+/// There are such networks, whichever nodes step by calls, whatever states they begin in, and
+/// whatever the faulty ones say: in bytes, where what these say are bytes that fit into a cell.
+pub fn any_members_connect()
+    ensures { AnyMembersConnect }
+{}
+
+/// So there are whatever is lost that the plan tolerates, and whatever is told in its place.
+pub fn any_members_are_heard()
+    ensures { AnyMembersAreHeard }
 {}

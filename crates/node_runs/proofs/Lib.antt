@@ -11,3 +11,5 @@ pub mod Losses
 pub mod Heard
 pub mod Rounds
 pub mod Restarts
+pub mod Missed
+pub mod Bytes

@@ -5,3 +5,5 @@ pub mod Laws
 pub mod Rounds
 pub mod Lossy
 pub mod Restarts
+pub mod Missed
+pub mod Bytes

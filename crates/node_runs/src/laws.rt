@@ -5,6 +5,7 @@ ghost use Rattle.node_runs.specs.Laws.{AnyLiesConnect, BorneLeavesSome, NodesRun
 ghost use Rattle.node_runs.specs.Laws.{NodesLock, NodesStayLocked, HeardNodesStayLocked};
 ghost use Rattle.node_runs.specs.Losses.{LossesKeepLocked};
 ghost use Rattle.node_runs.specs.Lossy.{AnyLossesConnect};
+ghost use Rattle.node_runs.specs.Missed.{OthersAreMissed};
 ghost use Rattle.node_runs.specs.Restarts.{AnyRestartConnects};
 ghost use Rattle.node_runs.specs.Rounds.{NodesInRoundsRun, NodesInRoundsStayLocked};
 
@@ -85,4 +86,10 @@ pub fn nodes_in_rounds_run()
 /// From any locked round on they stay locked and count where states are lost.
 pub fn nodes_in_rounds_stay_locked()
     ensures { NodesInRoundsStayLocked }
+{}
+
+/// Whichever N - F correct nodes a node hears in a round, itself among them, it may miss all
+/// others.
+pub fn others_are_missed()
+    ensures { OthersAreMissed }
 {}

@@ -1,3 +1,4 @@
 pub mod NodeRuns
 pub mod Laws
 pub mod PlanNodes
+pub mod Missed

@@ -2,6 +2,7 @@
 
 ghost use Rattle.plan_node_runs.specs.Laws.{AnyLiesConnect, BorneLeavesSome, NodesRun, NodesSettle};
 ghost use Rattle.plan_node_runs.specs.Laws.{NodesLock, NodesStayLocked, HeardNodesStayLocked};
+ghost use Rattle.plan_node_runs.specs.Missed.{OthersAreMissed};
 
 /// There are connected nodes for all states of theirs in which the correct ones begin, wherever the
 /// window begins in each of them, and for all bytes that are sent as the cells of faulty ones, and
@@ -44,4 +45,10 @@ pub fn nodes_stay_locked()
 /// states of N - F correct nodes, itself among them, whichever these are.
 pub fn heard_nodes_stay_locked()
     ensures { HeardNodesStayLocked }
+{}
+
+/// Whichever N - F correct nodes a node hears in a round, itself among them, it may miss all
+/// others.
+pub fn others_are_missed()
+    ensures { OthersAreMissed }
 {}

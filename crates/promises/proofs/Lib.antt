@@ -19,3 +19,6 @@ pub mod NodeInputs
 pub mod DemoTexts
 pub mod RestartInputs
 pub mod CallProcesses
+pub mod ReadRequests
+pub mod ReadLogs
+pub mod OnlyTexts

@@ -24,6 +24,7 @@ use Rattle.outcomes.specs.Inputs.{in_plan, in_part, in_table, or_refusal}
 use Rattle.outcomes.specs.Answers.{text_by}
 use Rattle.adversary_script.specs.ScriptLaws.{ScriptTextIsWhole, ReadIsWritable}
 use Rattle.promises.specs.PlanPromises.{AreTextsOf, IsTableOf, TextsAreKept, TextsAreRead}
+use Rattle.promises.proofs.OnlyTexts.{only_texts}
 use Rattle.promises.proofs.ScriptInputs.{script_inputs_read}
 
 module _ (whole : PlanTextIsWhole) (read : TablesAreRead) (only : OnlyTablesAreRead)
@@ -68,4 +69,6 @@ texts_read front whole tables wants slots inputs requests logs headers scripts w
   logs = logs;
   headers = headers;
   scripts = script_inputs_read front scripts writable slots inputs requests logs;
+  only =
+      only_texts (script_inputs_read front scripts writable slots inputs requests logs) writable;
 }

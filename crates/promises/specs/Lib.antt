@@ -17,3 +17,4 @@ pub mod Restarts
 pub mod NodePromises
 pub mod RestartInputs
 pub mod Processes
+pub mod OnlyTexts

@@ -18,6 +18,7 @@ use Rattle.outcomes.specs.declared.refusals.Refusal.{Refusal}
 use Rattle.outcomes.specs.declared.commands.Batch.TheVariants as batch
 use Rattle.outcomes.specs.Inputs.{plan_alone, tabled_of, wants_of}
 use Rattle.outcomes.specs.Answers.{answer_of}
+use Rattle.promises.specs.OnlyTexts.{OnlyTextsAreRead}
 use Rattle.promises.specs.ScriptInputs.{ScriptInputsAreRead}
 
 -- What `plan` answers is the plan's table, which is read back as the plan, and what `upgrade`
@@ -58,3 +59,4 @@ pub record TextsAreRead : Type 0 where
   pub logs : LogTextIsRead
   pub headers : HeaderTextIsRead
   pub scripts : ScriptInputsAreRead
+  pub only : OnlyTextsAreRead

@@ -9,6 +9,7 @@ pub mod laws;
 pub mod layer_promises;
 pub mod lock_promises;
 pub mod node_promises;
+pub mod only_texts;
 pub mod plan_promises;
 pub mod printed_promises;
 pub mod processes;

@@ -1,0 +1,5 @@
+use Rattle.node_calls.proofs.Members as law
+use Rattle.node_calls.proofs.laws.any_members_connect.Goals as goal
+
+pub returns : goal.returns
+returns c = law.any_members_connect
