@@ -27,20 +27,19 @@ pub is_written : (lines : ℕ) → IsWritten plan_words (HasLines lines) lines h
 is_written lines = record {
   sound = λ plan has. accepted_are_sound plan has.0;
   read = λ plan has v lt s is longer rest.
-      subst (λ n. (header_in (room_of longer (2 ^ 20)) (lines_of (header_text plan v s ++ rest))
-      ≡ Ok (header_stated n plan v s))
-      × (behind_lines n (header_text plan v s ++ rest) ≡ rest)) has.1
+      let text = header_text plan v s ++ rest in
+      subst (λ (n : ℕ). (header_in (room_of longer (2 ^ 20)) (lines_of text)
+      ≡ Ok (header_stated n plan v s)) × (behind_lines n text ≡ rest)) has.1
       (text_is_read_back plan has.0 v lt s (((are_alike plan has.0).states v s lt).1 is) longer
       rest);
 }
 
 -- inputs that begin with these headers name the plan
-pub named : (plan : Plan) (faulty : List ℕ) (starts : ℕ → State) (begins : ℕ → ℕ) (rounds : ℕ)
-    (inputs : ℕ → List ℕ)
+pub named : (plan : Plan) (faulty : List ℕ) (starts : ℕ → State) (inputs : ℕ → List ℕ)
     → ((v : ℕ) → IsCorrect plan faulty v → header_of (whole (inputs v))
     ≡ Ok (header_stated (plan_depth plan + 7) plan v (starts v)))
-    → NameThePlan plan faulty (λ v. whole (inputs v)) begins rounds
-named plan faulty starts begins rounds inputs begin v correct = record {
+    → NameThePlan plan faulty (λ v. whole (inputs v))
+named plan faulty starts inputs begin v correct = record {
   header = header_stated (plan_depth plan + 7) plan v (starts v);
   is = begin v correct;
   names = refl;
@@ -56,7 +55,7 @@ any_connect plan accepted faulty starts sent begins rounds few begun =
     record {
       made = made;
       connect = record {
-        headers = named plan faulty starts begins rounds made.inputs made.begin;
+        headers = named plan faulty starts made.inputs made.begin;
         connect = made.connect;
       };
     }

@@ -32,9 +32,9 @@ module _ (plan : Plan) where
   count = any_connected.connected_count plan_words headers_of_machines (machine_of_plan plan)
 
   -- where some node is correct
-  accepted : (faulty : List ℕ) → SomeIsCorrect plan faulty → (calls : ℕ → Call) (begins : ℕ → ℕ)
-      (rounds : ℕ) → NameThePlan plan faulty calls begins rounds → IsAccepted (in_version 2 plan)
-  accepted faulty some calls begins rounds named =
+  newer_accepted : (faulty : List ℕ) → SomeIsCorrect plan faulty → (calls : ℕ → Call)
+      → NameThePlan plan faulty calls → IsAccepted (in_version 2 plan)
+  newer_accepted faulty some calls named =
       (are_accepted plan some.0 (calls some.0) (named some.0 some.1)).1
 
 -- what is said of configurations, in the words of the plan
@@ -86,12 +86,12 @@ module _ (plan : Plan) (accepted : IsAccepted (in_version 2 plan)) (faulty : Lis
 
 pub connected_count : ConnectedCallsCount
 connected_count plan faulty borne some calls begins rounds is =
-    keep plan (accepted plan faulty some calls begins rounds is.headers) faulty calls begins rounds
+    keep plan (newer_accepted plan faulty some calls is.headers) faulty calls begins rounds
     (count plan faulty (borne_here plan faulty borne) some calls begins rounds is.connect)
 
 pub heard_stay_locked : HeardCallsStayLocked
 heard_stay_locked plan faulty borne some calls begins rounds is from le locked =
-    let sound = accepted plan faulty some calls begins rounds is.headers in
+    let sound = newer_accepted plan faulty some calls is.headers in
     let at = states_written plan calls begins in
     stay_of plan sound faulty at rounds from
     (any_heard.heard_stay_locked plan_words headers_of_machines (machine_of_plan plan) faulty
@@ -101,8 +101,7 @@ heard_stay_locked plan faulty borne some calls begins rounds is from le locked =
 pub restarted_count : RestartedNodesCount
 restarted_count plan faulty meanwhile borne borne_too restart too some calls begins rounds whole
     rest =
-    let sound =
-    accepted plan meanwhile some calls begins (restart.after + rounds) whole.headers in
+    let sound = newer_accepted plan meanwhile some calls whole.headers in
     let at = states_written plan calls begins in
     let later = states_written plan (calls_after restart calls) (begins_after restart begins) in
     let k = any_restarts.restarted_count plan_words (machine_of_plan plan) (count plan) faulty

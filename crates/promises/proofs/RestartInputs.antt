@@ -91,8 +91,8 @@ module _ (plan : Plan) (accepted : IsAccepted plan) (faulty meanwhile : List ℕ
       begin plan_words lines header_text (is_written lines) plan (accepted, refl) faulty starts
       r.sent_later later rounds few_later begun r.rest
 
-  names : NameThePlan plan faulty calls later rounds
-  names = named plan faulty starts later rounds own begin_own
+  names : NameThePlan plan faulty calls
+  names = named plan faulty starts own begin_own
 
   rest : any.CallsConnect plan_words m faulty (calls_after restart calls)
       (begins_after restart begins) rounds
@@ -139,8 +139,8 @@ module _ (plan : Plan) (accepted : IsAccepted plan) (faulty meanwhile : List ℕ
         wrote plan_words lines header_text (is_written lines) plan (accepted, refl) faulty starts
         r.sent_later later rounds few_later begun r.rest (begins u + i) u
         (let at = later_is u other in omega (arith, at, lt)) (correct_here u other)
-        ∙ ap (λ (cell : List ℕ). Some cell) (sym (same_own (begins v + i) v u (correct_here v correct)
-        ∙ r.wrote i v u lt correct other));
+        ∙ ap (λ (cell : List ℕ). Some cell)
+        (sym (same_own (begins v + i) v u (correct_here v correct) ∙ r.wrote i v u lt correct other));
   }
 
   pub inputs_restart : InputsRestart plan faulty meanwhile node after starts sent begins rounds

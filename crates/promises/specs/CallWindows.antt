@@ -20,20 +20,20 @@ module _ (plan : Plan) (calls : ℕ → Call) where
   abbrev pub states_written : (begins : ℕ → ℕ) → (i : ℕ) → List State
   states_written = any.states_written plan_words (machine_of_plan plan) calls
 
-module _ (plan : Plan) (faulty : List ℕ) (calls : ℕ → Call) (begins : ℕ → ℕ) (rounds : ℕ) where
-  -- the header of each correct node's call names that node of the plan, in either version
-  abbrev pub NameThePlan : Type 0
-  NameThePlan = (v : ℕ) → IsCorrect plan faulty v → IsOfNode plan v (calls v)
+-- the header of each correct node's call names that node of the plan, in either version
+abbrev pub NameThePlan : Plan → (faulty : List ℕ) → (calls : ℕ → Call) → Type 0
+NameThePlan plan faulty calls = (v : ℕ) → IsCorrect plan faulty v → IsOfNode plan v (calls v)
 
+module _ (plan : Plan) (faulty : List ℕ) (calls : ℕ → Call) (begins : ℕ → ℕ) (rounds : ℕ) where
   -- In each round each correct node is given the cells that the other correct ones write.
   pub record CallsConnect : Type 0 where
-    pub headers : NameThePlan
+    pub headers : NameThePlan plan faulty calls
     pub connect : any.CallsConnect plan_words (machine_of_plan plan) faulty calls begins rounds
 
   -- Cells are lost, or late: in each round each is given those of all nodes that it does not miss
   -- then.
   pub record CallsAreHeard : Type 0 where
-    pub headers : NameThePlan
+    pub headers : NameThePlan plan faulty calls
     pub heard : any.CallsAreHeard plan_words (machine_of_plan plan) faulty calls begins rounds
 
   -- The cells that the correct nodes write in the window are the states of a run. They count so

@@ -31,7 +31,8 @@ pub record NodePromiseIsKept : Type 0 where
 -- of any construction; the header of each names the plan, and has so many lines.
 pub record InputsConnect (plan : Plan) (faulty : List ℕ) (starts : ℕ → State)
     (sent : ℕ → ℕ → ℕ → List ℕ) (begins : ℕ → ℕ) (rounds : ℕ) : Type 0 where
-  pub made : any.InputsConnect plan_words (plan_depth plan + 7) plan faulty starts sent begins rounds
+  pub made : any.InputsConnect plan_words (plan_depth plan + 7) plan faulty starts sent begins
+      rounds
   pub connect : CallsConnect plan faulty (λ v. whole (made.inputs v)) begins rounds
 
 -- There are such inputs, whatever states of theirs the correct nodes begin in, wherever the window
