@@ -53,7 +53,7 @@ module _ (plan : Plan) (v : ℕ) (call : Call) (is : IsOfNode plan v call) where
   m = machine_of_plan plan
 
   -- a plan is one machine in both versions
-  pub is_of_machine : any.IsOfNode plan_words m v call
+  abbrev is_of_machine : any.IsOfNode plan_words m v call
   is_of_machine = record {
     header = is.header;
     is = is.is;
