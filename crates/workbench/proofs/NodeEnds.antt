@@ -1,5 +1,5 @@
 -- What the word `node` did, by what a call of a node of a plan did.
-use Rattle.std.proofs.Common.{◌≡◌, ℕ, Bool, List, Option, Some, Result, Ok, Err, refl, ap}
+use Rattle.std.proofs.Common.{ℕ, Bool, List, Option, Some, Result, Ok, Err, refl, ap}
 use Rattle.std.specs.Prelude.{IfOk}
 use Rattle.texts.specs.Growth.{Told}
 use Rattle.sync_types.specs.declared.answers.Premise.{Premise}
