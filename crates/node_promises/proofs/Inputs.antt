@@ -86,13 +86,13 @@ module _ {Reader Plan Premise : Type 0} (words : Words Reader Plan Premise)
     abbrev packets_of_node : ℕ → List (List (List ℕ))
     packets_of_node v = c.nodes.packets v
 
-    abbrev inputs : ℕ → List ℕ
+    abbrev pub inputs : ℕ → List ℕ
     inputs v = text plan v (starts v) ++ flat_map packet_text (packets_of_node v)
 
     few_packets : (v : ℕ) → length (packets_of_node v) ≤ 1000000
     few_packets v = omega (arith, c.long v, few v)
 
-    begin : (v : ℕ) → IsCorrect m faulty v
+    pub begin : (v : ℕ) → IsCorrect m faulty v
         → header_of words (whole (inputs v)) ≡ Ok (header_stated lines plan v (starts v))
     begin v correct =
         header_is v correct.0 (starts v) (begun v correct) (packets_of_node v) (c.full v)
@@ -104,7 +104,7 @@ module _ {Reader Plan Premise : Type 0} (words : Words Reader Plan Premise)
         packets_are v correct.0 (starts v) (begun v correct) (packets_of_node v) (c.full v)
         (few_packets v)
 
-    same_cell : (t v u : ℕ) → IsCorrect m faulty v
+    pub same_cell : (t v u : ℕ) → IsCorrect m faulty v
         → cell_heard words (whole (inputs v)) t u ≡ cell_given c.nodes t v u
     same_cell t v u correct =
         ap (λ (ps : List (List (List ℕ))). get_or (get_or ps t []) u []) (same_packets v correct)
@@ -120,7 +120,7 @@ module _ {Reader Plan Premise : Type 0} (words : Words Reader Plan Premise)
         (few_packets v)
 
     -- each writes its states
-    wrote : (t u : ℕ) → t ≤ begins u + rounds → IsCorrect m faulty u
+    pub wrote : (t u : ℕ) → t ≤ begins u + rounds → IsCorrect m faulty u
         → cell_written words m (λ v. whole (inputs v)) t u
         ≡ Some (written (m.fields u) (state_at m c.nodes t u))
     wrote t u le correct =
@@ -130,7 +130,7 @@ module _ {Reader Plan Premise : Type 0} (words : Words Reader Plan Premise)
         Some (written (m.fields u) (state_behind m u (s u) (take t (packets_of_node u)))))
         (sym c.begin)
 
-    connect : CallsConnect words m faulty (λ v. whole (inputs v)) begins rounds
+    pub connect : CallsConnect words m faulty (λ v. whole (inputs v)) begins rounds
     connect = record {
       are = record {
         headers = λ v correct. record {

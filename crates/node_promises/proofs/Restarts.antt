@@ -37,11 +37,11 @@ module _ {Reader Plan Premise : Type 0} (words : Words Reader Plan Premise) (m :
   abbrev begun : ℕ → ℕ
   begun = begins_after restart begins
 
-  apart : (v : ℕ) → IsCorrect m meanwhile v → (v == restart.node) ≡ false
+  pub apart : (v : ℕ) → IsCorrect m meanwhile v → (v == restart.node) ≡ false
   apart v correct =
       not_it (v == restart.node) restart.node v refl meanwhile too.own correct.1
 
-  correct_too : (v : ℕ) → IsCorrect m meanwhile v → IsCorrect m faulty v
+  pub correct_too : (v : ℕ) → IsCorrect m meanwhile v → IsCorrect m faulty v
   correct_too v correct =
       (correct.0, sym (too.others v (eqb-false v restart.node (apart v correct))) ∙ correct.1)
 

@@ -1,10 +1,11 @@
 -- What a call with some words did to its source and its sink, by the status that it answered.
-use Rattle.std.specs.Prelude.{◌≡◌, ℕ, List, [], ◌++◌, Option, Some, None, Bool, true, false}
-use Rattle.std.specs.Io.KnownBytes.{Consumes, IsAtEnd}
+use Rattle.std.specs.Prelude.{◌≡◌, ℕ, List, [], Option, Some, None, Bool, true, false}
+use Rattle.std.specs.Io.KnownBytes.{Consumes}
 use Rattle.sync_types.specs.declared.status.Status.{Status}
 use Rattle.sync_types.specs.declared.status.Status.TheVariants as status
 use Rattle.texts.specs.Causes.{Counted}
 use Rattle.texts.specs.Growth.{Told, Wrote, Cut}
+pub use Rattle.node_words.specs.Conduct.{Holds, ReadsFront, ReadsAll, ReadsPart, OutOfMemory}
 use Rattle.outcomes.specs.declared.commands.Command.{Command}
 use Rattle.outcomes.specs.declared.commands.Command.TheVariants as command
 use Rattle.outcomes.specs.Outcomes.{Outcome}
@@ -12,29 +13,6 @@ use Rattle.outcomes.specs.Commands.{Manner, nothing, all_first, as_it_goes, mann
 use Rattle.outcomes.specs.Commands.{IsPending}
 
 -- ---- what was read
-
--- these bytes are left of the source, where it tells them
-abbrev pub Holds : Option (List ℕ) → List ℕ → Type 0
-Holds None bytes = Unit {0}
-Holds (Some left) bytes = left ≡ bytes
-
--- a front of the input was read
-pub record ReadsFront (left left' : Option (List ℕ)) (input : List ℕ) : Type 0 where
-  pub front : List ℕ
-  pub behind : List ℕ
-  pub parts : input ≡ front ++ behind
-  pub read : Consumes left left' front
-  pub rest : Holds left' behind
-
--- the whole input was read
-pub record ReadsAll (left left' : Option (List ℕ)) (input : List ℕ) : Type 0 where
-  pub read : Consumes left left' input
-  pub end : IsAtEnd left'
-
--- all of it, or a front
-abbrev pub ReadsPart : (whole : Bool) → (left left' : Option (List ℕ)) → List ℕ → Type 0
-ReadsPart true left left' input = ReadsAll left left' input
-ReadsPart false left left' input = ReadsFront left left' input
 
 -- whether a command of that manner that ends with that status has read all of its input
 abbrev pub comes_to_end : Manner → Status → Bool
@@ -102,11 +80,6 @@ pub record ReadFailed (m : Manner) (Pending : List ℕ → Type 0) (written : Li
   pub pending : Pending seen
   pub cause : Counted before now
   pub wrote : Writes m status.ReadFault (written seen) old new
-
--- memory was refused, and nothing was written
-pub record OutOfMemory (before now : ℕ) (old new : Told) : Type 0 where
-  pub still : now ≡ before
-  pub none : new ≡ old
 
 -- no read of a command that reads nothing can fail
 abbrev pub IfReads : Manner → Type 0 → Type 0

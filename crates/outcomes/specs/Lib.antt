@@ -5,6 +5,7 @@ pub mod ExplainText
 pub mod Answers
 pub mod Outcomes
 pub mod CheckAnswers
+pub mod PlanWords
 pub mod NodeAnswers
 pub mod DemoText
 pub mod Commands

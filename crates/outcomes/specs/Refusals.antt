@@ -3,14 +3,13 @@ use Rattle.std.specs.Prelude.{ℕ, List, [], ◌∷◌, codes, decimal}
 use Rattle.std.specs.List.{concat}
 use Rattle.sync_types.specs.declared.answers.Premise.{Premise}
 use Rattle.sync_types.specs.declared.answers.Premise.TheVariants as premise
-use Rattle.sync_types.specs.declared.answers.Rule.{Rule}
-use Rattle.sync_types.specs.declared.answers.Rule.TheVariants as rule
 use Rattle.sync_types.specs.declared.answers.Cause.{Cause}
 use Rattle.sync_types.specs.declared.answers.Cause.TheVariants as cause
 use Rattle.sync_types.specs.declared.answers.Part.{Part}
 use Rattle.sync_types.specs.declared.answers.Part.TheVariants as part
 use Rattle.sync_types.specs.declared.status.Status.{Status}
 use Rattle.sync_types.specs.declared.status.Status.TheVariants as status
+use Rattle.node_words.specs.Rules.{rule_word}
 use Rattle.outcomes.specs.declared.refusals.Refusal.{Refusal}
 use Rattle.outcomes.specs.declared.refusals.Refusal.TheVariants as refusal
 
@@ -26,18 +25,6 @@ premise_word premise.Multiple = codes "multiple"
 abbrev pub cause_word : Cause → List ℕ
 cause_word (cause.Premise p) = premise_word p
 cause_word cause.Value = codes "value"
-
-abbrev pub rule_word : Rule → List ℕ
-rule_word rule.Form = codes "form"
-rule_word rule.Limit = codes "limit"
-rule_word rule.Node = codes "node"
-rule_word rule.Order = codes "order"
-rule_word rule.Faults = codes "faults"
-rule_word rule.Range = codes "range"
-rule_word rule.Hex = codes "hex"
-rule_word rule.Name = codes "name"
-rule_word rule.Slot = codes "slot"
-rule_word rule.Overlap = codes "overlap"
 
 abbrev pub part_word : Part → List ℕ
 part_word part.Script = codes "script"

@@ -1,9 +1,10 @@
 ghost use Rattle.std.specs.Prelude.{◌≡◌};
 ghost use Rattle.texts.specs.Growth.{Puts};
-ghost use Rattle.outcomes.specs.Refusals.{cause_word, part_word, premise_word, rule_word};
+ghost use Rattle.outcomes.specs.Refusals.{cause_word, part_word, premise_word};
 ghost use Rattle.outcomes.specs.Refusals.{failed_line, refusal_line, refusal_status};
 
 use edge_io::{Piece, Sink, WriteFault, put_all, put_pieces};
+use node_words::rule_word;
 use sync_types::{Cause, Part, Premise, Rule, Status};
 
 /// Why words or an input are refused. Lines are counted from 1 through the whole input.
@@ -41,23 +42,6 @@ fn cause_word(cause: Cause) -> &'static str
     match cause {
         Cause::Premise(premise) => premise_word(premise),
         Cause::Value => "value",
-    }
-}
-
-fn rule_word(rule: Rule) -> &'static str
-    ensures { result.now ≡ rule_word rule }
-{
-    match rule {
-        Rule::Form => "form",
-        Rule::Limit => "limit",
-        Rule::Node => "node",
-        Rule::Order => "order",
-        Rule::Faults => "faults",
-        Rule::Range => "range",
-        Rule::Hex => "hex",
-        Rule::Name => "name",
-        Rule::Slot => "slot",
-        Rule::Overlap => "overlap",
     }
 }
 

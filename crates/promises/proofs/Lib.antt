@@ -11,14 +11,11 @@ pub mod ScriptInputs
 pub mod PlanPromises
 pub mod Printed
 pub mod NodeCalls
-pub mod CallStates
+pub mod PlanCalls
 pub mod NodePromises
-pub mod HeardCalls
-pub mod Restarts
 pub mod NodeInputs
 pub mod DemoTexts
 pub mod RestartInputs
-pub mod CallProcesses
 pub mod ReadRequests
 pub mod ReadLogs
 pub mod OnlyTexts

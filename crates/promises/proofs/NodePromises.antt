@@ -1,87 +1,119 @@
--- Calls of `node` that are given one another's cells are connected nodes.
-use Rattle.std.proofs.Common.{ℕ, List, ◌∙◌}
+-- Calls of `node` keep the promise of calls of any construction, in the words of their plan.
+use Rattle.std.proofs.Common.{ℕ, ◌+◌, List}
 use Rattle.sync_types.specs.States.{State}
-use Rattle.construction.specs.Plans.{Plan, plan_bound}
-use Rattle.construction.specs.Runs.{IsBorne}
+use Rattle.construction.specs.Plans.{Plan}
+use Rattle.construction.specs.Runs.{IsBorne, IsLocked}
+use Rattle.machines.specs.Machines as machines
 use Rattle.plan_numbers.specs.Premises.{IsAccepted}
 use Rattle.plan_laws.specs.VersionLaws.{in_version}
 use Rattle.plan_laws.proofs.Versions.{versions_agree}
-use Rattle.node_header.specs.HeaderLaws.{HeadersAreOfPlans}
-use Rattle.node_runs.specs.Cells.{NodeWritesStates}
+use Rattle.plan_machine.specs.PlanMachines.{machine_of_plan}
 use Rattle.plan_machine.proofs.PlanMachines.{are_alike}
-use Rattle.plan_node_runs.specs.NodeRuns.{Nodes, SomeIsCorrect, AreConnected}
-use Rattle.plan_node_runs.specs.Laws.{RunThrough, NodesRun}
-use Rattle.plan_node_runs.proofs.Plans.{settle_through, lock_through, stay_through}
+use Rattle.node_runs.specs.Laws as any_nodes
+use Rattle.plan_node_runs.specs.NodeRuns.{SomeIsCorrect}
+use Rattle.plan_node_runs.specs.Laws.{RunThrough, CountThrough, StayLockedThrough}
+use Rattle.node_promises.specs.CallWindows as any
+use Rattle.node_promises.proofs.Connected as any_connected
+use Rattle.node_promises.proofs.Heard as any_heard
+use Rattle.node_promises.proofs.Restarts as any_restarts
+use Rattle.outcomes.specs.PlanWords.{plan_words}
 use Rattle.promises.specs.NodeCalls.{Call}
-use Rattle.promises.specs.CallWindows.{states_written, CallsConnect, NodesKeepPromise}
-use Rattle.promises.specs.CallWindows.{ConnectedCallsCount}
-use Rattle.promises.proofs.CallStates.{Calling, borne_newer, nodes, accepted, start_is_one}
-use Rattle.promises.proofs.CallStates.{given_is, same_states, some_written, count_of, stay_of}
+use Rattle.promises.specs.CallWindows.{states_written, NameThePlan, NodesKeepPromise}
+use Rattle.promises.specs.CallWindows.{ConnectedCallsCount, HeardCallsStayLocked}
+use Rattle.promises.specs.Restarts.{calls_after, begins_after, RestartedNodesCount}
+use Rattle.promises.proofs.PlanCalls.{headers_of_machines, are_accepted}
 
-module _ (law : HeadersAreOfPlans) (writes : NodeWritesStates) (runs : NodesRun) (plan : Plan)
-    (faulty : List ℕ) (borne : IsBorne plan faulty) (some : SomeIsCorrect plan faulty)
-    (calls : ℕ → Call) (begins : ℕ → ℕ) (rounds : ℕ)
-    (is : CallsConnect plan faulty calls begins rounds) where
-  abbrev calling : Calling plan faulty calls begins rounds
-  calling = record { headers = is.headers; enough = is.enough }
+module _ (plan : Plan) where
+  borne_here : (faulty : List ℕ) → IsBorne plan faulty
+      → machines.IsBorne (machine_of_plan plan) faulty
+  borne_here faulty is = record { rising = is.rising; ids = is.ids; few = is.few }
 
-  abbrev two : Plan
-  two = in_version 2 plan
+  count : any.ConnectedCallsCount plan_words (machine_of_plan plan)
+  count = any_connected.connected_count plan_words headers_of_machines (machine_of_plan plan)
 
-  abbrev own : Nodes
-  own = nodes law writes plan faulty some calls begins rounds calling
+  -- where some node is correct
+  newer_accepted : (faulty : List ℕ) → SomeIsCorrect plan faulty → (calls : ℕ → Call)
+      → NameThePlan plan faulty calls → IsAccepted (in_version 2 plan)
+  newer_accepted faulty some calls named =
+      (are_accepted plan some.0 (calls some.0) (named some.0 some.1)).1
 
-  sound : IsAccepted two
-  sound = accepted law writes plan faulty some calls begins rounds calling
+-- what is said of configurations, in the words of the plan
+module _ (plan : Plan) (accepted : IsAccepted (in_version 2 plan)) (faulty : List ℕ) where
+  module _ (at : ℕ → List State) (rounds : ℕ) where
+    run_of : any_nodes.RunThrough (machine_of_plan plan) faulty at rounds
+        → RunThrough plan faulty at rounds
+    run_of r = record {
+      run = r.run;
+      is =
+          ((versions_agree plan 2).runs faulty r.run).1
+          (((are_alike (in_version 2 plan) accepted).runs faulty r.run).1 r.is);
+      long = r.long;
+      states = r.states;
+    }
 
-  connected : AreConnected two faulty own begins rounds
-  connected = record {
-    starts = λ v correct.
-        ((are_alike two sound).states v (own.starts v) correct.0).0
-        (start_is_one law writes plan faulty some calls begins rounds calling v correct);
-    enough = is.enough;
-    cells = λ i v u lt v_correct u_correct other.
-        given_is law writes plan faulty some calls begins rounds calling i v u lt u_correct
-        (is.cells i v u lt v_correct u_correct other);
-  }
+    count_of : (from : ℕ) → any_nodes.CountThrough (machine_of_plan plan) faulty at from rounds
+        → CountThrough plan faulty at from rounds
+    count_of from c = record { output = c.output; shows = c.shows; grows = c.grows }
 
-  abbrev at : (i : ℕ) → List State
-  at i = states_written plan calls begins i
+    locked_of : (i : ℕ) → machines.IsLocked (machine_of_plan plan) faulty (at i)
+        → IsLocked plan faulty (at i)
+    locked_of i = ((are_alike (in_version 2 plan) accepted).locks faulty (at i)).1
 
-  run_newer : RunThrough two faulty (states_written plan calls begins) rounds
-  run_newer =
-      let r = runs two sound faulty own begins rounds connected in
+    locked_there : (i : ℕ) → IsLocked plan faulty (at i)
+        → machines.IsLocked (machine_of_plan plan) faulty (at i)
+    locked_there i = ((are_alike (in_version 2 plan) accepted).locks faulty (at i)).0
+
+    stay_of : (from : ℕ) → any_nodes.StayLockedThrough (machine_of_plan plan) faulty at from rounds
+        → StayLockedThrough plan faulty at from rounds
+    stay_of from s = record {
+      locked = λ i after low. locked_of i (s.locked i after low);
+      counts = count_of from s.counts;
+    }
+
+  keep : (calls : ℕ → Call) (begins : ℕ → ℕ) (rounds : ℕ)
+      → any.NodesKeepPromise plan_words (machine_of_plan plan) faulty calls begins rounds
+      → NodesKeepPromise plan faulty calls begins rounds
+  keep calls begins rounds k =
+      let at = states_written plan calls begins in
       record {
-        run = r.run;
-        is = r.is;
-        long = r.long;
-        states = λ i v le correct.
-            r.states i v le correct
-            ∙ same_states law writes plan faulty some calls begins rounds calling i v le correct;
-      }
-
-  keep : NodesKeepPromise plan faulty calls begins rounds
-  keep =
-      let r = run_newer in
-      let borne_two = borne_newer plan faulty borne in
-      record {
-        written = some_written law writes plan faulty some calls begins rounds calling;
-        run = record {
-          run = r.run;
-          is = ((versions_agree plan 2).runs faulty r.run).1 r.is;
-          long = r.long;
-          states = r.states;
-        };
-        settles =
-            count_of law writes plan faulty some calls begins rounds calling (plan_bound plan)
-            (settle_through two sound faulty (states_written plan calls begins) rounds r borne_two);
-        locks = lock_through two sound faulty (states_written plan calls begins) rounds r borne_two;
+        written = k.written;
+        run = run_of at rounds k.run;
+        settles = count_of at rounds (machine_of_plan plan).bound k.settles;
+        locks = λ reached. locked_of at rounds (machine_of_plan plan).bound (k.locks reached);
         stays = λ from le locked.
-            stay_of law writes plan faulty some calls begins rounds calling from
-            (stay_through two sound faulty (states_written plan calls begins) rounds r borne_two
-            from le locked);
+            stay_of at rounds from (k.stays from le (locked_there at rounds from locked));
       }
 
-pub connected_count : HeadersAreOfPlans → NodeWritesStates → NodesRun → ConnectedCallsCount
-connected_count law writes runs plan faulty borne some calls begins rounds is =
-    keep law writes runs plan faulty borne some calls begins rounds is
+pub connected_count : ConnectedCallsCount
+connected_count plan faulty borne some calls begins rounds is =
+    keep plan (newer_accepted plan faulty some calls is.headers) faulty calls begins rounds
+    (count plan faulty (borne_here plan faulty borne) some calls begins rounds is.connect)
+
+pub heard_stay_locked : HeardCallsStayLocked
+heard_stay_locked plan faulty borne some calls begins rounds is from le locked =
+    let sound = newer_accepted plan faulty some calls is.headers in
+    let at = states_written plan calls begins in
+    stay_of plan sound faulty at rounds from
+    (any_heard.heard_stay_locked plan_words headers_of_machines (machine_of_plan plan) faulty
+    (borne_here plan faulty borne) some calls begins rounds is.heard from le
+    (locked_there plan sound faulty at rounds from locked))
+
+pub restarted_count : RestartedNodesCount
+restarted_count plan faulty meanwhile borne borne_too restart too some calls begins rounds whole
+    rest =
+    let sound = newer_accepted plan meanwhile some calls whole.headers in
+    let at = states_written plan calls begins in
+    let later = states_written plan (calls_after restart calls) (begins_after restart begins) in
+    let k = any_restarts.restarted_count plan_words (machine_of_plan plan) (count plan) faulty
+    meanwhile (borne_here plan faulty borne) (borne_here plan meanwhile borne_too) restart too some
+    calls begins rounds whole.connect rest.connect in
+    record {
+      others = keep plan sound meanwhile calls begins (restart.after + rounds) k.others;
+      rest =
+          keep plan sound faulty (calls_after restart calls) (begins_after restart begins) rounds
+          k.rest;
+      same = k.same;
+      handed = λ same_cell locked.
+          stay_of plan sound faulty later rounds 0
+          (k.handed same_cell (locked_there plan sound faulty at rounds restart.after locked));
+    }

@@ -1,44 +1,40 @@
--- Calls of `node`, one for each node, over a window of rounds.
-use Rattle.std.specs.Prelude.{◌≡◌, ◌≢◌, ℕ, ◌+◌, ◌<◌, ◌≤◌, false, List, [], length, map, Option}
-use Rattle.std.specs.Prelude.{Some, unwrap_or, IsSome}
-use Rattle.std.specs.List.{range_with_len}
+-- Calls of `node`, one for each node of a plan, over a window of rounds.
+use Rattle.std.specs.Prelude.{ℕ, ◌+◌, ◌≤◌, List, Option, IsSome}
 use Rattle.sync_types.specs.States.{State}
-use Rattle.construction.specs.Plans.{Plan, plan_nodes, plan_bound}
-use Rattle.construction.specs.Runs.{is_in, IsBorne, IsLocked}
-use Rattle.state_codec.specs.Reading.{read}
-use Rattle.node_runs.specs.Cells.{cell_number}
-use Rattle.plan_node_runs.specs.PlanNodes.{fields_of}
-use Rattle.plan_node_runs.specs.NodeRuns.{IsCorrect, SomeIsCorrect, AreMissed}
+use Rattle.construction.specs.Plans.{Plan, plan_bound}
+use Rattle.construction.specs.Runs.{IsBorne, IsLocked}
+use Rattle.plan_machine.specs.PlanMachines.{machine_of_plan}
+use Rattle.plan_node_runs.specs.NodeRuns.{IsCorrect, SomeIsCorrect}
 use Rattle.plan_node_runs.specs.Laws.{RunThrough, CountThrough, StayLockedThrough}
-use Rattle.promises.specs.NodeCalls.{Call, packets_in, cell_heard, text_of, IsOfNode}
+use Rattle.node_promises.specs.CallWindows as any
+use Rattle.outcomes.specs.PlanWords.{plan_words}
+use Rattle.promises.specs.NodeCalls.{Call, IsOfNode}
 
 -- of a call for each node
 module _ (plan : Plan) (calls : ℕ → Call) where
   -- cell t of what that of node v writes
   abbrev pub cell_written : (t v : ℕ) → Option (List ℕ)
-  cell_written t v = cell_number t (text_of (calls v))
+  cell_written = any.cell_written plan_words (machine_of_plan plan) calls
 
-  -- the state that it stands for
-  abbrev pub state_written : (t v : ℕ) → State
-  state_written t v = read (fields_of plan v) (unwrap_or (cell_written t v) [])
-
-  -- The configuration after i rounds of a window. It begins in each call at a packet of its own,
-  -- `begins v` in that of node v, since each process counts its packets from when it was started.
+  -- the configuration after i rounds of a window, which begins in each call at a packet of its own
   abbrev pub states_written : (begins : ℕ → ℕ) → (i : ℕ) → List State
-  states_written begins i =
-      map (λ v. state_written (begins v + i) v) (range_with_len 0 (plan_nodes plan))
+  states_written = any.states_written plan_words (machine_of_plan plan) calls
+
+-- the header of each correct node's call names that node of the plan, in either version
+abbrev pub NameThePlan : Plan → (faulty : List ℕ) → (calls : ℕ → Call) → Type 0
+NameThePlan plan faulty calls = (v : ℕ) → IsCorrect plan faulty v → IsOfNode plan v (calls v)
 
 module _ (plan : Plan) (faulty : List ℕ) (calls : ℕ → Call) (begins : ℕ → ℕ) (rounds : ℕ) where
-  -- Each correct node is a call of its own, with packets for so many rounds. In each round the cell
-  -- of each other correct node is the one that this writes after as many rounds. The cells of
-  -- faulty nodes are any bytes, and so are all cells of the packets before the window.
+  -- In each round each correct node is given the cells that the other correct ones write.
   pub record CallsConnect : Type 0 where
-    pub headers : (v : ℕ) → IsCorrect plan faulty v → IsOfNode plan v (calls v)
-    pub enough : (v : ℕ) → IsCorrect plan faulty v
-        → begins v + rounds ≤ length (packets_in (calls v))
-    pub cells : (i v u : ℕ) → i < rounds → IsCorrect plan faulty v → IsCorrect plan faulty u
-        → u ≢ v
-        → cell_written plan calls (begins u + i) u ≡ Some (cell_heard (calls v) (begins v + i) u)
+    pub headers : NameThePlan plan faulty calls
+    pub connect : any.CallsConnect plan_words (machine_of_plan plan) faulty calls begins rounds
+
+  -- Cells are lost, or late: in each round each is given those of all nodes that it does not miss
+  -- then.
+  pub record CallsAreHeard : Type 0 where
+    pub headers : NameThePlan plan faulty calls
+    pub heard : any.CallsAreHeard plan_words (machine_of_plan plan) faulty calls begins rounds
 
   -- The cells that the correct nodes write in the window are the states of a run. They count so
   -- many rounds later as the bound says, are locked there, and from any locked configuration on
@@ -54,20 +50,6 @@ module _ (plan : Plan) (faulty : List ℕ) (calls : ℕ → Call) (begins : ℕ 
     pub stays : (from : ℕ) → from ≤ rounds
         → IsLocked plan faulty (states_written plan calls begins from)
         → StayLockedThrough plan faulty (states_written plan calls begins) from rounds
-
-  -- Cells are lost, or late: in each round each correct node is given the cells of all nodes that
-  -- it does not miss then. It misses at most F, faulty ones among them, in each round others, and
-  -- never itself. Of those that it misses the cells are any bytes.
-  pub record CallsAreHeard : Type 0 where
-    pub headers : (v : ℕ) → IsCorrect plan faulty v → IsOfNode plan v (calls v)
-    pub enough : (v : ℕ) → IsCorrect plan faulty v
-        → begins v + rounds ≤ length (packets_in (calls v))
-    pub missed : (i v : ℕ) → List ℕ
-    pub are : (i v : ℕ) → i < rounds → IsCorrect plan faulty v
-        → AreMissed plan faulty v (missed i v)
-    pub cells : (i v u : ℕ) → i < rounds → IsCorrect plan faulty v → u < plan_nodes plan
-        → is_in (missed i v) u ≡ false → u ≢ v
-        → cell_written plan calls (begins u + i) u ≡ Some (cell_heard (calls v) (begins v + i) u)
 
 -- Whichever nodes are faulty that the plan tolerates, if one is left that is correct, connected
 -- calls keep the promise.

@@ -1,16 +1,15 @@
 -- What calls of `node` promise that are given one another's cells.
-use Rattle.std.specs.Prelude.{◌≡◌, ℕ, ◌+◌, ◌<◌, ◌≤◌, true, ◌⊎◌, List, Ok}
-use Rattle.sync_types.specs.declared.status.Status.TheVariants as status
+use Rattle.std.specs.Prelude.{ℕ, ◌+◌, ◌≤◌, List}
 use Rattle.sync_types.specs.States.{State}
-use Rattle.construction.specs.Plans.{Plan, plan_nodes}
-use Rattle.construction.specs.Runs.{is_in, IsState}
+use Rattle.construction.specs.Plans.{Plan, plan_depth}
+use Rattle.construction.specs.Runs.{IsState}
 use Rattle.plan_numbers.specs.Premises.{IsAccepted}
 use Rattle.plan_laws.specs.VersionLaws.{in_version}
-use Rattle.node_header.specs.HeaderTexts.{header_stated}
 use Rattle.plan_node_runs.specs.NodeRuns.{IsCorrect}
 use Rattle.plan_node_runs.specs.Laws.{BorneLeavesSome}
-use Rattle.outcomes.specs.NodeAnswers.{node_outcome}
-use Rattle.promises.specs.NodeCalls.{Call, whole, header_of, cell_heard, IsOfNode, CallsWriteTexts}
+use Rattle.node_promises.specs.Inputs as any
+use Rattle.outcomes.specs.PlanWords.{plan_words}
+use Rattle.promises.specs.NodeCalls.{Call, whole, IsOfNode, CallsWriteTexts}
 use Rattle.promises.specs.CallWindows.{CallsConnect, ConnectedCallsCount, HeardCallsStayLocked}
 use Rattle.promises.specs.Restarts.{RestartedNodesCount}
 
@@ -28,19 +27,13 @@ pub record NodePromiseIsKept : Type 0 where
 
 -- ---- the premise can be met
 
--- Inputs of connected calls whose nodes begin in these states and are given these bytes: in packet
--- t node v is given `sent t v u` as the cell of a faulty node u, and before the window of each node
--- u. Each input ends after a packet.
+-- Inputs of connected calls whose nodes begin in these states and are given these bytes, as those
+-- of any construction; the header of each names the plan, and has so many lines.
 pub record InputsConnect (plan : Plan) (faulty : List ℕ) (starts : ℕ → State)
     (sent : ℕ → ℕ → ℕ → List ℕ) (begins : ℕ → ℕ) (rounds : ℕ) : Type 0 where
-  pub inputs : ℕ → List ℕ
-  pub connect : CallsConnect plan faulty (λ v. whole (inputs v)) begins rounds
-  pub begin : (v : ℕ) → IsCorrect plan faulty v
-      → header_of (whole (inputs v)) ≡ Ok (header_stated plan v (starts v))
-  pub given : (t v u : ℕ) → t < begins v + rounds → IsCorrect plan faulty v
-      → u < plan_nodes plan → (t < begins v) ⊎ (is_in faulty u ≡ true)
-      → cell_heard (whole (inputs v)) t u ≡ sent t v u
-  pub ends : (v : ℕ) → IsCorrect plan faulty v → (node_outcome (inputs v)).status ≡ status.Ok
+  pub made : any.InputsConnect plan_words (plan_depth plan + 7) plan faulty starts sent begins
+      rounds
+  pub connect : CallsConnect plan faulty (λ v. whole (made.inputs v)) begins rounds
 
 -- There are such inputs, whatever states of theirs the correct nodes begin in, wherever the window
 -- begins in each of them, and whatever is sent.

@@ -1,29 +1,15 @@
 -- A process of `node` that is started anew while others go on.
-use Rattle.std.specs.Prelude.{◌≡◌, ℕ, ◌+◌, ◌≤◌, ◌==◌, List, if◌then◌else◌}
+use Rattle.std.specs.Prelude.{◌≡◌, ℕ, ◌+◌, ◌≤◌, List}
 use Rattle.construction.specs.Plans.{Plan}
 use Rattle.construction.specs.Steps.{state_of}
 use Rattle.construction.specs.Runs.{IsBorne, IsLocked}
 use Rattle.plan_node_runs.specs.NodeRuns.{IsCorrect, SomeIsCorrect}
 use Rattle.plan_node_runs.specs.Laws.{StayLockedThrough}
-pub use Rattle.node_runs.specs.Restarts.{AreFaultyMeanwhile}
-use Rattle.node_runs.specs.Restarts.{begins_later}
+pub use Rattle.node_promises.specs.Restarts.{Restart, calls_after, begins_after}
+pub use Rattle.node_promises.specs.Restarts.{AreFaultyMeanwhile}
 use Rattle.promises.specs.NodeCalls.{Call}
 use Rattle.promises.specs.CallWindows.{cell_written, states_written, CallsConnect}
 use Rattle.promises.specs.CallWindows.{NodesKeepPromise}
-
--- A node is started anew: after so many rounds of a window it is another call, and the rest of the
--- window begins with the first packet of that call. What it was before, and whether it was there,
--- is of no matter.
-pub record Restart : Type 0 where
-  pub node : ℕ
-  pub after : ℕ
-  pub call : Call
-
-abbrev pub calls_after : Restart → (calls : ℕ → Call) → ℕ → Call
-calls_after restart calls v = if v == restart.node then restart.call else calls v
-
-abbrev pub begins_after : Restart → (begins : ℕ → ℕ) → ℕ → ℕ
-begins_after restart begins v = begins_later restart.node restart.after begins v
 
 -- The other correct nodes keep their promise all the time; with the one that is started anew all
 -- keep it in the rest; the others are in the same states in both; and where it goes on from the

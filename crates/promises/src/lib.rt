@@ -2,13 +2,13 @@
 //! empty, and its clause is a law over the definitions of the crate `outcomes`.
 #![tactic(auto)]
 
+pub mod call_promises;
 pub mod certificate_laws;
 pub mod every_run;
 pub mod find_promises;
 pub mod laws;
 pub mod layer_promises;
 pub mod lock_promises;
-pub mod node_promises;
 pub mod only_texts;
 pub mod plan_promises;
 pub mod printed_promises;

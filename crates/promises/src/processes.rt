@@ -3,12 +3,8 @@
 
 ghost use Rattle.promises.specs.Processes.{CallsAreProcesses};
 
-use node_header::laws::headers_are_of_plans;
-
 /// Each call of `node`, of any plan and in either version, writes what a node of the plan writes
 /// that begins in some state of it and is given the packets of the call.
 pub fn calls_are_processes()
     ensures { CallsAreProcesses }
-{
-    headers_are_of_plans();
-}
+{}

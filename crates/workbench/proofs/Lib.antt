@@ -1,7 +1,4 @@
 pub mod Whole
 pub mod Unread
-pub mod NodeReturns
-pub mod NodeHeaders
-pub mod NodeEngines
-pub mod NodeService
+pub mod NodeEnds
 pub mod CheckWord

@@ -19,6 +19,7 @@ use crate::demo_word::demo;
 use crate::node_word::node;
 use edge_io::{Sink, Source, WriteFault};
 use outcomes::{Command, Refusal, command_of, put_refusal};
+use promises::call_promises::node_promise_is_kept;
 use promises::certificate_laws::{check_is_exact, records_are_checked};
 use promises::every_run::every_run_keeps;
 use promises::find_promises::least_is_found;
@@ -27,7 +28,6 @@ use promises::layer_promises::{
     decisions_are_kept, entries_are_kept, fires_are_kept, holds_are_kept,
 };
 use promises::lock_promises::locks_are_kept;
-use promises::node_promises::node_promise_is_kept;
 use promises::plan_promises::{texts_are_kept, texts_are_read};
 use promises::printed_promises::promises_are_printed;
 use std::alloc::Global;

@@ -7,5 +7,6 @@ mod calling;
 mod check_word;
 mod demo_word;
 mod node_word;
+mod plan_nodes;
 
 pub use calling::counterlab;

@@ -1,5 +1,5 @@
-use Rattle.promises.proofs.CallProcesses as law
+use Rattle.promises.proofs.PlanCalls as law
 use Rattle.promises.proofs.processes.calls_are_processes.Goals as goal
 
 pub returns : goal.returns
-returns c = law.calls_are_processes c.headers_are_of_plans.ensures
+returns c = law.calls_are_processes

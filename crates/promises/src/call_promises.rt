@@ -3,13 +3,6 @@
 
 ghost use Rattle.promises.specs.NodePromises.{NodePromiseIsKept, AnyInputsConnect};
 
-use node_header::laws::{header_texts_read_back, headers_are_of_plans};
-use node_runs::laws::node_writes_states;
-use node_stepper::laws::packets_read_back;
-use plan_node_runs::laws::{
-    any_lies_connect, borne_leaves_some, heard_nodes_stay_locked, nodes_run,
-};
-
 /// N calls of `node`, one for each node of a plan, of which few are faulty. For a window of rounds
 /// each of the others is given, in each packet, the cells that they wrote after as many rounds, and
 /// of the faulty ones any bytes. The window begins in each call at a packet of its own. Then their
@@ -22,22 +15,11 @@ use plan_node_runs::laws::{
 /// read.
 pub fn node_promise_is_kept()
     ensures { NodePromiseIsKept }
-{
-    headers_are_of_plans();
-    node_writes_states();
-    nodes_run();
-    heard_nodes_stay_locked();
-    borne_leaves_some();
-}
+{}
 
 /// There are inputs of such calls, whatever states of theirs the correct nodes begin in, wherever
 /// the window begins in each of them, and whatever is given as the cells of faulty ones, and of all
 /// nodes before the window.
 pub fn any_inputs_connect()
     ensures { AnyInputsConnect }
-{
-    header_texts_read_back();
-    node_writes_states();
-    any_lies_connect();
-    packets_read_back();
-}
+{}

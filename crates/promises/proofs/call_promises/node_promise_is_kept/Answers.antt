@@ -1,0 +1,15 @@
+use Rattle.plan_node_runs.proofs.Plans.{borne_leaves_some}
+use Rattle.promises.proofs.NodeCalls.{calls_write}
+use Rattle.promises.proofs.PlanCalls.{are_accepted}
+use Rattle.promises.proofs.NodePromises.{connected_count, heard_stay_locked, restarted_count}
+use Rattle.promises.proofs.call_promises.node_promise_is_kept.Goals as goal
+
+pub returns : goal.returns
+returns c = record {
+  texts = calls_write;
+  kept = connected_count;
+  heard = heard_stay_locked;
+  restarts = restarted_count;
+  accepted = are_accepted;
+  some = borne_leaves_some;
+}
