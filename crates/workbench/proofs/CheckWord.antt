@@ -14,14 +14,13 @@ use Rattle.run_certificates.specs.declared.Verdict.{Verdict}
 use Rattle.run_certificates.specs.declared.Verdict.TheVariants as verdict
 use Rattle.run_checker.specs.Checks.{checked_by, unlimited, LimitsMatterBeyond, IsChecked}
 use Rattle.run_checker.specs.Checks.{IsRefused, IsTooLong, IsLost}
+use Rattle.node_words.proofs.Returns.{left_of, holds_left, all_front}
 use Rattle.outcomes.specs.declared.commands.Command.TheVariants as command
 use Rattle.outcomes.specs.declared.refusals.Refusal.TheVariants as refusal
 use Rattle.outcomes.specs.Refusals.{refusal_line}
 use Rattle.outcomes.specs.Outcomes.{Outcome, outcome_of, too_long}
 use Rattle.outcomes.specs.CheckAnswers.{verdict_outcome, checked_outcome, check_outcome}
 use Rattle.outcomes.specs.Conduct.{ReadsFront, ReadsAll, Does, LeavesUnmet, LeavesUntouched}
-use Rattle.workbench.proofs.Unread.{left_of, holds_left}
-use Rattle.workbench.proofs.NodeReturns.{all_front}
 
 -- a front of an input was read, of which what is left follows
 front_read : (s l : Option (List ℕ)) (bytes : List ℕ) → Consumes s l bytes

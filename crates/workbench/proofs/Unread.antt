@@ -1,20 +1,11 @@
 -- What a command did that reads nothing.
-use Rattle.std.proofs.Common.{◌≡◌, ℕ, List, [], Option, Some, None, refl}
+use Rattle.std.proofs.Common.{◌≡◌, ℕ, List, Option, refl}
 use Rattle.texts.specs.Growth.{Told, Wrote, Cut}
 use Rattle.sync_types.specs.declared.status.Status.{Status}
+use Rattle.node_words.proofs.Returns.{left_of, holds_left}
 use Rattle.outcomes.specs.Outcomes.{Outcome}
 use Rattle.outcomes.specs.Commands.{nothing}
-use Rattle.outcomes.specs.Conduct.{Holds, Answered, AnswerCut}
-
--- what is left, where it is told
-pub left_of : Option (List ℕ) → List ℕ
-left_of None = []
-left_of (Some left) = left
-
-pub holds_left : (left : Option (List ℕ)) → Holds left (left_of left)
-unfolding left_of
-holds_left None = tt
-holds_left (Some left) = refl
+use Rattle.outcomes.specs.Conduct.{Answered, AnswerCut}
 
 module _ (outcome : List ℕ → Outcome) (o : Outcome) (same : (input : List ℕ) → outcome input ≡ o)
     (left : Option (List ℕ)) (count : ℕ) (old new : Told) where
