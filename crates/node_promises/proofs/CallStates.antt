@@ -58,7 +58,7 @@ module _ {Reader Plan Premise : Type 0} (words : Words Reader Plan Premise) wher
         node_text (words.machine h.plan) h.node.id (start_by r)
         (packets_behind words (bytes_of call) r)) is)
 
-    start_is : start_by (header_of words call) ≡ h.node.state
+    pub start_is : start_by (header_of words call) ≡ h.node.state
     unfolding start_by
     start_is = ap start_by is
 
@@ -75,7 +75,7 @@ module _ {Reader Plan Premise : Type 0} (words : Words Reader Plan Premise) wher
     pub is_sound : IsSound m
     is_sound = subst IsSound is.names header_is.sound
 
-    node_text_is : text_of words call
+    pub node_text_is : text_of words call
         ≡ node_text m v (start_by (header_of words call)) (packets_in words call)
     node_text_is =
         let start = start_by (header_of words call) in
@@ -83,7 +83,7 @@ module _ {Reader Plan Premise : Type 0} (words : Words Reader Plan Premise) wher
         ∙ ap (λ (k : Machine). node_text k is.header.node.id start (packets_in words call)) is.names
         ∙ ap (λ (i : ℕ). node_text m i start (packets_in words call)) is.id
 
-    start_is_state : IsState m v (start_by (header_of words call))
+    pub start_is_state : IsState m v (start_by (header_of words call))
     start_is_state =
         let s = is.header.node.state in
         let of_m : IsState m is.header.node.id s =
