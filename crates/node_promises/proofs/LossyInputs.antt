@@ -88,7 +88,7 @@ module _ {Reader Plan Premise : Type 0} (words : Words Reader Plan Premise)
 
 pub any_lose : {Reader Plan Premise : Type 0} (words : Words Reader Plan Premise)
     (Accepted : Plan → Type 0) (lines : Plan → ℕ) (text : Plan → (v : ℕ) → State → List ℕ)
-    → AreWritten words Accepted lines text → AnyInputsLose words Accepted lines
+    → AreWritten words Accepted lines text → AnyInputsLose words lines Accepted
 any_lose words Accepted lines text law plan accepted faulty starts sent missed begins rounds few
     begun are =
     inputs_lose words lines text law plan accepted faulty starts sent missed begins rounds few are

@@ -129,7 +129,7 @@ module _ {Reader Plan Premise : Type 0} (words : Words Reader Plan Premise)
 
 pub any_restart : {Reader Plan Premise : Type 0} (words : Words Reader Plan Premise)
     (Accepted : Plan → Type 0) (lines : Plan → ℕ) (text : Plan → (v : ℕ) → State → List ℕ)
-    → AreWritten words Accepted lines text → AnyInputsRestart words Accepted lines
+    → AreWritten words Accepted lines text → AnyInputsRestart words lines Accepted
 any_restart words Accepted lines text law plan accepted faulty meanwhile node after too starts sent
     begins rounds few begun =
     inputs_restart words lines text law plan accepted faulty meanwhile node after too starts sent

@@ -349,7 +349,13 @@ module _ {Reader Plan Premise : Type 0} (words : Words Reader Plan Premise)
         right ult (node == node) refl
         ∙ r.before.given t node u lt ult (inr is);
     given_resumed = λ i u lt ult is. given_two i u ∙ r.restart.given_anew i u lt ult is;
-    ends =
+    ends = λ v correct.
+        ends words lines text law plan accepted faulty one one_count fed_one v
+        (correct_too m faulty meanwhile node too v correct)
+        ∙ ap (λ n. Ok n)
+        (count_other m faulty meanwhile node after too right starts sent begins rounds r v
+        correct);
+    ends_before =
         ends words lines text law plan accepted faulty one one_count fed_one node right
         ∙ ap (λ n. Ok n)
         (count_is m faulty meanwhile node after too right starts sent begins rounds r);
@@ -362,7 +368,7 @@ module _ {Reader Plan Premise : Type 0} (words : Words Reader Plan Premise)
 pub any_resume : {Reader Plan Premise : Type 0} (words : Words Reader Plan Premise)
     (Accepted : Plan → Type 0) → HeadersAreOfMachines words Accepted → (lines : Plan → ℕ)
     (text : Plan → (v : ℕ) → State → List ℕ) → AreWritten words Accepted lines text
-    → AnyInputsResume words Accepted lines
+    → AnyInputsResume words lines Accepted
 any_resume words Accepted served lines text law plan accepted faulty meanwhile node after too right
     starts sent begins rounds few begun =
     inputs_resume words served lines text law plan accepted faulty meanwhile node after too right

@@ -35,8 +35,8 @@ module _ {Reader Plan Premise : Type 0} (words : Words Reader Plan Premise) wher
 
   -- There are such inputs, whatever states the correct nodes begin in, whichever nodes each of them
   -- misses in each round, as long as these are few, and whatever is given in place of their cells.
-  abbrev pub AnyInputsLose : (Accepted : Plan → Type 0) → (lines : Plan → ℕ) → Type 0
-  AnyInputsLose Accepted lines = (plan : Plan) → Accepted plan → (faulty : List ℕ)
+  abbrev pub AnyInputsLose : (lines : Plan → ℕ) → (Accepted : Plan → Type 0) → Type 0
+  AnyInputsLose lines Accepted = (plan : Plan) → Accepted plan → (faulty : List ℕ)
       (starts : ℕ → State) (sent : ℕ → ℕ → ℕ → List ℕ) (missed : (i v : ℕ) → List ℕ)
       (begins : ℕ → ℕ) (rounds : ℕ)
       → ((v : ℕ) → begins v + rounds ≤ 1000000)

@@ -52,8 +52,8 @@ module _ {Reader Plan Premise : Type 0} (words : Words Reader Plan Premise) wher
 
   -- There are such inputs, whatever states the nodes begin in, the one that is started anew too,
   -- after however many rounds, and whatever is sent: what is promised of restarts is of some calls.
-  abbrev pub AnyInputsRestart : (Accepted : Plan → Type 0) → (lines : Plan → ℕ) → Type 0
-  AnyInputsRestart Accepted lines = (plan : Plan) → Accepted plan → (faulty meanwhile : List ℕ)
+  abbrev pub AnyInputsRestart : (lines : Plan → ℕ) → (Accepted : Plan → Type 0) → Type 0
+  AnyInputsRestart lines Accepted = (plan : Plan) → Accepted plan → (faulty meanwhile : List ℕ)
       (node after : ℕ) → AreFaultyMeanwhile node faulty meanwhile → (starts : ℕ → State)
       (sent : ℕ → ℕ → ℕ → List ℕ) (begins : ℕ → ℕ) (rounds : ℕ)
       → ((v : ℕ) → begins v + (after + rounds) ≤ 1000000)

@@ -15,10 +15,9 @@ use Rattle.node_promises.specs.RestartInputs.{calls_of, restart_with}
 
 module _ {Reader Plan Premise : Type 0} (words : Words Reader Plan Premise) where
   -- Inputs whose nodes begin in these states. All are connected for so many rounds; there the input
-  -- of one node ends, and with another input of it, whose header states the state of the last cell
-  -- that it wrote, all are connected in the rest. That cell is the first one which is written there.
-  -- So what a restarted node is to be handed it can be; and the configuration then is locked where
-  -- as many rounds passed as the bound says.
+  -- of one node ends, and with another input of it, whose header has the state of the last cell that
+  -- it wrote, all are connected in the rest. That cell is also the first one that is written there.
+  -- The configuration then is locked where as many rounds passed as the bound says.
   pub record InputsResume (lines : ℕ) (plan : Plan) (faulty meanwhile : List ℕ) (node after : ℕ)
       (starts : ℕ → State) (sent : ℕ → ℕ → ℕ → List ℕ) (begins : ℕ → ℕ) (rounds : ℕ)
       : Type 0 where
@@ -51,13 +50,15 @@ module _ {Reader Plan Premise : Type 0} (words : Words Reader Plan Premise) wher
     pub given_resumed : (i u : ℕ) → i < rounds
         → u < (words.machine plan).nodes → is_in faulty u ≡ true
         → cell_heard words (whole resumed) i u ≡ sent (begins node + after + i) node u
-    pub ends : (node_outcome words (inputs node)).ended ≡ Ok (begins node + after)
+    pub ends : (v : ℕ) → IsCorrect (words.machine plan) meanwhile v
+        → (node_outcome words (inputs v)).ended ≡ Ok (begins v + (after + rounds))
+    pub ends_before : (node_outcome words (inputs node)).ended ≡ Ok (begins node + after)
     pub ends_resumed : (node_outcome words resumed).ended ≡ Ok rounds
 
   -- There are such inputs, whatever states the nodes begin in, whichever node it is that goes on,
   -- after however many rounds, and whatever is sent.
-  abbrev pub AnyInputsResume : (Accepted : Plan → Type 0) → (lines : Plan → ℕ) → Type 0
-  AnyInputsResume Accepted lines = (plan : Plan) → Accepted plan → (faulty meanwhile : List ℕ)
+  abbrev pub AnyInputsResume : (lines : Plan → ℕ) → (Accepted : Plan → Type 0) → Type 0
+  AnyInputsResume lines Accepted = (plan : Plan) → Accepted plan → (faulty meanwhile : List ℕ)
       (node after : ℕ) → AreFaultyMeanwhile node faulty meanwhile
       → IsCorrect (words.machine plan) faulty node → (starts : ℕ → State)
       (sent : ℕ → ℕ → ℕ → List ℕ) (begins : ℕ → ℕ) (rounds : ℕ)
