@@ -2,9 +2,11 @@ pub mod AcceptedHeaders
 pub mod BehindLines
 pub mod Chained
 pub mod HeaderFits
-pub mod HeaderTexts
 pub mod HeadersRead
+pub mod NodeParts
 pub mod PendingHeaders
+pub mod PlanBits
 pub mod Rooms
 pub mod StateDigits
 pub mod Unlimited
+pub mod WrittenHeaders

@@ -1,7 +1,8 @@
 pub mod FedHeaders
 pub mod Fits
 pub mod HeaderLaws
+pub mod HeaderParts
 pub mod HeaderTexts
 pub mod Headers
 pub mod NodePart
-pub mod HeaderParts
+pub mod WrittenHeaders

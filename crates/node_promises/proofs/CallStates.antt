@@ -58,7 +58,7 @@ module _ {Reader Plan Premise : Type 0} (words : Words Reader Plan Premise) wher
         node_text (words.machine h.plan) h.node.id (start_by r)
         (packets_behind words (bytes_of call) r)) is)
 
-    start_is : start_by (header_of words call) ≡ h.node.state
+    pub start_is : start_by (header_of words call) ≡ h.node.state
     unfolding start_by
     start_is = ap start_by is
 

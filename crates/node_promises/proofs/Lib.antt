@@ -1,7 +1,12 @@
 pub mod Headers
 pub mod Calls
 pub mod CallStates
+pub mod Processes
 pub mod Connected
 pub mod Heard
 pub mod Restarts
+pub mod InputTexts
 pub mod Inputs
+pub mod RestartInputs
+pub mod ResumedInputs
+pub mod LossyInputs

@@ -1,5 +1,9 @@
 pub mod Calls
+pub mod Processes
 pub mod Headers
 pub mod CallWindows
 pub mod Restarts
 pub mod Inputs
+pub mod RestartInputs
+pub mod ResumedInputs
+pub mod LossyInputs

@@ -1,10 +1,11 @@
--- Nodes of which one is started anew: first the rounds before are played without it, then, with
--- what was given in these before the window of each, the rounds of all.
+-- Nodes of which one is started anew: first the rounds before are played, then, with what was given
+-- in these before the window of each, the rounds of all.
 use Rattle.std.proofs.Common.{◌≡◌, ◌≢◌, ℕ, zero, suc, ◌+◌, ◌-◌, ◌<◌, ◌≤◌, Bool, true, false, cond}
 use Rattle.std.proofs.Common.{inl, inr, List, [], length, take, get_or, add-one, refl, sym, ap}
 use Rattle.std.proofs.Common.{◌∙◌, subst, arith}
 use Rattle.std.specs.Prelude.{◌==◌, nat_lt, if◌then◌else◌}
-use Rattle.std.proofs.lemmas.Bool.{cases_lt, eqb-true, eqb-false, ne_eqb, lt-ltb, le-ltb}
+use Rattle.std.proofs.lemmas.Bool.{cases_lt, eqb-true, eqb-false, ne_eqb, eq-eqb, lt-ltb}
+use Rattle.std.proofs.lemmas.Bool.{le-ltb}
 use Rattle.std.proofs.lemmas.List.{take_more}
 use Rattle.sync_types.specs.States.{State}
 use Rattle.construction.specs.Runs.{is_in}
@@ -18,7 +19,8 @@ use Rattle.node_runs.specs.NodeRuns.{Nodes, cell_given, IsCorrect, state_at, sta
 use Rattle.node_runs.specs.NodeRuns.{AreConnected}
 use Rattle.node_runs.specs.Laws.{Connects}
 use Rattle.node_runs.specs.Restarts.{begins_later, AreFaultyMeanwhile, RestartConnects}
-use Rattle.node_runs.specs.Restarts.{AnyRestartConnects}
+use Rattle.node_runs.specs.Restarts.{AnyRestartConnects, starts_later, ResumptionConnects}
+use Rattle.node_runs.specs.Restarts.{AnyResumptionConnects}
 use Rattle.node_runs.proofs.Connected.{lies_connect}
 use Rattle.node_runs.proofs.States.{reads_back, behind_is_state, same_heard}
 
@@ -59,60 +61,90 @@ other_node : (node v : ℕ) (meanwhile : List ℕ) → is_in meanwhile node ≡ 
 other_node node v meanwhile own correct is =
     let both : true ≡ false = sym own ∙ ap (is_in meanwhile) (sym is) ∙ correct in absurd cc
 
+module _ (m : Machine) (faulty meanwhile : List ℕ) (node : ℕ)
+    (too : AreFaultyMeanwhile node faulty meanwhile) where
+  pub apart : (v : ℕ) → IsCorrect m meanwhile v → v ≢ node
+  apart v correct = other_node node v meanwhile too.own correct.1
+
+  pub correct_too : (v : ℕ) → IsCorrect m meanwhile v → IsCorrect m faulty v
+  correct_too v correct = (correct.0, sym (too.others v (apart v correct)) ∙ correct.1)
+
+  -- a node that is faulty in the rest is so all the time
+  faulty_too : (u : ℕ) → is_in faulty u ≡ true → (b : Bool) → (u == node) ≡ b
+      → is_in meanwhile u ≡ true
+  faulty_too u is true it = ap (is_in meanwhile) (eqb-true u node it) ∙ too.own
+  faulty_too u is false other = too.others u (eqb-false u node other) ∙ is
+
+-- The rounds before are those of any nodes among which the ones that are correct all the time are
+-- correct, and each that is faulty in the rest is faulty. Behind them the node begins in any state.
+record Before (m : Machine) (faulty meanwhile : List ℕ) (node after : ℕ) (starts : ℕ → State)
+    (sent : ℕ → ℕ → ℕ → List ℕ) (begins : ℕ → ℕ) : Type 0 where
+  away : List ℕ
+  correct : (v : ℕ) → IsCorrect m meanwhile v → IsCorrect m away v
+  faulty_too : (u : ℕ) → is_in faulty u ≡ true → is_in away u ≡ true
+  starts_first : ℕ → State
+  same : (v : ℕ) → v ≢ node → starts v ≡ starts_first v
+  is : Connects m away starts_first sent begins after
+
 module _ (m : Machine) (sound : IsSound m) (faulty meanwhile : List ℕ) (node after : ℕ)
     (too : AreFaultyMeanwhile node faulty meanwhile) (starts : ℕ → State)
     (sent : ℕ → ℕ → ℕ → List ℕ) (begins : ℕ → ℕ) (rounds : ℕ)
-    (begun : (v : ℕ) → IsCorrect m faulty v → IsState m v (starts v)) where
-  apart : (v : ℕ) → IsCorrect m meanwhile v → v ≢ node
-  apart v correct = other_node node v meanwhile too.own correct.1
-
-  correct_too : (v : ℕ) → IsCorrect m meanwhile v → IsCorrect m faulty v
-  correct_too v correct = (correct.0, sym (too.others v (apart v correct)) ∙ correct.1)
-
+    (begun : (v : ℕ) → IsCorrect m faulty v → IsState m v (starts v))
+    (past : Before m faulty meanwhile node after starts sent begins) where
   abbrev later : ℕ → ℕ
   later = begins_later node after begins
 
+  -- such a node is not the one that is started anew
+  is_other : (v : ℕ) → IsCorrect m meanwhile v → (v == node) ≡ false
+  is_other v correct = ne_eqb v node (apart m faulty meanwhile node too v correct)
+
   later_is : (v : ℕ) → IsCorrect m meanwhile v → later v ≡ begins v + after
-  later_is v correct =
-      ap (λ b. cond b 0 (begins v + after)) (ne_eqb v node (apart v correct))
+  later_is v correct = ap (λ b. cond b 0 (begins v + after)) (is_other v correct)
 
-  -- the rounds before
-  abbrev before : Connects m meanwhile starts sent begins after
-  before =
-      lies_connect m sound meanwhile starts sent begins after
-      (λ v correct. begun v (correct_too v correct))
+  abbrev before : Nodes
+  before = past.is.nodes
 
-  -- what is given in these is sent before the window of the rest
+  -- what is given in the rounds before is sent before the window of the rest
+  abbrev sent_on : ℕ → ℕ → ℕ → List ℕ
+  sent_on t v u = if nat_lt t (begins v + after) then cell_given before t v u else sent t v u
+
   abbrev sent_later : ℕ → ℕ → ℕ → List ℕ
   sent_later t v u =
-      if nat_lt t (begins v + after) then cell_given before.nodes t v u else sent t v u
+      if v == node then sent (begins v + after + t) v u else sent_on t v u
 
   abbrev rest : Connects m faulty starts sent_later later rounds
   rest = lies_connect m sound faulty starts sent_later later rounds begun
 
   module _ (v : ℕ) (correct : IsCorrect m meanwhile v) where
+    sent_is : (t u : ℕ) → sent_later t v u ≡ sent_on t v u
+    sent_is t u =
+        ap (λ b. cond b (sent (begins v + after + t) v u) (sent_on t v u)) (is_other v correct)
+
     early : (t u : ℕ) → t < begins v + after → u < m.nodes
-        → cell_given rest.nodes t v u ≡ cell_given before.nodes t v u
+        → cell_given rest.nodes t v u ≡ cell_given before t v u
     early t u lt ult =
         let at = later_is v correct in
         rest.given t v u (omega (arith, at, lt)) ult (inl (omega (arith, at, lt)))
-        ∙ ap (λ b. cond b (cell_given before.nodes t v u) (sent t v u))
+        ∙ sent_is t u
+        ∙ ap (λ b. cond b (cell_given before t v u) (sent t v u))
         (lt-ltb t (begins v + after) lt)
 
     same_before : (t : ℕ) → t ≤ begins v + after
-        → state_at m rest.nodes t v ≡ state_at m before.nodes t v
+        → state_at m rest.nodes t v ≡ state_at m before t v
     same_before t le =
-        same_at m rest.nodes before.nodes v
-        (ap (λ (s : ℕ → State). s v) (rest.begin ∙ sym before.begin)) (begins v + after)
+        same_at m rest.nodes before v
+        (ap (λ (s : ℕ → State). s v) rest.begin
+        ∙ past.same v (apart m faulty meanwhile node too v correct)
+        ∙ sym (ap (λ (s : ℕ → State). s v) past.is.begin)) (begins v + after)
         (let at = later_is v correct in let long = rest.long v in omega (arith, at, long))
-        (let long = before.long v in omega (arith, long)) early t le
+        (let long = past.is.long v in omega (arith, long)) early t le
 
   wrote_before : (i v u : ℕ) → i < after → IsCorrect m meanwhile v → IsCorrect m meanwhile u
       → cell_given rest.nodes (begins v + i) v u
       ≡ written (m.fields u) (state_in m rest.nodes begins i u)
   wrote_before i v u lt correct other =
       early v correct (begins v + i) u (omega arith) other.0
-      ∙ before.wrote i v u lt other
+      ∙ past.is.wrote i v u lt (past.correct u other)
       ∙ ap (written (m.fields u)) (sym (same_before u other (begins u + i) (omega arith)))
 
   wrote_after : (i v u : ℕ) → after ≤ i → i < after + rounds → IsCorrect m meanwhile v
@@ -122,7 +154,7 @@ module _ (m : Machine) (sound : IsSound m) (faulty meanwhile : List ℕ) (node a
       let at : later v + (i - after) ≡ begins v + i = omega (arith, later_is v correct, le) in
       let there : later u + (i - after) ≡ begins u + i = omega (arith, later_is u other, le) in
       ap (λ t. cell_given rest.nodes t v u) (sym at)
-      ∙ rest.wrote (i - after) v u (omega arith) (correct_too u other)
+      ∙ rest.wrote (i - after) v u (omega arith) (correct_too m faulty meanwhile node too u other)
       ∙ ap (λ t. written (m.fields u) (state_at m rest.nodes t u)) there
 
   wrote : (i v u : ℕ) → i < after + rounds → IsCorrect m meanwhile v → IsCorrect m meanwhile u
@@ -133,28 +165,32 @@ module _ (m : Machine) (sound : IsSound m) (faulty meanwhile : List ℕ) (node a
     | inr late ↦ wrote_after i v u (omega (arith, late)) lt correct other
   ]
 
-  -- a node that is faulty in the rest is so all the time
-  faulty_too : (u : ℕ) → is_in faulty u ≡ true → (b : Bool) → (u == node) ≡ b
-      → is_in meanwhile u ≡ true
-  faulty_too u is true it = ap (is_in meanwhile) (eqb-true u node it) ∙ too.own
-  faulty_too u is false other = too.others u (eqb-false u node other) ∙ is
-
   given : (t v u : ℕ) → t < begins v + (after + rounds) → IsCorrect m meanwhile v → u < m.nodes
       → is_in faulty u ≡ true → cell_given rest.nodes t v u ≡ sent t v u
   given t v u lt correct ult is = elim (cases_lt t (begins v + after)) [
     | inl before_it ↦
         early v correct t u before_it ult
-        ∙ before.given t v u before_it ult (inr (faulty_too u is (u == node) refl))
+        ∙ past.is.given t v u before_it ult (inr (past.faulty_too u is))
     | inr late ↦
         rest.given t v u (let at = later_is v correct in omega (arith, at, lt)) ult (inr is)
-        ∙ ap (λ b. cond b (cell_given before.nodes t v u) (sent t v u))
+        ∙ sent_is v correct t u
+        ∙ ap (λ b. cond b (cell_given before t v u) (sent t v u))
         (le-ltb t (begins v + after) (omega (arith, late)))
   ]
+
+  -- to the node that is started anew
+  given_anew : (i u : ℕ) → i < rounds → u < m.nodes → is_in faulty u ≡ true
+      → cell_given rest.nodes i node u ≡ sent (begins node + after + i) node u
+  given_anew i u lt ult is =
+      let it : (node == node) ≡ true = eq-eqb node node refl in
+      let from : later node ≡ 0 = ap (λ b. cond b 0 (begins node + after)) it in
+      rest.given i node u (omega (arith, from, lt)) ult (inr is)
+      ∙ ap (λ b. cond b (sent (begins node + after + i) node u) (sent_on i node u)) it
 
   begun_rest : (v : ℕ) → IsCorrect m meanwhile v → IsState m v (rest.nodes.starts v)
   begun_rest v correct =
       subst (λ (s : ℕ → State). IsState m v (s v)) (sym rest.begin)
-      (begun v (correct_too v correct))
+      (begun v (correct_too m faulty meanwhile node too v correct))
 
   all : AreConnected m meanwhile rest.nodes begins (after + rounds)
   all = record {
@@ -170,15 +206,82 @@ module _ (m : Machine) (sound : IsSound m) (faulty meanwhile : List ℕ) (node a
         (take (begins u + i) (rest.nodes.packets u)) (begun_rest u other));
   }
 
-  pub restart_connects : RestartConnects m faulty meanwhile node after starts sent begins rounds
+  abbrev restart_connects : RestartConnects m faulty meanwhile node after starts sent begins rounds
   restart_connects = record {
     sent_later = sent_later;
     rest = rest;
     all = all;
     wrote = wrote;
     given = given;
+    given_anew = given_anew;
   }
+
+-- ---- the node is away before
 
 pub any_restart_connects : AnyRestartConnects
 any_restart_connects m sound faulty meanwhile node after too starts sent begins rounds begun =
     restart_connects m sound faulty meanwhile node after too starts sent begins rounds begun
+    (record {
+      away = meanwhile;
+      correct = λ v correct. correct;
+      faulty_too = λ u is. faulty_too m faulty meanwhile node too u is (u == node) refl;
+      starts_first = starts;
+      same = λ v other. refl;
+      is = lies_connect m sound meanwhile starts sent begins after
+          (λ v correct. begun v (correct_too m faulty meanwhile node too v correct));
+    })
+
+-- ---- the node is correct before, and goes on from its last state
+
+module _ (m : Machine) (sound : IsSound m) (faulty meanwhile : List ℕ) (node after : ℕ)
+    (too : AreFaultyMeanwhile node faulty meanwhile) (correct : IsCorrect m faulty node)
+    (starts : ℕ → State) (sent : ℕ → ℕ → ℕ → List ℕ) (begins : ℕ → ℕ) (rounds : ℕ)
+    (begun : (v : ℕ) → IsCorrect m faulty v → IsState m v (starts v)) where
+  abbrev first : Connects m faulty starts sent begins after
+  first = lies_connect m sound faulty starts sent begins after begun
+
+  abbrev last : State
+  last = state_in m first.nodes begins after node
+
+  last_is_state : IsState m node last
+  last_is_state =
+      behind_is_state m sound node correct.0 (first.nodes.starts node)
+      (take (begins node + after) (first.nodes.packets node))
+      (subst (λ (s : ℕ → State). IsState m node (s node)) (sym first.begin) (begun node correct))
+
+  begun_later : (v : ℕ) → IsCorrect m faulty v → (b : Bool) → (v == node) ≡ b
+      → IsState m v (cond b last (starts v))
+  begun_later v right true it =
+      subst (λ u. IsState m u last) (sym (eqb-true v node it)) last_is_state
+  begun_later v right false other = begun v right
+
+  abbrev past : Before m faulty meanwhile node after (starts_later node last starts) sent begins
+  past = record {
+    away = faulty;
+    correct = correct_too m faulty meanwhile node too;
+    faulty_too = λ u is. is;
+    starts_first = starts;
+    same = λ v other. ap (λ b. cond b last (starts v)) (ne_eqb v node other);
+    is = first;
+  }
+
+  pub resumption_connects : ResumptionConnects m faulty meanwhile node after starts sent begins
+      rounds
+  resumption_connects = record {
+    before = first;
+    restart = restart_connects m sound faulty meanwhile node after too
+        (starts_later node last starts) sent begins rounds
+        (λ v right. begun_later v right (v == node) refl) past;
+    same = λ t v u lt right ult.
+        early m sound faulty meanwhile node after too (starts_later node last starts) sent begins
+        rounds (λ w right_too. begun_later w right_too (w == node) refl) past v right t u lt ult;
+    same_states = λ t v le right.
+        same_before m sound faulty meanwhile node after too (starts_later node last starts) sent
+        begins rounds (λ w right_too. begun_later w right_too (w == node) refl) past v right t le;
+  }
+
+pub any_resumption_connects : AnyResumptionConnects
+any_resumption_connects m sound faulty meanwhile node after too correct starts sent begins rounds
+    begun =
+    resumption_connects m sound faulty meanwhile node after too correct starts sent begins rounds
+    begun

@@ -6,7 +6,7 @@ ghost use Rattle.node_runs.specs.Laws.{NodesLock, NodesStayLocked, HeardNodesSta
 ghost use Rattle.node_runs.specs.Losses.{LossesKeepLocked};
 ghost use Rattle.node_runs.specs.Lossy.{AnyLossesConnect};
 ghost use Rattle.node_runs.specs.Missed.{OthersAreMissed};
-ghost use Rattle.node_runs.specs.Restarts.{AnyRestartConnects};
+ghost use Rattle.node_runs.specs.Restarts.{AnyRestartConnects, AnyResumptionConnects};
 ghost use Rattle.node_runs.specs.Rounds.{NodesInRoundsRun, NodesInRoundsStayLocked};
 
 /// What a node writes is, cell by cell, its states: the first, and that after each packet.
@@ -74,6 +74,12 @@ pub fn any_losses_connect()
 /// of it, after however many rounds, and whatever the faulty ones send.
 pub fn any_restart_connects()
     ensures { AnyRestartConnects }
+{}
+
+/// There are connected nodes of which one, after however many rounds, is started anew in the state
+/// in which it was last, while the others go on, whatever the faulty ones send.
+pub fn any_resumption_connects()
+    ensures { AnyResumptionConnects }
 {}
 
 /// Nodes that say bytes to one another in rounds, from which each makes its step, are a run of the

@@ -1,5 +1,4 @@
 pub mod Used
 pub mod Shaped
-pub mod StateDigits
-pub mod NodeParts
+pub mod PlanBits
 pub mod HeaderTexts

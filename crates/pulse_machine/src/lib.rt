@@ -1,6 +1,7 @@
 //! The counter of a pulse plan, with the fields of its nodes' states, as a machine.
 #![tactic(auto)]
 
+pub mod laws;
 mod making;
 mod pulse_machines;
 

@@ -6,7 +6,11 @@ use Rattle.node_runs.specs.NodeRuns.{SomeIsCorrect}
 use Rattle.node_promises.specs.Calls.{Call, IsOfNode, CallsWriteTexts}
 use Rattle.node_promises.specs.CallWindows.{ConnectedCallsCount, HeardCallsStayLocked}
 use Rattle.node_promises.specs.Restarts.{RestartedNodesCount}
+use Rattle.node_promises.specs.Processes.{CallsAreProcesses}
 use Rattle.node_promises.specs.Inputs.{AnyInputsConnect}
+use Rattle.node_promises.specs.RestartInputs.{AnyInputsRestart}
+use Rattle.node_promises.specs.ResumedInputs.{AnyInputsResume}
+use Rattle.node_promises.specs.LossyInputs.{AnyInputsLose}
 use Rattle.pulse_plan.specs.Plans.{PulseNumbers, IsAccepted}
 use Rattle.pulse_plan.specs.Laws.{machine_in}
 use Rattle.pulse_nodes.specs.PulseWords.{pulse_words}
@@ -25,7 +29,30 @@ pub record PulseNodesKeepPromise : Type 0 where
   pub some : (plan : PulseNumbers) → IsAccepted plan → (faulty : List ℕ)
       → IsBorne (machine_in plan) faulty → SomeIsCorrect (machine_in plan) faulty
 
--- The premise can be met: there are inputs of connected calls, whatever states of theirs the
+-- Each call of a node is a process over packets, from the state on that its header states.
+abbrev pub PulseCallsAreProcesses : Type 0
+PulseCallsAreProcesses = CallsAreProcesses pulse_words
+
+-- The premises can be met: there are inputs of connected calls, whatever states of theirs the
 -- correct nodes begin in, and whatever is sent. Their headers have seven lines.
 abbrev pub AnyPulseInputsConnect : Type 0
 AnyPulseInputsConnect = AnyInputsConnect pulse_words 7 IsAccepted
+
+-- There are some to which cells are lost, whichever they are of those that may be missed.
+abbrev pub AnyPulseInputsLose : Type 0
+AnyPulseInputsLose = AnyInputsLose pulse_words (λ plan. 7) IsAccepted
+
+-- There are some of which one is started anew, in whatever state of its node.
+abbrev pub AnyPulseInputsRestart : Type 0
+AnyPulseInputsRestart = AnyInputsRestart pulse_words (λ plan. 7) IsAccepted
+
+-- And some of which one ends, and another input of its node goes on from its last cell.
+abbrev pub AnyPulseInputsResume : Type 0
+AnyPulseInputsResume = AnyInputsResume pulse_words (λ plan. 7) IsAccepted
+
+-- all of these
+pub record AnyPulseInputs : Type 0 where
+  pub connect : AnyPulseInputsConnect
+  pub lose : AnyPulseInputsLose
+  pub restart : AnyPulseInputsRestart
+  pub resume : AnyPulseInputsResume

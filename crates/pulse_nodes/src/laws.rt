@@ -1,7 +1,10 @@
 //! What calls of nodes of a pulse plan promise that are given one another's cells. The functions do
 //! nothing: their clauses are the laws.
 
-ghost use Rattle.pulse_nodes.specs.NodePromises.{PulseNodesKeepPromise, AnyPulseInputsConnect};
+ghost use Rattle.pulse_nodes.specs.NodePromises.{PulseNodesKeepPromise, PulseCallsAreProcesses};
+ghost use Rattle.pulse_nodes.specs.NodePromises.{AnyPulseInputsConnect, AnyPulseInputsLose};
+ghost use Rattle.pulse_nodes.specs.NodePromises.{AnyPulseInputsRestart, AnyPulseInputsResume};
+ghost use Rattle.pulse_nodes.specs.NodePromises.{AnyPulseInputs};
 
 use pulse_header::laws::header_texts_read_back;
 use pulse_plan::laws::accepted_are_sound;
@@ -20,6 +23,12 @@ pub fn pulse_nodes_keep_promise()
     accepted_are_sound();
 }
 
+/// Each call of a node writes what a node of its plan writes that begins in the state which the
+/// header states, and is given the packets of the call.
+pub fn calls_are_processes()
+    ensures { PulseCallsAreProcesses }
+{}
+
 /// There are inputs of such calls, whatever states of theirs the correct nodes begin in, wherever
 /// the window begins in each of them, and whatever is given as the cells of faulty ones, and of all
 /// nodes before the window.
@@ -28,4 +37,43 @@ pub fn any_inputs_connect()
 {
     header_texts_read_back();
     accepted_are_sound();
+}
+
+/// There are inputs of such calls to which cells are lost: whichever nodes each of them misses in
+/// each round, at most F and the faulty ones among them, and whatever is given in place of their
+/// cells.
+pub fn any_inputs_lose()
+    ensures { AnyPulseInputsLose }
+{
+    header_texts_read_back();
+    accepted_are_sound();
+}
+
+/// There are inputs of such calls of which one is started anew after so many rounds, in whatever
+/// state of its node, while the others go on, whatever the faulty ones send.
+pub fn any_inputs_restart()
+    ensures { AnyPulseInputsRestart }
+{
+    header_texts_read_back();
+    accepted_are_sound();
+}
+
+/// There are inputs of such calls of which one ends after so many rounds, and another input of its
+/// node, whose header has the state of the last cell that it wrote, goes on with the others. From
+/// the bound on all are locked there.
+pub fn any_inputs_resume()
+    ensures { AnyPulseInputsResume }
+{
+    header_texts_read_back();
+    accepted_are_sound();
+}
+
+/// All of these.
+pub fn any_inputs()
+    ensures { AnyPulseInputs }
+{
+    any_inputs_connect();
+    any_inputs_lose();
+    any_inputs_restart();
+    any_inputs_resume();
 }

@@ -5,7 +5,8 @@ ghost use Rattle.pulse_plan.specs.Laws.{EveryPlanSettles};
 ghost use Rattle.pulse_texts.specs.PulsesTexts.{PulsesTextIsWhole};
 ghost use Rattle.pulse_tables.specs.TableLaws.{TablesAreRead, OnlyTablesAreRead};
 ghost use Rattle.pulse_header.specs.HeaderTexts.{PulseHeaderTextIsRead};
-ghost use Rattle.pulse_nodes.specs.NodePromises.{PulseNodesKeepPromise, AnyPulseInputsConnect};
+ghost use Rattle.pulse_nodes.specs.NodePromises.{PulseNodesKeepPromise, PulseCallsAreProcesses};
+ghost use Rattle.pulse_nodes.specs.NodePromises.{AnyPulseInputs};
 ghost use Rattle.pulselab.specs.Faults.{KeptAt, UnmetAt};
 ghost use Rattle.pulselab.specs.Requests.{request_of};
 ghost use Rattle.pulselab.specs.Conduct.{Answers, Fails, LeavesUnread};
@@ -17,7 +18,7 @@ use crate::plan_word::table_plan;
 use crate::requests::{Request, request_of};
 use edge_io::{Sink, Source};
 use pulse_header::laws::header_texts_read_back;
-use pulse_nodes::laws::{any_inputs_connect, pulse_nodes_keep_promise};
+use pulse_nodes::laws::{any_inputs, calls_are_processes, pulse_nodes_keep_promise};
 use pulse_plan::laws::every_plan_settles;
 use pulse_tables::tables_read_back;
 use pulse_texts::pulses_texts_read_back;
@@ -70,17 +71,24 @@ pub fn pulselab<S: Source, K: Sink>(
     // where cells are lost too. A call that takes the place of another comes to count with them.
     ensures nodes { PulseNodesKeepPromise }
 
+    // Each of them writes what a node of the plan writes that begins in the state which its header
+    // states, and is given the packets behind it.
+    ensures processes { PulseCallsAreProcesses }
+
     // Each node of each plan has a header, whose text is read as it is; and there are inputs of
-    // such calls, whatever states the nodes begin in, and whatever the faulty ones send.
+    // such calls, whatever states the nodes begin in, and whatever the faulty ones send: of calls
+    // that are given all cells, of some to which cells are lost, and of some of which one is started
+    // anew, in any state, or goes on from the last cell that was written in its place.
     ensures headers { PulseHeaderTextIsRead }
-    ensures inputs { AnyPulseInputsConnect }
+    ensures inputs { AnyPulseInputs }
 {
     every_plan_settles();
     pulses_texts_read_back();
     tables_read_back();
     pulse_nodes_keep_promise();
+    calls_are_processes();
     header_texts_read_back();
-    any_inputs_connect();
+    any_inputs();
     match request_of(words) {
         None => Err(LabError::Usage),
         Some(Request::Help) => Ok(write_help(sink)?),

@@ -1,0 +1,96 @@
+-- Inputs of calls to which cells are lost.
+use Rattle.std.proofs.Common.{◌≡◌, ℕ, ◌+◌, ◌<◌, ◌≤◌, false, List, Ok, refl, ap, ◌∙◌, arith}
+use Rattle.sync_types.specs.States.{State}
+use Rattle.construction.specs.Runs.{is_in}
+use Rattle.machines.specs.Machines.{Machine}
+use Rattle.node_runs.specs.NodeRuns.{cell_given, IsCorrect}
+use Rattle.node_runs.specs.Losses.{AreMissed}
+use Rattle.node_runs.specs.Lossy.{ConnectsMost}
+use Rattle.node_runs.proofs.Connected.{any_losses_connect}
+use Rattle.node_runs.proofs.Losses.{not_so}
+use Rattle.node_words.specs.Constructions.{Words}
+use Rattle.node_promises.specs.Calls.{whole, header_of, cell_heard}
+use Rattle.node_promises.specs.CallWindows.{CallsAreHeard}
+use Rattle.node_promises.specs.Inputs.{header_stated}
+use Rattle.node_promises.specs.RestartInputs.{calls_of}
+use Rattle.node_promises.specs.LossyInputs.{InputsLose, AnyInputsLose}
+use Rattle.node_promises.proofs.InputTexts.{AreWritten, AreFed, inputs_of, begin, same_cell, ends}
+use Rattle.node_promises.proofs.InputTexts.{are_calls, cell_is}
+
+module _ {Reader Plan Premise : Type 0} (words : Words Reader Plan Premise)
+    {Accepted : Plan → Type 0} (lines : Plan → ℕ) (text : Plan → (v : ℕ) → State → List ℕ)
+    (law : AreWritten words Accepted lines text) (plan : Plan) (accepted : Accepted plan)
+    (faulty : List ℕ) (starts : ℕ → State) (sent : ℕ → ℕ → ℕ → List ℕ)
+    (missed : (i v : ℕ) → List ℕ) (begins : ℕ → ℕ) (rounds : ℕ)
+    (few : (v : ℕ) → begins v + rounds ≤ 1000000)
+    (are : (i v : ℕ) → i < rounds → IsCorrect (words.machine plan) faulty v
+    → AreMissed (words.machine plan) faulty v (missed i v))
+    (c : ConnectsMost (words.machine plan) faulty starts sent missed begins rounds) where
+  abbrev m : Machine
+  m = words.machine plan
+
+  abbrev count : ℕ → ℕ
+  count v = begins v + rounds
+
+  fed : AreFed m faulty c.nodes count
+  fed = record {
+    starts = c.are.starts;
+    long = λ v correct. c.long v;
+    full = λ v correct. c.full v;
+    few = λ v correct. few v;
+  }
+
+  abbrev inputs : ℕ → List ℕ
+  inputs = inputs_of (text plan) c.nodes
+
+  within : (v : ℕ) → IsCorrect m faulty v → begins v + rounds ≤ count v
+  within v correct = omega arith
+
+  -- a node that is not missed is correct
+  not_missed : (i v u : ℕ) → i < rounds → IsCorrect m faulty v → u < m.nodes
+      → is_in (missed i v) u ≡ false → IsCorrect m faulty u
+  not_missed i v u lt correct ult is =
+      (ult, not_so (is_in faulty u) (is_in (missed i v) u) ((are i v lt correct).faulty_too u) is)
+
+  heard : CallsAreHeard words m faulty (calls_of inputs) begins rounds
+  heard = record {
+    are_calls = are_calls words lines text law plan accepted faulty c.nodes count fed begins rounds
+        within;
+    missed = missed;
+    are = are;
+    cells = λ i v u lt correct ult is other.
+        cell_is words lines text law plan accepted faulty c.nodes count fed begins rounds within i v
+        u lt correct (not_missed i v u lt correct ult is) (c.wrote i v u lt ult is);
+  }
+
+  begin_is : (v : ℕ) → IsCorrect m faulty v
+      → header_of words (whole (inputs v)) ≡ Ok (header_stated (lines plan) plan v (starts v))
+  begin_is v correct =
+      begin words lines text law plan accepted faulty c.nodes count fed v correct
+      ∙ ap (λ (s : ℕ → State). Ok (header_stated (lines plan) plan v (s v))) c.begin
+
+  same : (t v u : ℕ) → IsCorrect m faulty v
+      → cell_heard words (whole (inputs v)) t u ≡ cell_given c.nodes t v u
+  same t v u correct =
+      same_cell words lines text law plan accepted faulty c.nodes count fed t v u correct
+
+  inputs_lose : InputsLose words (lines plan) plan faulty starts sent missed begins rounds
+  unfolding heard
+  inputs_lose = record {
+    inputs = inputs;
+    heard = heard;
+    misses = refl;
+    begin = begin_is;
+    early = λ t v u lt correct ult. same t v u correct ∙ c.early t v u lt ult;
+    lost = λ i v u lt correct ult is. same (begins v + i) v u correct ∙ c.lost i v u lt ult is;
+    ends = ends words lines text law plan accepted faulty c.nodes count fed;
+  }
+
+pub any_lose : {Reader Plan Premise : Type 0} (words : Words Reader Plan Premise)
+    (Accepted : Plan → Type 0) (lines : Plan → ℕ) (text : Plan → (v : ℕ) → State → List ℕ)
+    → AreWritten words Accepted lines text → AnyInputsLose words lines Accepted
+any_lose words Accepted lines text law plan accepted faulty starts sent missed begins rounds few
+    begun are =
+    inputs_lose words lines text law plan accepted faulty starts sent missed begins rounds few are
+    (any_losses_connect (words.machine plan) (law.sound plan accepted) faulty starts sent missed
+    begins rounds begun are)
