@@ -13,9 +13,8 @@ pub mod Printed
 pub mod NodeCalls
 pub mod PlanCalls
 pub mod NodePromises
-pub mod NodeInputs
+pub mod CallInputs
 pub mod DemoTexts
-pub mod RestartInputs
 pub mod ReadRequests
 pub mod ReadLogs
 pub mod OnlyTexts

@@ -14,7 +14,7 @@ pub mod Printed
 pub mod NodeCalls
 pub mod CallWindows
 pub mod Restarts
+pub mod CallInputs
 pub mod NodePromises
-pub mod RestartInputs
 pub mod Processes
 pub mod OnlyTexts

@@ -1,7 +1,7 @@
-//! What calls of `node` promise that are given one another's cells. The functions do nothing: their
-//! clauses are the laws.
+//! What calls of `node` promise that are given one another's cells. The function does nothing: its
+//! clause is the law.
 
-ghost use Rattle.promises.specs.NodePromises.{NodePromiseIsKept, AnyInputsConnect};
+ghost use Rattle.promises.specs.NodePromises.{NodePromiseIsKept};
 
 /// N calls of `node`, one for each node of a plan, of which few are faulty. For a window of rounds
 /// each of the others is given, in each packet, the cells that they wrote after as many rounds, and
@@ -12,14 +12,9 @@ ghost use Rattle.promises.specs.NodePromises.{NodePromiseIsKept, AnyInputsConnec
 /// N - F correct nodes, its own among them. A process that is started anew is a faulty node of the
 /// whole window and a correct one of its rest. A call's text is what it writes with the statuses
 /// `Ok`, `Cut`, `TooLong` and `ReadFault`; with the last one it is that of the packets that were
-/// read.
+/// read. There are inputs that meet each premise: of connected calls, of calls to which cells are
+/// lost, of calls of which one is started anew, and of some of which one goes on from the last cell
+/// that was written in its place; whatever states they begin in, and whatever is sent.
 pub fn node_promise_is_kept()
     ensures { NodePromiseIsKept }
-{}
-
-/// There are inputs of such calls, whatever states of theirs the correct nodes begin in, wherever
-/// the window begins in each of them, and whatever is given as the cells of faulty ones, and of all
-/// nodes before the window.
-pub fn any_inputs_connect()
-    ensures { AnyInputsConnect }
 {}

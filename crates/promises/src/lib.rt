@@ -13,4 +13,3 @@ pub mod only_texts;
 pub mod plan_promises;
 pub mod printed_promises;
 pub mod processes;
-pub mod restart_promises;

@@ -1,6 +1,7 @@
 use Rattle.plan_node_runs.proofs.Plans.{borne_leaves_some}
 use Rattle.promises.proofs.NodeCalls.{calls_write}
 use Rattle.promises.proofs.PlanCalls.{are_accepted}
+use Rattle.promises.proofs.CallInputs.{any_call_inputs}
 use Rattle.promises.proofs.NodePromises.{connected_count, heard_stay_locked, restarted_count}
 use Rattle.promises.proofs.call_promises.node_promise_is_kept.Goals as goal
 
@@ -12,4 +13,5 @@ returns c = record {
   restarts = restarted_count;
   accepted = are_accepted;
   some = borne_leaves_some;
+  inputs = any_call_inputs;
 }

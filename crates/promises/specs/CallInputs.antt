@@ -1,0 +1,99 @@
+-- There are inputs of calls of `node` that meet each premise of what is promised of these.
+use Rattle.std.specs.Prelude.{ℕ, ◌+◌, ◌<◌, ◌≤◌, List}
+use Rattle.sync_types.specs.States.{State}
+use Rattle.construction.specs.Plans.{Plan, plan_depth}
+use Rattle.construction.specs.Runs.{IsState}
+use Rattle.plan_numbers.specs.Premises.{IsAccepted}
+use Rattle.plan_node_runs.specs.NodeRuns.{IsCorrect, AreMissed}
+use Rattle.node_promises.specs.Inputs as joined
+use Rattle.node_promises.specs.LossyInputs as lossy
+use Rattle.node_promises.specs.RestartInputs as restarted
+use Rattle.node_promises.specs.ResumedInputs as resumed
+use Rattle.node_promises.specs.RestartInputs.{calls_of, restart_of, restart_with}
+use Rattle.outcomes.specs.PlanWords.{plan_words}
+use Rattle.promises.specs.CallWindows.{NameThePlan, CallsConnect}
+use Rattle.promises.specs.Restarts.{calls_after, begins_after, AreFaultyMeanwhile}
+
+-- a header has a line for each level, three of the plan, and four of the node
+abbrev pub header_lines : Plan → ℕ
+header_lines plan = plan_depth plan + 7
+
+-- Inputs of connected calls whose nodes begin in these states and are given these bytes, as those
+-- of any construction; the header of each names the plan.
+pub record InputsConnect (plan : Plan) (faulty : List ℕ) (starts : ℕ → State)
+    (sent : ℕ → ℕ → ℕ → List ℕ) (begins : ℕ → ℕ) (rounds : ℕ) : Type 0 where
+  pub made : joined.InputsConnect plan_words (header_lines plan) plan faulty starts sent begins
+      rounds
+  pub connect : CallsConnect plan faulty (calls_of made.inputs) begins rounds
+
+-- the same of calls to which cells are lost
+pub record InputsLose (plan : Plan) (faulty : List ℕ) (starts : ℕ → State)
+    (sent : ℕ → ℕ → ℕ → List ℕ) (missed : (i v : ℕ) → List ℕ) (begins : ℕ → ℕ) (rounds : ℕ)
+    : Type 0 where
+  pub made : lossy.InputsLose plan_words (header_lines plan) plan faulty starts sent missed begins
+      rounds
+  pub names : NameThePlan plan faulty (calls_of made.inputs)
+
+module _ (plan : Plan) (faulty meanwhile : List ℕ) (node after : ℕ) (starts : ℕ → State)
+    (sent : ℕ → ℕ → ℕ → List ℕ) (begins : ℕ → ℕ) (rounds : ℕ) where
+  -- of calls of which one is started anew
+  pub record InputsRestart : Type 0 where
+    pub made : restarted.InputsRestart plan_words (header_lines plan) plan faulty meanwhile node
+        after starts sent begins rounds
+    pub all : CallsConnect plan meanwhile (calls_of made.inputs) begins (after + rounds)
+    pub rest : CallsConnect plan faulty
+        (calls_after (restart_of made.inputs node after) (calls_of made.inputs))
+        (begins_after (restart_of made.inputs node after) begins) rounds
+
+  -- and of calls of which one ends, and another one goes on from its last cell
+  pub record InputsResume : Type 0 where
+    pub made : resumed.InputsResume plan_words (header_lines plan) plan faulty meanwhile node after
+        starts sent begins rounds
+    pub all : CallsConnect plan meanwhile (calls_of made.inputs) begins (after + rounds)
+    pub rest : CallsConnect plan faulty
+        (calls_after (restart_with node after made.resumed) (calls_of made.inputs))
+        (begins_after (restart_with node after made.resumed) begins) rounds
+
+-- There are such inputs, whatever states of theirs the correct nodes begin in, wherever the window
+-- begins in each of them, and whatever is sent.
+abbrev pub AnyInputsConnect : Type 0
+AnyInputsConnect = (plan : Plan) → IsAccepted plan → (faulty : List ℕ) (starts : ℕ → State)
+    (sent : ℕ → ℕ → ℕ → List ℕ) (begins : ℕ → ℕ) (rounds : ℕ)
+    → ((v : ℕ) → begins v + rounds ≤ 1000000)
+    → ((v : ℕ) → IsCorrect plan faulty v → IsState plan v (starts v))
+    → InputsConnect plan faulty starts sent begins rounds
+
+-- whichever nodes each of them misses
+abbrev pub AnyInputsLose : Type 0
+AnyInputsLose = (plan : Plan) → IsAccepted plan → (faulty : List ℕ) (starts : ℕ → State)
+    (sent : ℕ → ℕ → ℕ → List ℕ) (missed : (i v : ℕ) → List ℕ) (begins : ℕ → ℕ) (rounds : ℕ)
+    → ((v : ℕ) → begins v + rounds ≤ 1000000)
+    → ((v : ℕ) → IsCorrect plan faulty v → IsState plan v (starts v))
+    → ((i v : ℕ) → i < rounds → IsCorrect plan faulty v
+    → AreMissed plan faulty v (missed i v))
+    → InputsLose plan faulty starts sent missed begins rounds
+
+-- after however many rounds one is started anew
+abbrev pub AnyInputsRestart : Type 0
+AnyInputsRestart = (plan : Plan) → IsAccepted plan → (faulty meanwhile : List ℕ)
+    (node after : ℕ) → AreFaultyMeanwhile node faulty meanwhile → (starts : ℕ → State)
+    (sent : ℕ → ℕ → ℕ → List ℕ) (begins : ℕ → ℕ) (rounds : ℕ)
+    → ((v : ℕ) → begins v + (after + rounds) ≤ 1000000)
+    → ((v : ℕ) → IsCorrect plan faulty v → IsState plan v (starts v))
+    → InputsRestart plan faulty meanwhile node after starts sent begins rounds
+
+-- or is handed the last cell that was written in its place
+abbrev pub AnyInputsResume : Type 0
+AnyInputsResume = (plan : Plan) → IsAccepted plan → (faulty meanwhile : List ℕ)
+    (node after : ℕ) → AreFaultyMeanwhile node faulty meanwhile → IsCorrect plan faulty node
+    → (starts : ℕ → State) (sent : ℕ → ℕ → ℕ → List ℕ) (begins : ℕ → ℕ) (rounds : ℕ)
+    → ((v : ℕ) → begins v + (after + rounds) ≤ 1000000)
+    → ((v : ℕ) → IsCorrect plan faulty v → IsState plan v (starts v))
+    → InputsResume plan faulty meanwhile node after starts sent begins rounds
+
+-- all of these
+pub record AnyCallInputs : Type 0 where
+  pub connect : AnyInputsConnect
+  pub lose : AnyInputsLose
+  pub restart : AnyInputsRestart
+  pub resume : AnyInputsResume
