@@ -4,6 +4,7 @@ pub mod Promise
 pub mod CheckLaws
 pub mod RecordLaws
 pub mod Complete
+pub mod LayerParts
 pub mod LayerPromises
 pub mod LockPromises
 pub mod FindPromises

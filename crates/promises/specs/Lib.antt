@@ -6,6 +6,7 @@ pub mod Laws
 pub mod ScriptInputs
 pub mod PlanPromises
 pub mod EveryRun
+pub mod LayerParts
 pub mod LayerPromises
 pub mod DemoLaws
 pub mod LockPromises

@@ -13,7 +13,7 @@ use round_runner::laws::{
     each_is_of_one_era, eras_are_runs, eras_count, eras_lock, eras_stay_locked,
 };
 use run_explanations::laws::{explained_eras_lock, found_is_first, long_eras_are_explained};
-use run_promises::laws::plain_scripts_are_played;
+use run_promises::laws::{plain_scripts_are_played, texts_are_written};
 
 /// Every accepted plan settles. No run of it can come to an end, each is locked at the bound, and
 /// from any locked configuration on it stays so and counts. Its texts of both versions are of one
@@ -36,14 +36,16 @@ pub fn accepted_plans_settle()
 }
 
 /// Where an input is a plan and a script, what is played has the script's starts, faulty sets and
-/// lies, and all rows that are shown are played ones. What is played of each era is a run of the
-/// plan with few faulty nodes; what is written of it counts from the bound on, and from its first
-/// locked configuration on, to the era's end, and is locked from there to it. What is written of
-/// why the last one locks is its first explanation, and it is locked from the end of that phase on.
+/// lies, and all rows that are shown are played ones. What is written has just its lines. What is
+/// played of each era is a run of the plan with few faulty nodes; what is written of it counts from
+/// the bound on, and from its first locked configuration on, to the era's end, and is locked from
+/// there to it. What is written of why the last one locks is its first explanation, and it is
+/// locked from the end of that phase on.
 pub fn promise_is_kept()
     ensures { PromiseIsKept }
 {
     plain_scripts_are_played();
+    texts_are_written();
     each_is_of_one_era();
     eras_are_runs();
     eras_lock();
