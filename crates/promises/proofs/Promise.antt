@@ -19,7 +19,7 @@ use Rattle.run_promises.specs.PlainRuns.{PlainScriptsArePlayed}
 use Rattle.run_promises.specs.WrittenLines.{TextsAreWritten}
 use Rattle.run_lines.specs.RunTexts.{number_word}
 use Rattle.run_lines.proofs.FirstListed.{first_listed}
-use Rattle.promises.proofs.ExplainLaws.{why_is_true}
+use Rattle.promises.proofs.ExplainLaws.{why_is_true, base_is_said}
 use Rattle.outcomes.specs.declared.refusals.Refusal.{Refusal}
 use Rattle.run_lines.specs.RowTexts.{lock_played}
 use Rattle.outcomes.specs.Inputs.{Scripted, scripted_of}
@@ -96,6 +96,7 @@ module _ (plays : PlainScriptsArePlayed) (texts : TextsAreWritten) (each : EachI
     eras = era_keeps s.plan s.script read.for;
     why = why_is_true each stays explained long found s.plan s.script read.for
         (locked_first s.plan s.script read.for (length s.script.eras) (omega arith));
+    base = base_is_said s.plan s.script;
   }
 
   pub promise_kept : PromiseIsKept

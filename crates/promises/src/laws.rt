@@ -40,7 +40,7 @@ pub fn accepted_plans_settle()
 /// played of each era is a run of the plan with few faulty nodes; what is written of it counts from
 /// the bound on, and from its first locked configuration on, to the era's end, and is locked from
 /// there to it. What is written of why the last one locks is its first explanation, and it is
-/// locked from the end of that phase on.
+/// locked from the end of that phase on; of a plan without levels it is a line.
 pub fn promise_is_kept()
     ensures { PromiseIsKept }
 {
