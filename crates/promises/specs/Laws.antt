@@ -19,6 +19,7 @@ use Rattle.run_lines.specs.RunTexts.{number_word}
 use Rattle.run_lines.specs.RowTexts.{node_word, lock_played}
 use Rattle.outcomes.specs.Inputs.{scripted_of}
 use Rattle.promises.specs.ExplainLaws.{WhyIsTrue, BaseIsSaid}
+use Rattle.promises.specs.MachineVersions.{VersionsAreOneMachine}
 
 -- All that is known of an accepted plan, in each of its runs and with each faulty set that it
 -- bears.
@@ -38,8 +39,9 @@ pub record IsSelfStabilising (plan : Plan) : Type 0 where
   pub stays : (faulty : List ℕ) (run : List (List State)) → IsBorne plan faulty
       → Run plan faulty run → (from : ℕ) → from < length run
       → IsLocked plan faulty (configuration run from) → StaysLockedFrom plan faulty run from
-  -- and its text of another version is that of the same counter
+  -- its text of another version is that of the same counter, and of the same machine
   pub versions : (version : ℕ) → AreSame plan (in_version version plan)
+  pub machine : VersionsAreOneMachine plan
 
 abbrev pub AcceptedStabilise : Type 0
 AcceptedStabilise = (plan : Plan) → IsAccepted plan → IsSelfStabilising plan

@@ -2,6 +2,7 @@ pub mod CheckLaws
 pub mod RecordLaws
 pub mod Completeness
 pub mod ExplainLaws
+pub mod MachineVersions
 pub mod Laws
 pub mod ScriptInputs
 pub mod PlanPromises
