@@ -9,6 +9,7 @@ pub mod LayerPromises
 pub mod LockPromises
 pub mod FindPromises
 pub mod ScriptInputs
+pub mod TableWords
 pub mod PlanPromises
 pub mod Printed
 pub mod NodeCalls

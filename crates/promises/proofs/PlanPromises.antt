@@ -25,6 +25,7 @@ use Rattle.outcomes.specs.Answers.{text_by}
 use Rattle.adversary_script.specs.ScriptLaws.{ScriptTextIsWhole, ReadIsWritable}
 use Rattle.promises.specs.PlanPromises.{AreTextsOf, IsTableOf, TextsAreKept, TextsAreRead}
 use Rattle.promises.proofs.ScriptInputs.{script_inputs_read}
+use Rattle.promises.proofs.TableWords.{table_is_said}
 
 module _ (whole : PlanTextIsWhole) (read : TablesAreRead) (only : OnlyTablesAreRead)
     (versions : VersionsAgree) where
@@ -34,6 +35,7 @@ module _ (whole : PlanTextIsWhole) (read : TablesAreRead) (only : OnlyTablesAreR
   texts_of (Err at) accepted = tt
   texts_of (Ok plan) accepted = record {
     table = refl;
+    says = table_is_said plan;
     table_read = ap (or_refusal in_table) (read plan accepted);
     text = refl;
     text_read = ap (or_refusal in_plan) (whole plan 2 accepted accepted.newest (omega arith));

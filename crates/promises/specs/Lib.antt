@@ -5,6 +5,7 @@ pub mod ExplainLaws
 pub mod MachineVersions
 pub mod Laws
 pub mod ScriptInputs
+pub mod TableWords
 pub mod PlanPromises
 pub mod EveryRun
 pub mod LayerParts

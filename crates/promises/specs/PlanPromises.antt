@@ -14,16 +14,20 @@ use Rattle.consensus_layer.specs.AgreeTexts.{AgreeTextIsRead}
 use Rattle.firing.specs.RequestTexts.{RequestTextIsRead}
 use Rattle.replicated_log.specs.LogTexts.{LogTextIsRead}
 use Rattle.node_header.specs.HeaderTexts.{HeaderTextIsRead}
+use Rattle.run_promises.specs.WrittenLines.{text_of_words}
 use Rattle.outcomes.specs.declared.refusals.Refusal.{Refusal}
 use Rattle.outcomes.specs.declared.commands.Batch.TheVariants as batch
 use Rattle.outcomes.specs.Inputs.{plan_alone, tabled_of, wants_of}
 use Rattle.outcomes.specs.Answers.{answer_of}
 use Rattle.promises.specs.ScriptInputs.{ScriptInputsAreRead}
+use Rattle.promises.specs.TableWords.{table_words}
 
--- What `plan` answers is the plan's table, which is read back as the plan, and what `upgrade`
--- answers its text in version 2, which is read back as a plan of the same counter.
+-- What `plan` answers is the plan's table, which has just the lines that are said of it, and is
+-- read back as the plan, and what `upgrade` answers its text in version 2, which is read back as a
+-- plan of the same counter.
 pub record AreTextsOf (tabled upgraded : Result (List ℕ) Refusal) (plan : Plan) : Type 0 where
   pub table : tabled ≡ Ok (table_text plan)
+  pub says : table_text plan ≡ text_of_words (table_words plan)
   pub table_read : tabled_of (table_text plan) ≡ Ok plan
   pub text : upgraded ≡ Ok (plan_text 2 plan)
   pub text_read : plan_alone (plan_text 2 plan) ≡ Ok (in_version 2 plan)

@@ -13,9 +13,9 @@ use plan_laws::laws::versions_agree;
 use replicated_log::laws::log_texts_read_back;
 use slot_table::laws::slot_texts_read_back;
 
-/// Where an input is a plan: its table, which `plan` writes, is read back as this plan, and its
-/// text in version 2, which `upgrade` writes, as a plan of the same counter. Where `table` answers
-/// `true`, the input is the table of an accepted plan.
+/// Where an input is a plan: its table, which `plan` writes, has its numbers, line by line, and is
+/// read back as this plan, and its text in version 2, which `upgrade` writes, as a plan of the same
+/// counter. Where `table` answers `true`, the input is the table of an accepted plan.
 pub fn texts_are_kept()
     ensures { TextsAreKept }
 {
