@@ -23,6 +23,7 @@ use Rattle.sync_types.specs.declared.answers.Part.TheVariants as part
 use Rattle.outcomes.specs.Inputs.{in_plan, in_part, in_table, or_refusal}
 use Rattle.outcomes.specs.Answers.{text_by}
 use Rattle.adversary_script.specs.ScriptLaws.{ScriptTextIsWhole, ReadIsWritable}
+use Rattle.promises.specs.DemoLaws.{DemoIsAccepted, LiarsAreSpread}
 use Rattle.promises.specs.PlanPromises.{AreTextsOf, IsTableOf, TextsAreKept, TextsAreRead}
 use Rattle.promises.proofs.ScriptInputs.{script_inputs_read}
 use Rattle.promises.proofs.TableWords.{table_is_said}
@@ -57,17 +58,20 @@ module _ (whole : PlanTextIsWhole) (read : TablesAreRead) (only : OnlyTablesAreR
 
 pub texts_read : PlanTextIsRead → PlanTextIsWhole → TablesAreRead → WantTextIsRead → SlotTextIsRead
     → AgreeTextIsRead → RequestTextIsRead → LogTextIsRead → HeaderTextIsRead → ScriptTextIsWhole
-    → ReadIsWritable → TextsAreRead
-texts_read front whole tables wants slots inputs requests logs headers scripts writable = record {
-  plans = λ plan version accepted later most.
-      ap (or_refusal in_plan) (whole plan version accepted later most);
-  fronts = front;
-  tables = λ plan accepted. ap (or_refusal in_table) (tables plan accepted);
-  wants = λ want fit. ap (or_refusal (in_part part.Find)) (wants want fit);
-  slots = slots;
-  inputs = inputs;
-  requests = requests;
-  logs = logs;
-  headers = headers;
-  scripts = script_inputs_read front scripts writable slots inputs requests logs;
-}
+    → ReadIsWritable → DemoIsAccepted → LiarsAreSpread
+    → TextsAreRead
+texts_read front whole tables wants slots inputs requests logs headers scripts writable demo liars = record {
+      plans = λ plan version accepted later most.
+          ap (or_refusal in_plan) (whole plan version accepted later most);
+      fronts = front;
+      tables = λ plan accepted. ap (or_refusal in_table) (tables plan accepted);
+      wants = λ want fit. ap (or_refusal (in_part part.Find)) (wants want fit);
+      slots = slots;
+      inputs = inputs;
+      requests = requests;
+      logs = logs;
+      headers = headers;
+      scripts = script_inputs_read front scripts writable slots inputs requests logs;
+      demo = demo;
+      liars = liars;
+            }

@@ -5,12 +5,12 @@ pub mod ExplainLaws
 pub mod MachineVersions
 pub mod Laws
 pub mod ScriptInputs
+pub mod DemoLaws
 pub mod TableWords
 pub mod PlanPromises
 pub mod EveryRun
 pub mod LayerParts
 pub mod LayerPromises
-pub mod DemoLaws
 pub mod LockPromises
 pub mod FindPromises
 pub mod Printed

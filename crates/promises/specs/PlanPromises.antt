@@ -19,6 +19,7 @@ use Rattle.outcomes.specs.declared.refusals.Refusal.{Refusal}
 use Rattle.outcomes.specs.declared.commands.Batch.TheVariants as batch
 use Rattle.outcomes.specs.Inputs.{plan_alone, tabled_of, wants_of}
 use Rattle.outcomes.specs.Answers.{answer_of}
+use Rattle.promises.specs.DemoLaws.{DemoIsAccepted, LiarsAreSpread}
 use Rattle.promises.specs.ScriptInputs.{ScriptInputsAreRead}
 use Rattle.promises.specs.TableWords.{table_words}
 
@@ -49,7 +50,8 @@ pub record TextsAreKept : Type 0 where
 -- Each of these values has a text that is read as it. An accepted plan has one in its own version
 -- and in each later one, and a table; wants, slot tables, inputs to agree on, requests to fire,
 -- logs and headers of nodes have one. All but those of tables and of wants are read so at the front
--- of any text, too. A script has one behind the text of its plan, and behind that of a part.
+-- of any text, too. A script has one behind the text of its plan, and behind that of a part; what
+-- `demo` makes of a seed is one.
 pub record TextsAreRead : Type 0 where
   pub plans : (plan : Plan) (version : ℕ) → IsAccepted plan → plan.version ≤ version → version ≤ 2
       → plan_alone (plan_text version plan) ≡ Ok (in_version version plan)
@@ -62,3 +64,5 @@ pub record TextsAreRead : Type 0 where
   pub logs : LogTextIsRead
   pub headers : HeaderTextIsRead
   pub scripts : ScriptInputsAreRead
+  pub demo : DemoIsAccepted
+  pub liars : LiarsAreSpread

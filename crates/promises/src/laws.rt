@@ -4,7 +4,7 @@
 ghost use Rattle.promises.specs.Completeness.{UndisturbedIsDefined, PlainIsDefined, RoomIsDefined};
 ghost use Rattle.promises.specs.Completeness.{CutsAreUnseen};
 ghost use Rattle.promises.specs.Laws.{AcceptedStabilise, AcceptedPlansSettle, PromiseIsKept};
-ghost use Rattle.promises.specs.DemoLaws.{DemoIsAccepted, DemoIsAnswered};
+ghost use Rattle.promises.specs.DemoLaws.{DemoIsAccepted, DemoIsAnswered, LiarsAreSpread};
 
 use plan_laws::laws::{
     each_has_one_next, every_plan_settles, locked_runs_count, locks_at_bound, versions_agree,
@@ -83,8 +83,11 @@ pub fn cuts_are_unseen()
 {}
 
 /// The text that `demo` makes is a plan and a script for every seed, so that the promise holds of
-/// what is written; its rows lie behind the bound. No refusal is answered to `demo` and a number.
+/// what is written; its rows lie behind the bound, and three nodes say noise in all rounds, whose
+/// key has the seed. Which nodes these are has three choices, by the seed. No refusal is answered
+/// to `demo` and a number.
 pub fn demo_is_answered()
     ensures accepted { DemoIsAccepted }
     ensures answered { DemoIsAnswered }
+    ensures liars { LiarsAreSpread }
 {}

@@ -3,6 +3,7 @@
 
 ghost use Rattle.promises.specs.PlanPromises.{TextsAreKept, TextsAreRead};
 
+use crate::laws::demo_is_answered;
 use adversary_script::laws::{read_scripts_have_texts, script_texts_read_back};
 use consensus_layer::laws::agree_texts_read_back;
 use firing::laws::request_texts_read_back;
@@ -26,7 +27,8 @@ pub fn texts_are_kept()
 
 /// Each of these values has a text that is read as it: an accepted plan, in its own version and in
 /// each later one, and its table; wants, a slot table, inputs to agree on, requests to fire, a log
-/// and a header of a node; and a script, behind the texts of its plan and of a part.
+/// and a header of a node; and a script, behind the texts of its plan and of a part. So has the
+/// text that `demo` makes of a seed.
 pub fn texts_are_read()
     ensures { TextsAreRead }
 {
@@ -40,4 +42,5 @@ pub fn texts_are_read()
     header_texts_read_back();
     script_texts_read_back();
     read_scripts_have_texts();
+    demo_is_answered();
 }
