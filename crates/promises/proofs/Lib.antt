@@ -10,6 +10,8 @@ pub mod LockPromises
 pub mod FindPromises
 pub mod ScriptInputs
 pub mod TableWords
+pub mod SkippedLines
+pub mod Skips
 pub mod PlanPromises
 pub mod Printed
 pub mod NodeCalls

@@ -24,6 +24,7 @@ use Rattle.outcomes.specs.Inputs.{in_plan, in_part, in_table, or_refusal}
 use Rattle.outcomes.specs.Answers.{text_by}
 use Rattle.adversary_script.specs.ScriptLaws.{ScriptTextIsWhole, ReadIsWritable}
 use Rattle.promises.specs.DemoLaws.{DemoIsAccepted, LiarsAreSpread}
+use Rattle.promises.specs.Skips.{SkippedLinesAreUnseen}
 use Rattle.promises.specs.PlanPromises.{AreTextsOf, IsTableOf, TextsAreKept, TextsAreRead}
 use Rattle.promises.proofs.ScriptInputs.{script_inputs_read}
 use Rattle.promises.proofs.TableWords.{table_is_said}
@@ -58,9 +59,9 @@ module _ (whole : PlanTextIsWhole) (read : TablesAreRead) (only : OnlyTablesAreR
 
 pub texts_read : PlanTextIsRead → PlanTextIsWhole → TablesAreRead → WantTextIsRead → SlotTextIsRead
     → AgreeTextIsRead → RequestTextIsRead → LogTextIsRead → HeaderTextIsRead → ScriptTextIsWhole
-    → ReadIsWritable → DemoIsAccepted → LiarsAreSpread
+    → ReadIsWritable → DemoIsAccepted → LiarsAreSpread → SkippedLinesAreUnseen
     → TextsAreRead
-texts_read front whole tables wants slots inputs requests logs headers scripts writable demo liars = record {
+texts_read front whole tables wants slots inputs requests logs headers scripts writable demo liars skips = record {
       plans = λ plan version accepted later most.
           ap (or_refusal in_plan) (whole plan version accepted later most);
       fronts = front;
@@ -74,4 +75,5 @@ texts_read front whole tables wants slots inputs requests logs headers scripts w
       scripts = script_inputs_read front scripts writable slots inputs requests logs;
       demo = demo;
       liars = liars;
-            }
+      skips = skips;
+        }

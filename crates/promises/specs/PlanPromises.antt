@@ -21,6 +21,7 @@ use Rattle.outcomes.specs.Inputs.{plan_alone, tabled_of, wants_of}
 use Rattle.outcomes.specs.Answers.{answer_of}
 use Rattle.promises.specs.DemoLaws.{DemoIsAccepted, LiarsAreSpread}
 use Rattle.promises.specs.ScriptInputs.{ScriptInputsAreRead}
+use Rattle.promises.specs.Skips.{SkippedLinesAreUnseen}
 use Rattle.promises.specs.TableWords.{table_words}
 
 -- What `plan` answers is the plan's table, which has just the lines that are said of it, and is
@@ -51,7 +52,7 @@ pub record TextsAreKept : Type 0 where
 -- and in each later one, and a table; wants, slot tables, inputs to agree on, requests to fire,
 -- logs and headers of nodes have one. All but those of tables and of wants are read so at the front
 -- of any text, too. A script has one behind the text of its plan, and behind that of a part; what
--- `demo` makes of a seed is one.
+-- `demo` makes of a seed is one. Skipped lines may stand anywhere.
 pub record TextsAreRead : Type 0 where
   pub plans : (plan : Plan) (version : ℕ) → IsAccepted plan → plan.version ≤ version → version ≤ 2
       → plan_alone (plan_text version plan) ≡ Ok (in_version version plan)
@@ -66,3 +67,4 @@ pub record TextsAreRead : Type 0 where
   pub scripts : ScriptInputsAreRead
   pub demo : DemoIsAccepted
   pub liars : LiarsAreSpread
+  pub skips : SkippedLinesAreUnseen

@@ -2,6 +2,7 @@
 //! that are read as them. The functions do nothing: their clauses are the laws.
 
 ghost use Rattle.promises.specs.PlanPromises.{TextsAreKept, TextsAreRead};
+ghost use Rattle.promises.specs.Skips.{SkippedLinesAreUnseen};
 
 use crate::laws::demo_is_answered;
 use adversary_script::laws::{read_scripts_have_texts, script_texts_read_back};
@@ -25,10 +26,16 @@ pub fn texts_are_kept()
     versions_agree();
 }
 
+/// A skipped line may stand anywhere in an input: it is read as the same, and a refusal is that of
+/// the same line.
+pub fn skipped_lines_are_unseen()
+    ensures { SkippedLinesAreUnseen }
+{}
+
 /// Each of these values has a text that is read as it: an accepted plan, in its own version and in
 /// each later one, and its table; wants, a slot table, inputs to agree on, requests to fire, a log
 /// and a header of a node; and a script, behind the texts of its plan and of a part. So has the
-/// text that `demo` makes of a seed.
+/// text that `demo` makes of a seed. Skipped lines may stand anywhere in these.
 pub fn texts_are_read()
     ensures { TextsAreRead }
 {
@@ -43,4 +50,5 @@ pub fn texts_are_read()
     script_texts_read_back();
     read_scripts_have_texts();
     demo_is_answered();
+    skipped_lines_are_unseen();
 }
