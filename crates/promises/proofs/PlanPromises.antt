@@ -25,6 +25,7 @@ use Rattle.outcomes.specs.Answers.{text_by}
 use Rattle.adversary_script.specs.ScriptLaws.{ScriptTextIsWhole, ReadIsWritable}
 use Rattle.promises.specs.DemoLaws.{DemoIsAccepted, LiarsAreSpread}
 use Rattle.promises.specs.Skips.{SkippedLinesAreUnseen}
+use Rattle.promises.specs.Worked.{WorkedAnswers}
 use Rattle.promises.specs.PlanPromises.{AreTextsOf, IsTableOf, TextsAreKept, TextsAreRead}
 use Rattle.promises.proofs.ScriptInputs.{script_inputs_read}
 use Rattle.promises.proofs.TableWords.{table_is_said}
@@ -59,9 +60,10 @@ module _ (whole : PlanTextIsWhole) (read : TablesAreRead) (only : OnlyTablesAreR
 
 pub texts_read : PlanTextIsRead → PlanTextIsWhole → TablesAreRead → WantTextIsRead → SlotTextIsRead
     → AgreeTextIsRead → RequestTextIsRead → LogTextIsRead → HeaderTextIsRead → ScriptTextIsWhole
-    → ReadIsWritable → DemoIsAccepted → LiarsAreSpread → SkippedLinesAreUnseen
+    → ReadIsWritable → DemoIsAccepted → LiarsAreSpread → SkippedLinesAreUnseen → WorkedAnswers
     → TextsAreRead
-texts_read front whole tables wants slots inputs requests logs headers scripts writable demo liars skips = record {
+texts_read front whole tables wants slots inputs requests logs headers scripts writable demo liars
+    skips worked = record {
       plans = λ plan version accepted later most.
           ap (or_refusal in_plan) (whole plan version accepted later most);
       fronts = front;
@@ -76,4 +78,5 @@ texts_read front whole tables wants slots inputs requests logs headers scripts w
       demo = demo;
       liars = liars;
       skips = skips;
-        }
+      worked = worked;
+    }

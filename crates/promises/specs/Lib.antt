@@ -7,6 +7,7 @@ pub mod Laws
 pub mod ScriptInputs
 pub mod DemoLaws
 pub mod TableWords
+pub mod Worked
 pub mod Skips
 pub mod PlanPromises
 pub mod EveryRun

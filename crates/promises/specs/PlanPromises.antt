@@ -23,6 +23,7 @@ use Rattle.promises.specs.DemoLaws.{DemoIsAccepted, LiarsAreSpread}
 use Rattle.promises.specs.ScriptInputs.{ScriptInputsAreRead}
 use Rattle.promises.specs.Skips.{SkippedLinesAreUnseen}
 use Rattle.promises.specs.TableWords.{table_words}
+use Rattle.promises.specs.Worked.{WorkedAnswers}
 
 -- What `plan` answers is the plan's table, which has just the lines that are said of it, and is
 -- read back as the plan, and what `upgrade` answers its text in version 2, which is read back as a
@@ -52,7 +53,8 @@ pub record TextsAreKept : Type 0 where
 -- and in each later one, and a table; wants, slot tables, inputs to agree on, requests to fire,
 -- logs and headers of nodes have one. All but those of tables and of wants are read so at the front
 -- of any text, too. A script has one behind the text of its plan, and behind that of a part; what
--- `demo` makes of a seed is one. Skipped lines may stand anywhere.
+-- `demo` makes of a seed is one. Skipped lines may stand anywhere. Worked values say how each text
+-- and each refusal is spelled.
 pub record TextsAreRead : Type 0 where
   pub plans : (plan : Plan) (version : ℕ) → IsAccepted plan → plan.version ≤ version → version ≤ 2
       → plan_alone (plan_text version plan) ≡ Ok (in_version version plan)
@@ -68,3 +70,4 @@ pub record TextsAreRead : Type 0 where
   pub demo : DemoIsAccepted
   pub liars : LiarsAreSpread
   pub skips : SkippedLinesAreUnseen
+  pub worked : WorkedAnswers

@@ -13,3 +13,4 @@ pub mod plan_promises;
 pub mod printed_promises;
 pub mod processes;
 pub mod restart_promises;
+pub mod worked;

@@ -5,6 +5,7 @@ ghost use Rattle.promises.specs.PlanPromises.{TextsAreKept, TextsAreRead};
 ghost use Rattle.promises.specs.Skips.{SkippedLinesAreUnseen};
 
 use crate::laws::demo_is_answered;
+use crate::worked::worked_answers;
 use adversary_script::laws::{read_scripts_have_texts, script_texts_read_back};
 use consensus_layer::laws::agree_texts_read_back;
 use firing::laws::request_texts_read_back;
@@ -35,7 +36,8 @@ pub fn skipped_lines_are_unseen()
 /// Each of these values has a text that is read as it: an accepted plan, in its own version and in
 /// each later one, and its table; wants, a slot table, inputs to agree on, requests to fire, a log
 /// and a header of a node; and a script, behind the texts of its plan and of a part. So has the
-/// text that `demo` makes of a seed. Skipped lines may stand anywhere in these.
+/// text that `demo` makes of a seed. Skipped lines may stand anywhere in these, and worked values
+/// say how they and their refusals are spelled.
 pub fn texts_are_read()
     ensures { TextsAreRead }
 {
@@ -51,4 +53,5 @@ pub fn texts_are_read()
     read_scripts_have_texts();
     demo_is_answered();
     skipped_lines_are_unseen();
+    worked_answers();
 }
