@@ -66,7 +66,7 @@ abbrev pub alone : List ℕ
 alone = codes "plan 1\nbase 8\nend\n"
 
 -- The first line of a part that fails, by its number in the whole input and its rule: each rule,
--- and each part.
+-- and each part but that of a header.
 pub record PartsAreRefused : Type 0 where
   pub form : IsAnswered batch.Run (alone ++ codes "script 1\nfaulty\n")
       (status.PartRefused part.Script 6 rule.Form) (codes "refused script line 6 rule form\n")
