@@ -7,6 +7,7 @@ use Rattle.std.specs.Prelude.{MatchResult}
 use Rattle.std.specs.List.{concat, list_all}
 use Rattle.std.specs.Fmt.{digits}
 use Rattle.std.specs.Int.{w64, to_be_bytes, bytes_high_first}
+use Rattle.std.proofs.Math.Nat.{add-mod_right}
 use Rattle.std.proofs.lemmas.Bool.{eq-eqb}
 use Rattle.std.proofs.lemmas.List.Sums.{AllPass-from_list_all}
 use Rattle.hex.specs.Hex.{encode_with, encode_lower, lower_digits, decode_of, IsBytes}
@@ -18,8 +19,6 @@ use Rattle.texts.proofs.Printed.{goes_behind}
 use Rattle.sync_types.specs.declared.answers.Rule.{Rule}
 use Rattle.sync_types.specs.declared.answers.Rule.TheVariants.{Form}
 use Rattle.sync_types.specs.declared.status.Status.TheVariants as status
-use Rattle.construction.specs.Plans.{Plan}
-use Rattle.plan_numbers.specs.Numbers.{line}
 use Rattle.state_codec.specs.Texts.{is_lower_digit}
 use Rattle.state_codec.specs.Shapes.{shape_of}
 use Rattle.adversary_script.specs.declared.kinds.Kind.TheVariants as kind
@@ -36,7 +35,8 @@ use Rattle.run_lines.specs.RowTexts.{run_text}
 use Rattle.outcomes.specs.Inputs.{Scripted, with_script, scripted_of}
 use Rattle.outcomes.specs.Answers.{text_by, answer_of}
 use Rattle.outcomes.specs.DemoText.{liars_of, key_digits, lie_line, text_with, demo_text}
-use Rattle.promises.specs.DemoLaws.{IsDemo, DemoIsAccepted, DemoIsAnswered}
+use Rattle.promises.specs.DemoLaws.{demo_plan, demo_key, IsDemo, DemoIsAccepted, DemoIsAnswered}
+use Rattle.promises.specs.DemoLaws.{LiarsAreSpread}
 
 -- ---- the digits of the key
 
@@ -49,7 +49,7 @@ high_first_below (suc k) n (suc i) = high_first_below k n i
 
 -- the 32 bytes of the key
 key_of : ℕ → List ℕ
-key_of seed = to_be_bytes w64 seed ++ replicate 24 0
+key_of seed = demo_key seed
 
 key_below : (seed : ℕ) → IsBytes (key_of seed)
 unfolding key_of
@@ -123,6 +123,13 @@ key_known seed =
 
 -- ---- the liars
 
+-- by the seed modulo three
+abbrev chosen_by : ℕ → Liars
+chosen_by k =
+    if k == 0 then record { first = 0; second = 4; third = 8 }
+    else if k == 1 then record { first = 0; second = 1; third = 2 }
+    else record { first = 3; second = 4; third = 5 }
+
 -- what is so of each of the three choices is so of that of a seed
 pub of_liars : (P : Liars → Type 0)
     → P (record { first = 0; second = 4; third = 8 })
@@ -138,14 +145,16 @@ of_liars P spread together divided seed = by (seed % 3 == 0) (seed % 3 == 1) whe
   by false true = together
   by false false = divided
 
--- ---- reading
-
-demo_plan : Plan
-demo_plan = record {
-  version = 1;
-  base = 2304;
-  levels = line 3 3 10 0 ∷ line 4 1 960 0 ∷ [];
+-- a seed that is greater by three has the same
+pub liars_are_spread : LiarsAreSpread
+liars_are_spread = record {
+  apart = refl;
+  together = refl;
+  divided = refl;
+  again = λ seed. ap (λ k. chosen_by k) (add-mod_right seed 3);
 }
+
+-- ---- reading
 
 -- the text behind the line of the seed
 behind_seed : Liars → List ℕ
@@ -200,37 +209,68 @@ module _ (word key : List ℕ) (plain : IsPlain word) (long : length word ≡ 64
       (before ids) 2 8 (after ids) (seed_step ids)
 
   IsRead : Liars → Type 0
-  IsRead liars = MatchResult (scripted_of (text_with liars word)) (IsDemo liars) (λ refusal. ⊥)
+  IsRead liars =
+      MatchResult (scripted_of (text_with liars word)) (IsDemo key liars) (λ refusal. ⊥)
 
   -- what is read is as meant, where the script's part is
   Meant : Liars → Result (Found Script) (At Rule) → Type 0
   Meant liars part =
-      MatchResult (with_script demo_plan (alone 6 part)) (IsDemo liars) (λ refusal. ⊥)
+      MatchResult (with_script demo_plan (alone 6 part)) (IsDemo key liars) (λ refusal. ⊥)
 
   spread : IsRead (record { first = 0; second = 4; third = 8 })
-  unfolding IsRead Meant read_from before after behind_seed demo_plan digits script_of
+  unfolding IsRead Meant read_from before after behind_seed digits script_of
   spread =
       let liars : Liars = record { first = 0; second = 4; third = 8 } in
       subst (Meant liars) (sym (seed_read (0 ∷ 4 ∷ 8 ∷ []) (behind_seed liars)))
-      (record { bound = refl; rounds = refl; first = refl; last = refl; faulty = refl })
+      (record {
+        plan = refl;
+        bound = refl;
+        rounds = refl;
+        first = refl;
+        last = refl;
+        faulty = refl;
+        key = refl;
+        noisy = refl;
+        lies = refl;
+      })
 
   together : IsRead (record { first = 0; second = 1; third = 2 })
-  unfolding IsRead Meant read_from before after behind_seed demo_plan digits script_of
+  unfolding IsRead Meant read_from before after behind_seed digits script_of
   together =
       let liars : Liars = record { first = 0; second = 1; third = 2 } in
       subst (Meant liars) (sym (seed_read (0 ∷ 1 ∷ 2 ∷ []) (behind_seed liars)))
-      (record { bound = refl; rounds = refl; first = refl; last = refl; faulty = refl })
+      (record {
+        plan = refl;
+        bound = refl;
+        rounds = refl;
+        first = refl;
+        last = refl;
+        faulty = refl;
+        key = refl;
+        noisy = refl;
+        lies = refl;
+      })
 
   divided : IsRead (record { first = 3; second = 4; third = 5 })
-  unfolding IsRead Meant read_from before after behind_seed demo_plan digits script_of
+  unfolding IsRead Meant read_from before after behind_seed digits script_of
   divided =
       let liars : Liars = record { first = 3; second = 4; third = 5 } in
       subst (Meant liars) (sym (seed_read (3 ∷ 4 ∷ 5 ∷ []) (behind_seed liars)))
-      (record { bound = refl; rounds = refl; first = refl; last = refl; faulty = refl })
+      (record {
+        plan = refl;
+        bound = refl;
+        rounds = refl;
+        first = refl;
+        last = refl;
+        faulty = refl;
+        key = refl;
+        noisy = refl;
+        lies = refl;
+      })
 
 -- the text of every seed is a plan and a script
 pub demo_is_accepted : DemoIsAccepted
-unfolding IsRead
+unfolding IsRead key_of
 demo_is_accepted seed =
     let word = key_digits seed in
     let key = key_of seed in
@@ -241,18 +281,19 @@ demo_is_accepted seed =
 
 -- ---- the word
 
-answered_by : (liars : Liars) (scripted : Result Scripted Refusal)
-    → MatchResult scripted (IsDemo liars) (λ refusal. ⊥)
+answered_by : (key : List ℕ) (liars : Liars) (scripted : Result Scripted Refusal)
+    → MatchResult scripted (IsDemo key liars) (λ refusal. ⊥)
     → (outcome_of (text_by (λ (s : Scripted). run_text s.plan s.script) scripted)).status
     ≡ status.Ok
-answered_by liars (Ok scripted) h = refl
-answered_by liars (Err refusal) h = absurd h
+answered_by key liars (Ok scripted) h = refl
+answered_by key liars (Err refusal) h = absurd h
 
 -- so its answer is no refusal
 pub demo_ends_well : (seed : ℕ)
     → (outcome_of (answer_of batch.Run (demo_text seed))).status ≡ status.Ok
 demo_ends_well seed =
-    answered_by (liars_of seed) (scripted_of (demo_text seed)) (demo_is_accepted seed)
+    answered_by (demo_key seed) (liars_of seed) (scripted_of (demo_text seed))
+    (demo_is_accepted seed)
 
 pub demo_is_answered : DemoIsAnswered
 demo_is_answered seed input = demo_ends_well seed

@@ -19,8 +19,9 @@ use Rattle.run_explanations.specs.Laws.{ExplainedErasLock, IsExplainedByBound, L
 use Rattle.run_explanations.specs.Laws.{FoundIsFirst}
 use Rattle.run_promises.specs.WrittenLines.{text_of_words, around}
 use Rattle.run_promises.proofs.WrittenLines.{all_lines}
-use Rattle.outcomes.specs.ExplainText.{explanation_lines, why_lines, explain_text}
+use Rattle.outcomes.specs.ExplainText.{explanation_lines, lines_over, why_lines, explain_text}
 use Rattle.promises.specs.ExplainLaws.{explanation_words, LocksByPhase, IsSaidBefore, WhyIsTrue}
+use Rattle.promises.specs.ExplainLaws.{BaseIsSaid}
 use Rattle.run_lines.specs.RowTexts.{lock_played}
 use Rattle.outcomes.proofs.ExplainTexts.{levelled_is}
 
@@ -54,6 +55,18 @@ explain_is : (plan : Plan) (script : Script) (said : Option Explanation)
 explain_is plan script said is =
     all_lines plan script (played_at plan script) (why_lines plan script) (explanation_words said)
     (is ∙ why_words said)
+
+-- of a plan without levels
+base_words : (levels : List Level) (plan : Plan) (script : Script) → length levels ≡ 0
+    → lines_over levels plan script
+    ≡ text_of_words ((codes "explain" ∷ codes "base" ∷ []) ∷ [])
+base_words [] plan script none = refl
+base_words (level ∷ below) plan script none = absurd (omega (arith, none))
+
+pub base_is_said : (plan : Plan) (script : Script) → plan_depth plan ≡ 0 → BaseIsSaid plan script
+base_is_said plan script none =
+    all_lines plan script (played_at plan script) (why_lines plan script)
+    ((codes "explain" ∷ codes "base" ∷ []) ∷ []) (base_words plan.levels plan script none)
 
 -- a phase begins in its window, and ends by the last configuration
 within_in : (levels : List Level) (script : Script) (config_at : ℕ → List State) (t b s k : ℕ)
@@ -142,7 +155,6 @@ why_is_true each stays locks long found plan script read known some =
     levelled_is plan.levels plan script (λ none. absurd (omega (arith, some, none))) in
     record {
       said = explanation_of plan script;
-      lines = lines;
       written = explain_is plan script (explanation_of plan script) lines;
       first = first;
       locks = said_locks plan script read each stays locks known (explanation_of plan script) first;

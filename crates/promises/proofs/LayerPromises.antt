@@ -26,16 +26,16 @@ use Rattle.run_lines.specs.LayerLaws.{AtMostOneInALine, HoldWordsAreExact}
 use Rattle.run_promises.specs.LayeredEras.{IsReadFor, ScriptsArePlayed}
 use Rattle.run_promises.specs.PlainRuns.{PlainScriptsArePlayed}
 use Rattle.run_promises.specs.Promises.{LinesDecide, LinesFireTogether, LinesPutOne}
-use Rattle.run_promises.proofs.CountedSlots.{slots_are_exact}
+use Rattle.run_promises.specs.CountedSlots.{SlotsCount}
+use Rattle.run_promises.specs.WrittenLines.{TextsAreWritten}
 use Rattle.run_promises.proofs.Lines.{kept_for}
-use Rattle.run_promises.proofs.WrittenLines.{holds_are_written, decisions_are_written}
-use Rattle.run_promises.proofs.WrittenLines.{fires_are_written, entries_are_written}
 use Rattle.outcomes.specs.Layered.{Layered, slots_shape}
 use Rattle.outcomes.proofs.LayeredRead.{IsRead, IsToPlay, so, agreed_layer, slots_read}
 use Rattle.outcomes.proofs.LayeredRead.{decisions_to_play, fires_to_play, entries_to_play}
 use Rattle.promises.specs.LayerPromises.{KeepsHolds, KeepsDecisions, KeepsFires, KeepsEntries}
 use Rattle.promises.specs.LayerPromises.{HoldsAreKept, DecisionsAreKept, FiresAreKept}
 use Rattle.promises.specs.LayerPromises.{EntriesAreKept}
+use Rattle.promises.proofs.LayerParts.{gives_outputs, requests_are_said, takes_turns}
 
 -- the script was read for the plan and the layer
 pub played : {Said Kept : Type 0} {Fits : Plan → Said → Type 0}
@@ -51,7 +51,8 @@ played l is = record {
 
 -- ---- of a part and a script that were read
 
-module _ (plays : PlainScriptsArePlayed) (exact : HoldWordsAreExact) (law : AtMostOneInALine) where
+module _ (plays : PlainScriptsArePlayed) (texts : TextsAreWritten) (exact : HoldWordsAreExact)
+    (law : AtMostOneInALine) where
   holds_of : (l : Layered (List SlotLine)) → IsRead slots_shape slots.AreFor l
       → KeepsHolds l.plan l.script l.said
   holds_of l read =
@@ -59,12 +60,14 @@ module _ (plays : PlainScriptsArePlayed) (exact : HoldWordsAreExact) (law : AtMo
       record { accepted = read.accepted; right = read.right; whole = read.whole } in
       record {
         played = plays l.plan l.script is;
-        written = holds_are_written l.plan l.script l.said;
+        written = texts.holds l.plan l.script l.said;
+        gives = gives_outputs;
         words = λ t v. exact l.plan l.said read.fits.apart (played_at l.plan l.script t) v;
         one = law l.plan l.script is l.said read.fits.apart;
       }
 
-module _ (plays : (layer : Layer ℕ) → ScriptsArePlayed layer) (law : LinesDecide) where
+module _ (plays : (layer : Layer ℕ) → ScriptsArePlayed layer) (texts : TextsAreWritten)
+    (count : (layer : Layer ℕ) → SlotsCount layer) (law : LinesDecide) where
   decisions_of : (l : Layered AgreeSaid) → IsToPlay agree.IsFor agreed_layer l
       → KeepsDecisions l.plan l.script l.said
   decisions_of l read =
@@ -74,15 +77,16 @@ module _ (plays : (layer : Layer ℕ) → ScriptsArePlayed layer) (law : LinesDe
       record {
         played = plays (agreed_layer l.plan l.said) l.plan l.script keeps (played l read)
             (replicate (plan_nodes l.plan) 0) (kept_for (plan_nodes l.plan) 0);
-        written = decisions_are_written l.plan l.script l.said;
+        written = texts.decisions l.plan l.script l.said;
         slots =
-            slots_are_exact l.plan l.script (agreed_layer l.plan l.said) keeps (played l read)
+            count (agreed_layer l.plan l.said) l.plan l.script keeps (played l read)
             (replicate (plan_nodes l.plan) 0) (kept_for (plan_nodes l.plan) 0)
             (slot_length (plan_faults l.plan));
         lines = law l.plan l.script l.said read.fits (played l read);
       }
 
-module _ (plays : (layer : Layer Fire) → ScriptsArePlayed layer) (law : LinesFireTogether) where
+module _ (plays : (layer : Layer Fire) → ScriptsArePlayed layer) (texts : TextsAreWritten)
+    (count : (layer : Layer Fire) → SlotsCount layer) (law : LinesFireTogether) where
   fires_of : (l : Layered (List Request)) → IsToPlay fire.AreFor fire_layer l
       → KeepsFires l.plan l.script l.said
   fires_of l read =
@@ -91,15 +95,17 @@ module _ (plays : (layer : Layer Fire) → ScriptsArePlayed layer) (law : LinesF
       record {
         played = plays (fire_layer l.plan l.said) l.plan l.script keeps (played l read)
             (replicate (plan_nodes l.plan) unfired) (kept_for (plan_nodes l.plan) unfired);
-        written = fires_are_written l.plan l.script l.said;
+        written = texts.fires l.plan l.script l.said;
         slots =
-            slots_are_exact l.plan l.script (fire_layer l.plan l.said) keeps (played l read)
+            count (fire_layer l.plan l.said) l.plan l.script keeps (played l read)
             (replicate (plan_nodes l.plan) unfired) (kept_for (plan_nodes l.plan) unfired)
             (slot_length (plan_faults l.plan));
         lines = law l.plan l.script l.said read.fits (played l read);
+        asked = requests_are_said l.said;
       }
 
-module _ (plays : (layer : Layer (List Entry)) → ScriptsArePlayed layer) (law : LinesPutOne) where
+module _ (plays : (layer : Layer (List Entry)) → ScriptsArePlayed layer) (texts : TextsAreWritten)
+    (count : (layer : Layer (List Entry)) → SlotsCount layer) (law : LinesPutOne) where
   entries_of : (l : Layered LogSaid) → IsToPlay log.IsFor log_layer l
       → KeepsEntries l.plan l.script l.said
   entries_of l read =
@@ -109,25 +115,32 @@ module _ (plays : (layer : Layer (List Entry)) → ScriptsArePlayed layer) (law 
       record {
         played = plays (log_layer l.plan l.said) l.plan l.script keeps (played l read)
             (replicate (plan_nodes l.plan) []) (kept_for (plan_nodes l.plan) []);
-        written = entries_are_written l.plan l.script l.said;
+        written = texts.entries l.plan l.script l.said;
         slots =
-            slots_are_exact l.plan l.script (log_layer l.plan l.said) keeps (played l read)
+            count (log_layer l.plan l.said) l.plan l.script keeps (played l read)
             (replicate (plan_nodes l.plan) []) (kept_for (plan_nodes l.plan) [])
             (entry_length (plan_faults l.plan));
         lines = law l.plan l.script l.said read.fits (played l read);
+        turns = takes_turns (plan_nodes l.plan) (plan_faults l.plan) l.said.commands;
       }
 
 -- ---- of inputs
 
-pub holds_kept : PlainScriptsArePlayed → HoldWordsAreExact → AtMostOneInALine → HoldsAreKept
-holds_kept plays exact law input = so _ (slots_read input) (holds_of plays exact law)
+pub holds_kept : PlainScriptsArePlayed → TextsAreWritten → HoldWordsAreExact → AtMostOneInALine
+    → HoldsAreKept
+holds_kept plays texts exact law input = so _ (slots_read input) (holds_of plays texts exact law)
 
-pub decisions_kept : ((layer : Layer ℕ) → ScriptsArePlayed layer) → LinesDecide → DecisionsAreKept
-decisions_kept plays law input = so _ (decisions_to_play input) (decisions_of plays law)
+pub decisions_kept : ((layer : Layer ℕ) → ScriptsArePlayed layer) → TextsAreWritten
+    → ((layer : Layer ℕ) → SlotsCount layer) → LinesDecide → DecisionsAreKept
+decisions_kept plays texts count law input =
+    so _ (decisions_to_play input) (decisions_of plays texts count law)
 
-pub fires_kept : ((layer : Layer Fire) → ScriptsArePlayed layer) → LinesFireTogether → FiresAreKept
-fires_kept plays law input = so _ (fires_to_play input) (fires_of plays law)
+pub fires_kept : ((layer : Layer Fire) → ScriptsArePlayed layer) → TextsAreWritten
+    → ((layer : Layer Fire) → SlotsCount layer) → LinesFireTogether → FiresAreKept
+fires_kept plays texts count law input =
+    so _ (fires_to_play input) (fires_of plays texts count law)
 
-pub entries_kept : ((layer : Layer (List Entry)) → ScriptsArePlayed layer) → LinesPutOne
-    → EntriesAreKept
-entries_kept plays law input = so _ (entries_to_play input) (entries_of plays law)
+pub entries_kept : ((layer : Layer (List Entry)) → ScriptsArePlayed layer) → TextsAreWritten
+    → ((layer : Layer (List Entry)) → SlotsCount layer) → LinesPutOne → EntriesAreKept
+entries_kept plays texts count law input =
+    so _ (entries_to_play input) (entries_of plays texts count law)

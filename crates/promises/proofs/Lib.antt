@@ -4,10 +4,15 @@ pub mod Promise
 pub mod CheckLaws
 pub mod RecordLaws
 pub mod Complete
+pub mod LayerParts
 pub mod LayerPromises
 pub mod LockPromises
 pub mod FindPromises
 pub mod ScriptInputs
+pub mod TableWords
+pub mod WorkedValues
+pub mod SkippedLines
+pub mod Skips
 pub mod PlanPromises
 pub mod Printed
 pub mod NodeCalls

@@ -23,9 +23,13 @@ use Rattle.sync_types.specs.declared.answers.Part.TheVariants as part
 use Rattle.outcomes.specs.Inputs.{in_plan, in_part, in_table, or_refusal}
 use Rattle.outcomes.specs.Answers.{text_by}
 use Rattle.adversary_script.specs.ScriptLaws.{ScriptTextIsWhole, ReadIsWritable}
+use Rattle.promises.specs.DemoLaws.{DemoIsAccepted, LiarsAreSpread}
+use Rattle.promises.specs.Skips.{SkippedLinesAreUnseen}
+use Rattle.promises.specs.Worked.{WorkedAnswers}
 use Rattle.promises.specs.PlanPromises.{AreTextsOf, IsTableOf, TextsAreKept, TextsAreRead}
 use Rattle.promises.proofs.OnlyTexts.{only_texts}
 use Rattle.promises.proofs.ScriptInputs.{script_inputs_read}
+use Rattle.promises.proofs.TableWords.{table_is_said}
 
 module _ (whole : PlanTextIsWhole) (read : TablesAreRead) (only : OnlyTablesAreRead)
     (versions : VersionsAgree) where
@@ -35,6 +39,7 @@ module _ (whole : PlanTextIsWhole) (read : TablesAreRead) (only : OnlyTablesAreR
   texts_of (Err at) accepted = tt
   texts_of (Ok plan) accepted = record {
     table = refl;
+    says = table_is_said plan;
     table_read = ap (or_refusal in_table) (read plan accepted);
     text = refl;
     text_read = ap (or_refusal in_plan) (whole plan 2 accepted accepted.newest (omega arith));
@@ -56,19 +61,25 @@ module _ (whole : PlanTextIsWhole) (read : TablesAreRead) (only : OnlyTablesAreR
 
 pub texts_read : PlanTextIsRead → PlanTextIsWhole → TablesAreRead → WantTextIsRead → SlotTextIsRead
     → AgreeTextIsRead → RequestTextIsRead → LogTextIsRead → HeaderTextIsRead → ScriptTextIsWhole
-    → ReadIsWritable → TextsAreRead
-texts_read front whole tables wants slots inputs requests logs headers scripts writable = record {
-  plans = λ plan version accepted later most.
-      ap (or_refusal in_plan) (whole plan version accepted later most);
-  fronts = front;
-  tables = λ plan accepted. ap (or_refusal in_table) (tables plan accepted);
-  wants = λ want fit. ap (or_refusal (in_part part.Find)) (wants want fit);
-  slots = slots;
-  inputs = inputs;
-  requests = requests;
-  logs = logs;
-  headers = headers;
-  scripts = script_inputs_read front scripts writable slots inputs requests logs;
-  only =
-      only_texts (script_inputs_read front scripts writable slots inputs requests logs) writable;
-}
+    → ReadIsWritable → DemoIsAccepted → LiarsAreSpread → SkippedLinesAreUnseen → WorkedAnswers
+    → TextsAreRead
+texts_read front whole tables wants slots inputs requests logs headers scripts writable demo liars
+    skips worked = record {
+      plans = λ plan version accepted later most.
+          ap (or_refusal in_plan) (whole plan version accepted later most);
+      fronts = front;
+      tables = λ plan accepted. ap (or_refusal in_table) (tables plan accepted);
+      wants = λ want fit. ap (or_refusal (in_part part.Find)) (wants want fit);
+      slots = slots;
+      inputs = inputs;
+      requests = requests;
+      logs = logs;
+      headers = headers;
+      scripts = script_inputs_read front scripts writable slots inputs requests logs;
+      only =
+          only_texts (script_inputs_read front scripts writable slots inputs requests logs) writable;
+      demo = demo;
+      liars = liars;
+      skips = skips;
+      worked = worked;
+    }

@@ -16,10 +16,10 @@ use Rattle.round_runner.specs.Laws.{ErasStayLocked}
 use Rattle.round_runner.proofs.FirstLocked.{first_is_locked}
 use Rattle.run_explanations.specs.Laws.{ExplainedErasLock, LongErasAreExplained, FoundIsFirst}
 use Rattle.run_promises.specs.PlainRuns.{PlainScriptsArePlayed}
-use Rattle.run_promises.proofs.WrittenLines.{rows_are_written}
+use Rattle.run_promises.specs.WrittenLines.{TextsAreWritten}
 use Rattle.run_lines.specs.RunTexts.{number_word}
 use Rattle.run_lines.proofs.FirstListed.{first_listed}
-use Rattle.promises.proofs.ExplainLaws.{why_is_true}
+use Rattle.promises.proofs.ExplainLaws.{why_is_true, base_is_said}
 use Rattle.outcomes.specs.declared.refusals.Refusal.{Refusal}
 use Rattle.run_lines.specs.RowTexts.{lock_played}
 use Rattle.outcomes.specs.Inputs.{Scripted, scripted_of}
@@ -66,8 +66,8 @@ module _ (plan : Plan) (script : Script) (read : IsReadFor plan script) (j : ℕ
       first.1.locked in
       stays plan script read j among w first.1.from first.1.before locked
 
-module _ (plays : PlainScriptsArePlayed) (each : EachIsOfOneEra) (runs : ErasAreRuns)
-    (locks : ErasLock) (counts : ErasCount) (stays : ErasStayLocked)
+module _ (plays : PlainScriptsArePlayed) (texts : TextsAreWritten) (each : EachIsOfOneEra)
+    (runs : ErasAreRuns) (locks : ErasLock) (counts : ErasCount) (stays : ErasStayLocked)
     (explained : ExplainedErasLock) (long : LongErasAreExplained) (found : FoundIsFirst) where
   era_keeps : (plan : Plan) (script : Script) → IsReadFor plan script → (j : ℕ)
       → j ≤ length script.eras → EraKeepsPromise plan script j
@@ -90,12 +90,13 @@ module _ (plays : PlainScriptsArePlayed) (each : EachIsOfOneEra) (runs : ErasAre
   whichever (Err refusal) read = tt
   whichever (Ok s) read = record {
     played = plays s.plan s.script read.for;
-    written = rows_are_written s.plan s.script;
+    written = texts.rows s.plan s.script;
     shown = read.for.whole.formed.shown;
     all = each s.script read.for.whole;
     eras = era_keeps s.plan s.script read.for;
     why = why_is_true each stays explained long found s.plan s.script read.for
         (locked_first s.plan s.script read.for (length s.script.eras) (omega arith));
+    base = base_is_said s.plan s.script;
   }
 
   pub promise_kept : PromiseIsKept

@@ -1,5 +1,5 @@
 -- Where the plan part of an input is accepted, the plan settles.
-use Rattle.std.proofs.Common.{Result, Ok, Err}
+use Rattle.std.proofs.Common.{Result, Ok, Err, refl}
 use Rattle.std.specs.Prelude.{IfOk}
 use Rattle.texts.specs.Parts.{Found, At}
 use Rattle.sync_types.specs.declared.answers.Premise.{Premise}
@@ -20,6 +20,7 @@ accepted_stabilise settles next locks stays versions plan accepted = record {
   locks = locks plan accepted;
   stays = stays plan accepted;
   versions = versions plan;
+  machine = λ version. refl;
 }
 
 whichever : AcceptedStabilise → (answer : Result (Found Plan) (At Premise))

@@ -1,4 +1,4 @@
--- What the lines of the word `explain` promise, of a plan with levels.
+-- What the lines of the word `explain` promise.
 use Rattle.std.specs.Prelude.{◌≡◌, ℕ, ◌+◌, ◌≤◌, List, [], ◌∷◌, length, Option, Some, None, IfSome}
 use Rattle.std.specs.Prelude.{codes, decimal}
 use Rattle.construction.specs.Plans.{Plan, plan_bound}
@@ -10,7 +10,7 @@ use Rattle.run_explanations.specs.Tops.{top_of}
 use Rattle.round_runner.specs.Played.{played_at}
 use Rattle.run_lines.specs.RowTexts.{lock_played}
 use Rattle.run_promises.specs.WrittenLines.{text_of_words, around}
-use Rattle.outcomes.specs.ExplainText.{explanation_lines, why_lines, explain_text}
+use Rattle.outcomes.specs.ExplainText.{explain_text}
 
 -- From the end of the phase on the last era is locked, and counts. The W of the era's line
 -- `locked W` comes no later.
@@ -31,16 +31,22 @@ explanation_words (Some e) =
     (codes "window" ∷ decimal e.window ∷ codes "leader" ∷ decimal e.leader ∷ [])
     ∷ (codes "phase" ∷ decimal e.phase ∷ codes "king" ∷ decimal e.king ∷ []) ∷ []
 
--- Lines say the first explanation why the last era locks, or that there is none, exactly where
--- there is none; the text of `explain` is these, between the bound and the first locked
--- configurations. What is explained locks when its phase has ended. Where the era goes on to
--- the bound, which is counted from its first configuration, there is one within it.
+-- Of a plan with levels lines say the first explanation why the last era locks, or that there is
+-- none, exactly where there is none; the text of `explain` is these, between the bound and the
+-- first locked configurations. What is explained locks when its phase has ended. Where the era goes
+-- on to the bound, which is counted from its first configuration, there is one within it.
 pub record WhyIsTrue (plan : Plan) (script : Script) : Type 0 where
   pub said : Option Explanation
-  pub lines : why_lines plan script ≡ explanation_lines said
   pub written : explain_text plan script
       ≡ text_of_words (around plan script (played_at plan script) (explanation_words said))
   pub first : IsFirstOrNone plan script said
   pub locks : IfSome said (LocksByPhase plan script)
   pub by_bound : era_begin script + plan_bound plan ≤ script.rounds
       → IsSaidBefore plan (era_begin script + plan_bound plan) said
+
+-- Of a plan without levels one line stands in their place.
+abbrev pub BaseIsSaid : Plan → Script → Type 0
+BaseIsSaid plan script =
+    explain_text plan script
+    ≡ text_of_words (around plan script (played_at plan script)
+    ((codes "explain" ∷ codes "base" ∷ []) ∷ []))

@@ -18,7 +18,8 @@ use Rattle.run_promises.specs.WrittenLines.{RowsAreWritten}
 use Rattle.run_lines.specs.RunTexts.{number_word}
 use Rattle.run_lines.specs.RowTexts.{node_word, lock_played}
 use Rattle.outcomes.specs.Inputs.{scripted_of}
-use Rattle.promises.specs.ExplainLaws.{WhyIsTrue}
+use Rattle.promises.specs.ExplainLaws.{WhyIsTrue, BaseIsSaid}
+use Rattle.promises.specs.MachineVersions.{VersionsAreOneMachine}
 
 -- All that is known of an accepted plan, in each of its runs and with each faulty set that it
 -- bears.
@@ -38,8 +39,9 @@ pub record IsSelfStabilising (plan : Plan) : Type 0 where
   pub stays : (faulty : List ℕ) (run : List (List State)) → IsBorne plan faulty
       → Run plan faulty run → (from : ℕ) → from < length run
       → IsLocked plan faulty (configuration run from) → StaysLockedFrom plan faulty run from
-  -- and its text of another version is that of the same counter
+  -- its text of another version is that of the same counter, and of the same machine
   pub versions : (version : ℕ) → AreSame plan (in_version version plan)
+  pub machine : VersionsAreOneMachine plan
 
 abbrev pub AcceptedStabilise : Type 0
 AcceptedStabilise = (plan : Plan) → IsAccepted plan → IsSelfStabilising plan
@@ -78,7 +80,7 @@ pub record EraKeepsPromise (plan : Plan) (script : Script) (j : ℕ) : Type 0 wh
 -- What is played is the script's: its starts, its faulty sets, its lies. The text of `run` has just
 -- a row of each configuration that is shown, between the bound and the first locked configurations.
 -- All of these are played, each is of one era, and each era keeps the promise. Of a plan with
--- levels, what is written of why the last era locks is true.
+-- levels, what is written of why the last era locks is true; of one without it is `explain base`.
 pub record KeepsPromise (plan : Plan) (script : Script) : Type 0 where
   pub played : PlaysPlain plan script
   pub written : RowsAreWritten plan script
@@ -86,6 +88,7 @@ pub record KeepsPromise (plan : Plan) (script : Script) : Type 0 where
   pub all : (t : ℕ) → t ≤ script.rounds → IsOfOneEra script t
   pub eras : (j : ℕ) → j ≤ length script.eras → EraKeepsPromise plan script j
   pub why : 1 ≤ plan_depth plan → WhyIsTrue plan script
+  pub base : plan_depth plan ≡ 0 → BaseIsSaid plan script
 
 -- where an input is a plan and a script, the promise is kept
 abbrev pub PromiseIsKept : Type 0

@@ -27,14 +27,16 @@ use Rattle.run_promises.specs.Promises.{LineDecides, LineFires, LinePuts}
 use Rattle.run_promises.specs.WrittenLines.{HoldsAreWritten, DecisionsAreWritten, FiresAreWritten}
 use Rattle.run_promises.specs.WrittenLines.{EntriesAreWritten}
 use Rattle.outcomes.specs.Layered.{slotted_of, agreed_of, firing_of, logging_of}
+use Rattle.promises.specs.LayerParts.{GivesOutputs, RequestsAreSaid, TakesTurns}
 
 -- What is played is the script's, and what is written are its lines. A node's word in a line is 1
--- exactly where the table gives it the output that it shows; from the bound on, in each era, at
--- most one word of a line is.
+-- exactly where the table gives it the output that it shows, which it does from the first output of
+-- a line to the last; from the bound on, in each era, at most one word of a line is.
 pub record KeepsHolds (plan : Plan) (script : Script) (table : List SlotLine) : Type 0 where
   pub played : PlaysPlain plan script
   pub written : HoldsAreWritten plan script table
   pub words : (t v : ℕ) → HoldWordIs plan table (played_at plan script t) v
+  pub gives : GivesOutputs
   pub one : (t : ℕ) → first_of_era script (era_of script t) + plan_bound plan ≤ t
       → t ≤ script.rounds
       → (u v : ℕ) → u < plan_nodes plan → is_in (faulty_at script t) u ≡ false
@@ -64,7 +66,8 @@ DecisionsAreKept = (input : List ℕ)
     → IfOk (agreed_of input) (λ read. KeepsDecisions read.plan read.script read.said)
 
 -- What is played is the script's, where none fires at first. There is a line of each slot that
--- counts and begins in a configuration that is shown, and in it all fire, or none does.
+-- counts and begins in a configuration that is shown, and in it all fire, or none does. A node
+-- requests in the rounds of which a line says so.
 pub record KeepsFires (plan : Plan) (script : Script) (requests : List Request) : Type 0 where
   pub played : PlaysScript plan script (fire_layer plan requests)
       (replicate (plan_nodes plan) unfired)
@@ -75,6 +78,7 @@ pub record KeepsFires (plan : Plan) (script : Script) (requests : List Request) 
       → begins_at plan script (slot_length (plan_faults plan)) t
       (fire_scene plan script requests t).states ≡ true
       → LineFires plan script requests t
+  pub asked : RequestsAreSaid requests
 
 abbrev pub FiresAreKept : Type 0
 FiresAreKept = (input : List ℕ)
@@ -92,6 +96,7 @@ pub record KeepsEntries (plan : Plan) (script : Script) (said : LogSaid) : Type 
       → begins_at plan script (entry_length (plan_faults plan)) t
       (log_scene plan script said t).states ≡ true
       → LinePuts plan script said t
+  pub turns : TakesTurns (plan_nodes plan) (plan_faults plan) said.commands
 
 abbrev pub EntriesAreKept : Type 0
 EntriesAreKept = (input : List ℕ)

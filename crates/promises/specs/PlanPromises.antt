@@ -14,17 +14,24 @@ use Rattle.consensus_layer.specs.AgreeTexts.{AgreeTextIsRead}
 use Rattle.firing.specs.RequestTexts.{RequestTextIsRead}
 use Rattle.replicated_log.specs.LogTexts.{LogTextIsRead}
 use Rattle.node_header.specs.HeaderTexts.{HeaderTextIsRead}
+use Rattle.run_promises.specs.WrittenLines.{text_of_words}
 use Rattle.outcomes.specs.declared.refusals.Refusal.{Refusal}
 use Rattle.outcomes.specs.declared.commands.Batch.TheVariants as batch
 use Rattle.outcomes.specs.Inputs.{plan_alone, tabled_of, wants_of}
 use Rattle.outcomes.specs.Answers.{answer_of}
+use Rattle.promises.specs.DemoLaws.{DemoIsAccepted, LiarsAreSpread}
 use Rattle.promises.specs.OnlyTexts.{OnlyTextsAreRead}
 use Rattle.promises.specs.ScriptInputs.{ScriptInputsAreRead}
+use Rattle.promises.specs.Skips.{SkippedLinesAreUnseen}
+use Rattle.promises.specs.TableWords.{table_words}
+use Rattle.promises.specs.Worked.{WorkedAnswers}
 
--- What `plan` answers is the plan's table, which is read back as the plan, and what `upgrade`
--- answers its text in version 2, which is read back as a plan of the same counter.
+-- What `plan` answers is the plan's table, which has just the lines that are said of it, and is
+-- read back as the plan, and what `upgrade` answers its text in version 2, which is read back as a
+-- plan of the same counter.
 pub record AreTextsOf (tabled upgraded : Result (List ℕ) Refusal) (plan : Plan) : Type 0 where
   pub table : tabled ≡ Ok (table_text plan)
+  pub says : table_text plan ≡ text_of_words (table_words plan)
   pub table_read : tabled_of (table_text plan) ≡ Ok plan
   pub text : upgraded ≡ Ok (plan_text 2 plan)
   pub text_read : plan_alone (plan_text 2 plan) ≡ Ok (in_version 2 plan)
@@ -46,7 +53,9 @@ pub record TextsAreKept : Type 0 where
 -- Each of these values has a text that is read as it. An accepted plan has one in its own version
 -- and in each later one, and a table; wants, slot tables, inputs to agree on, requests to fire,
 -- logs and headers of nodes have one. All but those of tables and of wants are read so at the front
--- of any text, too. A script has one behind the text of its plan, and behind that of a part.
+-- of any text, too. A script has one behind the text of its plan, and behind that of a part; what
+-- `demo` makes of a seed is one. Skipped lines may stand anywhere. Worked values say how each text
+-- and each refusal is spelled.
 pub record TextsAreRead : Type 0 where
   pub plans : (plan : Plan) (version : ℕ) → IsAccepted plan → plan.version ≤ version → version ≤ 2
       → plan_alone (plan_text version plan) ≡ Ok (in_version version plan)
@@ -60,3 +69,7 @@ pub record TextsAreRead : Type 0 where
   pub headers : HeaderTextIsRead
   pub scripts : ScriptInputsAreRead
   pub only : OnlyTextsAreRead
+  pub demo : DemoIsAccepted
+  pub liars : LiarsAreSpread
+  pub skips : SkippedLinesAreUnseen
+  pub worked : WorkedAnswers

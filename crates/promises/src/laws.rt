@@ -4,7 +4,7 @@
 ghost use Rattle.promises.specs.Completeness.{UndisturbedIsDefined, PlainIsDefined, RoomIsDefined};
 ghost use Rattle.promises.specs.Completeness.{CutsAreUnseen};
 ghost use Rattle.promises.specs.Laws.{AcceptedStabilise, AcceptedPlansSettle, PromiseIsKept};
-ghost use Rattle.promises.specs.DemoLaws.{DemoIsAccepted, DemoIsAnswered};
+ghost use Rattle.promises.specs.DemoLaws.{DemoIsAccepted, DemoIsAnswered, LiarsAreSpread};
 
 use plan_laws::laws::{
     each_has_one_next, every_plan_settles, locked_runs_count, locks_at_bound, versions_agree,
@@ -13,7 +13,7 @@ use round_runner::laws::{
     each_is_of_one_era, eras_are_runs, eras_count, eras_lock, eras_stay_locked,
 };
 use run_explanations::laws::{explained_eras_lock, found_is_first, long_eras_are_explained};
-use run_promises::laws::plain_scripts_are_played;
+use run_promises::laws::{plain_scripts_are_played, texts_are_written};
 
 /// Every accepted plan settles. No run of it can come to an end, each is locked at the bound, and
 /// from any locked configuration on it stays so and counts. Its texts of both versions are of one
@@ -36,14 +36,16 @@ pub fn accepted_plans_settle()
 }
 
 /// Where an input is a plan and a script, what is played has the script's starts, faulty sets and
-/// lies, and all rows that are shown are played ones. What is played of each era is a run of the
-/// plan with few faulty nodes; what is written of it counts from the bound on, and from its first
-/// locked configuration on, to the era's end, and is locked from there to it. What is written of
-/// why the last one locks is its first explanation, and it is locked from the end of that phase on.
+/// lies, and all rows that are shown are played ones. What is written has just its lines. What is
+/// played of each era is a run of the plan with few faulty nodes; what is written of it counts from
+/// the bound on, and from its first locked configuration on, to the era's end, and is locked from
+/// there to it. What is written of why the last one locks is its first explanation, and it is
+/// locked from the end of that phase on; of a plan without levels it is a line.
 pub fn promise_is_kept()
     ensures { PromiseIsKept }
 {
     plain_scripts_are_played();
+    texts_are_written();
     each_is_of_one_era();
     eras_are_runs();
     eras_lock();
@@ -81,8 +83,11 @@ pub fn cuts_are_unseen()
 {}
 
 /// The text that `demo` makes is a plan and a script for every seed, so that the promise holds of
-/// what is written; its rows lie behind the bound. No refusal is answered to `demo` and a number.
+/// what is written; its rows lie behind the bound, and three nodes say noise in all rounds, whose
+/// key has the seed. Which nodes these are has three choices, by the seed. No refusal is answered
+/// to `demo` and a number.
 pub fn demo_is_answered()
     ensures accepted { DemoIsAccepted }
     ensures answered { DemoIsAnswered }
+    ensures liars { LiarsAreSpread }
 {}

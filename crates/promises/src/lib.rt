@@ -13,3 +13,4 @@ pub mod only_texts;
 pub mod plan_promises;
 pub mod printed_promises;
 pub mod processes;
+pub mod worked;

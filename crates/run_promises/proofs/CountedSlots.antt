@@ -20,7 +20,7 @@ use Rattle.round_runner.proofs.Firsts.{era_within}
 use Rattle.round_runner.proofs.LowestCorrect.{lowest_among}
 use Rattle.run_lines.specs.PlayedTexts.{configuration_in}
 use Rattle.run_lines.specs.SlotTexts.{lead_output, begins_at}
-use Rattle.run_promises.specs.CountedSlots.{SlotCounts, SlotsAreExact}
+use Rattle.run_promises.specs.CountedSlots.{SlotCounts, SlotsCount}
 use Rattle.run_promises.specs.LayeredEras.{IsReadFor}
 use Rattle.run_promises.proofs.Counted.{past_bound, same_era, within_rounds, all_are, scene_here}
 
@@ -74,11 +74,8 @@ module _ {Kept : Type 0} (plan : Plan) (script : Script) (layer : Layer Kept)
       (eq-eqb (lead_output plan script t config % q) 0
       (c.rest (lowest_correct (plan_nodes plan) faulty) leads.0 leads.1))
 
-pub slots_are_exact : {Kept : Type 0} (plan : Plan) (script : Script) (layer : Layer Kept)
-    → KeepsRange layer → IsReadFor plan layer script → (began : List Kept)
-    → IsKeptFor (plan_nodes plan) began → (q : ℕ)
-    → SlotsAreExact plan script (configuration_in plan script layer began) q
-slots_are_exact plan script layer keeps is began enough q t = (
+pub slots_are_exact : {Kept : Type 0} (layer : Layer Kept) → SlotsCount layer
+slots_are_exact layer plan script keeps is began enough q t = (
   counts plan script layer keeps is began enough q t,
   begins plan script layer keeps is began enough q t,
 )

@@ -2,11 +2,15 @@
 -- shown.
 use Rattle.std.specs.Prelude.{◌≡◌, ◌↔◌, ℕ, ◌+◌, ◌<◌, ◌≤◌, List, true}
 use Rattle.sync_types.specs.States.{State}
-use Rattle.construction.specs.Plans.{Plan, plan_bound}
+use Rattle.construction.specs.Plans.{Plan, plan_nodes, plan_bound}
+use Rattle.counter_core.specs.Overlays.{Layer, KeepsRange}
 use Rattle.adversary_script.specs.Scripts.{Script}
 use Rattle.adversary_script.specs.Eras.{era_of, first_of_era, faulty_at}
+use Rattle.layer_laws.specs.Played.{IsKeptFor}
 use Rattle.layer_laws.specs.Slots.{AllAre}
+use Rattle.run_lines.specs.PlayedTexts.{configuration_in}
 use Rattle.run_lines.specs.SlotTexts.{begins_at}
+use Rattle.run_promises.specs.LayeredEras.{IsReadFor}
 
 -- A slot of q rounds begins in configuration t: later than the bound in its era. It ends in that
 -- era and within the rounds. The output of each correct node is a multiple of q.
@@ -22,3 +26,9 @@ abbrev pub SlotsAreExact : Plan → Script → (config_at : ℕ → List State) 
 SlotsAreExact plan script config_at q =
     (t : ℕ) → (begins_at plan script q t (config_at t) ≡ true)
     ↔ SlotCounts plan script config_at q t
+
+-- So it is of what is played with a layer whose step keeps values in range.
+abbrev pub SlotsCount : {Kept : Type 0} → Layer Kept → Type 0
+SlotsCount {Kept} layer = (plan : Plan) (script : Script) → KeepsRange layer
+    → IsReadFor plan layer script → (began : List Kept) → IsKeptFor (plan_nodes plan) began
+    → (q : ℕ) → SlotsAreExact plan script (configuration_in plan script layer began) q

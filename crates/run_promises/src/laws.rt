@@ -8,6 +8,7 @@ ghost use Rattle.run_promises.specs.ChangingRuns.{ChangingInputsHaveRuns};
 ghost use Rattle.run_promises.specs.ChangingRuns.{ChangingCommandsHaveRuns};
 ghost use Rattle.run_promises.specs.Promises.{LinesDecide, LinesFireTogether, LinesPutOne};
 ghost use Rattle.run_promises.specs.Columns.{NodesMakeColumns, EraPacketsAreRead};
+ghost use Rattle.run_promises.specs.CountedSlots.{SlotsCount};
 ghost use Rattle.run_promises.specs.WrittenLines.{TextsAreWritten};
 
 use counter_core::Overlay;
@@ -66,6 +67,13 @@ pub fn era_packets_are_read()
 /// word of each node, and the first locked configurations.
 pub fn texts_are_written()
     ensures { TextsAreWritten }
+{}
+
+/// With a layer whose step keeps values in range, a line of a slot is written just where a slot
+/// begins in a configuration that is shown, later than the bound in its era, and ends in that era
+/// and within the rounds.
+pub fn slots_are_exact<O: Overlay>()
+    ensures { (layer : Layer O.Kept) → SlotsCount layer }
 {}
 
 /// The layer of consensus whose inputs change from round to round, each below the values, keeps

@@ -7,3 +7,5 @@ returns c = texts_read c.plan_texts_read_back.ensures.part c.plan_texts_read_bac
     c.agree_texts_read_back.ensures c.request_texts_read_back.ensures
     c.log_texts_read_back.ensures c.header_texts_read_back.ensures
     c.script_texts_read_back.ensures.whole c.read_scripts_have_texts.ensures
+    c.demo_is_answered.ensures.accepted c.demo_is_answered.ensures.liars
+    c.skipped_lines_are_unseen.ensures c.worked_answers.ensures

@@ -1,0 +1,9 @@
+//! Worked values. The function does nothing: its clause is the law.
+
+ghost use Rattle.promises.specs.Worked.{WorkedAnswers};
+
+/// Inputs that fail by each premise and each rule have these refusals, values these texts, and
+/// words these commands.
+pub fn worked_answers()
+    ensures { WorkedAnswers }
+{}
