@@ -2,13 +2,15 @@
 """Refuses each allocation of each word in turn, and looks at what becomes of it.
 
     python3 bench/tools/refuse_memory.py [--most N] [NAME.WORDS ..]
+    python3 bench/tools/refuse_memory.py [--most N] --pulses
 
 A row is an input with its answer, NAME.txt and NAME.WORDS.out in crates/try_faults/data/short;
 without names all rows are taken. The program `try_faults` gives a row to the workbench over a
-source and a sink that never fail, behind so many allocations of its own. It is run by `rt try
---fail-alloc N --cases`, which refuses its Nth allocation and needs no proof: once for each of 0 to
-N - 1 allocations before, so that each allocation of the row is refused in one run, if it has fewer
-than about N - 10.
+source and a sink that never fail, behind so many allocations of its own. With `--pulses` the
+program is `try_random_pulses`, and its one row a call of a node of a pulse plan. The program is run
+by `rt try --fail-alloc N --cases`, which refuses its Nth allocation and needs no proof: once for
+each of 0 to N - 1 allocations before, so that each allocation of the row is refused in one run, if
+it has fewer than about N - 10.
 
 Each run has to end with status 10 and no byte taken, or, where the allocation that is refused is
 none of the row's, as it does where nothing is refused. The status is 1 where one ends otherwise.
@@ -24,27 +26,33 @@ import tempfile
 
 TOP = pathlib.Path(__file__).resolve().parents[2]
 CRATE = TOP / "crates" / "try_faults"
+PULSES = TOP / "crates" / "try_random_pulses"
 ROWS = CRATE / "data" / "short"
+PULSE_ROW = "one_packet.pulselab"
 REFUSED = "10 0"
 
 
 def put_case(folder, row, spent):
     """Puts a run of a row behind so many allocations into a folder."""
-    name, words = row.split(".")
     case = folder / f"{row}.{spent}"
-    shutil.copyfile(ROWS / f"{name}.txt", case)
-    arguments = ["spend", str(spent), *words.split("_")]
+    arguments = ["spend", str(spent)]
+    if row == PULSE_ROW:
+        case.write_bytes(b"")
+    else:
+        name, words = row.split(".")
+        shutil.copyfile(ROWS / f"{name}.txt", case)
+        arguments += words.split("_")
     case.with_name(case.name + ".args").write_text("".join(word + "\n" for word in arguments))
 
 
-def answers(rows, counts, flags):
+def answers(crate, rows, counts, flags):
     """What each row answers behind each count of allocations: its status and how many bytes."""
     with tempfile.TemporaryDirectory() as name:
         for row in rows:
             for spent in counts:
                 put_case(pathlib.Path(name), row, spent)
         command = ["rt", "try", "--steps", "1", *flags, "--cases", name]
-        done = subprocess.run(command, cwd=CRATE, stdout=subprocess.PIPE, stderr=subprocess.STDOUT)
+        done = subprocess.run(command, cwd=crate, stdout=subprocess.PIPE, stderr=subprocess.STDOUT)
     text = done.stdout.decode(errors="replace")
     found = dict(re.findall(r"^== (\S+)\n(\d+ \d+)$", text, re.MULTILINE))
     for row in rows:
@@ -74,12 +82,16 @@ def report(row, plain, refused):
 def main():
     parser = argparse.ArgumentParser(description=__doc__.splitlines()[0])
     parser.add_argument("--most", type=int, default=60)
+    parser.add_argument("--pulses", action="store_true")
     parser.add_argument("rows", nargs="*")
     given = parser.parse_args()
     rows = given.rows or sorted(out.name.removesuffix(".out") for out in ROWS.glob("*.out"))
-    plain, _ = answers(rows, [0], [])
+    crate = CRATE
+    if given.pulses:
+        crate, rows = PULSES, [PULSE_ROW]
+    plain, _ = answers(crate, rows, [0], [])
     counts = range(given.most - 1, -1, -1)
-    refused, text = answers(rows, counts, ["--fail-alloc", str(given.most)])
+    refused, text = answers(crate, rows, counts, ["--fail-alloc", str(given.most)])
     (pathlib.Path(tempfile.gettempdir()) / "refuse_memory.log").write_text(text)
     same = [report(row, plain[row][0], refused[row]) for row in rows]
     return 0 if all(same) else 1

@@ -1,7 +1,8 @@
 //! Compares what the calls of pulse plans answer with a plain and slow computation of what plans,
 //! states and steps mean, which shares no code with them: texts and tables, single steps, and runs
 //! in which the most nodes lie, from any start to some rounds after the bound. What is tried is
-//! drawn, the same each time.
+//! drawn, the same each time. Besides, each read and each write of a node fails in turn. With the
+//! arguments `spend N` it makes one call of a node alone, behind N allocations.
 #![tactic(auto)]
 
 mod calling;
@@ -9,6 +10,8 @@ mod drawn_plans;
 mod drawn_states;
 mod drawn_texts;
 mod draws;
+mod fault_trials;
+mod memory_trial;
 mod plain_tables;
 mod plain_texts;
 mod rounds;
@@ -17,11 +20,30 @@ mod step_trials;
 mod text_trials;
 
 use crate::draws::Draws;
+use crate::fault_trials::try_faults;
+use crate::memory_trial::try_node;
 use crate::run_trials::try_runs;
 use crate::step_trials::try_steps;
 use crate::text_trials::try_texts;
+use std::{env, io};
+
+/// The arguments behind the program's own name.
+fn arguments(rt: &HostRuntime) -> io::Result<Vec<String>> {
+    let mut arguments = Vec::new(rt.alloc());
+    for argument in env::args(rt)?.skip(1) {
+        arguments.push(argument)?;
+    }
+    Ok(arguments)
+}
 
 fn main(rt: HostRuntime) -> anyhow::Result<()> {
+    let arguments = arguments(&rt)?;
+    if let [word, count] = arguments.as_slice() {
+        if word.as_str() == "spend" {
+            return try_node(&rt, count.as_str().parse::<u64>()?);
+        }
+    }
+    try_faults(&rt)?;
     let mut draws = Draws::new(rt.alloc());
     try_texts(&rt, &mut draws)?;
     try_steps(&rt, &mut draws)?;
