@@ -1,5 +1,5 @@
--- A state of a node of a plan takes some bits.
-use Rattle.std.proofs.Common.{◌≡◌, ℕ, zero, suc, ◌+◌, ◌-◌, ◌<◌, ◌≤◌, true, false, cond, length}
+-- A state of a node of a plan takes some bits, and not many.
+use Rattle.std.proofs.Common.{◌≡◌, ℕ, zero, suc, ◌+◌, ◌-◌, ◌*◌, ◌<◌, ◌≤◌, true, false, cond, length}
 use Rattle.std.proofs.Common.{get_or, refl, ap, ◌∙◌, subst, sym, arith}
 use Rattle.std.specs.Prelude.{nat_lt, ◌==◌}
 use Rattle.std.proofs.lemmas.Bool.{le-ltb}
@@ -9,12 +9,12 @@ use Rattle.construction.proofs.Ranges.{low_most}
 use Rattle.plan_numbers.specs.Premises.{IsAccepted}
 use Rattle.state_codec.specs.Shapes.{Fields, AreAll, all_of, moduli_of, shape_of, fields_at}
 use Rattle.state_codec.specs.Shapes.{fields_from, moduli_from, bits_in}
-use Rattle.state_codec.proofs.Lows.{length-moduli_from, modulus_at, fields_of_node}
+use Rattle.state_codec.proofs.Lows.{length-moduli_from, modulus_at, fields_of_node, from_limited}
 use Rattle.state_codec.proofs.Plans.{length-moduli_of, all_of_accepted}
-use Rattle.node_header.proofs.StateDigits.{wide, one_counts}
+use Rattle.node_header.proofs.StateDigits.{wide, one_counts, most_bits}
 
 module _ (all : Fields) (sound : AreAll all) (low : ℕ) where
-  some_bits : low ≤ length all.moduli → 0 < bits_in (fields_from all low)
+  pub some_bits : low ≤ length all.moduli → 0 < bits_in (fields_from all low)
   some_bits le = by_low low le refl where
     by_low : (l : ℕ) → l ≤ length all.moduli → l ≡ low → 0 < bits_in (fields_from all low)
     by_low zero within is =
@@ -35,6 +35,11 @@ module _ (all : Fields) (sound : AreAll all) (low : ℕ) where
         let some = one_counts (moduli_from low all.moduli) (length all.moduli - 1)
         (omega (arith, length-moduli_from low all.moduli)) (omega (arith, seen, two)) in
         omega (arith, some)
+
+  pub few_bits : bits_in (fields_from all low) ≤ 42 * length all.moduli + 41
+  few_bits =
+      let most = most_bits (fields_from all low) (from_limited all low sound) in
+      omega (arith, most, length-moduli_from low all.moduli)
 
 pub plan_bits : (plan : Plan) → IsAccepted plan → (v : ℕ) → v < plan_nodes plan
     → 0 < bits_in (fields_at (shape_of plan) v)

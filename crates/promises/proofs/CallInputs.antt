@@ -103,7 +103,7 @@ any_restart plan accepted faulty meanwhile node after too starts sent begins rou
     accepted faulty meanwhile node after too starts sent begins rounds few
     (states plan accepted faulty starts begun) in
     let name = λ (v : ℕ) (correct : IsCorrect plan faulty v).
-        named plan v (starts v) (made.inputs v) (made.begin v correct) in
+    named plan v (starts v) (made.inputs v) (made.begin v correct) in
     record {
       made = made;
       all = record {
@@ -123,7 +123,7 @@ any_resume plan accepted faulty meanwhile node after too right starts sent begin
     is_written plan accepted faulty meanwhile node after too right starts sent begins rounds few
     (states plan accepted faulty starts begun) in
     let name = λ (v : ℕ) (correct : IsCorrect plan faulty v).
-        named plan v (starts v) (made.inputs v) (made.begin v correct) in
+    named plan v (starts v) (made.inputs v) (made.begin v correct) in
     record {
       made = made;
       all = record {

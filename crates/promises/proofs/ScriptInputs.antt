@@ -26,7 +26,7 @@ use Rattle.adversary_script.specs.ScriptPart.{script_of}
 use Rattle.adversary_script.specs.ScriptTexts.{script_text}
 use Rattle.adversary_script.specs.Writable.{FitsLines, IsWritable}
 use Rattle.adversary_script.specs.ScriptLaws.{ScriptTextIsWhole, ReadIsWritable}
-use Rattle.node_header.proofs.StateDigits.{some_bits, most_bits}
+use Rattle.node_header.proofs.PlanBits.{some_bits, few_bits}
 use Rattle.slot_table.specs.SlotPart as slot_part
 use Rattle.slot_table.specs.SlotTexts.{slots_text, SlotTextIsRead}
 use Rattle.consensus_layer.specs.AgreePart as agree_part
@@ -51,7 +51,7 @@ module _ (plan : Plan) (accepted : IsAccepted plan) (moduli : List ℕ)
       let low = plan_low plan v in
       let own = ap bits_in (fields_of_node plan moduli v lt) in
       let some = some_bits all full low (omega (arith, deep, low_most plan.levels v)) in
-      let most = most_bits all full low in
+      let most = few_bits all full low in
       (omega (arith, own, some), omega (arith, own, most, few))
 
   is_over : IsShape (shape_over plan moduli)
