@@ -1,4 +1,5 @@
--- What the word `node` makes of an input: what a node of any construction makes of it, of plans.
+-- What the word `node` makes of an input: what any node makes of one whose plans are read by
+-- `plan_words`, with a status for how it ended.
 use Rattle.std.specs.Prelude.{ℕ, List, Result, Ok, Err}
 use Rattle.sync_types.specs.declared.answers.Part.TheVariants as part
 use Rattle.sync_types.specs.declared.answers.Premise.{Premise}

@@ -16,7 +16,9 @@ module _ (plan : Plan) (calls : ℕ → Call) where
   abbrev pub cell_written : (t v : ℕ) → Option (List ℕ)
   cell_written = any.cell_written plan_words (machine_of_plan plan) calls
 
-  -- the configuration after i rounds of a window, which begins in each call at a packet of its own
+  -- The configuration after i rounds of a window, by the states that the cells stand for. It begins
+  -- in each call at a packet of its own, `begins v` in that of node v, since each process counts
+  -- its packets from when it was started.
   abbrev pub states_written : (begins : ℕ → ℕ) → (i : ℕ) → List State
   states_written = any.states_written plan_words (machine_of_plan plan) calls
 
@@ -25,13 +27,16 @@ abbrev pub NameThePlan : Plan → (faulty : List ℕ) → (calls : ℕ → Call)
 NameThePlan plan faulty calls = (v : ℕ) → IsCorrect plan faulty v → IsOfNode plan v (calls v)
 
 module _ (plan : Plan) (faulty : List ℕ) (calls : ℕ → Call) (begins : ℕ → ℕ) (rounds : ℕ) where
-  -- In each round each correct node is given the cells that the other correct ones write.
+  -- Each correct node is a call of its own, with packets for so many rounds. In each round the cell
+  -- of each other correct node is the one that this writes after as many rounds. The cells of
+  -- faulty nodes are any bytes, and so are all cells of the packets before the window.
   pub record CallsConnect : Type 0 where
     pub headers : NameThePlan plan faulty calls
     pub connect : any.CallsConnect plan_words (machine_of_plan plan) faulty calls begins rounds
 
-  -- Cells are lost, or late: in each round each is given those of all nodes that it does not miss
-  -- then.
+  -- Cells are lost, or late: in each round each correct node is given the cells of all nodes that
+  -- it does not miss then. It misses at most F, faulty ones among them, in each round others, and
+  -- never itself. Of those that it misses the cells are any bytes.
   pub record CallsAreHeard : Type 0 where
     pub headers : NameThePlan plan faulty calls
     pub heard : any.CallsAreHeard plan_words (machine_of_plan plan) faulty calls begins rounds

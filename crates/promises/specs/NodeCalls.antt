@@ -1,4 +1,4 @@
--- Calls of `node`: those of a node of any construction, of plans.
+-- Calls of `node`, by the bytes that each read: as those of a node of any construction, of plans.
 use Rattle.std.specs.Prelude.{◌≡◌, ⊤, ℕ, List, Option, Some, Result, Ok}
 use Rattle.std.specs.Io.KnownBytes.{Consumes}
 use Rattle.texts.specs.Growth.{Told, Wrote}
