@@ -1,5 +1,5 @@
 -- A state of a node of a pulse plan takes some bits, and has few registers.
-use Rattle.std.proofs.Common.{◌≡◌, ℕ, zero, suc, ◌+◌, ◌-◌, ◌*◌, ◌/◌, ◌^◌, ◌<◌, ◌≤◌, List, ◌∷◌}
+use Rattle.std.proofs.Common.{ℕ, zero, suc, ◌+◌, ◌-◌, ◌*◌, ◌/◌, ◌^◌, ◌<◌, ◌≤◌, List, ◌∷◌}
 use Rattle.std.proofs.Common.{sym, subst, arith}
 use Rattle.state_codec.specs.Shapes.{Fields, fields_at, registers_bits, bits_in}
 use Rattle.state_codec.proofs.RegisterSteps.{registers_bits-cons}
