@@ -60,7 +60,8 @@ one_counts (c ∷ cs) zero lt two = omega (arith, registers_bits-cons c cs, some
 one_counts (c ∷ cs) (suc i) lt two =
     omega (arith, registers_bits-cons c cs, one_counts cs i (omega arith) two)
 
-pub most_bits : (fields : Fields) → IsFields fields → bits_in fields ≤ 42 * length fields.moduli + 41
+pub most_bits : (fields : Fields) → IsFields fields
+    → bits_in fields ≤ 42 * length fields.moduli + 41
 most_bits fields is =
     omega (arith, few_bits fields.moduli is.moduli, narrow fields.base is.most is.least)
 

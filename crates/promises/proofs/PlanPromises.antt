@@ -77,7 +77,8 @@ texts_read front whole tables wants slots inputs requests logs headers scripts w
       headers = headers;
       scripts = script_inputs_read front scripts writable slots inputs requests logs;
       only =
-          only_texts (script_inputs_read front scripts writable slots inputs requests logs) writable;
+          only_texts (script_inputs_read front scripts writable slots inputs requests logs)
+          writable;
       demo = demo;
       liars = liars;
       skips = skips;
