@@ -44,6 +44,5 @@ mod turns;
 mod turns_said;
 
 pub use drawing::{DrawError, draw};
-pub use pages::{Form, put_page_behind, put_page_front};
-pub use pictures::{put_front, put_ground};
+pub use pages::Form;
 pub use reading::{ChartError, Wanted};

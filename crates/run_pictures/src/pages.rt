@@ -24,7 +24,7 @@ pub enum Form {
 }
 
 /// Writes what stands before the picture.
-pub fn put_page_front<K: Sink>(sink: &mut K) -> Result<(), WriteFault>
+fn put_page_front<K: Sink>(sink: &mut K) -> Result<(), WriteFault>
     ensures { Puts result page_front (K.told sink.old) (K.told sink.new) }
 {
     put_all(
@@ -138,7 +138,7 @@ fn put_page_keys<K: Sink>(sink: &mut K) -> Result<(), WriteFault>
 }
 
 /// Writes what stands behind a picture: the rows, and what the page does.
-pub fn put_page_behind<K: Sink>(sink: &mut K, rows: &[u8]) -> Result<(), WriteFault>
+fn put_page_behind<K: Sink>(sink: &mut K, rows: &[u8]) -> Result<(), WriteFault>
     ensures { Puts result (page_behind rows.now) (K.told sink.old) (K.told sink.new) }
 {
     written!(put_page_middle(sink));
