@@ -10,5 +10,7 @@ pub mod Strips
 pub mod TracePictures
 pub mod TraceSaid
 pub mod TraceLaid
+pub mod Sweeps
+pub mod SweepPictures
 pub mod Pages
 pub mod Drawn

@@ -1,11 +1,13 @@
-//! Pictures, in SVG, of what `run` or `trace` writes: a column for each configuration and a line of
-//! cells for each node; of a trace also a strip for each level, with the kings' turns above it.
+//! Pictures, in SVG, of what `run`, `trace` or `sweep` writes: of a run a column for each
+//! configuration and a line of cells for each node; of a trace also a strip for each level, with
+//! the kings' turns above it; of a sweep a band for each era, with bars of how many runs lock when.
 //!
-//! That each picture is the defined one of a chart or a trace, whose own text is just what was
-//! read, is proved ([`draw`]), of a chart that its words stand row by row and node by node, and of
+//! That each picture is the defined one of a chart, a trace or a sweep, whose own text is just what
+//! was read, is proved ([`draw`]), of a chart that its words stand row by row and node by node, of
 //! a trace that its lines stand in their columns, lines and strips, and that just the kings' turns
-//! are there which correct nodes hear. Outputs that count have one colour. That all that `run` and
-//! `trace` write is read, how wide columns are, and who is found hit, is not.
+//! are there which correct nodes hear, and of a sweep that its lines stand in the bars of their
+//! configurations, as high as their runs are. Outputs that count have one colour. That all that
+//! these programs write is read, how wide columns and bars are, and who is found hit, is not.
 #![tactic(auto)]
 
 // As `?` behind a part of a text that is written, but with no call of its own.
@@ -33,6 +35,11 @@ mod printing;
 mod reading;
 mod squares;
 mod strips;
+mod sweep_charts;
+mod sweep_laid;
+mod sweep_pictures;
+mod sweep_printing;
+mod sweep_reading;
 mod trace_laid;
 mod trace_lines;
 mod trace_pictures;

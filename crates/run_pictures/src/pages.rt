@@ -6,10 +6,13 @@ ghost use Rattle.run_pictures.specs.Charts.{chart_text};
 ghost use Rattle.run_pictures.specs.Pages.{formed, page_behind, page_front, page_keys, page_middle};
 ghost use Rattle.run_pictures.specs.Pages.{page_script, page_text};
 ghost use Rattle.run_pictures.specs.Pictures.{picture_text};
+ghost use Rattle.run_pictures.specs.SweepPictures.{sweep_picture};
 ghost use Rattle.run_pictures.specs.TracePictures.{trace_picture};
 
 use crate::charts::Chart;
 use crate::pictures::put_picture;
+use crate::sweep_charts::Sweep;
+use crate::sweep_pictures::put_sweep_picture;
 use crate::trace_pictures::put_trace_picture;
 use crate::traces::Trace;
 use edge_io::{Sink, WriteFault, put_all};
@@ -52,7 +55,7 @@ fn put_page_middle<K: Sink>(sink: &mut K) -> Result<(), WriteFault>
 {
     put_all(
         sink,
-        b"<pre id='said'>Point at a cell. The arrow keys go on to the next one.</pre>\n\
+        b"<pre id='said'>Point at a cell or a bar. The arrow keys go on to the next cell.</pre>\n\
         <pre id='rows' hidden>\n",
     )
 }
@@ -87,6 +90,8 @@ fn put_page_script<K: Sink>(sink: &mut K) -> Result<(), WriteFault>
         for (const group of document.querySelectorAll('g')) {\n\
         const title = group.querySelector('title');\n\
         const told = title && title.textContent.match(named);\n\
+        const tell = () => { said.textContent = title.textContent; };\n\
+        if (title && !told) group.addEventListener('pointerover', tell);\n\
         if (!told) continue;\n\
         add(cells, told[2] + ' ' + told[1], group);\n\
         group.addEventListener('pointerover', () => choose(+told[2], +told[1], false));\n\
@@ -167,6 +172,16 @@ fn put_trace_page<K: Sink>(sink: &mut K, rows: &[u8], trace: &Trace) -> Result<(
     put_page_behind(sink, rows)
 }
 
+/// Writes the page of a sweep and its lines.
+fn put_sweep_page<K: Sink>(sink: &mut K, rows: &[u8], sweep: &Sweep) -> Result<(), WriteFault>
+    ensures { Puts result (page_text rows.now (sweep_picture sweep.now))
+        (K.told sink.old) (K.told sink.new) }
+{
+    written!(put_page_front(sink));
+    written!(put_sweep_picture(sink, sweep));
+    put_page_behind(sink, rows)
+}
+
 /// Writes what is wanted of a chart.
 pub fn put_formed_chart<K: Sink>(
     sink: &mut K,
@@ -196,5 +211,21 @@ pub fn put_formed_trace<K: Sink>(
     match form {
         Form::Picture => put_trace_picture(sink, trace),
         Form::Page => put_trace_page(sink, rows, trace),
+    }
+}
+
+/// Writes what is wanted of a sweep.
+pub fn put_formed_sweep<K: Sink>(
+    sink: &mut K,
+    form: Form,
+    rows: &[u8],
+    sweep: &Sweep,
+) -> Result<(), WriteFault>
+    ensures { Puts result (formed form rows.now (sweep_picture sweep.now))
+        (K.told sink.old) (K.told sink.new) }
+{
+    match form {
+        Form::Picture => put_sweep_picture(sink, sweep),
+        Form::Page => put_sweep_page(sink, rows, sweep),
     }
 }

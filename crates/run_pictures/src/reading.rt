@@ -77,7 +77,7 @@ impl<T: Drop> From<AllocFailed<T>> for ChartError {
 
 /// Why a line is not taken.
 #[derive(Clone, Copy)]
-enum LineError {
+pub enum LineError {
     Unwanted,
     NoMemory,
 }
