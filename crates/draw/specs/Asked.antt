@@ -9,12 +9,12 @@ use Rattle.run_pictures.specs.declared.pages.Form.TheVariants.{Picture, Page}
 
 abbrev pub help_text : List ℕ
 help_text = concat (
-    codes "usage: draw < RUN > PICTURE.svg\n       draw < TRACE > PICTURE.svg\n"
-    ∷ codes "       draw --page < TRACE > PAGE.html\n"
-    ∷ codes "Draws what `counterlab run` or `trace` writes: a picture in SVG with a column\n"
-    ∷ codes "for each configuration and a line of cells for each node. Of a trace it\n"
-    ∷ codes "draws each level too, with the kings' turns. With --page it writes a page for a\n"
-    ∷ codes "browser, which says of the cell under the pointer what its lines say.\n" ∷ [])
+    codes "usage: draw < TEXT > PICTURE.svg\n       draw --page < TEXT > PAGE.html\n"
+    ∷ codes "Draws what `counterlab run`, `trace` or `sweep` writes, in SVG. Of a run or a trace:\n"
+    ∷ codes "a column for each configuration and a line of cells for each node; of a trace each\n"
+    ∷ codes "level too, with the kings' turns. Of a sweep: bars of how many runs lock when. With\n"
+    ∷ codes "--page it writes a page for a browser, which says of what is under the pointer what\n"
+    ∷ codes "the text says of it.\n" ∷ [])
 
 abbrev pub version_text : List ℕ
 version_text = codes "draw 1.0\n"
