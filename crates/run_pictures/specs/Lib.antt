@@ -12,5 +12,7 @@ pub mod TraceSaid
 pub mod TraceLaid
 pub mod Sweeps
 pub mod SweepPictures
+pub mod Choices
+pub mod ChoicePictures
 pub mod Pages
 pub mod Drawn

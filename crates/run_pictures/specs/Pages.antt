@@ -26,7 +26,7 @@ page_front = concat (
 -- what stands between the picture and the rows
 abbrev pub page_middle : List ℕ
 page_middle = concat (
-    codes "<pre id='said'>Point at a cell or a bar. The arrow keys go on to the next cell.</pre>\n"
+    codes "<pre id='said'>Point at what is drawn. The arrow keys go on to the next cell.</pre>\n"
     ∷ codes "<pre id='rows' hidden>\n" ∷ [])
 
 -- what stands behind the rows: how the page finds its cells

@@ -97,7 +97,7 @@ tally_picture sweep tally = axis_if sweep tally ++ (bar tally ++ worst_if tally)
 abbrev pub tick_picture : Sweep → Tick → List ℕ
 tick_picture sweep tick = concat (
     codes "<path d='M" ∷ decimal (bar_left tick.column)
-    ∷ codes " 24V" ∷ decimal (sweep_bottom sweep)
+    ∷ codes " 36V" ∷ decimal (sweep_bottom sweep)
     ∷ codes "' stroke='gainsboro'/>\n<text x='" ∷ decimal (bar_left tick.column)
     ∷ codes "' y='" ∷ decimal (sweep_bottom sweep + 4)
     ∷ codes "'>" ∷ decimal tick.number

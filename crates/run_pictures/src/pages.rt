@@ -3,6 +3,7 @@
 
 ghost use Rattle.texts.specs.Growth.{Puts};
 ghost use Rattle.run_pictures.specs.Charts.{chart_text};
+ghost use Rattle.run_pictures.specs.ChoicePictures.{choice_picture};
 ghost use Rattle.run_pictures.specs.Pages.{formed, page_behind, page_front, page_keys, page_middle};
 ghost use Rattle.run_pictures.specs.Pages.{page_script, page_text};
 ghost use Rattle.run_pictures.specs.Pictures.{picture_text};
@@ -10,6 +11,8 @@ ghost use Rattle.run_pictures.specs.SweepPictures.{sweep_picture};
 ghost use Rattle.run_pictures.specs.TracePictures.{trace_picture};
 
 use crate::charts::Chart;
+use crate::choice_pictures::put_choice_picture;
+use crate::choices::Point;
 use crate::pictures::put_picture;
 use crate::sweep_charts::Sweep;
 use crate::sweep_pictures::put_sweep_picture;
@@ -55,7 +58,7 @@ fn put_page_middle<K: Sink>(sink: &mut K) -> Result<(), WriteFault>
 {
     put_all(
         sink,
-        b"<pre id='said'>Point at a cell or a bar. The arrow keys go on to the next cell.</pre>\n\
+        b"<pre id='said'>Point at what is drawn. The arrow keys go on to the next cell.</pre>\n\
         <pre id='rows' hidden>\n",
     )
 }
@@ -182,6 +185,20 @@ fn put_sweep_page<K: Sink>(sink: &mut K, rows: &[u8], sweep: &Sweep) -> Result<(
     put_page_behind(sink, rows)
 }
 
+/// Writes the page of a choice and its lines.
+fn put_choice_page<K: Sink>(
+    sink: &mut K,
+    rows: &[u8],
+    points: &[Point<'_>],
+) -> Result<(), WriteFault>
+    ensures { Puts result (page_text rows.now (choice_picture points.now))
+        (K.told sink.old) (K.told sink.new) }
+{
+    written!(put_page_front(sink));
+    written!(put_choice_picture(sink, points));
+    put_page_behind(sink, rows)
+}
+
 /// Writes what is wanted of a chart.
 pub fn put_formed_chart<K: Sink>(
     sink: &mut K,
@@ -227,5 +244,21 @@ pub fn put_formed_sweep<K: Sink>(
     match form {
         Form::Picture => put_sweep_picture(sink, sweep),
         Form::Page => put_sweep_page(sink, rows, sweep),
+    }
+}
+
+/// Writes what is wanted of a choice.
+pub fn put_formed_choice<K: Sink>(
+    sink: &mut K,
+    form: Form,
+    rows: &[u8],
+    points: &[Point<'_>],
+) -> Result<(), WriteFault>
+    ensures { Puts result (formed form rows.now (choice_picture points.now))
+        (K.told sink.old) (K.told sink.new) }
+{
+    match form {
+        Form::Picture => put_choice_picture(sink, points),
+        Form::Page => put_choice_page(sink, rows, points),
     }
 }

@@ -216,7 +216,7 @@ fn put_tick<K: Sink>(sink: &mut K, sweep: &Sweep, tick: Tick) -> Result<(), Writ
         &[
             Piece::Text(b"<path d='M"),
             Piece::Number(x),
-            Piece::Text(b" 24V"),
+            Piece::Text(b" 36V"),
             Piece::Number(bottom),
             Piece::Text(b"' stroke='gainsboro'/>\n<text x='"),
             Piece::Number(x),
