@@ -9,12 +9,13 @@ use Rattle.run_pictures.specs.declared.pages.Form.TheVariants.{Picture, Page}
 
 abbrev pub help_text : List ℕ
 help_text = concat (
-    codes "usage: draw < RUN > PICTURE.svg\n       draw < TRACE > PICTURE.svg\n"
-    ∷ codes "       draw --page < TRACE > PAGE.html\n"
-    ∷ codes "Draws what `counterlab run` or `trace` writes: a picture in SVG with a column\n"
-    ∷ codes "for each configuration and a line of cells for each node. Of a trace it\n"
-    ∷ codes "draws each level too, with the kings' turns. With --page it writes a page for a\n"
-    ∷ codes "browser, which says of the cell under the pointer what its lines say.\n" ∷ [])
+    codes "usage: draw < TEXT > PICTURE.svg\n       draw --page < TEXT > PAGE.html\n"
+    ∷ codes "Draws what `counterlab run`, `trace`, `sweep` or `choose` writes, in SVG. Of a run\n"
+    ∷ codes "or a trace: a column for each configuration and a line of cells for each node; of\n"
+    ∷ codes "a trace each level too, with the kings' turns. Of a sweep: bars of how many runs\n"
+    ∷ codes "lock when. Of a choice: a point for each plan, by its nodes and its bound. With\n"
+    ∷ codes "--page it writes a page for a browser, which says of what is under the pointer\n"
+    ∷ codes "what the text says of it.\n" ∷ [])
 
 abbrev pub version_text : List ℕ
 version_text = codes "draw 1.0\n"

@@ -14,12 +14,13 @@ fn put_help<K: Sink>(sink: &mut K) -> Result<(), WriteFault>
 {
     put_all(
         sink,
-        b"usage: draw < RUN > PICTURE.svg\n       draw < TRACE > PICTURE.svg\n       \
-        draw --page < TRACE > PAGE.html\n\
-        Draws what `counterlab run` or `trace` writes: a picture in SVG with a column\n\
-        for each configuration and a line of cells for each node. Of a trace it\n\
-        draws each level too, with the kings' turns. With --page it writes a page for a\n\
-        browser, which says of the cell under the pointer what its lines say.\n",
+        b"usage: draw < TEXT > PICTURE.svg\n       draw --page < TEXT > PAGE.html\n\
+        Draws what `counterlab run`, `trace`, `sweep` or `choose` writes, in SVG. Of a run\n\
+        or a trace: a column for each configuration and a line of cells for each node; of\n\
+        a trace each level too, with the kings' turns. Of a sweep: bars of how many runs\n\
+        lock when. Of a choice: a point for each plan, by its nodes and its bound. With\n\
+        --page it writes a page for a browser, which says of what is under the pointer\n\
+        what the text says of it.\n",
     )
 }
 

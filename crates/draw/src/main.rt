@@ -1,6 +1,7 @@
-//! Draws what `counterlab run` or `trace` writes: a picture in SVG with a column for each
-//! configuration and a line of cells for each node; of a trace also a strip for each level, with
-//! the kings' turns above it. It reads standard input and writes standard output. Where it reads
+//! Draws what `counterlab run`, `trace`, `sweep` or `choose` writes: of a run and of a trace a
+//! picture in SVG with a column for each configuration and a line of cells for each node; of a
+//! trace also a strip for each level, with the kings' turns above it; of a sweep bars, and of a
+//! choice a point for each plan. It reads standard input and writes standard output. Where it reads
 //! anything else it writes one line to standard error, and ends with 1. With `--help` or
 //! `--version`, alone, it reads nothing and writes what these ask for; other words count for
 //! nothing.

@@ -75,9 +75,9 @@ rectangle_front spot = concat (
 -- the colour of a lead, and the end of a rectangle
 abbrev pub colour : (lead : ℕ) → List ℕ
 colour lead = concat (
-    codes "rgb(" ∷ decimal (shade 20 41 113 lead)
-    ∷ codes "," ∷ decimal (shade 90 67 109 lead)
-    ∷ codes "," ∷ decimal (shade 100 89 107 lead)
+    codes "rgb(" ∷ decimal (shade 87 5 113 lead)
+    ∷ codes "," ∷ decimal (shade 0 50 109 lead)
+    ∷ codes "," ∷ decimal (shade 93 32 107 lead)
     ∷ codes ")'/>\n" ∷ [])
 
 -- the rest of a rectangle: nodes that count keep one colour

@@ -2,6 +2,8 @@
 use Rattle.std.specs.Prelude.{◌≡◌, ◌⊎◌, ℕ, List, Result, Ok, Err}
 use Rattle.texts.specs.Growth.{Told, Wrote, Cut}
 use Rattle.run_pictures.specs.declared.charts.Chart.{Chart}
+use Rattle.run_pictures.specs.declared.choices.Point.{Point}
+use Rattle.run_pictures.specs.declared.sweep_charts.Sweep.{Sweep}
 use Rattle.run_pictures.specs.declared.traces.Trace.{Trace}
 use Rattle.run_pictures.specs.declared.drawing.DrawError.{DrawError}
 use Rattle.run_pictures.specs.declared.drawing.DrawError.TheVariants as error
@@ -10,6 +12,10 @@ use Rattle.run_pictures.specs.declared.pages.Form.{Form}
 use Rattle.run_pictures.specs.Laid.{IsLaid}
 use Rattle.run_pictures.specs.Pages.{formed}
 use Rattle.run_pictures.specs.Pictures.{picture_text}
+use Rattle.run_pictures.specs.Choices.{ArePlotted, choice_text}
+use Rattle.run_pictures.specs.ChoicePictures.{choice_picture}
+use Rattle.run_pictures.specs.Sweeps.{sweep_text, IsSweepLaid}
+use Rattle.run_pictures.specs.SweepPictures.{sweep_picture}
 use Rattle.run_pictures.specs.Traces.{trace_text}
 use Rattle.run_pictures.specs.TraceLaid.{IsTraceLaid}
 use Rattle.run_pictures.specs.TracePictures.{trace_picture}
@@ -28,9 +34,25 @@ pub record DrawsTrace (text : List ℕ) (holds : List ℕ → Type 0) : Type 0 w
   pub laid : IsTraceLaid trace
   pub drawn : holds (trace_picture trace)
 
--- a text is drawn as one of the two
+-- the text is that of a sweep, and the picture of that sweep has this
+pub record DrawsSweep (text : List ℕ) (holds : List ℕ → Type 0) : Type 0 where
+  pub sweep : Sweep
+  pub is : sweep_text sweep.tallies.items ≡ text
+  pub laid : IsSweepLaid sweep
+  pub drawn : holds (sweep_picture sweep)
+
+-- the text is that of a choice, and the picture of its plans has this
+pub record DrawsChoice (text : List ℕ) (holds : List ℕ → Type 0) : Type 0 where
+  pub points : List Point
+  pub is : choice_text points ≡ text
+  pub laid : ArePlotted points
+  pub drawn : holds (choice_picture points)
+
+-- a text is drawn as one of these
 abbrev pub Draws : (text : List ℕ) → (holds : List ℕ → Type 0) → Type 0
-Draws text holds = DrawsRows text holds ⊎ DrawsTrace text holds
+Draws text holds =
+    DrawsRows text holds
+    ⊎ (DrawsTrace text holds ⊎ (DrawsSweep text holds ⊎ DrawsChoice text holds))
 
 -- the text is drawn, and the picture, or its page, has this
 abbrev pub DrawsAs : Form → (text : List ℕ) → (holds : List ℕ → Type 0) → Type 0
@@ -41,6 +63,12 @@ RowsAs form text holds = DrawsRows text (λ picture. holds (formed form text pic
 
 abbrev pub TraceAs : Form → (text : List ℕ) → (holds : List ℕ → Type 0) → Type 0
 TraceAs form text holds = DrawsTrace text (λ picture. holds (formed form text picture))
+
+abbrev pub SweepAs : Form → (text : List ℕ) → (holds : List ℕ → Type 0) → Type 0
+SweepAs form text holds = DrawsSweep text (λ picture. holds (formed form text picture))
+
+abbrev pub ChoiceAs : Form → (text : List ℕ) → (holds : List ℕ → Type 0) → Type 0
+ChoiceAs form text holds = DrawsChoice text (λ picture. holds (formed form text picture))
 
 -- What was written of a text: its picture, or a front of it, or nothing.
 abbrev pub Does : {T : Type 0} → Result T DrawError

@@ -10,5 +10,9 @@ pub mod Strips
 pub mod TracePictures
 pub mod TraceSaid
 pub mod TraceLaid
+pub mod Sweeps
+pub mod SweepPictures
+pub mod Choices
+pub mod ChoicePictures
 pub mod Pages
 pub mod Drawn

@@ -26,7 +26,7 @@ page_front = concat (
 -- what stands between the picture and the rows
 abbrev pub page_middle : List ℕ
 page_middle = concat (
-    codes "<pre id='said'>Point at a cell. The arrow keys go on to the next one.</pre>\n"
+    codes "<pre id='said'>Point at what is drawn. The arrow keys go on to the next cell.</pre>\n"
     ∷ codes "<pre id='rows' hidden>\n" ∷ [])
 
 -- what stands behind the rows: how the page finds its cells
@@ -56,6 +56,8 @@ page_script = concat (
     ∷ codes "for (const group of document.querySelectorAll('g')) {\n"
     ∷ codes "const title = group.querySelector('title');\n"
     ∷ codes "const told = title && title.textContent.match(named);\n"
+    ∷ codes "const tell = () => { said.textContent = title.textContent; };\n"
+    ∷ codes "if (title && !told) group.addEventListener('pointerover', tell);\n"
     ∷ codes "if (!told) continue;\n"
     ∷ codes "add(cells, told[2] + ' ' + told[1], group);\n"
     ∷ codes "group.addEventListener('pointerover', () => choose(+told[2], +told[1], false));\n"

@@ -149,7 +149,7 @@ facts chart = facts_in (frame_of chart) chart.nodes chart.bound
 abbrev pub colour_legend : (y modulus : ℕ) → List ℕ
 colour_legend y modulus = concat (
     codes "<g text-anchor='start' transform='translate(4," ∷ decimal y
-    ∷ codes ")'>\n<rect width='18' height='18' fill='rgb(148,218,228)'/>"
+    ∷ codes ")'>\n<rect width='18' height='18' fill='rgb(215,128,221)'/>"
     ∷ codes "<text x='24' y='13'>colour: (output - configuration) mod " ∷ decimal modulus
     ∷ codes "</text>\n</g>\n" ∷ [])
 

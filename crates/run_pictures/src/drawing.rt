@@ -1,17 +1,24 @@
-//! Draws what `run` or `trace` writes.
+//! Draws what `run`, `trace`, `sweep` or `choose` writes.
 
 ghost use Rattle.std.specs.Prelude.{◌≡◌, true, IfOk};
 ghost use Rattle.run_pictures.specs.Charts.{chart_text};
 ghost use Rattle.run_pictures.specs.Traces.{trace_text};
-ghost use Rattle.run_pictures.specs.Drawn.{Does, DrawsAs, RowsAs, TraceAs};
+ghost use Rattle.run_pictures.specs.Drawn.{ChoiceAs, Does, DrawsAs, RowsAs, SweepAs, TraceAs};
+ghost use Rattle.run_pictures.specs.Choices.{choice_text};
+ghost use Rattle.run_pictures.specs.Sweeps.{sweep_text};
 
 use crate::charts::Chart;
+use crate::choices::{Point, are_plotted, is_choice, put_choice, read_choice};
 use crate::hits::mark_trace;
 use crate::laid::is_laid;
 use crate::layouts::lay_out;
-use crate::pages::{Form, put_formed_chart, put_formed_trace};
+use crate::pages::{Form, put_formed_chart, put_formed_choice, put_formed_sweep, put_formed_trace};
 use crate::printing::put_chart;
 use crate::reading::{ChartError, read_chart};
+use crate::sweep_charts::Sweep;
+use crate::sweep_laid::is_sweep_laid;
+use crate::sweep_printing::put_sweep;
+use crate::sweep_reading::{is_sweep, read_sweep};
 use crate::trace_laid::is_trace_laid;
 use crate::trace_printing::put_trace;
 use crate::trace_reading::{is_trace, read_trace};
@@ -74,6 +81,28 @@ fn is_text_of_trace(alloc: Global, trace: &Trace, text: &[u8]) -> Result<bool, N
 {
     let mut sink = MemSink::new(alloc, text.len(), Vec::new(alloc), Vec::new(alloc))?;
     match put_trace(&mut sink, trace.frame.first, trace.lines()) {
+        Ok(()) => Ok(sink.taken() == text),
+        Err(WriteFault) => Ok(false),
+    }
+}
+
+/// Whether the text of a sweep is this one.
+fn is_text_of_sweep(alloc: Global, sweep: &Sweep, text: &[u8]) -> Result<bool, NoMemory>
+    ensures { IfOk result (λ same. same ≡ true → sweep_text sweep.now.tallies.items ≡ text.now) }
+{
+    let mut sink = MemSink::new(alloc, text.len(), Vec::new(alloc), Vec::new(alloc))?;
+    match put_sweep(&mut sink, sweep.lines()) {
+        Ok(()) => Ok(sink.taken() == text),
+        Err(WriteFault) => Ok(false),
+    }
+}
+
+/// Whether the text of a choice is this one.
+fn is_text_of_choice(alloc: Global, points: &[Point<'_>], text: &[u8]) -> Result<bool, NoMemory>
+    ensures { IfOk result (λ same. same ≡ true → choice_text points.now ≡ text.now) }
+{
+    let mut sink = MemSink::new(alloc, text.len(), Vec::new(alloc), Vec::new(alloc))?;
+    match put_choice(&mut sink, points) {
         Ok(()) => Ok(sink.taken() == text),
         Err(WriteFault) => Ok(false),
     }
@@ -146,8 +175,73 @@ fn draw_trace<K: Sink>(
     draw_lines(alloc, &trace, text, form, sink)
 }
 
-/// Draws a text that `run` or `trace` wrote. Where it answers Ok, the text is that of a chart or of
-/// a trace, letter for letter, and the picture of this was written, or the page of it.
+/// Draws a sweep, if its text is this one.
+fn draw_bars<K: Sink>(
+    alloc: Global,
+    sweep: &Sweep,
+    text: &[u8],
+    form: Form,
+    sink: &mut K,
+) -> Result<(), DrawError>
+    ensures { Does result (SweepAs form text.now) (K.told sink.old) (K.told sink.new) }
+{
+    if !is_text_of_sweep(alloc, sweep, text)? || !is_sweep_laid(sweep) {
+        return Err(DrawError::Open);
+    }
+    match put_formed_sweep(sink, form, text, sweep) {
+        Ok(()) => Ok(()),
+        Err(WriteFault) => Err(DrawError::Write),
+    }
+}
+
+/// Draws a text that `sweep` wrote.
+fn draw_sweep<K: Sink>(
+    alloc: Global,
+    text: &[u8],
+    form: Form,
+    sink: &mut K,
+) -> Result<(), DrawError>
+    ensures { Does result (SweepAs form text.now) (K.told sink.old) (K.told sink.new) }
+{
+    let sweep = read_sweep(alloc, text)?;
+    draw_bars(alloc, &sweep, text, form, sink)
+}
+
+/// Draws a choice, if its text is this one.
+fn draw_points<K: Sink>(
+    alloc: Global,
+    points: &[Point<'_>],
+    text: &[u8],
+    form: Form,
+    sink: &mut K,
+) -> Result<(), DrawError>
+    ensures { Does result (ChoiceAs form text.now) (K.told sink.old) (K.told sink.new) }
+{
+    if !is_text_of_choice(alloc, points, text)? || !are_plotted(points) {
+        return Err(DrawError::Open);
+    }
+    match put_formed_choice(sink, form, text, points) {
+        Ok(()) => Ok(()),
+        Err(WriteFault) => Err(DrawError::Write),
+    }
+}
+
+/// Draws a text that `choose` wrote.
+fn draw_choice<K: Sink>(
+    alloc: Global,
+    text: &[u8],
+    form: Form,
+    sink: &mut K,
+) -> Result<(), DrawError>
+    ensures { Does result (ChoiceAs form text.now) (K.told sink.old) (K.told sink.new) }
+{
+    let points = read_choice(alloc, text)?;
+    draw_points(alloc, &points, text, form, sink)
+}
+
+/// Draws a text that `run`, `trace`, `sweep` or `choose` wrote. Where it answers Ok, the text is
+/// that of a chart, of a trace, of a sweep or of a choice, letter for letter, and the picture of
+/// this was written, or the page of it.
 ///
 /// `Chart` comes where a line is not what should stand there, `Open` where the last newline is
 /// missing, `NoMemory` where memory ran out; then nothing was written. `Write` comes where the sink
@@ -157,6 +251,10 @@ pub fn draw<K: Sink>(alloc: Global, text: &[u8], form: Form, sink: &mut K) -> Re
 {
     if is_trace(alloc, text)? {
         draw_trace(alloc, text, form, sink)
+    } else if is_sweep(text) {
+        draw_sweep(alloc, text, form, sink)
+    } else if is_choice(text) {
+        draw_choice(alloc, text, form, sink)
     } else {
         draw_rows(alloc, text, form, sink)
     }

@@ -53,7 +53,7 @@ pub fn shown(word: &[u8]) -> Option<Option<u64>> {
 }
 
 /// The number that a word is, or None for `none`.
-fn small_or_none(word: &[u8]) -> Option<Option<u32>> {
+pub fn small_or_none(word: &[u8]) -> Option<Option<u32>> {
     if word == b"none".as_slice() {
         return Some(None);
     }

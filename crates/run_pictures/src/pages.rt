@@ -3,13 +3,19 @@
 
 ghost use Rattle.texts.specs.Growth.{Puts};
 ghost use Rattle.run_pictures.specs.Charts.{chart_text};
+ghost use Rattle.run_pictures.specs.ChoicePictures.{choice_picture};
 ghost use Rattle.run_pictures.specs.Pages.{formed, page_behind, page_front, page_keys, page_middle};
 ghost use Rattle.run_pictures.specs.Pages.{page_script, page_text};
 ghost use Rattle.run_pictures.specs.Pictures.{picture_text};
+ghost use Rattle.run_pictures.specs.SweepPictures.{sweep_picture};
 ghost use Rattle.run_pictures.specs.TracePictures.{trace_picture};
 
 use crate::charts::Chart;
+use crate::choice_pictures::put_choice_picture;
+use crate::choices::Point;
 use crate::pictures::put_picture;
+use crate::sweep_charts::Sweep;
+use crate::sweep_pictures::put_sweep_picture;
 use crate::trace_pictures::put_trace_picture;
 use crate::traces::Trace;
 use edge_io::{Sink, WriteFault, put_all};
@@ -24,7 +30,7 @@ pub enum Form {
 }
 
 /// Writes what stands before the picture.
-pub fn put_page_front<K: Sink>(sink: &mut K) -> Result<(), WriteFault>
+fn put_page_front<K: Sink>(sink: &mut K) -> Result<(), WriteFault>
     ensures { Puts result page_front (K.told sink.old) (K.told sink.new) }
 {
     put_all(
@@ -52,7 +58,7 @@ fn put_page_middle<K: Sink>(sink: &mut K) -> Result<(), WriteFault>
 {
     put_all(
         sink,
-        b"<pre id='said'>Point at a cell. The arrow keys go on to the next one.</pre>\n\
+        b"<pre id='said'>Point at what is drawn. The arrow keys go on to the next cell.</pre>\n\
         <pre id='rows' hidden>\n",
     )
 }
@@ -87,6 +93,8 @@ fn put_page_script<K: Sink>(sink: &mut K) -> Result<(), WriteFault>
         for (const group of document.querySelectorAll('g')) {\n\
         const title = group.querySelector('title');\n\
         const told = title && title.textContent.match(named);\n\
+        const tell = () => { said.textContent = title.textContent; };\n\
+        if (title && !told) group.addEventListener('pointerover', tell);\n\
         if (!told) continue;\n\
         add(cells, told[2] + ' ' + told[1], group);\n\
         group.addEventListener('pointerover', () => choose(+told[2], +told[1], false));\n\
@@ -138,7 +146,7 @@ fn put_page_keys<K: Sink>(sink: &mut K) -> Result<(), WriteFault>
 }
 
 /// Writes what stands behind a picture: the rows, and what the page does.
-pub fn put_page_behind<K: Sink>(sink: &mut K, rows: &[u8]) -> Result<(), WriteFault>
+fn put_page_behind<K: Sink>(sink: &mut K, rows: &[u8]) -> Result<(), WriteFault>
     ensures { Puts result (page_behind rows.now) (K.told sink.old) (K.told sink.new) }
 {
     written!(put_page_middle(sink));
@@ -164,6 +172,30 @@ fn put_trace_page<K: Sink>(sink: &mut K, rows: &[u8], trace: &Trace) -> Result<(
 {
     written!(put_page_front(sink));
     written!(put_trace_picture(sink, trace));
+    put_page_behind(sink, rows)
+}
+
+/// Writes the page of a sweep and its lines.
+fn put_sweep_page<K: Sink>(sink: &mut K, rows: &[u8], sweep: &Sweep) -> Result<(), WriteFault>
+    ensures { Puts result (page_text rows.now (sweep_picture sweep.now))
+        (K.told sink.old) (K.told sink.new) }
+{
+    written!(put_page_front(sink));
+    written!(put_sweep_picture(sink, sweep));
+    put_page_behind(sink, rows)
+}
+
+/// Writes the page of a choice and its lines.
+fn put_choice_page<K: Sink>(
+    sink: &mut K,
+    rows: &[u8],
+    points: &[Point<'_>],
+) -> Result<(), WriteFault>
+    ensures { Puts result (page_text rows.now (choice_picture points.now))
+        (K.told sink.old) (K.told sink.new) }
+{
+    written!(put_page_front(sink));
+    written!(put_choice_picture(sink, points));
     put_page_behind(sink, rows)
 }
 
@@ -196,5 +228,37 @@ pub fn put_formed_trace<K: Sink>(
     match form {
         Form::Picture => put_trace_picture(sink, trace),
         Form::Page => put_trace_page(sink, rows, trace),
+    }
+}
+
+/// Writes what is wanted of a sweep.
+pub fn put_formed_sweep<K: Sink>(
+    sink: &mut K,
+    form: Form,
+    rows: &[u8],
+    sweep: &Sweep,
+) -> Result<(), WriteFault>
+    ensures { Puts result (formed form rows.now (sweep_picture sweep.now))
+        (K.told sink.old) (K.told sink.new) }
+{
+    match form {
+        Form::Picture => put_sweep_picture(sink, sweep),
+        Form::Page => put_sweep_page(sink, rows, sweep),
+    }
+}
+
+/// Writes what is wanted of a choice.
+pub fn put_formed_choice<K: Sink>(
+    sink: &mut K,
+    form: Form,
+    rows: &[u8],
+    points: &[Point<'_>],
+) -> Result<(), WriteFault>
+    ensures { Puts result (formed form rows.now (choice_picture points.now))
+        (K.told sink.old) (K.told sink.new) }
+{
+    match form {
+        Form::Picture => put_choice_picture(sink, points),
+        Form::Page => put_choice_page(sink, rows, points),
     }
 }

@@ -156,7 +156,7 @@ pub fn put_colour_legend<K: Sink>(sink: &mut K, y: u64, modulus: u64) -> Result<
             Piece::Text(b"<g text-anchor='start' transform='translate(4,"),
             Piece::Number(y),
             Piece::Text(
-                b")'>\n<rect width='18' height='18' fill='rgb(148,218,228)'/>\
+                b")'>\n<rect width='18' height='18' fill='rgb(215,128,221)'/>\
                 <text x='24' y='13'>colour: (output - configuration) mod ",
             ),
             Piece::Number(modulus),

@@ -69,7 +69,7 @@ fn put_rows<K: Sink>(sink: &mut K, first: u32, nodes: u16, cells: &[Cell]) -> Re
 }
 
 /// Writes which era a line is about.
-fn put_era<K: Sink>(sink: &mut K, era: Option<u32>) -> Result<(), WriteFault>
+pub fn put_era<K: Sink>(sink: &mut K, era: Option<u32>) -> Result<(), WriteFault>
     ensures { Puts result (era_words era) (K.told sink.old) (K.told sink.new) }
 {
     match era {
@@ -86,7 +86,7 @@ fn put_era<K: Sink>(sink: &mut K, era: Option<u32>) -> Result<(), WriteFault>
 }
 
 /// Writes which configuration is the first locked one.
-fn put_locked<K: Sink>(sink: &mut K, locked: Option<u32>) -> Result<(), WriteFault>
+pub fn put_locked<K: Sink>(sink: &mut K, locked: Option<u32>) -> Result<(), WriteFault>
     ensures { Puts result (locked_words locked) (K.told sink.old) (K.told sink.new) }
 {
     match locked {

@@ -28,6 +28,7 @@ pub enum Wanted {
     Trace,
     Node,
     Tally,
+    Plan,
 }
 
 impl fmt::Display for Wanted {
@@ -48,6 +49,9 @@ impl fmt::Display for Wanted {
             Wanted::Node => "the line of a trace for the next node",
             Wanted::Tally => {
                 "the next line of a sweep: `era`, `locked`, `runs` and `seed`, each with its number"
+            }
+            Wanted::Plan => {
+                "the next plan of a choice, of more nodes and a lesser bound: `nodes`, `bound`, .."
             }
         })
     }
@@ -77,7 +81,7 @@ impl<T: Drop> From<AllocFailed<T>> for ChartError {
 
 /// Why a line is not taken.
 #[derive(Clone, Copy)]
-enum LineError {
+pub enum LineError {
     Unwanted,
     NoMemory,
 }
@@ -254,7 +258,9 @@ fn take(draft: &mut Draft, line: &[u8]) -> Result<(), LineError> {
             }
         }
         Wanted::Era => take_era(draft, line),
-        Wanted::Nothing | Wanted::Trace | Wanted::Node | Wanted::Tally => Err(LineError::Unwanted),
+        Wanted::Nothing | Wanted::Trace | Wanted::Node | Wanted::Tally | Wanted::Plan => {
+            Err(LineError::Unwanted)
+        }
     }
 }
 

@@ -163,11 +163,11 @@ fn put_colour<K: Sink>(sink: &mut K, lead: u64) -> Result<(), WriteFault>
         sink,
         &[
             Piece::Text(b"rgb("),
-            Piece::Number(shade(20, 41, 113, lead)),
+            Piece::Number(shade(87, 5, 113, lead)),
             Piece::Text(b","),
-            Piece::Number(shade(90, 67, 109, lead)),
+            Piece::Number(shade(0, 50, 109, lead)),
             Piece::Text(b","),
-            Piece::Number(shade(100, 89, 107, lead)),
+            Piece::Number(shade(93, 32, 107, lead)),
             Piece::Text(b")'/>\n"),
         ],
     )

@@ -1,5 +1,5 @@
-//! Tries the pictures: what is drawn of each text that `run` or `trace` wrote is compared with the
-//! picture that stands beside it, and the page. It fails where one differs.
+//! Tries the pictures: each stored picture or page is compared with what is drawn of the text that
+//! stands beside it. It fails where one differs.
 #![tactic(auto)]
 
 use edge_io::MemSink;
@@ -17,6 +17,17 @@ fn is_drawn(alloc: Global, text: &[u8], form: Form, wanted: &[u8]) -> anyhow::Re
     Ok(sink.taken() == wanted)
 }
 
+/// The text that a stored picture or page is of, by the name of its file, and which of these it is.
+fn drawn_of(name: &str) -> Option<(&str, Form)> {
+    if let Some(text) = name.strip_suffix(".svg") {
+        return Some((text, Form::Picture));
+    }
+    match name.strip_suffix(".html") {
+        Some(text) => Some((text, Form::Page)),
+        None => None,
+    }
+}
+
 /// The bytes of a file of a folder.
 fn bytes_of<R: Files + AllocGlobal>(
     rt: &R,
@@ -28,13 +39,17 @@ fn bytes_of<R: Files + AllocGlobal>(
     fs::read(rt, path.as_str())
 }
 
-/// Tries a text of a folder. Whether its picture and its page are as they should be.
-fn try_picture(rt: &HostRuntime, folder: &str, name: &str) -> anyhow::Result<bool> {
-    let text = bytes_of(rt, folder, name, ".txt")?;
-    let picture = bytes_of(rt, folder, name, ".svg")?;
-    let page = bytes_of(rt, folder, name, ".html")?;
-    let same = is_drawn(rt.alloc(), &text, Form::Picture, &picture)?
-        && is_drawn(rt.alloc(), &text, Form::Page, &page)?;
+/// Tries a stored picture or page: whether it is what is drawn of the text beside it.
+fn try_drawn(
+    rt: &HostRuntime,
+    folder: &str,
+    name: &str,
+    text: &str,
+    form: Form,
+) -> anyhow::Result<bool> {
+    let text = bytes_of(rt, folder, text, ".txt")?;
+    let wanted = bytes_of(rt, folder, name, "")?;
+    let same = is_drawn(rt.alloc(), &text, form, &wanted)?;
     let but = if same { "" } else { " with other bytes" };
     println!(rt; "{name}{but}")?;
     Ok(same)
@@ -50,12 +65,12 @@ fn names_of(rt: &HostRuntime, folder: &str) -> io::Result<Vec<String>> {
     Ok(names)
 }
 
-/// Tries the texts of a folder. Whether all their pictures are as they should be.
+/// Tries what is stored in a folder. Whether all of it is as it should be.
 fn try_folder(rt: &HostRuntime, folder: &str) -> anyhow::Result<bool> {
     let mut same = true;
-    for file in &names_of(rt, folder)? {
-        if let Some(name) = file.strip_suffix(".txt") {
-            same = try_picture(rt, folder, name)? && same;
+    for name in &names_of(rt, folder)? {
+        if let Some((text, form)) = drawn_of(name) {
+            same = try_drawn(rt, folder, name, text, form)? && same;
         }
     }
     Ok(same)

@@ -1,0 +1,17 @@
+use Rattle.run_pictures.proofs.drawing.draw_points.Goals as goal
+
+pub returns-in-Ok : goal.returns-in-Ok
+returns-in-Ok g c = record {
+  points = c.args.points.now;
+  is = c.in_ok-is_text_of_choice.ensures c.if-not-branch.false;
+  laid = c.are_plotted.ensures c.if-not-are_plotted.false;
+  drawn = c.in-Ok.ensures;
+}
+
+pub returns-in-Err : goal.returns-in-Err
+returns-in-Err g c = record {
+  points = c.args.points.now;
+  is = c.in_ok-is_text_of_choice.ensures c.if-not-branch.false;
+  laid = c.are_plotted.ensures c.if-not-are_plotted.false;
+  drawn = c.in-Err.ensures;
+}
