@@ -10,7 +10,7 @@ use Rattle.plan_certificate.specs.PlanTexts.{plan_text}
 use Rattle.node_header.specs.Headers.{Header, header_in, plan_part}
 use Rattle.node_header.specs.WrittenHeaders.{PlanText, text_of_header, stated_header}
 
--- a plan in its version; a header has a line for each level, three of the plan, and four of the node
+-- a plan in its version; a header has a line for each level, three of the plan and four of the node
 abbrev pub plan_writing : PlanText Plan
 plan_writing = record {
   text = λ plan. plan_text plan.version plan;

@@ -1,6 +1,6 @@
 -- Inputs of calls, of which one ends and another call of its node goes on from its last cell.
-use Rattle.std.proofs.Common.{◌≡◌, ℕ, ◌+◌, ◌<◌, ◌≤◌, Bool, true, false, cond, List, [], length, take}
-use Rattle.std.proofs.Common.{get_or, Some, Ok, inr, unwrap_or, refl, sym, ap, ◌∙◌, arith}
+use Rattle.std.proofs.Common.{◌≡◌, ℕ, ◌+◌, ◌<◌, ◌≤◌, Bool, true, false, cond, List, [], length}
+use Rattle.std.proofs.Common.{take, get_or, Some, Ok, inr, unwrap_or, refl, sym, ap, ◌∙◌, arith}
 use Rattle.std.specs.Prelude.{◌==◌}
 use Rattle.std.proofs.lemmas.Bool.{eqb-true, eqb-false, eq-eqb, ne_eqb}
 use Rattle.sync_types.specs.States.{State}
@@ -263,7 +263,8 @@ module _ {Reader Plan Premise : Type 0} (words : Words Reader Plan Premise)
       whole (input_with (text plan v (two.starts v)) ps))
       (packets_second m faulty meanwhile node after too right starts sent begins rounds r v is)
 
-  rest : CallsConnect words m faulty (calls_after restart calls) (begins_after restart begins) rounds
+  rest : CallsConnect words m faulty (calls_after restart calls) (begins_after restart begins)
+      rounds
   rest =
       connect_same words m faulty (calls_of (inputs_of (text plan) two))
       (calls_after restart calls) later rounds (λ v. same_calls v (v == node) refl)

@@ -14,8 +14,8 @@ use Rattle.node_promises.specs.RestartInputs.{calls_of}
 
 module _ {Reader Plan Premise : Type 0} (words : Words Reader Plan Premise) where
   -- Inputs of heard calls whose nodes begin in these states, and miss these nodes: in packet t node
-  -- v is given `sent t v u` as the cell of a node that it misses then, and before the window of each
-  -- node u. Each call answers all packets of its window, and its input ends there.
+  -- v is given `sent t v u` as the cell of a node that it misses then, and before the window of
+  -- each node u. Each call answers all packets of its window, and its input ends there.
   pub record InputsLose (lines : ℕ) (plan : Plan) (faulty : List ℕ) (starts : ℕ → State)
       (sent : ℕ → ℕ → ℕ → List ℕ) (missed : (i v : ℕ) → List ℕ) (begins : ℕ → ℕ) (rounds : ℕ)
       : Type 0 where

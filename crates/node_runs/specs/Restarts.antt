@@ -51,8 +51,8 @@ AnyRestartConnects = (m : Machine) → IsSound m → (faulty meanwhile : List �
 abbrev pub starts_later : (node : ℕ) → (last : State) → (starts : ℕ → State) → ℕ → State
 starts_later node last starts v = if v == node then last else starts v
 
--- Nodes that begin in these states and are connected for so many rounds. Then one of them is started
--- anew, in the state in which it was last, and the others go on.
+-- Nodes that begin in these states and are connected for so many rounds. Then one of them is
+-- started anew, in the state in which it was last, and the others go on.
 pub record ResumptionConnects (m : Machine) (faulty meanwhile : List ℕ) (node after : ℕ)
     (starts : ℕ → State) (sent : ℕ → ℕ → ℕ → List ℕ) (begins : ℕ → ℕ) (rounds : ℕ)
     : Type 0 where

@@ -76,8 +76,8 @@ pub fn pulselab<S: Source, K: Sink>(
 
     // Each node of each plan has a header, whose text is read as it is; and there are inputs of
     // such calls, whatever states the nodes begin in, and whatever the faulty ones send: of calls
-    // that are given all cells, of some to which cells are lost, and of some of which one is started
-    // anew, in any state, or goes on from the last cell that was written in its place.
+    // that are given all cells, of some to which cells are lost, and of some of which one is
+    // started anew, in any state, or goes on from the last cell that was written in its place.
     ensures headers { PulseHeaderTextIsRead }
     ensures inputs { AnyPulseInputs }
 {
