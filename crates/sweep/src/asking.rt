@@ -25,9 +25,11 @@ fn write_help<K: Sink>(sink: &mut K) -> Result<(), WriteFault>
                 b"Reads a plan and a script from standard input, as counterlab run does,\n",
             ),
             Piece::Text(b"plays the script with the keys of COUNT numbers from FIRST on,\n"),
-            Piece::Text(b"and writes for each era how many runs first lock with which\n"),
-            Piece::Text(b"configuration, and the least number of these. The key of a number is\n"),
-            Piece::Text(b"the number as 16 hex digits, with 48 zeros behind.\n"),
+            Piece::Text(
+                b"and writes the plan's bound, and for each era how many runs first lock\n",
+            ),
+            Piece::Text(b"with which configuration, and the least number of these. The key of a\n"),
+            Piece::Text(b"number is the number as 16 hex digits, with 48 zeros behind.\n"),
             Piece::Text(b"Where standard error is a terminal, a line there says how far it is.\n"),
         ],
     )

@@ -38,7 +38,7 @@ fn answer<K: Sink, E: Sink>(
 }
 
 /// Reads a plan and a script, plays the script with the key of each of `count` numbers from `first`
-/// on in place of its own, and writes how soon its eras lock.
+/// on in place of its own, and writes the plan's bound and how soon the eras lock.
 ///
 /// The whole source is read first, at most 2^20 bytes. `Refused` comes exactly where `run` refuses
 /// the input; `NoNoise` where it is a plan and a script that says no noise; `TooLong` only where

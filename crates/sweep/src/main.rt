@@ -1,8 +1,8 @@
 //! Writes how soon a script locks, over many keys of its noise. `sweep FIRST COUNT` reads a plan
 //! and a script from standard input, as `counterlab run` does, plays the script with COUNT keys,
-//! those of the numbers from FIRST on, and writes for each era a line for each first locked
-//! configuration that occurs, with how many runs have it and the least number of these. The key of
-//! a number is the number as 16 hex digits with 48 zeros behind.
+//! those of the numbers from FIRST on, and writes the plan's bound, and for each era a line for
+//! each first locked configuration that occurs, with how many runs have it and the least number of
+//! these. The key of a number is the number as 16 hex digits with 48 zeros behind.
 //!
 //! `--help` and `--version` write what they say. Other words are answered by one line of usage on
 //! standard error, and what is refused by one line there. The exit codes are those of `counterlab`.

@@ -1,4 +1,4 @@
--- What is written of counted runs is the text of the sweep.
+-- What is written of counted runs is what the sweep's text has of its eras.
 use Rattle.std.proofs.Common.{◌≡◌, ℕ, zero, suc, ◌+◌, ◌-◌, ◌<◌, ◌≤◌, List, ◌++◌, length, map}
 use Rattle.std.proofs.Common.{get_or, Some, None, refl, sym, ap, ap₂, ◌∙◌, arith}
 use Rattle.std.specs.List.{flat_map, range_with_len}
@@ -9,7 +9,7 @@ use Rattle.construction.specs.Plans.{Plan}
 use Rattle.adversary_script.specs.Scripts.{Script}
 use Rattle.adversary_script.specs.Eras.{first_of_era, end_of_era}
 use Rattle.sweeps.specs.Sweeps.{lock_with, found_at}
-use Rattle.sweeps.specs.SweepTexts.{line_of, lock_line, era_lines, sweep_text}
+use Rattle.sweeps.specs.SweepTexts.{line_of, lock_line, era_lines, lines_of_eras}
 use Rattle.sweeps.specs.Tallies.{EraRuns, AreOfEra, AreTallied, nothing, no_runs, place_line}
 use Rattle.sweeps.specs.Tallies.{locked_text, runs_text}
 use Rattle.sweeps.specs.declared.tallies.Found.{Found}
@@ -61,7 +61,7 @@ module _ (plan : Plan) (script : Script) (seeds : List ℕ) where
 
   -- the lines of all eras
   pub tally_text : (tally : List EraRuns) → AreTallied plan script seeds tally
-      → flat_map runs_text tally ≡ sweep_text plan script seeds
+      → flat_map runs_text tally ≡ lines_of_eras plan script seeds
   tally_text tally are =
       let n : ℕ = length script.eras + 1 in
       let at : ℕ → EraRuns = λ j. get_or tally j no_runs in

@@ -1,13 +1,17 @@
--- What is written of a sweep: for each era a line for each first locked configuration that occurs,
--- rising, and at last one for the runs that have none.
+-- What is written of a sweep: the plan's bound, and for each era a line for each first locked
+-- configuration that occurs, rising, and at last one for the runs that have none.
 use Rattle.std.specs.Prelude.{ℕ, ◌+◌, ◌-◌, List, [], ◌∷◌, ◌++◌, length, Option, Some, None, codes}
 use Rattle.std.specs.Prelude.{decimal}
 use Rattle.std.specs.List.{concat, flat_map, range_with_len}
-use Rattle.construction.specs.Plans.{Plan}
+use Rattle.construction.specs.Plans.{Plan, plan_bound}
 use Rattle.adversary_script.specs.Scripts.{Script}
 use Rattle.adversary_script.specs.Eras.{first_of_era, end_of_era}
 use Rattle.sweeps.specs.Sweeps.{lock_with, found_at}
 use Rattle.sweeps.specs.declared.tallies.Found.{Found}
+
+-- the line of the plan's bound, as `run` has it
+abbrev pub bound_line : (bound : ℕ) → List ℕ
+bound_line bound = concat (codes "bound " ∷ decimal bound ∷ codes "\n" ∷ [])
 
 -- which configuration is the first locked one
 abbrev pub locked_word : Option ℕ → List ℕ
@@ -46,5 +50,9 @@ module _ (plan : Plan) (script : Script) (seeds : List ℕ) where
       ++ lock_line j None
 
   -- the lines of all eras
+  abbrev pub lines_of_eras : List ℕ
+  lines_of_eras = flat_map era_lines (range_with_len 0 (length script.eras + 1))
+
+  -- behind that of the plan's bound
   abbrev pub sweep_text : List ℕ
-  sweep_text = flat_map era_lines (range_with_len 0 (length script.eras + 1))
+  sweep_text = bound_line (plan_bound plan) ++ lines_of_eras

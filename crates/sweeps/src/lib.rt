@@ -1,9 +1,9 @@
 //! Sweeps: how soon a script locks, over many keys of its noise.
 //!
-//! [`sweep`] plays a runner's script with each of so many numbers as its key, and writes for each
-//! era how many of the runs first lock with which configuration, and the least number of each. The
-//! runs are played in one room, one after the other, each until its first locked configurations
-//! are known. How far it is [`Progress`] may say on a sink of its own.
+//! [`sweep`] plays a runner's script with each of so many numbers as its key, and writes the plan's
+//! bound, and for each era how many of the runs first lock with which configuration, and the least
+//! number of each. The runs are played in one room, one after the other, each until its first
+//! locked configurations are known. How far it is [`Progress`] may say on a sink of its own.
 #![tactic(auto)]
 
 mod keys;

@@ -47,9 +47,10 @@ impl From<WriteFault> for SweepFault {
     }
 }
 
-/// Plays a runner's script with the key of each of `count` numbers from `first` on, and writes how
-/// soon its eras lock: for each era a line for each first locked configuration that occurs, rising,
-/// and `none` last, with how many runs have it and the least number of these.
+/// Plays a runner's script with the key of each of `count` numbers from `first` on, and writes the
+/// plan's bound, and how soon the script's eras lock: for each era a line for each first locked
+/// configuration that occurs, rising, and `none` last, with how many runs have it and the least
+/// number of these.
 ///
 /// All memory is taken before the first run. `NoMemory` comes where it was refused, and
 /// `WriteFault` where the sink counted one; a front of the text was then taken.
@@ -72,7 +73,8 @@ pub fn sweep<K: Sink, E: Sink>(
     ensures progress { Says progress.old.is_on count (E.told progress.old.sink)
         (E.told progress.new.sink) }
 {
+    let bound = runner.bound();
     let tally = count_runs(alloc, runner, first, count, progress)?;
-    write_tally(&tally, sink)?;
+    write_tally(bound, &tally, sink)?;
     Ok(())
 }

@@ -1,12 +1,27 @@
 //! Writes what was counted.
 
+ghost use Rattle.std.specs.Prelude.{◌++◌};
 ghost use Rattle.std.specs.List.{flat_map};
 ghost use Rattle.texts.specs.Growth.{Puts};
-ghost use Rattle.sweeps.specs.SweepTexts.{found_line, line_of};
+ghost use Rattle.sweeps.specs.SweepTexts.{bound_line, found_line, line_of};
 ghost use Rattle.sweeps.specs.Tallies.{locked_text, runs_text};
 
 use crate::tallies::{EraTally, Found};
 use edge_io::{Gathered, Piece, Sink, WriteFault, put_pieces};
+
+/// Writes the line of a plan's bound.
+fn put_bound<K: Sink>(sink: &mut K, bound: u64) -> Result<(), WriteFault>
+    ensures { Puts result (bound_line bound) (K.told sink.old) (K.told sink.new) }
+{
+    put_pieces(
+        sink,
+        &[
+            Piece::Text(b"bound "),
+            Piece::Number(bound),
+            Piece::Text(b"\n"),
+        ],
+    )
+}
 
 /// Writes a line of an era that begins with the configuration `first`: so many runs have such a
 /// first locked configuration, and `seed` is the least of their numbers.
@@ -89,13 +104,23 @@ fn put_eras<K: Sink>(sink: &mut K, tally: &[EraTally]) -> Result<(), WriteFault>
     Ok(())
 }
 
-/// Writes the lines of all eras, gathered. It takes no memory.
+/// Writes the bound, and the lines of all eras.
+fn put_lines<K: Sink>(sink: &mut K, bound: u64, tally: &[EraTally]) -> Result<(), WriteFault>
+    ensures { Puts result (bound_line bound ++ flat_map runs_text tally.now)
+        (K.told sink.old) (K.told sink.new) }
+{
+    put_bound(sink, bound)?;
+    put_eras(sink, tally)
+}
+
+/// Writes the bound, and the lines of all eras, gathered. It takes no memory.
 ///
 /// `WriteFault` comes where the sink counted one; a front of the text was then taken.
-pub fn write_tally<K: Sink>(tally: &[EraTally], sink: &mut K) -> Result<(), WriteFault>
-    ensures { Puts result (flat_map runs_text tally.now) (K.told sink.old) (K.told sink.new) }
+pub fn write_tally<K: Sink>(bound: u64, tally: &[EraTally], sink: &mut K) -> Result<(), WriteFault>
+    ensures { Puts result (bound_line bound ++ flat_map runs_text tally.now)
+        (K.told sink.old) (K.told sink.new) }
 {
     let mut lines = Gathered::new(sink);
-    let written = put_eras(&mut lines, tally);
+    let written = put_lines(&mut lines, bound, tally);
     lines.finish(written)
 }
