@@ -37,7 +37,7 @@ pub record DrawsTrace (text : List ℕ) (holds : List ℕ → Type 0) : Type 0 w
 -- the text is that of a sweep, and the picture of that sweep has this
 pub record DrawsSweep (text : List ℕ) (holds : List ℕ → Type 0) : Type 0 where
   pub sweep : Sweep
-  pub is : sweep_text sweep.tallies.items ≡ text
+  pub is : sweep_text sweep.bound sweep.tallies.items ≡ text
   pub laid : IsSweepLaid sweep
   pub drawn : holds (sweep_picture sweep)
 

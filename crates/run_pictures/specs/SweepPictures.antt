@@ -1,7 +1,7 @@
 -- The picture of a sweep, in SVG: a band for each era, and in it a bar for each range of first
 -- locked configurations, and on the right one for the runs that have none.
 use Rattle.std.specs.Prelude.{ℕ, ◌+◌, ◌-◌, ◌*◌, ◌==◌, max, Bool, List, [], ◌∷◌, ◌++◌, Option, Some}
-use Rattle.std.specs.Prelude.{None, if◌then◌else◌, codes, decimal}
+use Rattle.std.specs.Prelude.{None, nat_lt, if◌then◌else◌, codes, decimal}
 use Rattle.std.specs.List.{concat, flat_map}
 use Rattle.run_pictures.specs.declared.sweep_charts.Tally.{Tally}
 use Rattle.run_pictures.specs.declared.sweep_charts.Tick.{Tick}
@@ -103,13 +103,32 @@ tick_picture sweep tick = concat (
     ∷ codes "'>" ∷ decimal tick.number
     ∷ codes "</text>\n" ∷ [])
 
+-- the middle of the range that the bound stands in, or what is behind the last bar
+abbrev pub bound_middle : Sweep → ℕ
+bound_middle sweep = bar_left sweep.bound_column + 7
+
+-- what stands behind a bound that is beyond the last bar
+abbrev pub beyond_words : Sweep → List ℕ
+beyond_words sweep = if nat_lt sweep.bound_column sweep.columns then [] else codes " .."
+
+-- a line through all bands, and the bound below it
+abbrev pub bound_picture : Sweep → List ℕ
+bound_picture sweep = concat (
+    codes "<path d='M" ∷ decimal (bound_middle sweep)
+    ∷ codes " 36V" ∷ decimal (sweep_bottom sweep + 8)
+    ∷ codes "' stroke='firebrick'/>\n<text text-anchor='end' x='" ∷ decimal (bound_middle sweep)
+    ∷ codes "' y='" ∷ decimal (sweep_bottom sweep + 18)
+    ∷ codes "'>T " ∷ decimal sweep.bound
+    ∷ beyond_words sweep
+    ∷ codes "</text>\n" ∷ [])
+
 -- where the runs stand that have no first locked configuration, and what is counted to the right
 abbrev pub sweep_foot : Sweep → List ℕ
 sweep_foot sweep = concat (
     codes "<text x='" ∷ decimal (none_middle sweep)
     ∷ codes "' y='" ∷ decimal (sweep_bottom sweep + 4)
     ∷ codes "'>none</text>\n<text text-anchor='start' x='4' y='"
-    ∷ decimal (sweep_bottom sweep + 24)
+    ∷ decimal (sweep_bottom sweep + 36)
     ∷ codes "'>rounds of the era before its first locked configuration; of them a bar has "
     ∷ decimal sweep.span
     ∷ codes "</text>\n</svg>\n" ∷ [])
@@ -117,11 +136,12 @@ sweep_foot sweep = concat (
 -- ---- the picture
 
 abbrev pub sweep_front : Sweep → List ℕ
-sweep_front sweep = picture_front (max (sweep_right sweep) 640) (sweep_bottom sweep + 32)
+sweep_front sweep = picture_front (max (sweep_right sweep) 640) (sweep_bottom sweep + 44)
 
 abbrev pub sweep_picture : Sweep → List ℕ
 sweep_picture sweep =
     sweep_front sweep
     ++ (picture_ground
     ++ (flat_map (tick_picture sweep) sweep.ticks.items
-    ++ (flat_map (tally_picture sweep) sweep.tallies.items ++ sweep_foot sweep)))
+    ++ (bound_picture sweep
+    ++ (flat_map (tally_picture sweep) sweep.tallies.items ++ sweep_foot sweep))))

@@ -1,12 +1,12 @@
 -- The text of a sweep, and where its lines belong: each one's runs are a part of a bar, which
--- stands where its configurations say, and is as high as its runs say.
+-- stands where its configurations say, and is as high as its runs say; and where the bound belongs.
 use Rattle.std.specs.Prelude.{◌≡◌, ℕ, ◌+◌, ◌-◌, ◌*◌, ◌/◌, ◌<◌, ◌≤◌, ◌==◌, ◌&&◌, nat_lt, not, Bool}
 use Rattle.std.specs.Prelude.{true, false, List, [], ◌∷◌, ◌++◌, Option, Some, None, All}
-use Rattle.std.specs.Prelude.{if◌then◌else◌, codes, decimal}
+use Rattle.std.specs.Prelude.{if◌then◌else◌, codes, decimal, min}
 use Rattle.std.specs.List.{concat, flat_map}
 use Rattle.run_pictures.specs.declared.sweep_charts.Tally.{Tally}
 use Rattle.run_pictures.specs.declared.sweep_charts.Sweep.{Sweep}
-use Rattle.run_pictures.specs.Charts.{era_words, locked_words}
+use Rattle.run_pictures.specs.Charts.{bound_line, era_words, locked_words}
 
 -- ---- the text
 
@@ -21,8 +21,8 @@ tally_words tally =
 abbrev pub tally_line : Tally → List ℕ
 tally_line tally = tally_words tally ++ codes "\n"
 
-abbrev pub sweep_text : List Tally → List ℕ
-sweep_text tallies = flat_map tally_line tallies
+abbrev pub sweep_text : (bound : ℕ) → List Tally → List ℕ
+sweep_text bound tallies = bound_line bound ++ flat_map tally_line tallies
 
 -- ---- the lines in their order
 
@@ -107,9 +107,14 @@ abbrev pub IsEnd : Sweep → Option Tally → Type 0
 IsEnd sweep None = ⊥
 IsEnd sweep (Some tally) = (tally.is_worst ≡ true) × (sweep.bands ≡ tally.band + 1)
 
+-- the bound stands where its range does, or behind the last bar where it is beyond that
+abbrev pub IsBoundPlaced : Sweep → Type 0
+IsBoundPlaced sweep = sweep.bound_column ≡ min (sweep.bound / sweep.span) sweep.columns
+
 pub record IsSweepLaid (sweep : Sweep) : Type 0 where
   pub span : 1 ≤ sweep.span
   pub most : 1 ≤ sweep.most
+  pub bound : IsBoundPlaced sweep
   pub placed : AreChained (IsPlaced sweep) None sweep.tallies.items
   pub ended : IsEnd sweep (last_or None sweep.tallies.items)
   pub numbers : All (λ tick. tick.number ≡ tick.column * sweep.span) sweep.ticks.items

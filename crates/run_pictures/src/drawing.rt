@@ -88,10 +88,11 @@ fn is_text_of_trace(alloc: Global, trace: &Trace, text: &[u8]) -> Result<bool, N
 
 /// Whether the text of a sweep is this one.
 fn is_text_of_sweep(alloc: Global, sweep: &Sweep, text: &[u8]) -> Result<bool, NoMemory>
-    ensures { IfOk result (λ same. same ≡ true → sweep_text sweep.now.tallies.items ≡ text.now) }
+    ensures { IfOk result (λ same. same ≡ true
+        → sweep_text sweep.now.bound sweep.now.tallies.items ≡ text.now) }
 {
     let mut sink = MemSink::new(alloc, text.len(), Vec::new(alloc), Vec::new(alloc))?;
-    match put_sweep(&mut sink, sweep.lines()) {
+    match put_sweep(&mut sink, sweep.bound, sweep.lines()) {
         Ok(()) => Ok(sink.taken() == text),
         Err(WriteFault) => Ok(false),
     }

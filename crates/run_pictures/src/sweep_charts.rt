@@ -36,6 +36,10 @@ pub struct Tick {
 
 /// What `sweep` wrote, and what is drawn of it.
 pub struct Sweep {
+    /// The plan's bound.
+    pub bound: u64,
+    /// The bar in whose range it stands, or that behind the last one.
+    pub bound_column: u32,
     /// How many configurations a bar stands for.
     pub span: u32,
     /// How many bars may stand side by side.
@@ -52,6 +56,8 @@ pub struct Sweep {
 impl Drop for Sweep {
     fn drop(self) {
         let Sweep {
+            bound: _,
+            bound_column: _,
             span: _,
             columns: _,
             bands: _,

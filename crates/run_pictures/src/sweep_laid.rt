@@ -1,7 +1,8 @@
 //! Whether the lines of a sweep stand where they belong.
 
 ghost use Rattle.std.specs.Prelude.{◌≡◌, ◌*◌, ◌+◌, ◌-◌, ◌/◌, ◌≤◌, All, None, true};
-ghost use Rattle.run_pictures.specs.Sweeps.{AreChained, IsEnd, IsPlaced, IsSweepLaid, StandsAt};
+ghost use Rattle.run_pictures.specs.Sweeps.{AreChained, IsBoundPlaced, IsEnd, IsPlaced};
+ghost use Rattle.run_pictures.specs.Sweeps.{IsSweepLaid, StandsAt};
 ghost use Rattle.run_pictures.specs.Sweeps.{band_behind, comes_behind, has_lock, is_worst_known};
 ghost use Rattle.run_pictures.specs.Sweeps.{last_or, locks_later, total_before, upto_before};
 
@@ -208,12 +209,23 @@ fn are_numbered(span: u32, ticks: &[Tick]) -> bool
     true
 }
 
-/// Whether the lines of a sweep stand where they belong.
+/// Whether the bound stands where its range does, or behind the last bar.
+fn is_bound_placed(sweep: &Sweep) -> bool
+    requires { 1 ≤ sweep.now.span }
+    ensures { result ≡ true → IsBoundPlaced sweep.now }
+{
+    let range = sweep.bound / u64::from(sweep.span);
+    u64::from(sweep.bound_column) == range.min(u64::from(sweep.columns))
+}
+
+/// Whether the lines of a sweep stand where they belong, and its bound.
 pub fn is_sweep_laid(sweep: &Sweep) -> bool
     ensures { result ≡ true → IsSweepLaid sweep.now }
 {
     if sweep.span == 0 || sweep.most == 0 {
         return false;
     }
-    are_placed(sweep, &sweep.tallies) && are_numbered(sweep.span, &sweep.ticks)
+    is_bound_placed(sweep)
+        && are_placed(sweep, &sweep.tallies)
+        && are_numbered(sweep.span, &sweep.ticks)
 }

@@ -4,7 +4,9 @@ ghost use Rattle.std.specs.Prelude.{◌≡◌, ◌<◌, ◌^◌};
 ghost use Rattle.std.specs.List.{flat_map};
 ghost use Rattle.texts.specs.Growth.{Puts};
 ghost use Rattle.run_pictures.specs.SweepPictures.{axis_if, band_axis, bar, bar_base, bar_colour};
-ghost use Rattle.run_pictures.specs.SweepPictures.{bar_left, bar_part, is_first, none_middle};
+ghost use Rattle.run_pictures.specs.SweepPictures.{bar_left, bar_part, beyond_words};
+ghost use Rattle.run_pictures.specs.SweepPictures.{bound_middle, bound_picture, is_first};
+ghost use Rattle.run_pictures.specs.SweepPictures.{none_middle};
 ghost use Rattle.run_pictures.specs.SweepPictures.{sweep_bottom, sweep_foot, sweep_front};
 ghost use Rattle.run_pictures.specs.SweepPictures.{sweep_picture, sweep_right, tally_picture};
 ghost use Rattle.run_pictures.specs.SweepPictures.{tick_picture, total_words, worst_front};
@@ -49,6 +51,24 @@ fn none_middle(sweep: &Sweep) -> u64
     ensures { result ≡ none_middle sweep.now }
 {
     60 + 16 * (u64::from(sweep.columns) + 1) + 7
+}
+
+/// The middle of the range that the bound stands in, or what is behind the last bar.
+fn bound_middle(sweep: &Sweep) -> u64
+    ensures { result ≡ bound_middle sweep.now }
+{
+    60 + 16 * u64::from(sweep.bound_column) + 7
+}
+
+/// What stands behind a bound that is beyond the last bar.
+fn beyond_words(sweep: &Sweep) -> &'static [u8]
+    ensures { result.now ≡ beyond_words sweep.now }
+{
+    if sweep.bound_column < sweep.columns {
+        b""
+    } else {
+        b" .."
+    }
 }
 
 /// The colour of a bar.
@@ -240,6 +260,31 @@ fn put_ticks<K: Sink>(sink: &mut K, sweep: &Sweep, ticks: &[Tick]) -> Result<(),
     Ok(())
 }
 
+/// Draws a line through all bands, and writes the bound below it.
+fn put_bound<K: Sink>(sink: &mut K, sweep: &Sweep) -> Result<(), WriteFault>
+    ensures { Puts result (bound_picture sweep.now) (K.told sink.old) (K.told sink.new) }
+{
+    let x = bound_middle(sweep);
+    let bottom = sweep_bottom(sweep);
+    put_pieces(
+        sink,
+        &[
+            Piece::Text(b"<path d='M"),
+            Piece::Number(x),
+            Piece::Text(b" 36V"),
+            Piece::Number(bottom + 8),
+            Piece::Text(b"' stroke='firebrick'/>\n<text text-anchor='end' x='"),
+            Piece::Number(x),
+            Piece::Text(b"' y='"),
+            Piece::Number(bottom + 18),
+            Piece::Text(b"'>T "),
+            Piece::Number(sweep.bound),
+            Piece::Text(beyond_words(sweep)),
+            Piece::Text(b"</text>\n"),
+        ],
+    )
+}
+
 /// Writes what stands below the bands.
 fn put_foot<K: Sink>(sink: &mut K, sweep: &Sweep) -> Result<(), WriteFault>
     ensures { Puts result (sweep_foot sweep.now) (K.told sink.old) (K.told sink.new) }
@@ -253,7 +298,7 @@ fn put_foot<K: Sink>(sink: &mut K, sweep: &Sweep) -> Result<(), WriteFault>
             Piece::Text(b"' y='"),
             Piece::Number(bottom + 4),
             Piece::Text(b"'>none</text>\n<text text-anchor='start' x='4' y='"),
-            Piece::Number(bottom + 24),
+            Piece::Number(bottom + 36),
             Piece::Text(
                 b"'>rounds of the era before its first locked configuration; of them a bar has ",
             ),
@@ -267,7 +312,7 @@ fn put_foot<K: Sink>(sink: &mut K, sweep: &Sweep) -> Result<(), WriteFault>
 fn put_sweep_front<K: Sink>(sink: &mut K, sweep: &Sweep) -> Result<(), WriteFault>
     ensures { Puts result (sweep_front sweep.now) (K.told sink.old) (K.told sink.new) }
 {
-    put_front(sink, sweep_right(sweep).max(640), sweep_bottom(sweep) + 32)
+    put_front(sink, sweep_right(sweep).max(640), sweep_bottom(sweep) + 44)
 }
 
 /// Writes all parts of a picture.
@@ -277,6 +322,7 @@ fn put_parts<K: Sink>(sink: &mut K, sweep: &Sweep) -> Result<(), WriteFault>
     written!(put_sweep_front(sink, sweep));
     written!(put_ground(sink));
     written!(put_ticks(sink, sweep, sweep.numbers()));
+    written!(put_bound(sink, sweep));
     written!(put_tallies(sink, sweep, sweep.lines()));
     put_foot(sink, sweep)
 }

@@ -1,6 +1,8 @@
 //! Writes a sweep as `sweep` writes it.
 
+ghost use Rattle.std.specs.List.{flat_map};
 ghost use Rattle.texts.specs.Growth.{Puts};
+ghost use Rattle.run_pictures.specs.Charts.{bound_line};
 ghost use Rattle.run_pictures.specs.Sweeps.{runs_words, sweep_text, tally_line, tally_words};
 
 use crate::printing::{put_era, put_locked};
@@ -39,12 +41,34 @@ fn put_tally_line<K: Sink>(sink: &mut K, tally: Tally) -> Result<(), WriteFault>
     put_all(sink, b"\n")
 }
 
-/// Writes a sweep as `sweep` writes it.
-pub fn put_sweep<K: Sink>(sink: &mut K, tallies: &[Tally]) -> Result<(), WriteFault>
-    ensures { Puts result (sweep_text tallies.now) (K.told sink.old) (K.told sink.new) }
+/// Writes the line of the bound.
+fn put_bound<K: Sink>(sink: &mut K, bound: u64) -> Result<(), WriteFault>
+    ensures { Puts result (bound_line bound) (K.told sink.old) (K.told sink.new) }
+{
+    put_pieces(
+        sink,
+        &[
+            Piece::Text(b"bound "),
+            Piece::Number(bound),
+            Piece::Text(b"\n"),
+        ],
+    )
+}
+
+/// Writes all lines behind it.
+fn put_tally_lines<K: Sink>(sink: &mut K, tallies: &[Tally]) -> Result<(), WriteFault>
+    ensures { Puts result (flat_map tally_line tallies.now) (K.told sink.old) (K.told sink.new) }
 {
     for i in 0..tallies.len() {
         written!(put_tally_line(sink, tallies[i]));
     }
     Ok(())
+}
+
+/// Writes a sweep as `sweep` writes it.
+pub fn put_sweep<K: Sink>(sink: &mut K, bound: u64, tallies: &[Tally]) -> Result<(), WriteFault>
+    ensures { Puts result (sweep_text bound tallies.now) (K.told sink.old) (K.told sink.new) }
+{
+    written!(put_bound(sink, bound));
+    put_tally_lines(sink, tallies)
 }

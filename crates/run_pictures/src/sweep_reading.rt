@@ -1,10 +1,10 @@
 //! Reads a sweep from what `sweep` writes, and lays it out.
 
-use crate::lines::{next_is, number_behind, small_or_none};
+use crate::lines::{next_is, number_after, number_behind, small_or_none};
 use crate::reading::{ChartError, LineError, Wanted};
 use crate::sweep_charts::{Sweep, Tally, Tick};
 use crate::sweep_laid::{band_behind, comes_behind, total_before, upto_before};
-use edge_io::{Lines, Words, first_line, number};
+use edge_io::{Lines, Words, number};
 use std::alloc::Global;
 
 /// How many bars stand side by side at most.
@@ -46,13 +46,28 @@ fn tally_line(line: &[u8]) -> Option<Tally> {
     })
 }
 
-/// Whether a text begins with a line of a sweep.
+/// Whether a text begins with the lines of a sweep: a bound, and what a line says behind it.
 pub fn is_sweep(text: &[u8]) -> bool {
-    if text.is_empty() {
-        return false;
+    let mut lines = Lines::new(text, 1);
+    match (lines.next(), lines.next()) {
+        (Some((_, first)), Some((_, second))) => {
+            number_after(first, b"bound").is_some() && tally_line(second).is_some()
+        }
+        _ => false,
     }
-    let (line, _) = first_line(text);
-    tally_line(line).is_some()
+}
+
+/// Takes the bound.
+fn take_bound(lines: &mut Lines<'_>) -> Result<u64, ChartError> {
+    if let Some((_, line)) = lines.next()
+        && let Some(bound) = number_after(line, b"bound")
+    {
+        return Ok(bound);
+    }
+    Err(ChartError::Line {
+        line: 1,
+        wanted: Wanted::Bound,
+    })
 }
 
 /// Whether a line's numbers are such as a script may have.
@@ -82,10 +97,10 @@ fn take(tallies: &mut Vec<Tally>, line: &[u8]) -> Result<(), LineError> {
     Ok(())
 }
 
-/// Takes all lines.
-fn take_lines(alloc: Global, text: &[u8]) -> Result<Vec<Tally>, ChartError> {
+/// Takes all lines behind it.
+fn take_lines(alloc: Global, lines: Lines<'_>) -> Result<Vec<Tally>, ChartError> {
     let mut tallies = Vec::new(alloc);
-    for (line, bytes) in Lines::new(text, 1) {
+    for (line, bytes) in lines {
         match take(&mut tallies, bytes) {
             Ok(()) => {}
             Err(LineError::Unwanted) => {
@@ -113,6 +128,12 @@ fn span_of(rounds: u32) -> u32 {
         }
     }
     50000
+}
+
+/// The bar in whose range a bound stands, or that behind the last one.
+fn bound_column(bound: u64, span: u32, columns: u32) -> u32 {
+    let range = bound.checked_div(u64::from(span)).unwrap_or(0);
+    u32::try_from(range).unwrap_or(columns).min(columns)
 }
 
 /// Gives each line its bar, and finds how many runs the highest one has.
@@ -156,7 +177,7 @@ fn add_numbers(sweep: &mut Sweep) -> Result<(), ChartError> {
 }
 
 /// Lays out lines.
-fn laid_out(alloc: Global, tallies: Vec<Tally>) -> Result<Sweep, ChartError> {
+fn laid_out(alloc: Global, bound: u64, tallies: Vec<Tally>) -> Result<Sweep, ChartError> {
     let mut rounds = 0;
     let mut bands: u32 = 0;
     for tally in &tallies {
@@ -164,9 +185,12 @@ fn laid_out(alloc: Global, tallies: Vec<Tally>) -> Result<Sweep, ChartError> {
         bands = tally.band.saturating_add(1);
     }
     let span = span_of(rounds);
+    let columns = rounds.checked_div(span).unwrap_or(0).saturating_add(1);
     let mut sweep = Sweep {
+        bound,
+        bound_column: bound_column(bound, span, columns),
         span,
-        columns: rounds.checked_div(span).unwrap_or(0).saturating_add(1),
+        columns,
         bands,
         most: 0,
         tallies,
@@ -181,6 +205,8 @@ fn laid_out(alloc: Global, tallies: Vec<Tally>) -> Result<Sweep, ChartError> {
 /// Reads a sweep. The error is the first line that is not what should stand there, or want of
 /// memory.
 pub fn read_sweep(alloc: Global, text: &[u8]) -> Result<Sweep, ChartError> {
-    let tallies = take_lines(alloc, text)?;
-    laid_out(alloc, tallies)
+    let mut lines = Lines::new(text, 1);
+    let bound = take_bound(&mut lines)?;
+    let tallies = take_lines(alloc, lines)?;
+    laid_out(alloc, bound, tallies)
 }

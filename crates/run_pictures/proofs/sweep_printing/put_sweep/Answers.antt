@@ -1,16 +1,12 @@
-use Rattle.texts.proofs.Growth.{wrote_none, wrote_at, cut_at}
-use Rattle.run_pictures.specs.Sweeps.{tally_line}
+use Rattle.texts.proofs.Growth.{cut_more, puts_then}
+use Rattle.run_pictures.specs.Charts.{bound_line}
 use Rattle.run_pictures.proofs.sweep_printing.put_sweep.Goals as goal
-
-pub loop-i-init : goal.loop-i-init
-loop-i-init g c = wrote_none _
 
 pub returns-in-Err : goal.returns-in-Err
 returns-in-Err g c =
-    cut_at (tally_line) c.args.tallies.now c.loop-i.i _ _ _ _
-    c.loop-i-test.true c.loop-i.invariant c.in-Err.ensures
+    cut_more _ _ (bound_line c.args.bound) _ c.in-Err.ensures
 
-pub loop-i-preserved : goal.loop-i-preserved
-loop-i-preserved g c =
-    wrote_at (tally_line) c.args.tallies.now c.loop-i.i _ _ _ _
-    c.loop-i-test.true c.loop-i.invariant c.in-Ok.ensures
+pub returns : goal.returns
+returns g c =
+    puts_then _ _ _ _ (bound_line c.args.bound) _ c.in-Ok.ensures
+    c.put_tally_lines.ensures

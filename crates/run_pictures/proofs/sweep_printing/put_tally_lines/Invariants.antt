@@ -2,7 +2,7 @@ use Rattle.std.proofs.Common.{take}
 use Rattle.std.specs.List.{flat_map}
 use Rattle.texts.specs.Growth.{Wrote}
 use Rattle.run_pictures.specs.Sweeps.{tally_line}
-use Rattle.run_pictures.proofs.sweep_printing.put_sweep.Given as goal
+use Rattle.run_pictures.proofs.sweep_printing.put_tally_lines.Given as goal
 
 abbrev pub invariant-loop-i : goal.invariant-loop-i
 invariant-loop-i g l =
