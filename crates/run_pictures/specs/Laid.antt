@@ -1,7 +1,7 @@
 -- Where the words of a chart's rows belong, and the lines behind the rows, and what the outputs
 -- of a picture count by.
-use Rattle.std.specs.Prelude.{◌≡◌, ◌⊎◌, ℕ, ◌+◌, ◌-◌, ◌*◌, ◌<◌, List, [], ◌∷◌, length, map, All}
-use Rattle.std.specs.Prelude.{Option, Some, None, slice_index_or}
+use Rattle.std.specs.Prelude.{◌≡◌, ◌⊎◌, ℕ, ◌+◌, ◌-◌, ◌*◌, ◌<◌, ◌≤◌, List, [], ◌∷◌, length, map}
+use Rattle.std.specs.Prelude.{All, Option, Some, None, slice_index_or}
 use Rattle.std.specs.List.{range_with_len}
 use Rattle.run_pictures.specs.declared.charts.End.{End}
 use Rattle.run_pictures.specs.declared.charts.Chart.{Chart}
@@ -34,8 +34,9 @@ pub record IsModulusOf {X : Type 0} (shown : X → Option ℕ) (xs : List X) (mo
 -- ---- all of it
 
 -- The words come row by row, and in a row node by node; lines behind the rows know their places.
--- Colours go by what the outputs count by.
+-- Colours go by what the outputs count by. There is a row, and a word in it.
 pub record IsLaid (chart : Chart) : Type 0 where
+  pub some : (1 ≤ chart.rows) × (1 ≤ chart.nodes)
   pub whole : length chart.cells.items ≡ chart.rows * chart.nodes
   pub nodes : All (λ cell. cell.node < chart.nodes) chart.cells.items
   pub words : map (λ cell. cell.row * chart.nodes + cell.node) chart.cells.items

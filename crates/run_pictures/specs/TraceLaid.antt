@@ -117,9 +117,9 @@ pub record IsTitleLaid (levels : List Level) (title : Title) : Type 0 where
 
 -- Each configuration has a column, and in it each node its lines: its output, and its registers in
 -- the strips of their levels. Each turn that a correct node hears is drawn. Nothing else covers the
--- outputs and the strips. The lines say what is drawn.
+-- outputs and the strips. The lines say what is drawn. There is a configuration, and a node in it.
 pub record IsTraceLaid (trace : Trace) : Type 0 where
-  pub some : 1 ≤ trace.nodes
+  pub some : (1 ≤ trace.frame.columns) × (1 ≤ trace.nodes)
   pub whole : count_by shows trace.notes.items ≡ trace.frame.columns * trace.nodes
   pub lines : AreLinesLaid trace.levels.items trace.nodes trace.notes.items
   pub heard : All (HasTurn trace.reigns.items) trace.notes.items

@@ -99,7 +99,9 @@ pub fn is_laid(chart: &Chart) -> bool
     ensures { result ≡ true → IsLaid chart.now }
 {
     let words = chart.cells.len() as u64;
-    words == u64::from(chart.rows) * u64::from(chart.nodes)
+    chart.rows >= 1
+        && chart.nodes >= 1
+        && words == u64::from(chart.rows) * u64::from(chart.nodes)
         && are_words_laid(chart.nodes, &chart.cells)
         && are_lines_laid(&chart.ends)
         && are_next(&chart.ends)

@@ -221,7 +221,7 @@ fn are_stacked(nodes: u16, below: u64, from: u64, levels: &[Level], end: u32) ->
 pub fn is_trace_laid(trace: &Trace) -> bool
     ensures { result ≡ true → IsTraceLaid trace.now }
 {
-    if trace.nodes == 0 || trace.cells > trace.frame.height {
+    if trace.frame.columns == 0 || trace.nodes == 0 || trace.cells > trace.frame.height {
         return false;
     }
     let Some(shown) = outputs_laid(&trace.levels, trace.nodes, &trace.notes) else {

@@ -3,7 +3,7 @@ use Rattle.run_pictures.proofs.trace_laid.is_trace_laid.Goals as goal
 
 pub returns : goal.returns
 returns c = λ stacked. record {
-  some = omega (arith, c.if-trace-eq0.false);
+  some = (omega (arith, c.if-trace-eq0.false), omega (arith, c.if-trace-eq0-2.false));
   whole = sym (rw c.deref-2.ensures.value at c.in-Some.ensures.shown)
       ∙ (c.if-shown-whole.false ∙ ap₂ (λ x y. x * y) c.from.ensures c.from-2.ensures);
   lines = rw (c.deref.ensures.value, c.deref-2.ensures.value) at c.in-Some.ensures.laid;
