@@ -23,18 +23,18 @@ module _ (notes : List Note) (k : ℕ) (lt : k < length notes) (note : Note)
   at_any : (d : Note) → note ≡ get_or notes k d
   at_any d = is ∙ get_or_default notes k note d lt
 
-  pub laid_more : (levels : List Level) (nodes new : ℕ)
+  pub laid_more : (levels : List Level) (nodes : ℕ) (ids : List ℕ) (new : ℕ)
       → new ≡ count_by shows (take (k + 1) notes) → 1 ≤ new
-      → IsNoteLaid levels nodes (new - 1) note
-      → ((j : ℕ) (d : Note) → j < k → IsLaidAt levels nodes notes j d)
-      → (j : ℕ) (d : Note) → j < k + 1 → IsLaidAt levels nodes notes j d
-  laid_more levels nodes new count some laid before j d within = elim (cases_lt j k) [
+      → IsNoteLaid levels nodes ids (new - 1) note
+      → ((j : ℕ) (d : Note) → j < k → IsLaidAt levels nodes ids notes j d)
+      → (j : ℕ) (d : Note) → j < k + 1 → IsLaidAt levels nodes ids notes j d
+  laid_more levels nodes ids new count some laid before j d within = elim (cases_lt j k) [
     | inl earlier ↦ before j d earlier
     | inr late ↦
         let same : k ≡ j = omega (arith, late, within) in
-        subst (λ i. IsLaidAt levels nodes notes i d) same (record {
+        subst (λ i. IsLaidAt levels nodes ids notes i d) same (record {
           some = omega (arith, some, count);
-          laid = subst (λ x. IsNoteLaid levels nodes (x - 1) (get_or notes k d)) count
-              (subst (IsNoteLaid levels nodes (new - 1)) (at_any d) laid);
+          laid = subst (λ x. IsNoteLaid levels nodes ids (x - 1) (get_or notes k d)) count
+              (subst (IsNoteLaid levels nodes ids (new - 1)) (at_any d) laid);
         })
   ]

@@ -3,6 +3,7 @@ use Rattle.std.specs.Prelude.{◌≡◌, ℕ, ◌+◌, ◌-◌, ◌*◌, ◌/◌
 use Rattle.std.specs.Prelude.{length, take, Bool, true, false, Option, Some, None, slice_index_or}
 use Rattle.std.specs.Prelude.{All}
 use Rattle.std.specs.List.{count_by}
+use Rattle.std.specs.List.Sorted.{IsStrictlyIncreasing}
 use Rattle.run_pictures.specs.declared.traces.Heard.{Heard}
 use Rattle.run_pictures.specs.declared.traces.Seen.{Seen}
 use Rattle.run_pictures.specs.declared.traces.Seen.TheVariants.{Shows, Holds}
@@ -42,23 +43,26 @@ abbrev pub IsAtHeight : List Level → (place top : ℕ) → Seen → Type 0
 IsAtHeight levels place top (Shows output) = top ≡ line_top place
 IsAtHeight levels place top (Holds register) = StandsInStrip levels place top register.level
 
--- A line of a node, where so many outputs, `before`, were shown before that of its node: it stands
--- in the column of its configuration, and in the line of its node.
-pub record IsNoteLaid (levels : List Level) (nodes before : ℕ) (note : Note) : Type 0 where
+-- A line of a node, where so many outputs, `before`, were shown before that of its node: it is on
+-- the node whose turn it is, and stands in the column of its configuration, and in the line of its
+-- node.
+pub record IsNoteLaid (levels : List Level) (nodes : ℕ) (ids : List ℕ) (before : ℕ) (note : Note)
+    : Type 0 where
+  pub node : (d : ℕ) → slice_index_or ids (before % nodes) d ≡ note.node
   pub column : note.column ≡ before / nodes
   pub first : note.is_first ≡ (shows note && before % nodes == 0)
   pub height : IsAtHeight levels (before % nodes) note.top note.seen
 
 -- line k of a trace: the outputs in the lines up to it tell its node and its configuration
-pub record IsLaidAt (levels : List Level) (nodes : ℕ) (notes : List Note) (k : ℕ) (d : Note)
-    : Type 0 where
+pub record IsLaidAt (levels : List Level) (nodes : ℕ) (ids : List ℕ) (notes : List Note) (k : ℕ)
+    (d : Note) : Type 0 where
   pub some : 1 ≤ count_by shows (take (k + 1) notes)
-  pub laid : IsNoteLaid levels nodes (count_by shows (take (k + 1) notes) - 1)
+  pub laid : IsNoteLaid levels nodes ids (count_by shows (take (k + 1) notes) - 1)
       (slice_index_or notes k d)
 
-abbrev pub AreLinesLaid : List Level → (nodes : ℕ) → List Note → Type 0
-AreLinesLaid levels nodes notes =
-    (k : ℕ) (d : Note) → k < length notes → IsLaidAt levels nodes notes k d
+abbrev pub AreLinesLaid : List Level → (nodes : ℕ) → (ids : List ℕ) → List Note → Type 0
+AreLinesLaid levels nodes ids notes =
+    (k : ℕ) (d : Note) → k < length notes → IsLaidAt levels nodes ids notes k d
 
 -- ---- kings' turns
 
@@ -116,12 +120,14 @@ pub record IsTitleLaid (levels : List Level) (title : Title) : Type 0 where
 -- ---- all of it
 
 -- Each configuration has a column, and in it each node its lines: its output, and its registers in
--- the strips of their levels. Each turn that a correct node hears is drawn. Nothing else covers the
+-- the strips of their levels. The nodes are the same ones in each, and their ids rise. Each turn that a correct node hears is drawn. Nothing else covers the
 -- outputs and the strips. The lines say what is drawn. There is a configuration, and a node in it.
 pub record IsTraceLaid (trace : Trace) : Type 0 where
   pub some : (1 ≤ trace.frame.columns) × (1 ≤ trace.nodes)
   pub whole : count_by shows trace.notes.items ≡ trace.frame.columns * trace.nodes
-  pub lines : AreLinesLaid trace.levels.items trace.nodes trace.notes.items
+  pub ids : length trace.ids.items ≡ trace.nodes
+  pub rise : IsStrictlyIncreasing trace.ids.items
+  pub lines : AreLinesLaid trace.levels.items trace.nodes trace.ids.items trace.notes.items
   pub heard : All (HasTurn trace.reigns.items) trace.notes.items
   pub turns : All (IsTurnLaid trace.levels.items) trace.reigns.items
   pub titles : All (IsTitleLaid trace.levels.items) trace.titles.items

@@ -1,7 +1,8 @@
 //! Whether the lines, the kings' turns and the levels of a trace stand where they belong.
 
-ghost use Rattle.std.specs.Prelude.{◌≡◌, ◌≤◌, ◌<◌, ◌^◌, All, true, IfSome};
+ghost use Rattle.std.specs.Prelude.{◌≡◌, ◌≤◌, ◌<◌, ◌^◌, ℕ, All, true, IfSome, slice_index_or};
 ghost use Rattle.std.specs.List.{count_by};
+ghost use Rattle.std.specs.List.Sorted.{IsStrictlyIncreasing};
 ghost use Rattle.run_pictures.specs.TraceLaid.{AreLinesLaid, AreStacked, HasTurn, HasTurnOf};
 ghost use Rattle.run_pictures.specs.TraceLaid.{IsAtHeight, IsNoteLaid, IsStripOf, IsTitleLaid};
 ghost use Rattle.run_pictures.specs.TraceLaid.{IsTraceLaid, IsTurnLaid, IsTurnOf, shows};
@@ -48,23 +49,44 @@ fn is_at_height(levels: &[Level], place: u64, note: &Note) -> bool
     }
 }
 
-/// Whether a line stands in its column and line, where so many outputs were shown before that of
-/// its node.
-fn is_note_laid(levels: &[Level], nodes: u16, before: u64, note: &Note) -> bool
+/// Whether ids rise.
+fn ids_rise(ids: &[u64]) -> bool
+    ensures { result ≡ true → IsStrictlyIncreasing ids.now }
+{
+    for k in 1..ids.len() {
+        if ids[k - 1] >= ids[k] {
+            return false;
+        }
+    }
+    true
+}
+
+/// Whether the id at a place is that of a node.
+fn has_id(ids: &[u64], place: u64, node: u64) -> bool
+    ensures { result ≡ true → (d : ℕ) → slice_index_or ids.now place d ≡ node }
+{
+    let place = place as usize;
+    place < ids.len() && ids[place] == node
+}
+
+/// Whether a line is on the node whose turn it is, and stands in its column and line, where so many
+/// outputs were shown before that of its node.
+fn is_note_laid(levels: &[Level], nodes: u16, ids: &[u64], before: u64, note: &Note) -> bool
     requires { 1 ≤ nodes }
-    ensures { result ≡ true → IsNoteLaid levels.now nodes before note.now }
+    ensures { result ≡ true → IsNoteLaid levels.now nodes ids.now before note.now }
 {
     let place = before % u64::from(nodes);
     u64::from(note.column) == before / u64::from(nodes)
+        && has_id(ids, place, note.node)
         && note.is_first == (shows(note) && place == 0)
         && is_at_height(levels, place, note)
 }
 
 /// Whether all lines do. Answers how many outputs they show, if so.
-fn outputs_laid(levels: &[Level], nodes: u16, notes: &[Note]) -> Option<u64>
+fn outputs_laid(levels: &[Level], nodes: u16, ids: &[u64], notes: &[Note]) -> Option<u64>
     requires { 1 ≤ nodes }
     ensures shown { IfSome result (λ shown. shown ≡ count_by shows notes.now) }
-    ensures laid { IfSome result (λ _. AreLinesLaid levels.now nodes notes.now) }
+    ensures laid { IfSome result (λ _. AreLinesLaid levels.now nodes ids.now notes.now) }
 {
     let mut shown: u64 = 0;
     for k in 0..notes.len() {
@@ -72,7 +94,7 @@ fn outputs_laid(levels: &[Level], nodes: u16, notes: &[Note]) -> Option<u64>
         if shows(note) {
             shown += 1;
         }
-        if shown == 0 || !is_note_laid(levels, nodes, shown - 1, note) {
+        if shown == 0 || !is_note_laid(levels, nodes, ids, shown - 1, note) {
             return None;
         }
     }
@@ -224,7 +246,11 @@ pub fn is_trace_laid(trace: &Trace) -> bool
     if trace.frame.columns == 0 || trace.nodes == 0 || trace.cells > trace.frame.height {
         return false;
     }
-    let Some(shown) = outputs_laid(&trace.levels, trace.nodes, &trace.notes) else {
+    if trace.ids.len() != usize::from(trace.nodes) || !ids_rise(&trace.ids) {
+        return false;
+    }
+    let laid = outputs_laid(&trace.levels, trace.nodes, &trace.ids, &trace.notes);
+    let Some(shown) = laid else {
         return false;
     };
     let whole = u64::from(trace.frame.columns) * u64::from(trace.nodes);

@@ -17,9 +17,7 @@ pub const MOST_LEVELS: u64 = 16;
 #[derive(Drop)]
 struct Draft {
     trace: Trace,
-    /// The nodes of the first configuration, and of each other one.
-    nodes: Vec<u64>,
-    /// Which of these the last line is about.
+    /// Which of its nodes the last line is about.
     place: usize,
     /// The level of that line, or 0 where it is about the node's state.
     level: u64,
@@ -56,22 +54,22 @@ pub fn is_trace(alloc: Global, text: &[u8]) -> Result<bool, ChartError> {
 
 /// Takes the next node of the first configuration: nodes rise.
 fn add_node(draft: &mut Draft, node: u64) -> Result<(), TraceFault> {
-    if let Some(last) = draft.nodes.last() {
+    if let Some(last) = draft.trace.ids.last() {
         if node <= *last {
             return Err(TraceFault::Unwanted);
         }
     }
-    if draft.nodes.len() >= MOST_NODES {
+    if draft.trace.ids.len() >= MOST_NODES {
         return Err(TraceFault::Unwanted);
     }
-    draft.nodes.push(node)?;
-    draft.place = draft.nodes.len().saturating_sub(1);
+    draft.trace.ids.push(node)?;
+    draft.place = draft.trace.ids.len().saturating_sub(1);
     Ok(())
 }
 
 /// Takes the node of a later configuration: the same nodes as in the first one.
 fn take_node(draft: &mut Draft, place: usize, node: u64) -> Result<(), TraceFault> {
-    if draft.nodes.get(place) != Some(&node) {
+    if draft.trace.ids.get(place) != Some(&node) {
         return Err(TraceFault::Unwanted);
     }
     draft.place = place;
@@ -89,7 +87,7 @@ fn take_state(draft: &mut Draft, t: u32, node: u64) -> Result<(), TraceFault> {
     }
     let next = u64::from(frame.first).saturating_add(u64::from(frame.columns));
     if u64::from(t) == next {
-        if draft.place.saturating_add(1) != draft.nodes.len() {
+        if draft.place.saturating_add(1) != draft.trace.ids.len() {
             return Err(TraceFault::Unwanted);
         }
         draft.trace.frame.columns = frame.columns.saturating_add(1);
@@ -174,6 +172,7 @@ fn empty(alloc: Global) -> Trace {
             modulus: 0,
         },
         nodes: 0,
+        ids: Vec::new(alloc),
         cells: 0,
         notes: Vec::new(alloc),
         reigns: Vec::new(alloc),
@@ -185,7 +184,7 @@ fn empty(alloc: Global) -> Trace {
 
 /// Ends the reading: the last configuration has all nodes.
 fn finished(draft: Draft, line: u64) -> Result<Trace, ChartError> {
-    if draft.place.saturating_add(1) != draft.nodes.len() {
+    if draft.place.saturating_add(1) != draft.trace.ids.len() {
         return Err(ChartError::Line {
             line,
             wanted: Wanted::Node,
@@ -194,7 +193,7 @@ fn finished(draft: Draft, line: u64) -> Result<Trace, ChartError> {
     let mut trace = draft.trace;
     let last = trace.frame.first.saturating_add(trace.frame.columns);
     trace.frame.digits = draft.digits.max(digits_of(last.saturating_sub(1)));
-    trace.nodes = u16::try_from(draft.nodes.len()).unwrap_or(256);
+    trace.nodes = u16::try_from(trace.ids.len()).unwrap_or(256);
     Ok(trace)
 }
 
@@ -210,7 +209,6 @@ fn take_bytes(alloc: Global, draft: &mut Draft, bytes: &[u8]) -> Result<(), Trac
 pub fn read_trace(alloc: Global, text: &[u8]) -> Result<Trace, ChartError> {
     let mut draft = Draft {
         trace: empty(alloc),
-        nodes: Vec::new(alloc),
         place: 0,
         level: 0,
         digits: 1,

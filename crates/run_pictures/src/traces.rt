@@ -158,6 +158,8 @@ pub struct Level {
 pub struct Trace {
     pub frame: Frame,
     pub nodes: u16,
+    /// The ids of the nodes.
+    pub ids: Vec<u64>,
     /// Where the last strip of a band ends.
     pub cells: u32,
     /// The lines.
@@ -175,6 +177,7 @@ impl Drop for Trace {
         let Trace {
             frame: _,
             nodes: _,
+            ids,
             cells: _,
             notes,
             reigns,
@@ -182,6 +185,7 @@ impl Drop for Trace {
             levels,
             eras,
         } = self;
+        drop(ids);
         drop(notes);
         drop(reigns);
         drop(titles);

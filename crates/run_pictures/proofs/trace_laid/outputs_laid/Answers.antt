@@ -34,6 +34,7 @@ loop-k-preserved c =
       shown = count;
       few = most;
       laid = laid_more notes k lt note c.index-notes-k.is c.args.levels.now c.args.nodes
+          c.args.ids.now
           c.if-shows.shown count (omega (arith, c.if-shown-eq0.false))
           (c.is_note_laid.ensures c.if-not-is_note_laid.false) c.loop-k.invariant.laid;
     }

@@ -8,5 +8,5 @@ abbrev pub invariant-loop-k : goal.invariant-loop-k
 invariant-loop-k l = record {
   shown : l.shown ≡ count_by shows (take l.k l.notes);
   few : l.shown ≤ l.k;
-  laid : (j : ℕ) (d : Note) → j < l.k → IsLaidAt l.levels l.nodes l.notes j d;
+  laid : (j : ℕ) (d : Note) → j < l.k → IsLaidAt l.levels l.nodes l.ids l.notes j d;
 }
