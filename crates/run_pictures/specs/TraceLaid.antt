@@ -1,7 +1,7 @@
 -- Where the lines, the kings' turns and the levels of a trace belong.
 use Rattle.std.specs.Prelude.{◌≡◌, ℕ, ◌+◌, ◌-◌, ◌*◌, ◌/◌, ◌%◌, ◌<◌, ◌≤◌, ◌==◌, ◌&&◌, List, [], ◌∷◌}
 use Rattle.std.specs.Prelude.{length, take, Bool, true, false, Option, Some, None, slice_index_or}
-use Rattle.std.specs.Prelude.{All}
+use Rattle.std.specs.Prelude.{All, AllPairs}
 use Rattle.std.specs.List.{count_by}
 use Rattle.std.specs.List.Sorted.{IsStrictlyIncreasing}
 use Rattle.run_pictures.specs.declared.traces.Heard.{Heard}
@@ -100,6 +100,11 @@ pub record IsTurnLaid (levels : List Level) (reign : Reign) : Type 0 where
   pub below : strip.top ≤ reign.top
   pub above : reign.top + 16 ≤ strip.cells
 
+-- turns of one level in one column stand one below the other
+abbrev pub AreApart : (turn later : Reign) → Type 0
+AreApart turn later =
+    turn.column ≡ later.column → turn.level ≡ later.level → turn.top + 16 ≤ later.top
+
 -- ---- levels
 
 -- Strips stand one below the other, from one height to another, in each a row of turns and a line
@@ -120,7 +125,7 @@ pub record IsTitleLaid (levels : List Level) (title : Title) : Type 0 where
 -- ---- all of it
 
 -- Each configuration has a column, and in it each node its lines: its output, and its registers in
--- the strips of their levels. The nodes are the same ones in each, and their ids rise. Each turn that a correct node hears is drawn. Nothing else covers the
+-- the strips of their levels. The nodes are the same ones in each, and their ids rise. Each turn that a correct node hears is drawn, and none covers another. Nothing else covers the
 -- outputs and the strips. The lines say what is drawn. There is a configuration, and a node in it.
 pub record IsTraceLaid (trace : Trace) : Type 0 where
   pub some : (1 ≤ trace.frame.columns) × (1 ≤ trace.nodes)
@@ -130,6 +135,7 @@ pub record IsTraceLaid (trace : Trace) : Type 0 where
   pub lines : AreLinesLaid trace.levels.items trace.nodes trace.ids.items trace.notes.items
   pub heard : All (HasTurn trace.reigns.items) trace.notes.items
   pub turns : All (IsTurnLaid trace.levels.items) trace.reigns.items
+  pub apart : AllPairs AreApart trace.reigns.items
   pub titles : All (IsTitleLaid trace.levels.items) trace.titles.items
   pub strips : AreStacked trace.nodes 0 (line_top trace.nodes) trace.levels.items trace.cells
   pub high : trace.cells ≤ trace.frame.height

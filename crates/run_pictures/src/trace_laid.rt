@@ -1,10 +1,12 @@
 //! Whether the lines, the kings' turns and the levels of a trace stand where they belong.
 
-ghost use Rattle.std.specs.Prelude.{◌≡◌, ◌≤◌, ◌<◌, ◌^◌, ℕ, All, true, IfSome, slice_index_or};
+ghost use Rattle.std.specs.Prelude.{◌≡◌, ◌≤◌, ◌<◌, ◌^◌, ℕ, All, AllPairs, true, IfSome, length};
+ghost use Rattle.std.specs.Prelude.{slice_index_or};
+ghost use Rattle.run_pictures.specs.declared.traces.Reign.{Reign};
 ghost use Rattle.std.specs.List.{count_by};
 ghost use Rattle.std.specs.List.Sorted.{IsStrictlyIncreasing};
-ghost use Rattle.run_pictures.specs.TraceLaid.{AreLinesLaid, AreStacked, HasTurn, HasTurnOf};
-ghost use Rattle.run_pictures.specs.TraceLaid.{IsAtHeight, IsNoteLaid, IsStripOf, IsTitleLaid};
+ghost use Rattle.run_pictures.specs.TraceLaid.{AreApart, AreLinesLaid, AreStacked, HasTurn};
+ghost use Rattle.run_pictures.specs.TraceLaid.{HasTurnOf, IsAtHeight, IsNoteLaid, IsStripOf, IsTitleLaid};
 ghost use Rattle.run_pictures.specs.TraceLaid.{IsTraceLaid, IsTurnLaid, IsTurnOf, shows};
 
 use crate::frames::{MOST_COLUMNS, line_top};
@@ -196,6 +198,51 @@ fn are_turns_laid(levels: &[Level], reigns: &[Reign]) -> bool
     true
 }
 
+/// Whether a turn stands above a later one, if both are of one column and level.
+fn is_above(turn: Reign, later: Reign) -> bool
+    ensures { result ≡ true → AreApart turn later }
+{
+    turn.column != later.column
+        || turn.level != later.level
+        || u64::from(turn.top) + 16 <= u64::from(later.top)
+}
+
+/// Whether the turns of these places do.
+fn are_above(reigns: &[Reign], from: usize, to: usize, later: Reign) -> bool
+    requires { to ≤ length reigns.now }
+    ensures { result ≡ true → (i : ℕ) (d : Reign) → from ≤ i → i < to
+        → AreApart (slice_index_or reigns.now i d) later }
+{
+    for i in from..to {
+        if !is_above(reigns[i], later) {
+            return false;
+        }
+    }
+    true
+}
+
+/// Whether no turn covers another one. Columns rise.
+fn are_apart(reigns: &[Reign]) -> bool
+    ensures { result ≡ true → AllPairs AreApart reigns.now }
+{
+    let mut column = 0;
+    let mut from = 0;
+    for k in 0..reigns.len() {
+        let reign = reigns[k];
+        if reign.column < column {
+            return false;
+        }
+        if reign.column > column {
+            column = reign.column;
+            from = k;
+        }
+        if !are_above(reigns, from, k, reign) {
+            return false;
+        }
+    }
+    true
+}
+
 /// Whether a word stands before the strip of its level, at the front of a band.
 fn is_title_laid(levels: &[Level], title: Title) -> bool
     ensures { result ≡ true → IsTitleLaid levels.now title }
@@ -261,6 +308,9 @@ pub fn is_trace_laid(trace: &Trace) -> bool
         return false;
     }
     if !are_titles_laid(&trace.levels, &trace.titles) {
+        return false;
+    }
+    if !are_apart(&trace.reigns) {
         return false;
     }
     if !is_trace_said(trace) {
