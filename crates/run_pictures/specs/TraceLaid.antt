@@ -125,8 +125,9 @@ pub record IsTitleLaid (levels : List Level) (title : Title) : Type 0 where
 -- ---- all of it
 
 -- Each configuration has a column, and in it each node its lines: its output, and its registers in
--- the strips of their levels. The nodes are the same ones in each, and their ids rise. Each turn that a correct node hears is drawn, and none covers another. Nothing else covers the
--- outputs and the strips. The lines say what is drawn. There is a configuration, and a node in it.
+-- the strips of their levels. The nodes are the same ones in each, and their ids rise. Each turn
+-- that a correct node hears is drawn, and none covers another. Nothing else covers the outputs and
+-- the strips. The lines say what is drawn. There is a configuration, and a node in it.
 pub record IsTraceLaid (trace : Trace) : Type 0 where
   pub some : (1 ≤ trace.frame.columns) × (1 ≤ trace.nodes)
   pub whole : count_by shows trace.notes.items ≡ trace.frame.columns * trace.nodes

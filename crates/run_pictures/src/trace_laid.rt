@@ -6,8 +6,9 @@ ghost use Rattle.run_pictures.specs.declared.traces.Reign.{Reign};
 ghost use Rattle.std.specs.List.{count_by};
 ghost use Rattle.std.specs.List.Sorted.{IsStrictlyIncreasing};
 ghost use Rattle.run_pictures.specs.TraceLaid.{AreApart, AreLinesLaid, AreStacked, HasTurn};
-ghost use Rattle.run_pictures.specs.TraceLaid.{HasTurnOf, IsAtHeight, IsNoteLaid, IsStripOf, IsTitleLaid};
-ghost use Rattle.run_pictures.specs.TraceLaid.{IsTraceLaid, IsTurnLaid, IsTurnOf, shows};
+ghost use Rattle.run_pictures.specs.TraceLaid.{HasTurnOf, IsAtHeight, IsNoteLaid, IsStripOf};
+ghost use Rattle.run_pictures.specs.TraceLaid.{IsTitleLaid, IsTraceLaid, IsTurnLaid, IsTurnOf};
+ghost use Rattle.run_pictures.specs.TraceLaid.{shows};
 
 use crate::frames::{MOST_COLUMNS, line_top};
 use crate::trace_said::is_trace_said;
