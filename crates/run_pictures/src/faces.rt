@@ -1,7 +1,7 @@
 //! What a cell shows of a node's output, and the colours of outputs.
 
-ghost use Rattle.std.specs.Prelude.{◌≡◌, ◌<◌};
-ghost use Rattle.run_pictures.specs.Faces.{ahead, face_of, lead_of, shade};
+ghost use Rattle.std.specs.Prelude.{◌≡◌, ◌+◌, ◌-◌, ◌%◌, ◌<◌};
+ghost use Rattle.run_pictures.specs.Faces.{face_of, lead_of, shade};
 
 /// What a cell shows of an output.
 #[derive(Clone, Copy)]
@@ -27,7 +27,7 @@ pub fn face_of(shown: Option<u64>) -> Face
 fn ahead(modulus: u64, output: u64, due: u64) -> u64
     requires output { output < modulus }
     requires due { due < modulus }
-    ensures { result ≡ ahead modulus output due }
+    ensures { result ≡ (output + (modulus - due)) % modulus }
 {
     if due <= output {
         output - due
@@ -41,7 +41,7 @@ pub fn lead_of(modulus: u64, t: u64, output: u64) -> u64
     ensures { result ≡ lead_of modulus t output }
 {
     if modulus == 0 {
-        0
+        output
     } else {
         ahead(modulus, output % modulus, t % modulus)
     }

@@ -8,8 +8,9 @@
 //! node, of a trace that its lines stand in their columns, lines and strips, and that just the
 //! kings' turns are there which correct nodes hear, of a sweep that its lines stand in the bars of
 //! their configurations, as high as their runs are, and of a choice that its plans stand by their
-//! nodes and their bounds. Outputs that count have one colour. That all that these programs write
-//! is read, how wide columns and bars are, and who is found hit, is not.
+//! nodes and their bounds. Outputs that count keep the lead that their colour goes by, and no two
+//! different ones of a configuration have the same lead ([`laws`]). That all that these programs
+//! write is read, how wide columns and bars are, and who is found hit, is not.
 #![tactic(auto)]
 
 // As `?` behind a part of a text that is written, but with no call of its own.
@@ -30,6 +31,7 @@ mod faces;
 mod frames;
 mod hits;
 mod laid;
+pub mod laws;
 mod layouts;
 mod lines;
 mod marks;
