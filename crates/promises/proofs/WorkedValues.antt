@@ -49,6 +49,7 @@ texts_are_spelled = record {
   inputs = refl;
   requests = refl;
   logs = refl;
+  node = λ shape s. refl;
   script = λ shape. refl;
 }
 
