@@ -13,6 +13,7 @@ use Rattle.plan_certificate.specs.PlanTexts.{plan_text}
 use Rattle.plan_finder.specs.FindText.{find_text}
 use Rattle.plan_finder.specs.WantTexts.{want_text}
 use Rattle.state_codec.specs.Shapes.{Shape}
+use Rattle.node_header.specs.HeaderTexts.{header_text}
 use Rattle.node_header.specs.WrittenHeaders.{node_part_in, digits_in}
 use Rattle.adversary_script.specs.declared.lies.CommonStart.TheVariants as common
 use Rattle.adversary_script.specs.declared.lies.What.TheVariants as what
@@ -133,6 +134,9 @@ pub record TextsAreSpelled : Type 0 where
       ≡ codes "log 1\nvalues 16\nkeep 8\ncommands 0 3\ncommands 1 5 6\nend\n"
   pub node : (shape : Shape) (s : State) → node_part_in shape 3 s
       ≡ codes "node 1\nid 3\nstate " ++ digits_in shape 3 s ++ codes "\nend\n"
+  pub header : header_text (record { version = 1; base = 8; levels = [] }) 0
+      (record { x = 5; registers = [] })
+      ≡ codes "plan 1\nbase 8\nend\nnode 1\nid 0\nstate a0\nend\n"
   pub script : (shape : Shape) → script_text (record {
     version = 2;
     nodes = 4;
