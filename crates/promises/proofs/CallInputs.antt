@@ -1,5 +1,5 @@
 -- Inputs of calls of `node`: those of any construction, whose headers name the plan.
-use Rattle.std.proofs.Common.{◌≡◌, ℕ, Bool, true, false, cond, List, Ok, refl, sym, subst}
+use Rattle.std.proofs.Common.{◌≡◌, ℕ, Bool, true, false, cond, List, Ok, ap, refl, sym, subst}
 use Rattle.std.specs.Prelude.{◌==◌}
 use Rattle.std.proofs.lemmas.Bool.{eqb-true}
 use Rattle.sync_types.specs.States.{State}
@@ -21,8 +21,9 @@ use Rattle.node_promises.proofs.Inputs.{any_connect_by}
 use Rattle.node_promises.proofs.LossyInputs as lossy
 use Rattle.node_promises.proofs.RestartInputs as restarted
 use Rattle.node_promises.proofs.ResumedInputs as resumed
+use Rattle.outcomes.specs.NodeAnswers.{node_status}
 use Rattle.outcomes.specs.PlanWords.{plan_words}
-use Rattle.promises.specs.NodeCalls.{Call, whole, header_of, IsOfNode}
+use Rattle.promises.specs.NodeCalls.{whole, header_of, IsOfNode}
 use Rattle.promises.specs.Restarts.{calls_after}
 use Rattle.promises.specs.CallInputs.{header_lines, AnyInputsConnect, AnyInputsLose}
 use Rattle.promises.specs.CallInputs.{AnyInputsRestart, AnyInputsResume, AnyCallInputs}
@@ -86,6 +87,7 @@ any_connect plan accepted faulty starts sent begins rounds few begun =
         headers = λ v correct. named plan v (starts v) (made.inputs v) (made.begin v correct);
         connect = made.connect;
       };
+      ok = λ v correct. ap node_status (made.ends v correct);
     }
 
 any_lose : AnyInputsLose
@@ -95,6 +97,7 @@ any_lose plan accepted faulty starts sent missed begins rounds few begun are =
     record {
       made = made;
       names = λ v correct. named plan v (starts v) (made.inputs v) (made.begin v correct);
+      ok = λ v correct. ap node_status (made.ends v correct);
     }
 
 any_restart : AnyInputsRestart
@@ -115,6 +118,7 @@ any_restart plan accepted faulty meanwhile node after too starts sent begins rou
         headers = λ v correct. named_anew plan made.inputs node after v (name v correct);
         connect = made.rest;
       };
+      ok = λ v correct. ap node_status (made.ends v correct);
     }
 
 any_resume : AnyInputsResume
@@ -137,6 +141,9 @@ any_resume plan accepted faulty meanwhile node after too right starts sent begin
             (named plan node _ made.resumed made.goes_on) (name v correct);
         connect = made.rest;
       };
+      ok = λ v correct. ap node_status (made.ends v correct);
+      ok_before = ap node_status made.ends_before;
+      ok_resumed = ap node_status made.ends_resumed;
     }
 
 pub any_call_inputs : AnyCallInputs

@@ -17,6 +17,7 @@ pub mod PlanPromises
 pub mod Printed
 pub mod NodeCalls
 pub mod PlanCalls
+pub mod NodeStatuses
 pub mod NodePromises
 pub mod CallInputs
 pub mod DemoTexts

@@ -14,10 +14,11 @@ use Rattle.node_header.specs.HeaderLaws.{IsOfPlan}
 use Rattle.node_header.proofs.AcceptedHeaders.{are_of_plans}
 use Rattle.node_promises.specs.Calls as any
 use Rattle.node_promises.specs.Headers.{IsOfMachine, HeadersAreOfMachines}
+use Rattle.node_promises.proofs.Processes.{are_processes}
 use Rattle.node_promises.proofs.CallStates.{start_by, header_is, node_text_is, start_is_state}
 use Rattle.outcomes.specs.PlanWords.{plan_words}
 use Rattle.promises.specs.NodeCalls.{Call, header_of, IsOfNode}
-use Rattle.promises.specs.Processes.{IsProcess, CallsAreProcesses}
+use Rattle.promises.specs.Processes.{IsProcess, CallsAreProcesses, CallsAreProcessesFrom}
 
 -- ---- headers
 
@@ -87,3 +88,8 @@ module _ (plan : Plan) (v : ℕ) (call : Call) (is : IsOfNode plan v call) where
 
 pub calls_are_processes : CallsAreProcesses
 calls_are_processes plan v call is = is_process plan v call is
+
+pub calls_are_processes_from : CallsAreProcessesFrom
+calls_are_processes_from plan v call is =
+    are_processes plan_words headers_of_machines (machine_of_plan plan) v call
+    (is_of_machine plan v call is)

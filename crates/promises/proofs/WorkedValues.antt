@@ -2,6 +2,10 @@
 use Rattle.std.proofs.Common.{refl}
 use Rattle.std.specs.Fmt.{digits}
 use Rattle.construction.specs.Widths.{width}
+use Rattle.state_codec.specs.Bits.{bits, number_of, bytes_of_bits}
+use Rattle.state_codec.specs.Shapes.{registers_bits, moduli_of}
+use Rattle.state_codec.specs.Writing.{bits_of_registers}
+use Rattle.hex.specs.Hex.{encode_with}
 use Rattle.adversary_script.specs.ScriptPart.{script_of}
 use Rattle.promises.specs.Worked.{PlansAreRefused, PartsAreRefused, OthersAreRefused}
 use Rattle.promises.specs.Worked.{TextsAreSpelled, LinesAreSpelled, WordsAreCommands, WorkedAnswers}
@@ -40,7 +44,8 @@ others_are_refused =
     record { table = refl; value = refl; node = refl; certificate = refl; usage = refl }
 
 texts_are_spelled : TextsAreSpelled
-unfolding digits width
+unfolding
+    digits width encode_with bytes_of_bits registers_bits moduli_of number_of bits bits_of_registers
 texts_are_spelled = record {
   plan = refl;
   table = refl;
@@ -49,6 +54,8 @@ texts_are_spelled = record {
   inputs = refl;
   requests = refl;
   logs = refl;
+  node = λ shape s. refl;
+  header = refl;
   script = λ shape. refl;
 }
 

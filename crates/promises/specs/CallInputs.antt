@@ -1,6 +1,7 @@
 -- There are inputs of calls of `node` that meet each premise of what is promised of these.
-use Rattle.std.specs.Prelude.{ℕ, ◌+◌, ◌<◌, ◌≤◌, List}
+use Rattle.std.specs.Prelude.{◌≡◌, ℕ, ◌+◌, ◌<◌, ◌≤◌, List}
 use Rattle.sync_types.specs.States.{State}
+use Rattle.sync_types.specs.declared.status.Status.TheVariants as status
 use Rattle.construction.specs.Plans.{Plan, plan_depth}
 use Rattle.construction.specs.Runs.{IsState}
 use Rattle.plan_numbers.specs.Premises.{IsAccepted}
@@ -10,6 +11,7 @@ use Rattle.node_promises.specs.LossyInputs as lossy
 use Rattle.node_promises.specs.RestartInputs as restarted
 use Rattle.node_promises.specs.ResumedInputs as resumed
 use Rattle.node_promises.specs.RestartInputs.{calls_of, restart_of, restart_with}
+use Rattle.outcomes.specs.NodeAnswers.{node_outcome}
 use Rattle.outcomes.specs.PlanWords.{plan_words}
 use Rattle.promises.specs.CallWindows.{NameThePlan, CallsConnect}
 use Rattle.promises.specs.Restarts.{calls_after, begins_after, AreFaultyMeanwhile}
@@ -19,12 +21,13 @@ abbrev pub header_lines : Plan → ℕ
 header_lines plan = plan_depth plan + 7
 
 -- Inputs of connected calls whose nodes begin in these states and are given these bytes, as those
--- of any construction; the header of each names the plan.
+-- of any construction; the header of each names the plan, and each ends with the status Ok.
 pub record InputsConnect (plan : Plan) (faulty : List ℕ) (starts : ℕ → State)
     (sent : ℕ → ℕ → ℕ → List ℕ) (begins : ℕ → ℕ) (rounds : ℕ) : Type 0 where
   pub made : joined.InputsConnect plan_words (header_lines plan) plan faulty starts sent begins
       rounds
   pub connect : CallsConnect plan faulty (calls_of made.inputs) begins rounds
+  pub ok : (v : ℕ) → IsCorrect plan faulty v → (node_outcome (made.inputs v)).status ≡ status.Ok
 
 -- the same of calls to which cells are lost
 pub record InputsLose (plan : Plan) (faulty : List ℕ) (starts : ℕ → State)
@@ -33,6 +36,7 @@ pub record InputsLose (plan : Plan) (faulty : List ℕ) (starts : ℕ → State)
   pub made : lossy.InputsLose plan_words (header_lines plan) plan faulty starts sent missed begins
       rounds
   pub names : NameThePlan plan faulty (calls_of made.inputs)
+  pub ok : (v : ℕ) → IsCorrect plan faulty v → (node_outcome (made.inputs v)).status ≡ status.Ok
 
 module _ (plan : Plan) (faulty meanwhile : List ℕ) (node after : ℕ) (starts : ℕ → State)
     (sent : ℕ → ℕ → ℕ → List ℕ) (begins : ℕ → ℕ) (rounds : ℕ) where
@@ -44,6 +48,7 @@ module _ (plan : Plan) (faulty meanwhile : List ℕ) (node after : ℕ) (starts 
     pub rest : CallsConnect plan faulty
         (calls_after (restart_of made.inputs node after) (calls_of made.inputs))
         (begins_after (restart_of made.inputs node after) begins) rounds
+    pub ok : (v : ℕ) → IsCorrect plan faulty v → (node_outcome (made.inputs v)).status ≡ status.Ok
 
   -- and of calls of which one ends, and another one goes on from its last cell
   pub record InputsResume : Type 0 where
@@ -53,6 +58,10 @@ module _ (plan : Plan) (faulty meanwhile : List ℕ) (node after : ℕ) (starts 
     pub rest : CallsConnect plan faulty
         (calls_after (restart_with node after made.resumed) (calls_of made.inputs))
         (begins_after (restart_with node after made.resumed) begins) rounds
+    pub ok : (v : ℕ) → IsCorrect plan meanwhile v
+        → (node_outcome (made.inputs v)).status ≡ status.Ok
+    pub ok_before : (node_outcome (made.inputs node)).status ≡ status.Ok
+    pub ok_resumed : (node_outcome made.resumed).status ≡ status.Ok
 
 -- There are such inputs, whatever states of theirs the correct nodes begin in, wherever the window
 -- begins in each of them, and whatever is sent.

@@ -20,6 +20,7 @@ pub mod NodeCalls
 pub mod CallWindows
 pub mod Restarts
 pub mod CallInputs
-pub mod NodePromises
+pub mod NodeStatuses
 pub mod Processes
+pub mod NodePromises
 pub mod OnlyTexts

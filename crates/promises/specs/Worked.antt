@@ -1,5 +1,6 @@
 -- Worked values: inputs with their answers, and values with their texts, letter by letter.
 use Rattle.std.specs.Prelude.{◌≡◌, ℕ, List, [], ◌∷◌, ◌++◌, map, replicate, Some, None, codes}
+use Rattle.sync_types.specs.States.{State}
 use Rattle.sync_types.specs.declared.status.Status.{Status}
 use Rattle.sync_types.specs.declared.status.Status.TheVariants as status
 use Rattle.sync_types.specs.declared.answers.Premise.TheVariants as premise
@@ -12,6 +13,8 @@ use Rattle.plan_certificate.specs.PlanTexts.{plan_text}
 use Rattle.plan_finder.specs.FindText.{find_text}
 use Rattle.plan_finder.specs.WantTexts.{want_text}
 use Rattle.state_codec.specs.Shapes.{Shape}
+use Rattle.node_header.specs.HeaderTexts.{header_text}
+use Rattle.node_header.specs.WrittenHeaders.{node_part_in, digits_in}
 use Rattle.adversary_script.specs.declared.lies.CommonStart.TheVariants as common
 use Rattle.adversary_script.specs.declared.lies.What.TheVariants as what
 use Rattle.adversary_script.specs.declared.lies.Who.TheVariants as who
@@ -129,6 +132,11 @@ pub record TextsAreSpelled : Type 0 where
       ≡ codes "fire 1\nrequest 3 5 6\nend\n"
   pub logs : log_text (record { values = 16; keep = 8; commands = (3 ∷ []) ∷ (5 ∷ 6 ∷ []) ∷ [] })
       ≡ codes "log 1\nvalues 16\nkeep 8\ncommands 0 3\ncommands 1 5 6\nend\n"
+  pub node : (shape : Shape) (s : State) → node_part_in shape 3 s
+      ≡ codes "node 1\nid 3\nstate " ++ digits_in shape 3 s ++ codes "\nend\n"
+  pub header : header_text (record { version = 1; base = 8; levels = [] }) 0
+      (record { x = 5; registers = [] })
+      ≡ codes "plan 1\nbase 8\nend\nnode 1\nid 0\nstate a0\nend\n"
   pub script : (shape : Shape) → script_text (record {
     version = 2;
     nodes = 4;
