@@ -28,7 +28,7 @@ use Rattle.any_machine.specs.declared.any_machines.AnyMachine.TheVariants.{Boost
 use Rattle.node_calls.specs.declared.errors.CallError.{CallError}
 use Rattle.node_calls.specs.Counters.{and_then, plan_or_refused, plan_counter, counter_by}
 use Rattle.node_calls.specs.Counters.{counter_answer, TextsHaveCounters}
-use Rattle.node_calls.proofs.Counters.{of_pulses}
+use Rattle.node_calls.proofs.Counters.{of_pulses, sound_of}
 
 -- the line `pulses 1` names no version of a plan
 apart : (line : List ℕ) → bytes_eq line (codes "pulses 1") ≡ true → version_of line ≡ None
@@ -116,4 +116,4 @@ of_plan text plan is =
     and_then (plan_or_refused r) (λ plan. Ok (Boosting plan)) in counter) is
 
 pub texts_have_counters : TextsHaveCounters
-texts_have_counters = record { boosting = of_plan; pulses = of_pulses }
+texts_have_counters = record { boosting = of_plan; pulses = of_pulses; sound = sound_of }

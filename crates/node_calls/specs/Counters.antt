@@ -10,6 +10,8 @@ use Rattle.plan_reader.specs.Skipped.{first_unskipped}
 use Rattle.pulse_plan.specs.Plans.{PulseNumbers}
 use Rattle.pulse_texts.specs.declared.premises.LinePremise.{LinePremise}
 use Rattle.pulse_texts.specs.PulsesPart.{whole_pulses_of}
+use Rattle.machines.specs.Laws.{IsSound}
+use Rattle.any_machine.specs.Machines.{machine_of}
 use Rattle.any_machine.specs.declared.any_machines.AnyMachine.{AnyMachine}
 use Rattle.any_machine.specs.declared.any_machines.AnyMachine.TheVariants.{Boosting, Pulses}
 use Rattle.node_calls.specs.declared.errors.CallError.{CallError}
@@ -49,9 +51,12 @@ counter_by first text (Err at) =
 abbrev pub counter_answer : (text : List ℕ) → Result AnyMachine CallError
 counter_answer text = counter_by (first_unskipped 1 (lines_of text)) text (whole_pulses_of text)
 
--- Each text of a plan has the counter of that plan, of either construction.
+-- Each text of a plan has the counter of that plan, of either construction, and the machine of each
+-- counter of a text is sound.
 pub record TextsHaveCounters : Type 0 where
   pub boosting : (text : List ℕ) (plan : Plan) → whole_plan_of text ≡ Ok plan
       → counter_answer text ≡ Ok (Boosting plan)
   pub pulses : (text : List ℕ) (plan : PulseNumbers) → whole_pulses_of text ≡ Ok plan
       → counter_answer text ≡ Ok (Pulses plan)
+  pub sound : (text : List ℕ) (counter : AnyMachine) → counter_answer text ≡ Ok counter
+      → IsSound (machine_of counter)

@@ -7,7 +7,8 @@ ghost use Rattle.node_calls.specs.Lossy.{AnyLossesAreTold};
 ghost use Rattle.node_calls.specs.Members.{AnyMembersConnect, AnyMembersAreHeard};
 ghost use Rattle.node_calls.specs.MixedNodes.{MixedNodesCount, MixedNodesStayLocked};
 
-/// Each text of an accepted plan, of either construction, has the counter of that plan.
+/// Each text of an accepted plan, of either construction, has the counter of that plan; and the
+/// machine of each counter of a text is sound.
 pub fn texts_have_counters()
     ensures { TextsHaveCounters }
 {}

@@ -3,6 +3,7 @@ use Rattle.std.specs.Prelude.{ℕ, List}
 use Rattle.machines.specs.Machines.{IsBorne}
 use Rattle.machines.specs.Laws.{IsSound}
 use Rattle.node_runs.specs.NodeRuns.{SomeIsCorrect}
+use Rattle.node_runs.specs.Missed.{OthersAreMissed}
 use Rattle.node_promises.specs.Calls.{Call, IsOfNode, CallsWriteTexts}
 use Rattle.node_promises.specs.CallWindows.{ConnectedCallsCount, HeardCallsStayLocked}
 use Rattle.node_promises.specs.Restarts.{RestartedNodesCount}
@@ -16,12 +17,14 @@ use Rattle.pulse_plan.specs.Laws.{machine_in}
 use Rattle.pulse_nodes.specs.PulseWords.{pulse_words}
 
 -- What a node does is a call, whose text was written; connected calls count, and stay locked where
--- cells are lost; a process that is started anew comes to count with the others; the plan that a
--- call's header names is accepted, and of an accepted plan some node is correct.
+-- cells are lost, whichever N - F correct ones are heard; a process that is started anew comes to
+-- count with the others; the plan that a call's header names is accepted, and of an accepted plan
+-- some node is correct.
 pub record PulseNodesKeepPromise : Type 0 where
   pub texts : CallsWriteTexts pulse_words
   pub kept : (plan : PulseNumbers) → ConnectedCallsCount pulse_words (machine_in plan)
   pub heard : (plan : PulseNumbers) → HeardCallsStayLocked pulse_words (machine_in plan)
+  pub missed : OthersAreMissed
   pub restarts : (plan : PulseNumbers) → RestartedNodesCount pulse_words (machine_in plan)
   pub accepted : (plan : PulseNumbers) (v : ℕ) (call : Call)
       → (is : IsOfNode pulse_words (machine_in plan) v call)

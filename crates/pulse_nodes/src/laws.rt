@@ -6,6 +6,7 @@ ghost use Rattle.pulse_nodes.specs.NodePromises.{AnyPulseInputsConnect, AnyPulse
 ghost use Rattle.pulse_nodes.specs.NodePromises.{AnyPulseInputsRestart, AnyPulseInputsResume};
 ghost use Rattle.pulse_nodes.specs.NodePromises.{AnyPulseInputs};
 
+use node_runs::laws::others_are_missed;
 use pulse_header::laws::header_texts_read_back;
 use pulse_plan::laws::accepted_are_sound;
 
@@ -15,11 +16,12 @@ use pulse_plan::laws::accepted_are_sound;
 /// cells are the states of a run, whatever came before: T rounds later they show one number, which
 /// grows by one modulo C with each packet, and so they do from any locked configuration on. From
 /// there on they do so where cells are lost too, as long as each is given in each round those of
-/// N - F correct nodes, its own among them. A process that is started anew is a faulty node of the
-/// whole window and a correct one of its rest.
+/// N - F correct nodes, its own among them, whichever these are. A process that is started anew is
+/// a faulty node of the whole window and a correct one of its rest.
 pub fn pulse_nodes_keep_promise()
     ensures { PulseNodesKeepPromise }
 {
+    others_are_missed();
     accepted_are_sound();
 }
 

@@ -14,6 +14,7 @@ returns c = record {
   texts = calls_write pulse_words;
   kept = λ plan. connected_count pulse_words headers_are_served (machine_in plan);
   heard = λ plan. heard_stay_locked pulse_words headers_are_served (machine_in plan);
+  missed = c.others_are_missed.ensures;
   restarts = λ plan.
       restarted_count pulse_words (machine_in plan)
       (connected_count pulse_words headers_are_served (machine_in plan));
