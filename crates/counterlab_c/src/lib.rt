@@ -37,7 +37,8 @@ pub extern "C" fn counterlab_plan(alloc: Global, plan: &[u8], numbers: &mut Plan
         numbers.old numbers.new result }
     ensures nodes { result.code ≡ 0 → (1 ≤ numbers.new.nodes) × (numbers.new.nodes ≤ 256) }
 
-    // Each text of an accepted plan, of either construction, has the counter of that plan.
+    // Each text of an accepted plan, of either construction, has the counter of that plan; and the
+    // machine of each counter of a text is sound.
     ensures counters { TextsHaveCounters }
 {
     texts_have_counters();

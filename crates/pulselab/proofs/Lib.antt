@@ -1,1 +1,2 @@
 pub mod NodeEnds
+pub mod WorkedValues

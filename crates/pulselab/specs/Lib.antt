@@ -4,3 +4,4 @@ pub mod Faults
 pub mod PlanWord
 pub mod NodeWord
 pub mod Conduct
+pub mod Worked

@@ -10,12 +10,14 @@ ghost use Rattle.pulse_nodes.specs.NodePromises.{AnyPulseInputs};
 ghost use Rattle.pulselab.specs.Faults.{KeptAt, UnmetAt};
 ghost use Rattle.pulselab.specs.Requests.{request_of};
 ghost use Rattle.pulselab.specs.Conduct.{Answers, Fails, LeavesUnread};
+ghost use Rattle.pulselab.specs.Worked.{WorkedValues};
 
 use crate::asking::{write_help, write_version};
 use crate::faults::LabError;
 use crate::node_word::node;
 use crate::plan_word::table_plan;
 use crate::requests::{Request, request_of};
+use crate::worked::worked_values;
 use edge_io::{Sink, Source};
 use pulse_header::laws::header_texts_read_back;
 use pulse_nodes::laws::{any_inputs, calls_are_processes, pulse_nodes_keep_promise};
@@ -65,10 +67,14 @@ pub fn pulselab<S: Source, K: Sink>(
     ensures tables { TablesAreRead }
     ensures no_others { OnlyTablesAreRead }
 
+    // Plans with their texts and tables, refusals, and what words ask for, letter by letter.
+    ensures worked { WorkedValues }
+
     // N calls of `node`, over a window of rounds that begins in each at a packet of its own: where
     // each is given the cells that the correct ones write, and any bytes as those of few faulty
     // ones, what they write is a run of the plan, and counts. Once they are locked they stay so
-    // where cells are lost too. A call that takes the place of another comes to count with them.
+    // where cells are lost too, whichever N - F correct ones each is given. A call that takes the
+    // place of another comes to count with them.
     ensures nodes { PulseNodesKeepPromise }
 
     // Each of them writes what a node of the plan writes that begins in the state which its header
@@ -85,6 +91,7 @@ pub fn pulselab<S: Source, K: Sink>(
     every_plan_settles();
     pulses_texts_read_back();
     tables_read_back();
+    worked_values();
     pulse_nodes_keep_promise();
     calls_are_processes();
     header_texts_read_back();

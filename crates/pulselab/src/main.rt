@@ -19,6 +19,7 @@ mod faults;
 mod node_word;
 mod plan_word;
 mod requests;
+mod worked;
 
 use crate::calling::pulselab;
 use crate::faults::LabError;

@@ -1,0 +1,27 @@
+-- The worked values, by computation.
+use Rattle.std.proofs.Common.{refl}
+use Rattle.std.specs.Fmt.{digits}
+use Rattle.construction.specs.Widths.{width}
+use Rattle.pulselab.specs.Worked.{PlansAreSpelled, LinesAreRefused, WordsAskFor, WorkedValues}
+
+plans_are_spelled : PlansAreSpelled
+unfolding digits width
+plans_are_spelled = record { text = refl; read = refl; skipped = refl; table = refl }
+
+lines_are_refused : LinesAreRefused
+unfolding digits width
+lines_are_refused = record {
+  form = refl;
+  limit = refl;
+  modulus = refl;
+  quorum = refl;
+  single = refl;
+  node = refl;
+}
+
+words_ask_for : WordsAskFor
+words_ask_for = record { single = refl; two = refl; none = refl }
+
+pub worked_values : WorkedValues
+worked_values =
+    record { plans = plans_are_spelled; refused = lines_are_refused; words = words_ask_for }

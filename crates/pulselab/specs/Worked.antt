@@ -1,0 +1,69 @@
+-- Worked values: plans with their texts and tables, texts with their refusals, and the words of the
+-- command line, letter by letter.
+use Rattle.std.specs.Prelude.{◌≡◌, ℕ, List, [], ◌∷◌, ◌++◌, map, Some, None, Ok, codes}
+use Rattle.sync_types.specs.declared.answers.Rule.TheVariants as rule
+use Rattle.node_header.specs.declared.headers.HeaderRefusal.TheVariants as header
+use Rattle.node_words.specs.Rules.{header_line}
+use Rattle.pulse_plan.specs.Plans.{PulseNumbers}
+use Rattle.pulse_texts.specs.PulsesPart.{whole_pulses_of}
+use Rattle.pulse_texts.specs.PulsesTexts.{pulses_text}
+use Rattle.pulse_tables.specs.Tables.{table_text}
+use Rattle.pulse_nodes.specs.PulseWords.{pulse_words}
+use Rattle.pulselab.specs.declared.requests.Request.TheVariants as request
+use Rattle.pulselab.specs.PlanWord.{text_of}
+use Rattle.pulselab.specs.Requests.{request_of}
+
+-- thirteen nodes, four of which may be faulty, that count modulo 10
+abbrev pub thirteen : PulseNumbers
+thirteen = record { nodes = 13; faults = 4; modulus = 10 }
+
+abbrev pub thirteen_text : List ℕ
+thirteen_text = codes "pulses 1\ngroup 13 4 10\nend\n"
+
+-- what the word `plan` writes of a text
+abbrev pub IsAnsweredBy : (text answer : List ℕ) → Type 0
+IsAnsweredBy text answer = text_of (whole_pulses_of text) ≡ answer
+
+-- A plan has this text, which is read as it; comments and empty lines may stand in it. And a plan
+-- has this table.
+pub record PlansAreSpelled : Type 0 where
+  pub text : pulses_text thirteen ≡ thirteen_text
+  pub read : whole_pulses_of thirteen_text ≡ Ok thirteen
+  pub skipped : whole_pulses_of (codes "# a plan\npulses 1\n\ngroup 13 4 10\nend\n") ≡ Ok thirteen
+  pub table : table_text (record { nodes = 4; faults = 1; modulus = 10 })
+      ≡ codes "table pulses 1\nplan nodes 4 faults 1 modulus 10\n"
+      ++ codes "bound 41 levels 1 bits 22 bytes 3\n"
+      ++ codes "group 0 nodes 4 faults 1 modulus 10 left 17 right 6 spares 2\n"
+      ++ codes "group 0 nodes 1 faults 0 modulus 17\n"
+      ++ codes "group 1 nodes 1 faults 0 modulus 6\nend\n"
+
+-- The first line of a plan that fails, by its number and its premise, each premise; and a line of
+-- the node part of a header.
+pub record LinesAreRefused : Type 0 where
+  pub form : IsAnsweredBy (codes "pulses 1\n#\n\ngroup 04 1 10\nend\n")
+      (codes "refused pulses line 4 premise form\n")
+  pub limit : IsAnsweredBy (codes "pulses 1\ngroup 257 0 10\nend\n")
+      (codes "refused pulses line 2 premise limit\n")
+  pub modulus : IsAnsweredBy (codes "pulses 1\ngroup 4 1 1\nend\n")
+      (codes "refused pulses line 2 premise modulus\n")
+  pub quorum : IsAnsweredBy (codes "pulses 1\ngroup 3 1 10\nend\n")
+      (codes "refused pulses line 2 premise quorum\n")
+  pub single : IsAnsweredBy (codes "pulses 1\ngroup 2 0 10\nend\n")
+      (codes "refused pulses line 2 premise single\n")
+  pub node : header_line pulse_words (header.Node 6 rule.Limit)
+      ≡ codes "refused node line 6 rule limit\n"
+
+-- Each word asks for what it says, and nothing else asks for anything.
+pub record WordsAskFor : Type 0 where
+  pub single : map (λ w. request_of (w ∷ []))
+      (codes "plan" ∷ codes "node" ∷ codes "--help" ∷ codes "--version" ∷ codes "plan " ∷ [])
+      ≡ Some request.Plan ∷ Some request.Node ∷ Some request.Help ∷ Some request.Version ∷ None
+      ∷ []
+  pub two : request_of (codes "plan" ∷ codes "node" ∷ []) ≡ None
+  pub none : request_of [] ≡ None
+
+-- Each of these is so by computation.
+pub record WorkedValues : Type 0 where
+  pub plans : PlansAreSpelled
+  pub refused : LinesAreRefused
+  pub words : WordsAskFor

@@ -1,0 +1,9 @@
+//! Worked values. The function does nothing: its clause is the law.
+
+ghost use Rattle.pulselab.specs.Worked.{WorkedValues};
+
+/// Plans have these texts and these tables, texts that fail by each premise these refusals, and
+/// words ask for this.
+pub fn worked_values()
+    ensures { WorkedValues }
+{}
