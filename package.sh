@@ -5,8 +5,8 @@
 #
 # It writes counterlab-VERSION-x86_64-linux.tar.gz and its checksum into FOLDER, or here. The tar
 # has one folder with the programs (bin), their manual pages (share/man), the library and its header
-# (lib, include), bindings, examples, docs, README.md, CHANGELOG.md, LICENSE and VERSION, and the
-# checksums of all these (SHA256SUMS). The programs run on any x86-64 Linux whose C library is no
+# (lib, include), bindings, examples, docs, README.md, CHANGELOG.md, LICENSE and VERSION, what the
+# commands of docs/ name (bench, crates), and the checksums of all these (SHA256SUMS). The programs run on any x86-64 Linux whose C library is no
 # older than the one that the line at the end names: unpack it anywhere. They are tried in an empty
 # root that has the C library alone, where this machine lets one be entered, and a first program is
 # linked with the library, where there is gcc.
@@ -21,6 +21,16 @@ trap 'rm -rf "$room"' EXIT
 ./install.sh "$room/$name" > /dev/null
 cp LICENSE README.md CHANGELOG.md VERSION "$room/$name"
 cp -r bindings docs examples "$room/$name"
+# and what the commands of docs/ name: inputs, bench/, and each program as crates/NAME/out/NAME
+mkdir -p "$room/$name/crates/try_examples"
+cp -r crates/try_examples/data "$room/$name/crates/try_examples"
+git archive HEAD bench 2> /dev/null | tar -xf - -C "$room/$name" || cp -r bench "$room/$name"
+for program in "$room/$name"/bin/*; do
+    crate=$(basename "$program")
+    crate=${crate#counterlab-}
+    mkdir -p "$room/$name/crates/$crate/out"
+    ln -s "../../../bin/$(basename "$program")" "$room/$name/crates/$crate/out/$crate"
+done
 find "$room/$name" -name __pycache__ -prune -exec rm -rf {} +
 (cd "$room/$name" && find . -type f ! -name SHA256SUMS | LC_ALL=C sort |
     xargs sha256sum > SHA256SUMS)
