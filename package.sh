@@ -6,10 +6,10 @@
 # It writes counterlab-VERSION-x86_64-linux.tar.gz and its checksum into FOLDER, or here. The tar
 # has one folder with the programs (bin), their manual pages (share/man), the library and its header
 # (lib, include), bindings, examples, docs, README.md, CHANGELOG.md, LICENSE and VERSION, what the
-# commands of docs/ name (bench, crates), and the checksums of all these (SHA256SUMS). The programs run on any x86-64 Linux whose C library is no
-# older than the one that the line at the end names: unpack it anywhere. They are tried in an empty
-# root that has the C library alone, where this machine lets one be entered, and a first program is
-# linked with the library, where there is gcc.
+# commands of docs/ name (bench, crates), and the checksums of all these (SHA256SUMS). The programs
+# run on any x86-64 Linux whose C library is no older than the one that the line at the end names:
+# unpack it anywhere. They are tried in an empty root that has the C library alone, where this
+# machine lets one be entered, and a first program is linked with the library, where there is gcc.
 set -eu
 [ $# -le 1 ] || { echo "usage: ./package.sh [FOLDER]" >&2; exit 2; }
 folder=$(cd "${1:-.}" && pwd)
