@@ -50,10 +50,12 @@ bar tally = codes "<g><title>" ++ (tally_words tally ++ bar_part tally)
 
 -- ---- eras
 
--- what the bars of a band stand on, and how many runs the highest bar has
+-- what the bars of a band stand on, a ground for the words above them, and how many runs the
+-- highest bar has
 abbrev pub band_axis : Sweep → (band : ℕ) → List ℕ
 band_axis sweep band = concat (
-    codes "<path d='M56 " ∷ decimal (bar_base band)
+    codes "<rect width='100%' height='36' fill='white' y='" ∷ decimal (160 * band)
+    ∷ codes "'/>\n<path d='M56 " ∷ decimal (bar_base band)
     ∷ codes "H" ∷ decimal (sweep_right sweep)
     ∷ codes "' stroke='black'/>\n<text x='28' y='" ∷ decimal (160 * band + 46)
     ∷ codes "'>" ∷ decimal sweep.most
@@ -129,14 +131,14 @@ sweep_foot sweep = concat (
     ∷ codes "' y='" ∷ decimal (sweep_bottom sweep + 4)
     ∷ codes "'>none</text>\n<text text-anchor='start' x='4' y='"
     ∷ decimal (sweep_bottom sweep + 36)
-    ∷ codes "'>rounds of the era before its first locked configuration; of them a bar has "
+    ∷ codes "'>rounds from the begin of the era to its first locked configuration; a bar stands for "
     ∷ decimal sweep.span
     ∷ codes "</text>\n</svg>\n" ∷ [])
 
 -- ---- the picture
 
 abbrev pub sweep_front : Sweep → List ℕ
-sweep_front sweep = picture_front (max (sweep_right sweep) 640) (sweep_bottom sweep + 44)
+sweep_front sweep = picture_front (max (sweep_right sweep + 8) 640) (sweep_bottom sweep + 44)
 
 abbrev pub sweep_picture : Sweep → List ℕ
 sweep_picture sweep =

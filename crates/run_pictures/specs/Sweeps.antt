@@ -2,7 +2,7 @@
 -- stands where its configurations say, and is as high as its runs say; and where the bound belongs.
 use Rattle.std.specs.Prelude.{◌≡◌, ℕ, ◌+◌, ◌-◌, ◌*◌, ◌/◌, ◌<◌, ◌≤◌, ◌==◌, ◌&&◌, nat_lt, not, Bool}
 use Rattle.std.specs.Prelude.{true, false, List, [], ◌∷◌, ◌++◌, Option, Some, None, All}
-use Rattle.std.specs.Prelude.{if◌then◌else◌, codes, decimal, min}
+use Rattle.std.specs.Prelude.{if◌then◌else◌, codes, decimal, length, min, slice_index_or}
 use Rattle.std.specs.List.{concat, flat_map}
 use Rattle.run_pictures.specs.declared.sweep_charts.Tally.{Tally}
 use Rattle.run_pictures.specs.declared.sweep_charts.Sweep.{Sweep}
@@ -79,7 +79,8 @@ StandsAt sweep era column None = column ≡ sweep.columns + 1
 StandsAt sweep era column (Some locked) =
     (era ≤ locked) × (column ≡ (locked - era) / sweep.span) × (column < sweep.columns)
 
--- a line in its place, behind the one before it
+-- A line in its place, behind the one before it. Its foot is rounded down and its head up, so that
+-- each line is at least 1 high.
 pub record IsPlaced (sweep : Sweep) (before : Option Tally) (tally : Tally) : Type 0 where
   pub behind : comes_behind before tally ≡ true
   pub known : is_worst_known before tally ≡ true
@@ -90,7 +91,7 @@ pub record IsPlaced (sweep : Sweep) (before : Option Tally) (tally : Tally) : Ty
   pub upto : tally.upto ≡ upto_before before tally + tally.runs
   pub high : tally.upto ≤ sweep.most
   pub foot : tally.foot ≡ (tally.upto - tally.runs) * 100 / sweep.most
-  pub head : tally.head ≡ tally.upto * 100 / sweep.most
+  pub head : tally.head ≡ (tally.upto * 100 + (sweep.most - 1)) / sweep.most
 
 -- of each of these, and the one before it if there is one, something holds
 abbrev pub AreChained : {X : Type 0} → (Option X → X → Type 0) → Option X → List X → Type 0
@@ -101,6 +102,12 @@ AreChained Holds before (x ∷ xs) = Holds before x × AreChained Holds (Some x)
 abbrev pub last_or : {X : Type 0} → Option X → List X → Option X
 last_or before [] = before
 last_or before (x ∷ xs) = last_or (Some x) xs
+
+-- some bar has as many runs as the highest one
+pub record IsReached (most : ℕ) (tallies : List Tally) : Type 0 where
+  pub place : ℕ
+  pub inside : place < length tallies
+  pub is : (d : Tally) → (slice_index_or tallies place d).upto ≡ most
 
 -- there is a last line, behind which there is none, and its era is the last one
 abbrev pub IsEnd : Sweep → Option Tally → Type 0
@@ -116,5 +123,6 @@ pub record IsSweepLaid (sweep : Sweep) : Type 0 where
   pub most : 1 ≤ sweep.most
   pub bound : IsBoundPlaced sweep
   pub placed : AreChained (IsPlaced sweep) None sweep.tallies.items
+  pub reached : IsReached sweep.most sweep.tallies.items
   pub ended : IsEnd sweep (last_or None sweep.tallies.items)
   pub numbers : All (λ tick. tick.number ≡ tick.column * sweep.span) sweep.ticks.items

@@ -2,7 +2,7 @@
 
 ghost use Rattle.std.specs.Prelude.{◌≡◌, ◌*◌, ◌+◌, ◌-◌, ◌/◌, ◌≤◌, All, None, true};
 ghost use Rattle.run_pictures.specs.Sweeps.{AreChained, IsBoundPlaced, IsEnd, IsPlaced};
-ghost use Rattle.run_pictures.specs.Sweeps.{IsSweepLaid, StandsAt};
+ghost use Rattle.run_pictures.specs.Sweeps.{IsReached, IsSweepLaid, StandsAt};
 ghost use Rattle.run_pictures.specs.Sweeps.{band_behind, comes_behind, has_lock, is_worst_known};
 ghost use Rattle.run_pictures.specs.Sweeps.{last_or, locks_later, total_before, upto_before};
 
@@ -137,14 +137,14 @@ fn are_summed(before: Option<Tally>, tally: Tally) -> bool
 fn is_scaled(most: u32, tally: Tally) -> bool
     requires { 1 ≤ most }
     ensures foot { result ≡ true → tally.foot ≡ (tally.upto - tally.runs) * 100 / most }
-    ensures head { result ≡ true → tally.head ≡ tally.upto * 100 / most }
+    ensures head { result ≡ true → tally.head ≡ (tally.upto * 100 + (most - 1)) / most }
     ensures high { result ≡ true → tally.upto ≤ most }
 {
     let upto = u64::from(tally.upto);
     let before = u64::from(tally.upto.saturating_sub(tally.runs));
     tally.upto <= most
         && tally.foot == before * 100 / u64::from(most)
-        && tally.head == upto * 100 / u64::from(most)
+        && tally.head == (upto * 100 + (u64::from(most) - 1)) / u64::from(most)
 }
 
 /// Whether a line is in its place, behind the one before it.
@@ -190,6 +190,18 @@ fn are_placed(sweep: &Sweep, tallies: &[Tally]) -> bool
     is_end(sweep, last)
 }
 
+/// Whether some bar has as many runs as the highest one.
+fn is_reached(most: u32, tallies: &[Tally]) -> bool
+    ensures { result ≡ true → IsReached most tallies.now }
+{
+    for k in 0..tallies.len() {
+        if tallies[k].upto == most {
+            return true;
+        }
+    }
+    false
+}
+
 /// Whether a number stands below the column that it is of.
 fn is_numbered(span: u32, tick: Tick) -> bool
     ensures { result ≡ true → tick.number ≡ tick.column * span }
@@ -227,5 +239,6 @@ pub fn is_sweep_laid(sweep: &Sweep) -> bool
     }
     is_bound_placed(sweep)
         && are_placed(sweep, &sweep.tallies)
+        && is_reached(sweep.most, &sweep.tallies)
         && are_numbered(sweep.span, &sweep.ticks)
 }

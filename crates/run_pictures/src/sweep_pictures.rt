@@ -41,7 +41,8 @@ fn sweep_bottom(sweep: &Sweep) -> u64
 
 /// What is on the right of all bars.
 fn sweep_right(sweep: &Sweep) -> u64
-    ensures { result ≡ sweep_right sweep.now }
+    ensures value { result ≡ sweep_right sweep.now }
+    ensures most { result < 2 ^ 40 }
 {
     60 + 16 * (u64::from(sweep.columns) + 2)
 }
@@ -110,14 +111,17 @@ fn put_bar<K: Sink>(sink: &mut K, tally: Tally) -> Result<(), WriteFault>
     put_bar_part(sink, tally)
 }
 
-/// Draws what the bars of a band stand on, and writes how many runs the highest bar has.
+/// Draws what the bars of a band stand on and a ground for the words above them, and writes how
+/// many runs the highest bar has.
 fn put_band_axis<K: Sink>(sink: &mut K, sweep: &Sweep, band: u32) -> Result<(), WriteFault>
     ensures { Puts result (band_axis sweep.now band) (K.told sink.old) (K.told sink.new) }
 {
     put_pieces(
         sink,
         &[
-            Piece::Text(b"<path d='M56 "),
+            Piece::Text(b"<rect width='100%' height='36' fill='white' y='"),
+            Piece::Number(160 * u64::from(band)),
+            Piece::Text(b"'/>\n<path d='M56 "),
             Piece::Number(bar_base(band)),
             Piece::Text(b"H"),
             Piece::Number(sweep_right(sweep)),
@@ -300,7 +304,8 @@ fn put_foot<K: Sink>(sink: &mut K, sweep: &Sweep) -> Result<(), WriteFault>
             Piece::Text(b"'>none</text>\n<text text-anchor='start' x='4' y='"),
             Piece::Number(bottom + 36),
             Piece::Text(
-                b"'>rounds of the era before its first locked configuration; of them a bar has ",
+                b"'>rounds from the begin of the era to its first locked configuration; \
+                a bar stands for ",
             ),
             Piece::Number(u64::from(sweep.span)),
             Piece::Text(b"</text>\n</svg>\n"),
@@ -312,7 +317,11 @@ fn put_foot<K: Sink>(sink: &mut K, sweep: &Sweep) -> Result<(), WriteFault>
 fn put_sweep_front<K: Sink>(sink: &mut K, sweep: &Sweep) -> Result<(), WriteFault>
     ensures { Puts result (sweep_front sweep.now) (K.told sink.old) (K.told sink.new) }
 {
-    put_front(sink, sweep_right(sweep).max(640), sweep_bottom(sweep) + 44)
+    put_front(
+        sink,
+        (sweep_right(sweep) + 8).max(640),
+        sweep_bottom(sweep) + 44,
+    )
 }
 
 /// Writes all parts of a picture.

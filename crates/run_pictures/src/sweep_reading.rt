@@ -150,9 +150,16 @@ fn place_all(sweep: &mut Sweep) {
     }
 }
 
-/// A height, in a hundred parts of the highest bar.
+/// A height, in a hundred parts of the highest bar, rounded down.
 fn height_of(runs: u32, most: u32) -> u64 {
     (u64::from(runs) * 100)
+        .checked_div(u64::from(most))
+        .unwrap_or(0)
+}
+
+/// The same, rounded up.
+fn head_of(runs: u32, most: u32) -> u64 {
+    (u64::from(runs) * 100 + u64::from(most.saturating_sub(1)))
         .checked_div(u64::from(most))
         .unwrap_or(0)
 }
@@ -161,7 +168,7 @@ fn height_of(runs: u32, most: u32) -> u64 {
 fn scale_all(sweep: &mut Sweep) {
     for tally in sweep.tallies.iter_mut() {
         tally.foot = height_of(tally.upto.saturating_sub(tally.runs), sweep.most);
-        tally.head = height_of(tally.upto, sweep.most);
+        tally.head = head_of(tally.upto, sweep.most);
     }
 }
 
