@@ -1,8 +1,13 @@
 -- Lists whose elements are tested one after the other, each beside the one before it.
-use Rattle.std.proofs.Common.{◌≡◌, ℕ, ◌+◌, ◌<◌, List, [], ◌∷◌, ◌++◌, length, take, get_or, refl}
-use Rattle.std.proofs.Common.{Option, Some, sym, ap, subst, ◌∙◌}
+use Rattle.std.proofs.Common.{◌≡◌, ℕ, ◌+◌, ◌<◌, ◌≤◌, List, [], ◌∷◌, ◌++◌, length, take, get_or, refl}
+use Rattle.std.proofs.Common.{Option, Some, false, ◌==◌, sym, ap, subst, ◌∙◌, arith}
 use Rattle.std.proofs.lemmas.List.{take_more}
 use Rattle.run_pictures.specs.Sweeps.{AreChained, last_or}
+
+-- a list that is not empty has an element
+pub some_in : {X : Type 0} (xs : List X) → (length xs == 0) ≡ false → 1 ≤ length xs
+some_in [] e = absurd cc
+some_in (x ∷ xs) e = omega arith
 
 last_push : {X : Type 0} (before : Option X) (xs : List X) (x : X)
     → last_or before (xs ++ x ∷ []) ≡ Some x

@@ -1,6 +1,8 @@
 -- The picture of a choice, in SVG: nodes to the right, bounds up. A decade is 36 high, and in it a
--- bound stands by its first two digits.
-use Rattle.std.specs.Prelude.{ℕ, ◌+◌, ◌-◌, ◌*◌, ◌/◌, List, [], ◌∷◌, ◌++◌, codes, decimal}
+-- bound stands by its first two digits. On the right stand the numbers of the plans, one below the
+-- other.
+use Rattle.std.specs.Prelude.{ℕ, ◌+◌, ◌-◌, ◌*◌, ◌/◌, max, length, List, [], ◌∷◌, ◌++◌, codes}
+use Rattle.std.specs.Prelude.{decimal}
 use Rattle.std.specs.List.{concat, flat_map}
 use Rattle.run_pictures.specs.declared.choices.Point.{Point}
 use Rattle.run_pictures.specs.Pictures.{picture_front, picture_ground}
@@ -18,16 +20,22 @@ point_top point = 596 - height_of point
 abbrev pub point_left : Point → ℕ
 point_left point = 60 + 2 * point.nodes
 
--- a point, and its numbers beside it
+-- how far below the top its numbers stand
+abbrev pub numbers_top : Point → ℕ
+numbers_top point = 30 + 16 * point.place
+
+-- a point, and a line from it to its numbers
 abbrev pub dot : Point → List ℕ
 dot point = concat (
-    codes "</title>\n<circle cx='" ∷ decimal (point_left point)
+    codes "</title>\n<path d='M" ∷ decimal (point_left point)
+    ∷ codes " " ∷ decimal (point_top point)
+    ∷ codes "L580 " ∷ decimal (numbers_top point)
+    ∷ codes "' stroke='silver'/><circle cx='" ∷ decimal (point_left point)
     ∷ codes "' cy='" ∷ decimal (point_top point)
-    ∷ codes "' r='4' fill='steelblue'/>\n<text text-anchor='start' x='"
-    ∷ decimal (point_left point + 8)
-    ∷ codes "' y='" ∷ decimal (point_top point + 4)
+    ∷ codes "' r='4' fill='steelblue'/>\n<text text-anchor='start' x='584' y='"
+    ∷ decimal (numbers_top point + 4)
     ∷ codes "'>" ∷ decimal point.nodes
-    ∷ codes " nodes, " ∷ decimal point.bound
+    ∷ codes " nodes, T " ∷ decimal point.bound
     ∷ codes "</text></g>\n" ∷ [])
 
 -- a plan, in a group that tells its line
@@ -48,10 +56,15 @@ choice_axes = concat (
     ∷ codes "<text x='54' y='600'>1</text><text x='54' y='492'>1000</text>"
     ∷ codes "<text x='54' y='384'>1e6</text><text x='54' y='276'>1e9</text>"
     ∷ codes "<text x='54' y='168'>1e12</text><text x='54' y='60'>1e15</text>"
-    ∷ codes "<text x='54' y='16'>bound</text></g>\n" ∷ [])
+    ∷ codes "<text x='54' y='24'>T</text></g>\n"
+    ∷ codes "<text x='310' y='12'>the bound T of each plan, by its nodes</text>\n" ∷ [])
+
+-- all numbers have room
+abbrev pub choice_front : List Point → List ℕ
+choice_front points = picture_front 780 (max (16 * length points + 30) 646)
 
 abbrev pub choice_picture : List Point → List ℕ
 choice_picture points =
-    picture_front 780 646
+    choice_front points
     ++ (picture_ground
     ++ (choice_axes ++ (flat_map point_picture points ++ codes "</svg>\n")))

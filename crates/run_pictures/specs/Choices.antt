@@ -1,9 +1,11 @@
 -- The text of a choice, a line for each plan, and where its plans belong: each one stands by its
 -- nodes, and by its bound on a scale of decades.
-use Rattle.std.specs.Prelude.{◌≡◌, ℕ, ◌*◌, ◌/◌, ◌^◌, ◌<◌, ◌≤◌, ◌==◌, ◌&&◌, ◌||◌, nat_le, Bool, true}
-use Rattle.std.specs.Prelude.{List, [], ◌∷◌, ◌++◌, All, if◌then◌else◌, codes, decimal}
+use Rattle.std.specs.Prelude.{◌≡◌, ℕ, ◌+◌, ◌*◌, ◌/◌, ◌^◌, ◌<◌, ◌≤◌, ◌==◌, ◌&&◌, ◌||◌, nat_le}
+use Rattle.std.specs.Prelude.{nat_lt, Bool, true, List, [], ◌∷◌, ◌++◌, Option, Some, None, All}
+use Rattle.std.specs.Prelude.{if◌then◌else◌, codes, decimal}
 use Rattle.std.specs.List.{concat, flat_map}
 use Rattle.run_pictures.specs.declared.choices.Point.{Point}
+use Rattle.run_pictures.specs.Sweeps.{AreChained}
 
 -- ---- the text
 
@@ -34,8 +36,22 @@ is_plain byte =
 abbrev pub on_scale : ℕ → ℕ
 on_scale bound = if bound == 0 then 1 else bound
 
--- the decade of a bound, and its first two digits, or ten times a bound of one digit
-pub record IsPlotted (point : Point) : Type 0 where
+-- whether a plan has more nodes than the one before it, if there is one, and a lesser bound
+abbrev pub is_better : Option Point → Point → Bool
+is_better None point = true
+is_better (Some before) point =
+    nat_lt before.nodes point.nodes && nat_lt point.bound before.bound
+
+-- how many plans stand before one
+abbrev pub place_behind : Option Point → ℕ
+place_behind None = 0
+place_behind (Some before) = before.place + 1
+
+-- A plan in its place, behind the one before it: the decade of its bound, and the first two digits
+-- of that, or ten times a bound of one digit.
+pub record IsPlotted (before : Option Point) (point : Point) : Type 0 where
+  pub better : is_better before point ≡ true
+  pub place : point.place ≡ place_behind before
   pub few : point.nodes ≤ 256
   pub least : 10 ^ point.decade ≤ on_scale point.bound
   pub most : on_scale point.bound < 10 * 10 ^ point.decade
@@ -44,4 +60,4 @@ pub record IsPlotted (point : Point) : Type 0 where
 
 -- all plans of a choice
 abbrev pub ArePlotted : List Point → Type 0
-ArePlotted points = All IsPlotted points
+ArePlotted points = AreChained IsPlotted None points

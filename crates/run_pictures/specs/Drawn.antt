@@ -1,5 +1,5 @@
 -- What drawing a text does.
-use Rattle.std.specs.Prelude.{◌≡◌, ◌⊎◌, ℕ, List, Result, Ok, Err}
+use Rattle.std.specs.Prelude.{◌≡◌, ◌≤◌, ◌⊎◌, ℕ, length, List, Result, Ok, Err}
 use Rattle.texts.specs.Growth.{Told, Wrote, Cut}
 use Rattle.run_pictures.specs.declared.charts.Chart.{Chart}
 use Rattle.run_pictures.specs.declared.choices.Point.{Point}
@@ -44,6 +44,7 @@ pub record DrawsSweep (text : List ℕ) (holds : List ℕ → Type 0) : Type 0 w
 -- the text is that of a choice, and the picture of its plans has this
 pub record DrawsChoice (text : List ℕ) (holds : List ℕ → Type 0) : Type 0 where
   pub points : List Point
+  pub some : 1 ≤ length points
   pub is : choice_text points ≡ text
   pub laid : ArePlotted points
   pub drawn : holds (choice_picture points)

@@ -131,7 +131,8 @@ sweep_foot sweep = concat (
     ∷ codes "' y='" ∷ decimal (sweep_bottom sweep + 4)
     ∷ codes "'>none</text>\n<text text-anchor='start' x='4' y='"
     ∷ decimal (sweep_bottom sweep + 36)
-    ∷ codes "'>rounds from the begin of the era to its first locked configuration; a bar stands for "
+    ∷ codes "'>rounds from the begin of the era to its first locked configuration; "
+    ∷ codes "a bar stands for "
     ∷ decimal sweep.span
     ∷ codes "</text>\n</svg>\n" ∷ [])
 

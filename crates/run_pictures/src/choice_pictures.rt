@@ -3,8 +3,9 @@
 ghost use Rattle.std.specs.Prelude.{◌≡◌, ◌≤◌, ◌<◌, ◌^◌};
 ghost use Rattle.std.specs.List.{flat_map};
 ghost use Rattle.texts.specs.Growth.{Puts};
-ghost use Rattle.run_pictures.specs.ChoicePictures.{choice_axes, choice_picture, dot};
-ghost use Rattle.run_pictures.specs.ChoicePictures.{point_left, point_picture, point_top};
+ghost use Rattle.run_pictures.specs.ChoicePictures.{choice_axes, choice_front, choice_picture, dot};
+ghost use Rattle.run_pictures.specs.ChoicePictures.{numbers_top, point_left, point_picture};
+ghost use Rattle.run_pictures.specs.ChoicePictures.{point_top};
 
 use crate::choices::{Point, put_point_words};
 use crate::pictures::{put_front, put_ground};
@@ -27,26 +28,39 @@ fn point_left(point: &Point<'_>) -> u64
     60 + 2 * u64::from(point.nodes)
 }
 
-/// Draws the point of a plan, and writes its numbers beside it.
+/// How far below the top its numbers stand.
+fn numbers_top(point: &Point<'_>) -> u64
+    ensures value { result ≡ numbers_top point.now }
+    ensures most { result < 2 ^ 40 }
+{
+    30 + 16 * u64::from(point.place)
+}
+
+/// Draws the point of a plan and a line from it to its numbers, and writes these.
 fn put_dot<K: Sink>(sink: &mut K, point: &Point<'_>) -> Result<(), WriteFault>
     ensures { Puts result (dot point.now) (K.told sink.old) (K.told sink.new) }
 {
     let x = point_left(point);
     let y = point_top(point);
+    let top = numbers_top(point);
     put_pieces(
         sink,
         &[
-            Piece::Text(b"</title>\n<circle cx='"),
+            Piece::Text(b"</title>\n<path d='M"),
+            Piece::Number(x),
+            Piece::Text(b" "),
+            Piece::Number(y),
+            Piece::Text(b"L580 "),
+            Piece::Number(top),
+            Piece::Text(b"' stroke='silver'/><circle cx='"),
             Piece::Number(x),
             Piece::Text(b"' cy='"),
             Piece::Number(y),
-            Piece::Text(b"' r='4' fill='steelblue'/>\n<text text-anchor='start' x='"),
-            Piece::Number(x + 8),
-            Piece::Text(b"' y='"),
-            Piece::Number(y + 4),
+            Piece::Text(b"' r='4' fill='steelblue'/>\n<text text-anchor='start' x='584' y='"),
+            Piece::Number(top + 4),
             Piece::Text(b"'>"),
             Piece::Number(u64::from(point.nodes)),
-            Piece::Text(b" nodes, "),
+            Piece::Text(b" nodes, T "),
             Piece::Number(point.bound),
             Piece::Text(b"</text></g>\n"),
         ],
@@ -89,15 +103,23 @@ fn put_choice_axes<K: Sink>(sink: &mut K) -> Result<(), WriteFault>
         <text x='54' y='600'>1</text><text x='54' y='492'>1000</text>\
         <text x='54' y='384'>1e6</text><text x='54' y='276'>1e9</text>\
         <text x='54' y='168'>1e12</text><text x='54' y='60'>1e15</text>\
-        <text x='54' y='16'>bound</text></g>\n",
+        <text x='54' y='24'>T</text></g>\n\
+        <text x='310' y='12'>the bound T of each plan, by its nodes</text>\n",
     )
+}
+
+/// Writes the front, with the picture's width and height.
+fn put_choice_front<K: Sink>(sink: &mut K, points: &[Point<'_>]) -> Result<(), WriteFault>
+    ensures { Puts result (choice_front points.now) (K.told sink.old) (K.told sink.new) }
+{
+    put_front(sink, 780, (16 * points.len() as u64 + 30).max(646))
 }
 
 /// Writes all parts of a picture.
 fn put_parts<K: Sink>(sink: &mut K, points: &[Point<'_>]) -> Result<(), WriteFault>
     ensures { Puts result (choice_picture points.now) (K.told sink.old) (K.told sink.new) }
 {
-    written!(put_front(sink, 780, 646));
+    written!(put_choice_front(sink, points));
     written!(put_ground(sink));
     written!(put_choice_axes(sink));
     written!(put_points(sink, points));

@@ -1,9 +1,11 @@
 //! What `choose` writes: plans, a line for each.
 
-ghost use Rattle.std.specs.Prelude.{◌≡◌, ◌≤◌, ◌<◌, ◌^◌, ◌*◌, ◌/◌, ◌+◌, All, IfSome, true};
+ghost use Rattle.std.specs.Prelude.{◌≡◌, ◌≤◌, ◌<◌, ◌^◌, ◌*◌, ◌/◌, ◌+◌, All, IfSome, None, true};
 ghost use Rattle.texts.specs.Growth.{Puts};
 ghost use Rattle.run_pictures.specs.Choices.{ArePlotted, IsPlotted, choice_text, is_between};
-ghost use Rattle.run_pictures.specs.Choices.{is_plain, on_scale, point_line, point_words};
+ghost use Rattle.run_pictures.specs.Choices.{is_better, is_plain, on_scale, place_behind};
+ghost use Rattle.run_pictures.specs.Choices.{point_line, point_words};
+ghost use Rattle.run_pictures.specs.Sweeps.{AreChained, last_or};
 
 use crate::lines::{next_is, number_behind};
 use crate::reading::{ChartError, LineError, Wanted};
@@ -20,6 +22,8 @@ pub struct Point<'a> {
     pub bound: u64,
     /// What stands behind these in its line: other numbers, and its text.
     pub rest: &'a [u8],
+    /// How many plans stand before it.
+    pub place: u32,
     /// How many digits the bound has, less one.
     pub decade: u32,
     /// Its first two digits, or ten times a bound of one digit.
@@ -129,21 +133,48 @@ fn is_scaled(bound: u64, decade: u32, part: u32) -> bool
     }
 }
 
-/// Whether a plan is in its place.
-fn is_plotted(point: &Point<'_>) -> bool
-    ensures { result ≡ true → IsPlotted point.now }
+/// Whether a plan has more nodes than the one before it, if there is one, and a lesser bound.
+fn is_better(before: Option<Point<'_>>, point: Point<'_>) -> bool
+    ensures { result ≡ is_better before.entry point.entry }
 {
-    point.nodes <= 256 && is_scaled(point.bound, point.decade, point.part) && are_plain(point.rest)
+    match before {
+        None => true,
+        Some(before) => before.nodes < point.nodes && point.bound < before.bound,
+    }
+}
+
+/// How many plans stand before one.
+fn place_behind(before: Option<Point<'_>>) -> u64
+    ensures { result ≡ place_behind before.entry }
+{
+    match before {
+        None => 0,
+        Some(before) => u64::from(before.place) + 1,
+    }
+}
+
+/// Whether a plan is in its place, behind the one before it.
+fn is_plotted(before: Option<Point<'_>>, point: Point<'_>) -> bool
+    ensures { result ≡ true → IsPlotted before.entry point.entry }
+{
+    is_better(before, point)
+        && u64::from(point.place) == place_behind(before)
+        && point.nodes <= 256
+        && is_scaled(point.bound, point.decade, point.part)
+        && are_plain(point.rest)
 }
 
 /// Whether all plans are.
 pub fn are_plotted(points: &[Point<'_>]) -> bool
     ensures { result ≡ true → ArePlotted points.now }
 {
+    let mut last: Option<Point<'_>> = None;
     for k in 0..points.len() {
-        if !is_plotted(&points[k]) {
+        let point = points[k];
+        if !is_plotted(last, point) {
             return false;
         }
+        last = Some(point);
     }
     true
 }
@@ -180,6 +211,7 @@ fn point_of(line: &[u8]) -> Option<Point<'_>> {
         nodes,
         bound,
         rest,
+        place: 0,
         decade,
         part,
     })
@@ -194,20 +226,14 @@ pub fn is_choice(text: &[u8]) -> bool {
     point_of(line).is_some()
 }
 
-/// Whether a plan may come behind the one before it: it has more nodes, and a lesser bound.
-fn comes_behind(before: Option<&Point<'_>>, point: &Point<'_>) -> bool {
-    match before {
-        None => true,
-        Some(before) => before.nodes < point.nodes && point.bound < before.bound,
-    }
-}
-
 /// Takes a line, behind those before it.
 fn take<'a>(points: &mut Vec<Point<'a>>, line: &'a [u8]) -> Result<(), LineError> {
-    let Some(point) = point_of(line) else {
+    let Some(mut point) = point_of(line) else {
         return Err(LineError::Unwanted);
     };
-    if !is_plotted(&point) || !comes_behind(points.last(), &point) {
+    let before = points.last().copied();
+    point.place = u32::try_from(place_behind(before)).unwrap_or(0);
+    if !is_plotted(before, point) {
         return Err(LineError::Unwanted);
     }
     points.push(point)?;

@@ -218,7 +218,7 @@ fn draw_points<K: Sink>(
 ) -> Result<(), DrawError>
     ensures { Does result (ChoiceAs form text.now) (K.told sink.old) (K.told sink.new) }
 {
-    if !is_text_of_choice(alloc, points, text)? || !are_plotted(points) {
+    if points.is_empty() || !is_text_of_choice(alloc, points, text)? || !are_plotted(points) {
         return Err(DrawError::Open);
     }
     match put_formed_choice(sink, form, text, points) {
