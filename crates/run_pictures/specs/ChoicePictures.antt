@@ -32,7 +32,7 @@ dot point = concat (
     ∷ codes "L580 " ∷ decimal (numbers_top point)
     ∷ codes "' stroke='silver'/><circle cx='" ∷ decimal (point_left point)
     ∷ codes "' cy='" ∷ decimal (point_top point)
-    ∷ codes "' r='4' fill='steelblue'/>\n<text text-anchor='start' x='584' y='"
+    ∷ codes "' r='3' fill='steelblue'/>\n<text text-anchor='start' x='584' y='"
     ∷ decimal (numbers_top point + 4)
     ∷ codes "'>" ∷ decimal point.nodes
     ∷ codes " nodes, T " ∷ decimal point.bound

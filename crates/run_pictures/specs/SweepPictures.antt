@@ -56,7 +56,7 @@ abbrev pub band_axis : Sweep → (band : ℕ) → List ℕ
 band_axis sweep band = concat (
     codes "<rect width='100%' height='36' fill='white' y='" ∷ decimal (160 * band)
     ∷ codes "'/>\n<path d='M56 " ∷ decimal (bar_base band)
-    ∷ codes "H" ∷ decimal (sweep_right sweep)
+    ∷ codes ".5H" ∷ decimal (sweep_right sweep)
     ∷ codes "' stroke='black'/>\n<text x='28' y='" ∷ decimal (160 * band + 46)
     ∷ codes "'>" ∷ decimal sweep.most
     ∷ codes "</text>\n" ∷ [])

@@ -56,7 +56,7 @@ fn put_dot<K: Sink>(sink: &mut K, point: &Point<'_>) -> Result<(), WriteFault>
             Piece::Number(x),
             Piece::Text(b"' cy='"),
             Piece::Number(y),
-            Piece::Text(b"' r='4' fill='steelblue'/>\n<text text-anchor='start' x='584' y='"),
+            Piece::Text(b"' r='3' fill='steelblue'/>\n<text text-anchor='start' x='584' y='"),
             Piece::Number(top + 4),
             Piece::Text(b"'>"),
             Piece::Number(u64::from(point.nodes)),

@@ -7,9 +7,10 @@
 //! just what was read, is proved ([`draw`]), of a chart that its words stand row by row and node by
 //! node, of a trace that its lines stand in their columns, lines and strips, and that just the
 //! kings' turns are there which correct nodes hear, of a sweep that its lines stand in the bars of
-//! their configurations, as high as their runs are, and of a choice that its plans stand by their
-//! nodes and their bounds. Outputs that count have one colour. That all that these programs write
-//! is read, how wide columns and bars are, and who is found hit, is not.
+//! their configurations, as high as their runs are of those of the highest bar, and of a choice
+//! that its plans get better, and stand by their nodes and their bounds. Outputs that count have
+//! one colour. That all that these programs write is read, how wide columns and bars are, and who
+//! is found hit, is not.
 #![tactic(auto)]
 
 // As `?` behind a part of a text that is written, but with no call of its own.
