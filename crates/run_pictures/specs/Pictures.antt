@@ -146,12 +146,11 @@ abbrev pub facts : Chart → List ℕ
 facts chart = facts_in (frame_of chart) chart.nodes chart.bound
 
 -- what the colours of outputs mean, from that height on
-abbrev pub colour_legend : (y modulus : ℕ) → List ℕ
-colour_legend y modulus = concat (
+abbrev pub colour_legend : (y : ℕ) → List ℕ
+colour_legend y = concat (
     codes "<g text-anchor='start' transform='translate(4," ∷ decimal y
     ∷ codes ")'>\n<rect width='18' height='18' fill='rgb(215,128,221)'/>"
-    ∷ codes "<text x='24' y='13'>colour: (output - configuration) mod " ∷ decimal modulus
-    ∷ codes "</text>\n</g>\n" ∷ [])
+    ∷ codes "<text x='24' y='13'>colour: output less configuration</text>\n</g>\n" ∷ [])
 
 -- what else the cells mean
 abbrev pub cell_legend : (y : ℕ) → List ℕ
@@ -165,7 +164,7 @@ cell_legend y = concat (
 -- both, below so many lines of the caption
 abbrev pub legend_in : Frame → (lines : ℕ) → List ℕ
 legend_in frame lines =
-    colour_legend (bottom frame + 54 + 16 * lines) frame.modulus
+    colour_legend (bottom frame + 54 + 16 * lines)
     ++ cell_legend (bottom frame + 76 + 16 * lines)
 
 abbrev pub chart_legend : Chart → List ℕ

@@ -78,7 +78,7 @@ trace_front trace =
 -- what the colours and the cells mean, below the captions of so many levels
 abbrev pub legend_below : Frame → (levels : ℕ) → List ℕ
 legend_below frame levels =
-    colour_legend (bottom frame + 40 + 16 * levels) frame.modulus
+    colour_legend (bottom frame + 40 + 16 * levels)
     ++ legend (bottom frame + 62 + 16 * levels)
 
 -- the captions of the levels, and what the cells mean

@@ -147,8 +147,8 @@ fn put_facts<K: Sink>(sink: &mut K, chart: &Chart) -> Result<(), WriteFault>
 }
 
 /// Writes what the colours of outputs mean.
-pub fn put_colour_legend<K: Sink>(sink: &mut K, y: u64, modulus: u64) -> Result<(), WriteFault>
-    ensures { Puts result (colour_legend y modulus) (K.told sink.old) (K.told sink.new) }
+pub fn put_colour_legend<K: Sink>(sink: &mut K, y: u64) -> Result<(), WriteFault>
+    ensures { Puts result (colour_legend y) (K.told sink.old) (K.told sink.new) }
 {
     put_pieces(
         sink,
@@ -157,10 +157,8 @@ pub fn put_colour_legend<K: Sink>(sink: &mut K, y: u64, modulus: u64) -> Result<
             Piece::Number(y),
             Piece::Text(
                 b")'>\n<rect width='18' height='18' fill='rgb(215,128,221)'/>\
-                <text x='24' y='13'>colour: (output - configuration) mod ",
+                <text x='24' y='13'>colour: output less configuration</text>\n</g>\n",
             ),
-            Piece::Number(modulus),
-            Piece::Text(b"</text>\n</g>\n"),
         ],
     )
 }
@@ -189,7 +187,7 @@ fn put_legend_in<K: Sink>(sink: &mut K, frame: Frame, ends: &[End]) -> Result<()
     ensures { Puts result (legend_in frame (length ends.now)) (K.told sink.old) (K.told sink.new) }
 {
     let lines = 16 * ends.len() as u64;
-    written!(put_colour_legend(sink, bottom(frame) + 54 + lines, frame.modulus));
+    written!(put_colour_legend(sink, bottom(frame) + 54 + lines));
     put_cell_legend(sink, bottom(frame) + 76 + lines)
 }
 

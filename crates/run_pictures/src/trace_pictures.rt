@@ -158,7 +158,7 @@ fn put_legend_below<K: Sink>(sink: &mut K, frame: Frame, levels: &[Level]) -> Re
         (K.told sink.old) (K.told sink.new) }
 {
     let lines = 16 * levels.len() as u64;
-    written!(put_colour_legend(sink, bottom(frame) + 40 + lines, frame.modulus));
+    written!(put_colour_legend(sink, bottom(frame) + 40 + lines));
     put_legend(sink, bottom(frame) + 62 + lines)
 }
 

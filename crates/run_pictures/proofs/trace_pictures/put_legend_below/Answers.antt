@@ -7,14 +7,12 @@ use Rattle.run_pictures.proofs.trace_pictures.put_legend_below.Goals as goal
 pub returns-in-Err : goal.returns-in-Err
 returns-in-Err g c =
     cut_more _ _
-    (colour_legend (bottom c.args.frame + 40 + 16 * length c.args.levels.now)
-    c.args.frame.modulus)
+    (colour_legend (bottom c.args.frame + 40 + 16 * length c.args.levels.now))
     _ (rw c.bottom.ensures.value at c.in-Err.ensures)
 
 pub returns : goal.returns
 returns g c =
     puts_then _ _ _ _
-    (colour_legend (bottom c.args.frame + 40 + 16 * length c.args.levels.now)
-    c.args.frame.modulus)
+    (colour_legend (bottom c.args.frame + 40 + 16 * length c.args.levels.now))
     _ (rw c.bottom.ensures.value at c.in-Ok.ensures)
     (rw c.bottom-2.ensures.value at c.put_legend.ensures)
