@@ -16,8 +16,8 @@ use Rattle.node_promises.specs.RestartInputs.{calls_of, restart_with}
 module _ {Reader Plan Premise : Type 0} (words : Words Reader Plan Premise) where
   -- Inputs whose nodes begin in these states. All are connected for so many rounds; there the input
   -- of one node ends, and with another input of it, whose header has the state of the last cell
-  -- that it wrote, all are connected in the rest. That cell is also the first one that is written there.
-  -- The configuration then is locked where as many rounds passed as the bound says.
+  -- that it wrote, all are connected in the rest. That cell is also the first one that is written
+  -- there. The configuration then is locked where as many rounds passed as the bound says.
   pub record InputsResume (lines : ℕ) (plan : Plan) (faulty meanwhile : List ℕ) (node after : ℕ)
       (starts : ℕ → State) (sent : ℕ → ℕ → ℕ → List ℕ) (begins : ℕ → ℕ) (rounds : ℕ)
       : Type 0 where

@@ -79,8 +79,8 @@ named_after plan inputs node after input v anew is = by (v == node) refl where
 
 any_connect : AnyInputsConnect
 any_connect plan accepted faulty starts sent begins rounds few begun =
-    let made = any_connect_by plan_words IsAccepted header_lines header_text is_written plan accepted
-    faulty starts sent begins rounds few (states plan accepted faulty starts begun) in
+    let made = any_connect_by plan_words IsAccepted header_lines header_text is_written plan
+    accepted faulty starts sent begins rounds few (states plan accepted faulty starts begun) in
     record {
       made = made;
       connect = record {
@@ -92,8 +92,9 @@ any_connect plan accepted faulty starts sent begins rounds few begun =
 
 any_lose : AnyInputsLose
 any_lose plan accepted faulty starts sent missed begins rounds few begun are =
-    let made = lossy.any_lose plan_words IsAccepted header_lines header_text is_written plan accepted
-    faulty starts sent missed begins rounds few (states plan accepted faulty starts begun) are in
+    let made = lossy.any_lose plan_words IsAccepted header_lines header_text is_written plan
+    accepted faulty starts sent missed begins rounds few
+    (states plan accepted faulty starts begun) are in
     record {
       made = made;
       names = λ v correct. named plan v (starts v) (made.inputs v) (made.begin v correct);
