@@ -17,12 +17,7 @@ pub trait ShownLines: Drop {
         ensures { result.now ≡ front self.now };
 
     /// Writes the word of node `v`, which shows this output.
-    fn put_word<K: TextSink>(
-        &self,
-        sink: &mut K,
-        output: u64,
-        v: u32,
-    ) -> Result<(), WriteFault>
+    fn put_word<K: TextSink>(&self, sink: &mut K, output: u64, v: u32) -> Result<(), WriteFault>
         ensures { Puts result (word self.now output v) (K.Sink.told sink.old)
             (K.Sink.told sink.new) };
 }

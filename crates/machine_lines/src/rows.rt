@@ -17,12 +17,7 @@ impl ShownLines for Rows {
         b"row "
     }
 
-    fn put_word<K: TextSink>(
-        &self,
-        sink: &mut K,
-        output: u64,
-        _v: u32,
-    ) -> Result<(), WriteFault> {
+    fn put_word<K: TextSink>(&self, sink: &mut K, output: u64, _v: u32) -> Result<(), WriteFault> {
         sink.labelled(b" ", output)
     }
 }

@@ -88,7 +88,11 @@ impl Machine for PulseMachine {
     }
 
     fn lock(&self) -> Option<usize> {
-        if self.plan.faults() == 0 { None } else { Some(0) }
+        if self.plan.faults() == 0 {
+            None
+        } else {
+            Some(0)
+        }
     }
 
     fn tell(&self) {

@@ -30,11 +30,7 @@ pub fn put_locked<K: TextSink>(sink: &mut K, locked: Option<u64>) -> Result<(), 
 
 /// Writes the line of an era that begins with configuration `first`: which is the first locked one
 /// of it. `WriteFault` comes where the sink counted one; a front of the line was then taken.
-pub fn put_era<K: TextSink>(
-    sink: &mut K,
-    first: u64,
-    locked: Option<u64>,
-) -> Result<(), WriteFault>
+pub fn put_era<K: TextSink>(sink: &mut K, first: u64, locked: Option<u64>) -> Result<(), WriteFault>
     ensures { Puts result (concat (era_front first ∷ locked_line locked ∷ []))
         (K.Sink.told sink.old) (K.Sink.told sink.new) }
 {

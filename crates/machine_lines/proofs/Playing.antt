@@ -1,5 +1,5 @@
--- A runner that has played its script.
-use Rattle.std.proofs.Common.{◌≡◌, ℕ, ◌≤◌, Option, Result, sym, ap, ◌∙◌, subst}
+-- A runner that plays on, and one that has played its script.
+use Rattle.std.proofs.Common.{◌≡◌, ℕ, ◌<◌, ◌≤◌, Option, Result, sym, ap, ◌∙◌, subst, arith}
 use Rattle.texts.specs.Growth.{Told, Puts}
 use Rattle.adversary_script.specs.Scripts.{Script}
 use Rattle.machines.specs.Machines.{Machine}
@@ -8,6 +8,35 @@ use Rattle.script_runs.specs.Played.{played_at}
 use Rattle.machine_runner.specs.Runners.{Running, lock_of}
 use Rattle.run_texts.specs.RunTexts.{lock_lines}
 use Rattle.machine_lines.specs.RunTexts.{lock_played}
+
+module _ {M : Type 0} (start : Running M) where
+  -- the same runner at configuration t
+  abbrev pub at_number : ℕ → Running M
+  at_number t = record start { at = t }
+
+  pub stands : (t : ℕ) → t ≡ start.at → start ≡ at_number t
+  stands t is = ap at_number (sym is)
+
+  module _ (r : Running M) (t : ℕ) (is : r ≡ at_number t) where
+    pub script_is : r.script ≡ start.script
+    script_is = ap (λ (r : Running M). r.script) is
+
+    pub at_is : r.at ≡ t
+    at_is = ap (λ (r : Running M). r.at) is
+
+    -- there is a round to play before that one
+    pub has_round : (end : ℕ) → t < end → end ≤ start.script.rounds → r.at < r.script.rounds
+    has_round end lt within =
+        let rounds = ap (λ (s : Script). s.rounds) script_is in
+        omega (arith, at_is, lt, within, rounds)
+
+    -- from there it plays on
+    pub plays_on : (new : Running M) (n : ℕ) → new ≡ record r { at = n } → new ≡ at_number n
+    plays_on new n on =
+        on ∙ ap (λ (r : Running M). let s : Running M = record r { at = n } in s) is
+
+    pub has_played : (end : ℕ) → t ≡ end → r ≡ at_number end
+    has_played end there = is ∙ ap at_number there
 
 module _ {M : Type 0} (machine : M → Machine) where
   -- the first locked configuration so far is that of all
@@ -26,17 +55,3 @@ module _ {M : Type 0} (machine : M → Machine) where
   locks_after result start r n s t is puts =
       subst (λ (r : Running M).
       Puts result (lock_lines r.script (lock_played (machine r.machine) r.script)) s t) is puts
-
--- a runner plays on twice
-pub plays_on : {M : Type 0} (start mid r : Running M) (m n : ℕ) → mid ≡ record start { at = m }
-    → r ≡ record mid { at = n } → r ≡ record start { at = n }
-plays_on {M} start mid r m n before behind =
-    behind ∙ ap (λ (r : Running M). let s : Running M = record r { at = n } in s) before
-
--- its script stays the same
-pub script_is : {M : Type 0} (start r : Running M) (n : ℕ) → r ≡ record start { at = n }
-    → r.script ≡ start.script
-script_is {M} start r n is = ap (λ (r : Running M). r.script) is
-
-pub at_is : {M : Type 0} (start r : Running M) (n : ℕ) → r ≡ record start { at = n } → r.at ≡ n
-at_is {M} start r n is = ap (λ (r : Running M). r.at) is
