@@ -36,8 +36,8 @@ module _ (label : List ℕ) (word : (output v : ℕ) → List ℕ) (machine : Ma
   -- all that is written
   abbrev pub shown_text : List ℕ
   shown_text =
-      concat (bound_line machine.bound ∷ shown_lines ∷ lock_lines script (lock_played machine script)
-      ∷ [])
+      concat (bound_line machine.bound ∷ shown_lines
+      ∷ lock_lines script (lock_played machine script) ∷ [])
 
 -- what the word `run` writes: of each configuration that is shown, what its nodes show
 abbrev pub run_text : Machine → Script → List ℕ
