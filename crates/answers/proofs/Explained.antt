@@ -18,7 +18,7 @@ use Rattle.run_explanations.specs.Explanations.{explanation_of}
 use Rattle.run_explanations.specs.Playing as explained
 use Rattle.run_lines.specs.RunTexts.{lock_lines}
 use Rattle.run_lines.specs.RowTexts.{row_wording}
-use Rattle.run_texts.proofs.LockLines.{puts_last}
+use Rattle.run_lines.proofs.LockLines.{puts_last}
 use Rattle.run_lines.proofs.Played.{locks_after}
 use Rattle.outcomes.specs.ExplainText.{explanation_lines, lines_over, why_lines}
 use Rattle.outcomes.proofs.ExplainTexts.{levelled_is}
