@@ -6,7 +6,7 @@ use Rattle.std.specs.Option.{option_eq}
 use Rattle.std.proofs.lemmas.Bool.{eqb-true, eq-eqb}
 use Rattle.slot_table.specs.declared.lines.SlotLine.{SlotLine}
 use Rattle.slot_table.specs.Tables.{Holds, holder_of}
-use Rattle.slot_table.specs.HoldWords.{hold_word_at, WordsAreExact, OneHolds}
+use Rattle.slot_table.specs.HoldWords.{WordsAreExact, OneHolds}
 use Rattle.slot_table.proofs.Holders.{holder_holds, holder_is_one}
 
 other_word : codes " ." ≡ codes " 1" → ⊥
