@@ -2,23 +2,18 @@
 //! what the rows say of the cell under the pointer; arrow keys choose the cell beside it.
 
 ghost use Rattle.texts.specs.Growth.{Puts};
-ghost use Rattle.run_pictures.specs.Charts.{chart_text};
-ghost use Rattle.run_pictures.specs.ChoicePictures.{choice_picture};
+ghost use Rattle.survey_pictures.specs.ChoicePictures.{choice_picture};
 ghost use Rattle.run_pictures.specs.Pages.{formed, page_behind, page_front, page_keys, page_middle};
 ghost use Rattle.run_pictures.specs.Pages.{page_script, page_text};
 ghost use Rattle.run_pictures.specs.Pictures.{picture_text};
-ghost use Rattle.run_pictures.specs.SweepPictures.{sweep_picture};
-ghost use Rattle.run_pictures.specs.TracePictures.{trace_picture};
+ghost use Rattle.survey_pictures.specs.SweepPictures.{sweep_picture};
+ghost use Rattle.trace_pictures.specs.TracePictures.{trace_picture};
 
 use crate::charts::Chart;
-use crate::choice_pictures::put_choice_picture;
-use crate::choices::Point;
 use crate::pictures::put_picture;
-use crate::sweep_charts::Sweep;
-use crate::sweep_pictures::put_sweep_picture;
-use crate::trace_pictures::put_trace_picture;
-use crate::traces::Trace;
 use edge_io::{Sink, WriteFault, put_all};
+use survey_pictures::{Point, Sweep, put_choice_picture, put_sweep_picture};
+use trace_pictures::{Trace, put_trace_picture};
 
 /// What is written of a text.
 #[derive(Clone, Copy, Debug)]
