@@ -1,5 +1,5 @@
 -- A line down a column, in SVG.
-use Rattle.std.specs.Prelude.{ℕ, ◌+◌, ◌-◌, List, [], ◌∷◌, codes, decimal}
+use Rattle.std.specs.Prelude.{ℕ, ◌+◌, List, [], ◌∷◌, codes, decimal}
 use Rattle.std.specs.List.{concat}
 use Rattle.picture_parts.specs.declared.frames.Frame.{Frame}
 use Rattle.picture_parts.specs.Frames.{band_top, column_left}

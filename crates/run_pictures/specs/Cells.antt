@@ -1,10 +1,11 @@
 -- The cells of a chart, in SVG.
-use Rattle.std.specs.Prelude.{ℕ, ◌+◌, ◌-◌, ◌==◌, List, [], ◌++◌, if◌then◌else◌}
+use Rattle.std.specs.Prelude.{ℕ, ◌+◌, ◌==◌, List, [], ◌++◌, if◌then◌else◌}
 use Rattle.run_pictures.specs.declared.charts.Cell.{Cell}
 use Rattle.picture_parts.specs.declared.frames.Frame.{Frame}
 use Rattle.picture_parts.specs.declared.frames.Spot.{Spot}
 use Rattle.picture_parts.specs.Faces.{face_of}
 use Rattle.picture_parts.specs.Frames.{line_top}
+use Rattle.picture_parts.specs.Squares.{column_head, node_label, shown_at}
 
 -- what stands above a column, drawn with the first cell
 abbrev pub cell_head : Frame → Cell → List ℕ

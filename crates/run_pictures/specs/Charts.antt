@@ -7,6 +7,7 @@ use Rattle.run_pictures.specs.declared.charts.End.{End}
 use Rattle.run_pictures.specs.declared.charts.Chart.{Chart}
 use Rattle.picture_parts.specs.declared.frames.Frame.{Frame}
 use Rattle.picture_parts.specs.Frames.{band_height}
+use Rattle.picture_parts.specs.LineWords.{bound_line, era_words, locked_words}
 
 -- ---- rows
 

@@ -1,8 +1,9 @@
 -- Where the words of a chart's rows belong, and the lines behind the rows.
-use Rattle.std.specs.Prelude.{◌≡◌, ◌+◌, ◌-◌, ◌*◌, ◌<◌, ◌≤◌, List, [], ◌∷◌, length, map, All, None}
+use Rattle.std.specs.Prelude.{◌≡◌, ◌+◌, ◌*◌, ◌<◌, ◌≤◌, List, [], ◌∷◌, length, map, All, None}
 use Rattle.std.specs.List.{range_with_len}
 use Rattle.run_pictures.specs.declared.charts.End.{End}
 use Rattle.run_pictures.specs.declared.charts.Chart.{Chart}
+use Rattle.picture_parts.specs.Moduli.{IsModulusOf}
 
 -- where the era of the next line begins is known to each line
 abbrev pub AreNext : List End → Type 0

@@ -6,6 +6,9 @@ use Rattle.run_pictures.specs.declared.charts.End.{End}
 use Rattle.run_pictures.specs.declared.charts.Chart.{Chart}
 use Rattle.picture_parts.specs.declared.frames.Frame.{Frame}
 use Rattle.picture_parts.specs.Frames.{bottom, line_top}
+use Rattle.picture_parts.specs.Marks.{mark_at}
+use Rattle.picture_parts.specs.Fronts.{picture_front, picture_ground, picture_width}
+use Rattle.picture_parts.specs.Captions.{colour_legend, number_caption, span_caption}
 use Rattle.run_pictures.specs.Charts.{end_words, frame_of}
 use Rattle.run_pictures.specs.Cells.{cell_picture}
 

@@ -6,7 +6,6 @@ ghost use Rattle.texts.specs.Growth.{Puts};
 ghost use Rattle.run_pictures.specs.Pictures.{bound_at, bound_mark, caption, caption_at};
 ghost use Rattle.run_pictures.specs.Pictures.{caption_front, end_picture, era_begin, era_mark};
 ghost use Rattle.run_pictures.specs.Pictures.{has_column, is_before, locked_mark, mark_row};
-ghost use Rattle.picture_parts.specs.Marks.{mark};
 
 use crate::charts::{Chart, End};
 use crate::printing::put_end;

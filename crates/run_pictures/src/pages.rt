@@ -3,8 +3,8 @@
 
 ghost use Rattle.texts.specs.Growth.{Puts};
 ghost use Rattle.survey_pictures.specs.ChoicePictures.{choice_picture};
-ghost use Rattle.run_pictures.specs.Pages.{formed, page_behind, page_front, page_keys, page_middle};
-ghost use Rattle.run_pictures.specs.Pages.{page_script, page_text};
+ghost use Rattle.run_pictures.specs.Pages.{formed, page_behind, page_choose, page_front};
+ghost use Rattle.run_pictures.specs.Pages.{page_keys, page_middle, page_script, page_text};
 ghost use Rattle.run_pictures.specs.Pictures.{picture_text};
 ghost use Rattle.survey_pictures.specs.SweepPictures.{sweep_picture};
 ghost use Rattle.trace_pictures.specs.TracePictures.{trace_picture};
@@ -97,9 +97,9 @@ fn put_page_script<K: Sink>(sink: &mut K) -> Result<(), WriteFault>
     )
 }
 
-/// Writes what the page does where a cell is chosen, and for keys.
-fn put_page_keys<K: Sink>(sink: &mut K) -> Result<(), WriteFault>
-    ensures { Puts result page_keys (K.told sink.old) (K.told sink.new) }
+/// Writes what the page does where a cell is chosen.
+fn put_page_choose<K: Sink>(sink: &mut K) -> Result<(), WriteFault>
+    ensures { Puts result page_choose (K.told sink.old) (K.told sink.new) }
 {
     put_all(
         sink,
@@ -118,8 +118,17 @@ fn put_page_keys<K: Sink>(sink: &mut K) -> Result<(), WriteFault>
         said.textContent = [head].concat(told).join(newline);\n\
         if (go && groups.length)\n\
         groups[0].scrollIntoView({ block: 'nearest', inline: 'nearest' });\n\
-        }\n\
-        function beside(set, number, by) {\n\
+        }\n",
+    )
+}
+
+/// Writes what it does for keys.
+fn put_page_keys<K: Sink>(sink: &mut K) -> Result<(), WriteFault>
+    ensures { Puts result page_keys (K.told sink.old) (K.told sink.new) }
+{
+    put_all(
+        sink,
+        b"function beside(set, number, by) {\n\
         const list = [...set];\n\
         const place = list.indexOf(number) + by;\n\
         return list[Math.min(Math.max(place, 0), list.length - 1)];\n\
@@ -147,6 +156,7 @@ fn put_page_behind<K: Sink>(sink: &mut K, rows: &[u8]) -> Result<(), WriteFault>
     written!(put_page_middle(sink));
     written!(put_all(sink, rows));
     written!(put_page_script(sink));
+    written!(put_page_choose(sink));
     put_page_keys(sink)
 }
 
