@@ -5,8 +5,9 @@ use Rattle.std.specs.List.{concat, flat_map}
 use Rattle.run_pictures.specs.declared.charts.Cell.{Cell}
 use Rattle.run_pictures.specs.declared.charts.End.{End}
 use Rattle.run_pictures.specs.declared.charts.Chart.{Chart}
-use Rattle.run_pictures.specs.declared.frames.Frame.{Frame}
-use Rattle.run_pictures.specs.Frames.{band_height}
+use Rattle.picture_parts.specs.declared.frames.Frame.{Frame}
+use Rattle.picture_parts.specs.Frames.{band_height}
+use Rattle.picture_parts.specs.LineWords.{bound_line, era_words, locked_words}
 
 -- ---- rows
 
@@ -29,14 +30,6 @@ cell_words first nodes cell = cell_front first cell ++ (word_text cell.shown ++ 
 
 -- ---- lines behind the rows
 
-abbrev pub era_words : Option ℕ → List ℕ
-era_words (Some begin) = concat (codes "era " ∷ decimal begin ∷ codes " " ∷ [])
-era_words None = []
-
-abbrev pub locked_words : Option ℕ → List ℕ
-locked_words (Some t) = concat (codes "locked " ∷ decimal t ∷ [])
-locked_words None = codes "locked none"
-
 abbrev pub end_words : End → List ℕ
 end_words end = era_words end.era ++ locked_words end.locked
 
@@ -44,9 +37,6 @@ abbrev pub end_line : End → List ℕ
 end_line end = end_words end ++ codes "\n"
 
 -- ---- all lines
-
-abbrev pub bound_line : ℕ → List ℕ
-bound_line bound = concat (codes "bound " ∷ decimal bound ∷ codes "\n" ∷ [])
 
 abbrev pub chart_text : Chart → List ℕ
 chart_text chart =

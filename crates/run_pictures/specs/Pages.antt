@@ -63,9 +63,9 @@ page_script = concat (
     ∷ codes "group.addEventListener('pointerover', () => choose(+told[2], +told[1], false));\n"
     ∷ codes "}\n" ∷ [])
 
--- what the page does where a cell is chosen, and for keys
-abbrev pub page_keys : List ℕ
-page_keys = concat (
+-- what the page does where a cell is chosen
+abbrev pub page_choose : List ℕ
+page_choose = concat (
     codes "let now = null;\n"
     ∷ codes "function choose(t, node, go) {\n"
     ∷ codes "const key = t + ' ' + node;\n"
@@ -81,8 +81,12 @@ page_keys = concat (
     ∷ codes "said.textContent = [head].concat(told).join(newline);\n"
     ∷ codes "if (go && groups.length)\n"
     ∷ codes "groups[0].scrollIntoView({ block: 'nearest', inline: 'nearest' });\n"
-    ∷ codes "}\n"
-    ∷ codes "function beside(set, number, by) {\n"
+    ∷ codes "}\n" ∷ [])
+
+-- what it does for keys
+abbrev pub page_keys : List ℕ
+page_keys = concat (
+    codes "function beside(set, number, by) {\n"
     ∷ codes "const list = [...set];\n"
     ∷ codes "const place = list.indexOf(number) + by;\n"
     ∷ codes "return list[Math.min(Math.max(place, 0), list.length - 1)];\n"
@@ -103,7 +107,7 @@ page_keys = concat (
 
 -- what stands behind a picture: the rows, and what the page does
 abbrev pub page_behind : (rows : List ℕ) → List ℕ
-page_behind rows = page_middle ++ (rows ++ (page_script ++ page_keys))
+page_behind rows = page_middle ++ (rows ++ (page_script ++ (page_choose ++ page_keys)))
 
 -- a page of a picture and of the rows that it is of
 abbrev pub page_text : (rows picture : List ℕ) → List ℕ

@@ -1,38 +1,22 @@
 -- The picture of a chart, in SVG.
-use Rattle.std.specs.Prelude.{ℕ, ◌+◌, ◌-◌, ◌*◌, ◌&&◌, nat_le, nat_lt, max, length, List, [], ◌∷◌}
-use Rattle.std.specs.Prelude.{◌++◌, Bool, true, Option, Some, None, if◌then◌else◌, codes, decimal}
+use Rattle.std.specs.Prelude.{ℕ, ◌+◌, ◌-◌, ◌*◌, ◌&&◌, nat_le, nat_lt, length, List, [], ◌∷◌, ◌++◌}
+use Rattle.std.specs.Prelude.{Bool, true, Option, Some, None, if◌then◌else◌, codes, decimal}
 use Rattle.std.specs.List.{concat, flat_map}
 use Rattle.run_pictures.specs.declared.charts.End.{End}
 use Rattle.run_pictures.specs.declared.charts.Chart.{Chart}
-use Rattle.run_pictures.specs.declared.frames.Frame.{Frame}
-use Rattle.run_pictures.specs.Frames.{band_top, bottom, column_left, line_top, right}
+use Rattle.picture_parts.specs.declared.frames.Frame.{Frame}
+use Rattle.picture_parts.specs.Frames.{bottom, line_top}
+use Rattle.picture_parts.specs.Marks.{mark_at}
+use Rattle.picture_parts.specs.Fronts.{picture_front, picture_ground, picture_width}
+use Rattle.picture_parts.specs.Captions.{colour_legend, number_caption, span_caption}
 use Rattle.run_pictures.specs.Charts.{end_words, frame_of}
 use Rattle.run_pictures.specs.Cells.{cell_picture}
 
 -- ---- marks
 
--- a line down, with a word before its end
-abbrev pub mark : (x top end : ℕ) (colour word : List ℕ) → List ℕ
-mark x top end colour word = concat (
-    codes "<path d='M" ∷ decimal x
-    ∷ codes " " ∷ decimal top
-    ∷ codes "V" ∷ decimal end
-    ∷ codes "' stroke='" ∷ colour
-    ∷ codes "'/>\n<text x='" ∷ decimal x
-    ∷ codes "' y='" ∷ decimal end
-    ∷ codes "' dx='-3' text-anchor='end' fill='" ∷ colour
-    ∷ codes "'>" ∷ word
-    ∷ codes "</text>\n" ∷ [])
-
 -- whether a configuration has a column
 abbrev pub has_column : Frame → (t : ℕ) → Bool
 has_column frame t = nat_le frame.first t && nat_lt t (frame.first + frame.columns)
-
--- a line down a column of cells, and as far below them
-abbrev pub mark_at : Frame → (column cells below : ℕ) (colour word : List ℕ) → List ℕ
-mark_at frame column cells below colour word =
-    mark (column_left frame.digits column) (band_top frame.height column + 30)
-    (band_top frame.height column + cells + below) colour word
 
 -- a mark at a configuration, if that has a row
 abbrev pub mark_row : Chart → (t below : ℕ) (colour word : List ℕ) → List ℕ
@@ -85,49 +69,7 @@ end_picture chart end =
     era_mark chart end.era
     ++ (bound_mark chart end ++ (locked_mark chart end.locked ++ caption chart end))
 
--- the configuration of the last column
-abbrev pub last_of : Frame → ℕ
-last_of frame = frame.first + frame.columns - 1
-
--- two configurations in a line of the caption
-abbrev pub span_at : (y first last : ℕ) → List ℕ
-span_at y first last = concat (
-    codes "<text text-anchor='start' x='4' y='" ∷ decimal y
-    ∷ codes "'>configurations " ∷ decimal first
-    ∷ codes " to " ∷ decimal last
-    ∷ codes "</text>\n" ∷ [])
-
--- which configurations a picture shows
-abbrev pub span_caption : Frame → List ℕ
-span_caption frame = span_at (bottom frame + 12) frame.first (last_of frame)
-
--- a word and a number in a line of the caption
-abbrev pub number_caption : (y : ℕ) (word : List ℕ) (n : ℕ) → List ℕ
-number_caption y word n = concat (
-    codes "<text text-anchor='start' x='4' y='" ∷ decimal y
-    ∷ codes "'>" ∷ word ∷ codes " " ∷ decimal n
-    ∷ codes "</text>\n" ∷ [])
-
 -- ---- the picture
-
-abbrev pub picture_front : (width height : ℕ) → List ℕ
-picture_front width height = concat (
-    codes "<svg xmlns='http://www.w3.org/2000/svg' width='" ∷ decimal width
-    ∷ codes "' height='" ∷ decimal height
-    ∷ codes "' viewBox='0 0 " ∷ decimal width
-    ∷ codes " " ∷ decimal height
-    ∷ codes "' font-family='monospace' font-size='11' text-anchor='middle'>\n" ∷ [])
-
--- how faulty nodes are hatched, and the ground
-abbrev pub picture_ground : List ℕ
-picture_ground = concat (
-    codes "<defs><pattern id='faulty' width='6' height='6' patternUnits='userSpaceOnUse'>"
-    ∷ codes "<path d='M0 0H6V6H0Z' fill='white'/><path d='M0 6L6 0' stroke='black'/>"
-    ∷ codes "</pattern></defs>\n<rect width='100%' height='100%' fill='white'/>\n" ∷ [])
-
--- how wide a picture is, with a legend and a line of the caption that has two configurations
-abbrev pub picture_width : Frame → ℕ
-picture_width frame = max (right frame) (max 330 (141 + 14 * frame.digits))
 
 -- the front, with the picture's width and height
 abbrev pub sized_front : Chart → List ℕ
@@ -144,13 +86,6 @@ facts_in frame nodes bound =
 
 abbrev pub facts : Chart → List ℕ
 facts chart = facts_in (frame_of chart) chart.nodes chart.bound
-
--- what the colours of outputs mean, from that height on
-abbrev pub colour_legend : (y : ℕ) → List ℕ
-colour_legend y = concat (
-    codes "<g text-anchor='start' transform='translate(4," ∷ decimal y
-    ∷ codes ")'>\n<rect width='18' height='18' fill='rgb(215,128,221)'/>"
-    ∷ codes "<text x='24' y='13'>colour: output less configuration</text>\n</g>\n" ∷ [])
 
 -- what else the cells mean
 abbrev pub cell_legend : (y : ℕ) → List ℕ

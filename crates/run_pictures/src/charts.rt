@@ -3,7 +3,7 @@
 ghost use Rattle.std.specs.Prelude.{◌≡◌};
 ghost use Rattle.run_pictures.specs.Charts.{frame_of};
 
-use crate::frames::{Frame, band_height};
+use picture_parts::{Frame, band_height};
 
 /// What a node shows in a row. Rows and nodes are counted from 0.
 #[derive(Clone, Copy)]

@@ -2,30 +2,25 @@
 
 ghost use Rattle.std.specs.Prelude.{◌≡◌, true, IfOk};
 ghost use Rattle.run_pictures.specs.Charts.{chart_text};
-ghost use Rattle.run_pictures.specs.Traces.{trace_text};
+ghost use Rattle.trace_pictures.specs.Traces.{trace_text};
 ghost use Rattle.run_pictures.specs.Drawn.{ChoiceAs, Does, DrawsAs, RowsAs, SweepAs, TraceAs};
-ghost use Rattle.run_pictures.specs.Choices.{choice_text};
-ghost use Rattle.run_pictures.specs.Sweeps.{sweep_text};
+ghost use Rattle.survey_pictures.specs.Choices.{choice_text};
+ghost use Rattle.survey_pictures.specs.Sweeps.{sweep_text};
 
 use crate::charts::Chart;
-use crate::choices::{Point, are_plotted, is_choice, put_choice, read_choice};
-use crate::hits::mark_trace;
 use crate::laid::is_laid;
-use crate::layouts::lay_out;
 use crate::pages::{Form, put_formed_chart, put_formed_choice, put_formed_sweep, put_formed_trace};
 use crate::printing::put_chart;
-use crate::reading::{ChartError, read_chart};
-use crate::sweep_charts::Sweep;
-use crate::sweep_laid::is_sweep_laid;
-use crate::sweep_printing::put_sweep;
-use crate::sweep_reading::{is_sweep, read_sweep};
-use crate::trace_laid::is_trace_laid;
-use crate::trace_printing::put_trace;
-use crate::trace_reading::{is_trace, read_trace};
-use crate::traces::Trace;
+use crate::reading::read_chart;
 use edge_io::{MemSink, NoMemory, Sink, WriteFault};
+use picture_parts::ChartError;
 use std::alloc::Global;
+use survey_pictures::{
+    Point, Sweep, are_plotted, is_choice, is_sweep, is_sweep_laid, put_choice, put_sweep,
+    read_choice, read_sweep,
+};
 use thiserror::Error;
+use trace_pictures::{Trace, is_trace, is_trace_laid, put_trace, trace_of};
 
 /// Why nothing was drawn, or not all.
 #[derive(Clone, Copy, Debug, Error)]
@@ -134,14 +129,6 @@ fn draw_rows<K: Sink>(alloc: Global, text: &[u8], form: Form, sink: &mut K) -> R
 {
     let chart = read_chart(alloc, text)?;
     draw_chart(alloc, &chart, text, form, sink)
-}
-
-/// Reads a trace, with all that is drawn of it.
-fn trace_of(alloc: Global, text: &[u8]) -> Result<Trace, ChartError> {
-    let mut trace = read_trace(alloc, text)?;
-    mark_trace(alloc, &mut trace)?;
-    lay_out(&mut trace)?;
-    Ok(trace)
 }
 
 /// Draws a trace, if its text is this one.

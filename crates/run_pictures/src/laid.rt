@@ -2,9 +2,11 @@
 
 ghost use Rattle.std.specs.Prelude.{◌≡◌, ◌+◌, ◌*◌, ◌<◌, length, map, All, true};
 ghost use Rattle.std.specs.List.{range_with_len};
-ghost use Rattle.run_pictures.specs.Laid.{AreNext, HasOutput, IsBelow, IsLaid, IsModulusOf};
+ghost use Rattle.run_pictures.specs.Laid.{AreNext, IsLaid};
+ghost use Rattle.picture_parts.specs.Moduli.{HasOutput, IsBelow, IsModulusOf};
 
 use crate::charts::{Cell, Chart, End};
+use picture_parts::is_below;
 
 /// The place of a word, in rows of so many nodes.
 fn place_of(cell: Cell, nodes: u16) -> u64
@@ -49,16 +51,6 @@ fn are_next(ends: &[End]) -> bool
         [] => true,
         [end] => end.next.is_none(),
         [end, behind @ ..] => end.next == behind[0].era && are_next(behind),
-    }
-}
-
-/// Whether an output is below a number.
-pub fn is_below(modulus: u64, shown: Option<u64>) -> bool
-    ensures { result ≡ true → IsBelow modulus shown }
-{
-    match shown {
-        None => true,
-        Some(output) => output < modulus,
     }
 }
 

@@ -4,80 +4,19 @@ ghost use Rattle.std.specs.Prelude.{◌≡◌, ◌<◌, ◌^◌};
 ghost use Rattle.std.specs.List.{flat_map};
 ghost use Rattle.texts.specs.Growth.{Puts};
 ghost use Rattle.run_pictures.specs.Pictures.{bound_at, bound_mark, caption, caption_at};
-ghost use Rattle.run_pictures.specs.Pictures.{caption_front};
-ghost use Rattle.run_pictures.specs.Pictures.{end_picture, era_begin, era_mark, has_column};
-ghost use Rattle.run_pictures.specs.Pictures.{is_before};
-ghost use Rattle.run_pictures.specs.Pictures.{locked_mark, mark, mark_at, mark_row};
+ghost use Rattle.run_pictures.specs.Pictures.{caption_front, end_picture, era_begin, era_mark};
+ghost use Rattle.run_pictures.specs.Pictures.{has_column, is_before, locked_mark, mark_row};
 
 use crate::charts::{Chart, End};
-use crate::frames::{Frame, band_top, bottom, column_left, line_top};
 use crate::printing::put_end;
 use edge_io::{Piece, Sink, WriteFault, put_all, put_pieces};
-
-/// Draws a line down, with a word before its end.
-fn put_mark<'a, K: Sink>(
-    sink: &mut K,
-    x: u64,
-    top: u64,
-    end: u64,
-    colour: &'a [u8],
-    word: &'a [u8],
-) -> Result<(), WriteFault>
-    ensures { Puts result (mark x top end colour.now word.now) (K.told sink.old) (K.told sink.new) }
-{
-    put_pieces(
-        sink,
-        &[
-            Piece::Text(b"<path d='M"),
-            Piece::Number(x),
-            Piece::Text(b" "),
-            Piece::Number(top),
-            Piece::Text(b"V"),
-            Piece::Number(end),
-            Piece::Text(b"' stroke='"),
-            Piece::Text(colour),
-            Piece::Text(b"'/>\n<text x='"),
-            Piece::Number(x),
-            Piece::Text(b"' y='"),
-            Piece::Number(end),
-            Piece::Text(b"' dx='-3' text-anchor='end' fill='"),
-            Piece::Text(colour),
-            Piece::Text(b"'>"),
-            Piece::Text(word),
-            Piece::Text(b"</text>\n"),
-        ],
-    )
-}
+use picture_parts::{Frame, bottom, line_top, put_mark_at};
 
 /// Whether a configuration has a column.
 fn has_column(frame: Frame, t: u64) -> bool
     ensures { result ≡ has_column frame t }
 {
     u64::from(frame.first) <= t && t < u64::from(frame.first) + u64::from(frame.columns)
-}
-
-/// Draws a line down a column of cells, and as far below them.
-pub fn put_mark_at<'a, K: Sink>(
-    sink: &mut K,
-    frame: Frame,
-    column: u32,
-    cells: u32,
-    below: u16,
-    colour: &'a [u8],
-    word: &'a [u8],
-) -> Result<(), WriteFault>
-    ensures { Puts result (mark_at frame column cells below colour.now word.now)
-        (K.told sink.old) (K.told sink.new) }
-{
-    let top = band_top(frame.height, column);
-    put_mark(
-        sink,
-        column_left(frame.digits, column),
-        top + 30,
-        top + u64::from(cells) + u64::from(below),
-        colour,
-        word,
-    )
 }
 
 /// Draws a mark at a configuration, if that has a row.

@@ -2,23 +2,18 @@
 //! what the rows say of the cell under the pointer; arrow keys choose the cell beside it.
 
 ghost use Rattle.texts.specs.Growth.{Puts};
-ghost use Rattle.run_pictures.specs.Charts.{chart_text};
-ghost use Rattle.run_pictures.specs.ChoicePictures.{choice_picture};
-ghost use Rattle.run_pictures.specs.Pages.{formed, page_behind, page_front, page_keys, page_middle};
-ghost use Rattle.run_pictures.specs.Pages.{page_script, page_text};
+ghost use Rattle.survey_pictures.specs.ChoicePictures.{choice_picture};
+ghost use Rattle.run_pictures.specs.Pages.{formed, page_behind, page_choose, page_front};
+ghost use Rattle.run_pictures.specs.Pages.{page_keys, page_middle, page_script, page_text};
 ghost use Rattle.run_pictures.specs.Pictures.{picture_text};
-ghost use Rattle.run_pictures.specs.SweepPictures.{sweep_picture};
-ghost use Rattle.run_pictures.specs.TracePictures.{trace_picture};
+ghost use Rattle.survey_pictures.specs.SweepPictures.{sweep_picture};
+ghost use Rattle.trace_pictures.specs.TracePictures.{trace_picture};
 
 use crate::charts::Chart;
-use crate::choice_pictures::put_choice_picture;
-use crate::choices::Point;
 use crate::pictures::put_picture;
-use crate::sweep_charts::Sweep;
-use crate::sweep_pictures::put_sweep_picture;
-use crate::trace_pictures::put_trace_picture;
-use crate::traces::Trace;
 use edge_io::{Sink, WriteFault, put_all};
+use survey_pictures::{Point, Sweep, put_choice_picture, put_sweep_picture};
+use trace_pictures::{Trace, put_trace_picture};
 
 /// What is written of a text.
 #[derive(Clone, Copy, Debug)]
@@ -102,9 +97,9 @@ fn put_page_script<K: Sink>(sink: &mut K) -> Result<(), WriteFault>
     )
 }
 
-/// Writes what the page does where a cell is chosen, and for keys.
-fn put_page_keys<K: Sink>(sink: &mut K) -> Result<(), WriteFault>
-    ensures { Puts result page_keys (K.told sink.old) (K.told sink.new) }
+/// Writes what the page does where a cell is chosen.
+fn put_page_choose<K: Sink>(sink: &mut K) -> Result<(), WriteFault>
+    ensures { Puts result page_choose (K.told sink.old) (K.told sink.new) }
 {
     put_all(
         sink,
@@ -123,8 +118,17 @@ fn put_page_keys<K: Sink>(sink: &mut K) -> Result<(), WriteFault>
         said.textContent = [head].concat(told).join(newline);\n\
         if (go && groups.length)\n\
         groups[0].scrollIntoView({ block: 'nearest', inline: 'nearest' });\n\
-        }\n\
-        function beside(set, number, by) {\n\
+        }\n",
+    )
+}
+
+/// Writes what it does for keys.
+fn put_page_keys<K: Sink>(sink: &mut K) -> Result<(), WriteFault>
+    ensures { Puts result page_keys (K.told sink.old) (K.told sink.new) }
+{
+    put_all(
+        sink,
+        b"function beside(set, number, by) {\n\
         const list = [...set];\n\
         const place = list.indexOf(number) + by;\n\
         return list[Math.min(Math.max(place, 0), list.length - 1)];\n\
@@ -152,6 +156,7 @@ fn put_page_behind<K: Sink>(sink: &mut K, rows: &[u8]) -> Result<(), WriteFault>
     written!(put_page_middle(sink));
     written!(put_all(sink, rows));
     written!(put_page_script(sink));
+    written!(put_page_choose(sink));
     put_page_keys(sink)
 }
 

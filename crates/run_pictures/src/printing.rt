@@ -2,13 +2,12 @@
 
 ghost use Rattle.std.specs.List.{flat_map};
 ghost use Rattle.texts.specs.Growth.{Puts};
-ghost use Rattle.run_pictures.specs.Charts.{bound_line, cell_end, cell_front, cell_words};
-ghost use Rattle.run_pictures.specs.Charts.{chart_text};
-ghost use Rattle.run_pictures.specs.Charts.{end_line, end_words, era_words, locked_words};
-ghost use Rattle.run_pictures.specs.Charts.{word_text};
+ghost use Rattle.run_pictures.specs.Charts.{cell_end, cell_front, cell_words, chart_text, end_line};
+ghost use Rattle.run_pictures.specs.Charts.{end_words, word_text};
 
 use crate::charts::{Cell, Chart, End};
 use edge_io::{Piece, Sink, WriteFault, put_all, put_pieces};
+use picture_parts::{put_bound, put_era, put_locked};
 
 /// Writes what a node shows: its output, or a star.
 fn put_word<K: Sink>(sink: &mut K, shown: Option<u64>) -> Result<(), WriteFault>
@@ -68,36 +67,6 @@ fn put_rows<K: Sink>(sink: &mut K, first: u32, nodes: u16, cells: &[Cell]) -> Re
     Ok(())
 }
 
-/// Writes which era a line is about.
-pub fn put_era<K: Sink>(sink: &mut K, era: Option<u32>) -> Result<(), WriteFault>
-    ensures { Puts result (era_words era) (K.told sink.old) (K.told sink.new) }
-{
-    match era {
-        Some(begin) => put_pieces(
-            sink,
-            &[
-                Piece::Text(b"era "),
-                Piece::Number(u64::from(begin)),
-                Piece::Text(b" "),
-            ],
-        ),
-        None => Ok(()),
-    }
-}
-
-/// Writes which configuration is the first locked one.
-pub fn put_locked<K: Sink>(sink: &mut K, locked: Option<u32>) -> Result<(), WriteFault>
-    ensures { Puts result (locked_words locked) (K.told sink.old) (K.told sink.new) }
-{
-    match locked {
-        Some(t) => put_pieces(
-            sink,
-            &[Piece::Text(b"locked "), Piece::Number(u64::from(t))],
-        ),
-        None => put_all(sink, b"locked none"),
-    }
-}
-
 /// Writes a line behind the rows, without its newline.
 pub fn put_end<K: Sink>(sink: &mut K, end: End) -> Result<(), WriteFault>
     ensures { Puts result (end_words end) (K.told sink.old) (K.told sink.new) }
@@ -122,20 +91,6 @@ fn put_ends<K: Sink>(sink: &mut K, ends: &[End]) -> Result<(), WriteFault>
         written!(put_end_line(sink, ends[i]));
     }
     Ok(())
-}
-
-/// Writes the bound.
-fn put_bound<K: Sink>(sink: &mut K, bound: u64) -> Result<(), WriteFault>
-    ensures { Puts result (bound_line bound) (K.told sink.old) (K.told sink.new) }
-{
-    put_pieces(
-        sink,
-        &[
-            Piece::Text(b"bound "),
-            Piece::Number(bound),
-            Piece::Text(b"\n"),
-        ],
-    )
 }
 
 /// Writes a chart as `run` writes it.

@@ -2,11 +2,10 @@
 
 use crate::charts::{Cell, Chart, End};
 use crate::hits::mark_hits;
-use crate::lines::{era_line, locked_line, number_after, number_behind, shown};
+use crate::lines::{era_line, locked_line, shown};
 use edge_io::{Lines, Words};
-use std::alloc::{AllocError, AllocFailed, Global};
-use std::fmt;
-use thiserror::Error;
+use picture_parts::{ChartError, LineError, Wanted, digits_of, number_after, number_behind};
+use std::alloc::Global;
 
 /// How many nodes a row has at most.
 const MOST_NODES: u16 = 256;
@@ -16,81 +15,6 @@ const MOST_ERAS: usize = 17;
 
 /// A bound is below this.
 const MOST_BOUND: u64 = 1 << 50;
-
-/// Which line should stand at a place.
-#[derive(Clone, Copy, Debug)]
-pub enum Wanted {
-    Bound,
-    Row,
-    Further,
-    Era,
-    Nothing,
-    Trace,
-    Node,
-    Tally,
-    Plan,
-}
-
-impl fmt::Display for Wanted {
-    fn fmt<W: fmt::Write>(&self, f: &mut fmt::Formatter<W>) -> Result<(), fmt::Error> {
-        f.write_str(match self {
-            Wanted::Bound => "`bound` and a number",
-            Wanted::Row => {
-                "a row: `row`, the number of a configuration, and a number or a star for each node"
-            }
-            Wanted::Further => {
-                "the next row, with as many words, or the first line on what is locked"
-            }
-            Wanted::Era => "the line of a later era, or nothing",
-            Wanted::Nothing => "nothing",
-            Wanted::Trace => {
-                "the next line of a trace: the next node, or the next level of the same one"
-            }
-            Wanted::Node => "the line of a trace for the next node",
-            Wanted::Tally => {
-                "the next line of a sweep: `era`, `locked`, `runs` and `seed`, each with its number"
-            }
-            Wanted::Plan => {
-                "the next plan of a choice, of more nodes and a lesser bound: `nodes`, `bound`, .."
-            }
-        })
-    }
-}
-
-/// Why there is no chart.
-#[derive(Clone, Copy, Debug, Error)]
-pub enum ChartError {
-    /// A line, counted from 1, is not what should stand there.
-    #[error("line {line} should be {wanted}")]
-    Line { line: u64, wanted: Wanted },
-    #[error("out of memory")]
-    NoMemory,
-}
-
-impl From<AllocError> for ChartError {
-    fn from(_: AllocError) -> Self {
-        ChartError::NoMemory
-    }
-}
-
-impl<T: Drop> From<AllocFailed<T>> for ChartError {
-    fn from(_: AllocFailed<T>) -> Self {
-        ChartError::NoMemory
-    }
-}
-
-/// Why a line is not taken.
-#[derive(Clone, Copy)]
-pub enum LineError {
-    Unwanted,
-    NoMemory,
-}
-
-impl<T: Drop> From<AllocFailed<T>> for LineError {
-    fn from(_: AllocFailed<T>) -> Self {
-        LineError::NoMemory
-    }
-}
 
 /// A chart of which the front was read, and what should come next.
 #[derive(Drop)]
@@ -170,19 +94,6 @@ fn take_row(draft: &mut Draft, line: &[u8]) -> Result<(), LineError> {
             end_row(&mut draft.chart, nodes)
         }
         _ => Err(LineError::Unwanted),
-    }
-}
-
-/// How many digits the configurations of up to 1000000 have.
-pub fn digits_of(t: u32) -> u16 {
-    match t {
-        0..=9 => 1,
-        10..=99 => 2,
-        100..=999 => 3,
-        1000..=9999 => 4,
-        10000..=99999 => 5,
-        100000..=999999 => 6,
-        _ => 7,
     }
 }
 

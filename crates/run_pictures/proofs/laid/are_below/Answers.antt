@@ -1,5 +1,5 @@
 use Rattle.std.proofs.lemmas.List.Elements.{All-more}
-use Rattle.run_pictures.specs.Laid.{IsBelow}
+use Rattle.picture_parts.specs.Moduli.{IsBelow}
 use Rattle.run_pictures.proofs.laid.are_below.Goals as goal
 
 pub loop-k-preserved : goal.loop-k-preserved

@@ -1,5 +1,5 @@
 use Rattle.std.proofs.Common.{take, All}
-use Rattle.run_pictures.specs.Laid.{IsBelow}
+use Rattle.picture_parts.specs.Moduli.{IsBelow}
 use Rattle.run_pictures.proofs.laid.are_below.Given as goal
 
 abbrev pub invariant-loop-k : goal.invariant-loop-k

@@ -1,4 +1,4 @@
-use Rattle.run_pictures.proofs.Laying.{one_more}
+use Rattle.picture_parts.proofs.Laying.{one_more}
 use Rattle.run_pictures.proofs.laid.are_lines_laid.Goals as goal
 
 pub loop-k-preserved : goal.loop-k-preserved

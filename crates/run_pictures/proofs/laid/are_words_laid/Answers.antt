@@ -1,6 +1,6 @@
 use Rattle.std.proofs.Common.{◌+◌, ◌*◌, ◌<◌, sym, ◌∙◌}
 use Rattle.std.proofs.lemmas.List.Elements.{All-more}
-use Rattle.run_pictures.proofs.Laying.{one_more}
+use Rattle.picture_parts.proofs.Laying.{one_more}
 use Rattle.run_pictures.proofs.laid.are_words_laid.Goals as goal
 
 pub loop-k-preserved : goal.loop-k-preserved

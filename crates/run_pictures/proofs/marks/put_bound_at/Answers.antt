@@ -1,6 +1,6 @@
 use Rattle.std.proofs.Common.{sym, ◌∙◌}
 use Rattle.run_pictures.specs.Pictures.{is_before}
-use Rattle.run_pictures.proofs.Parts.{wrote_unless, puts_if}
+use Rattle.picture_parts.proofs.Parts.{wrote_unless, puts_if}
 use Rattle.run_pictures.proofs.marks.put_bound_at.Goals as goal
 
 pub returns-then-is_before : goal.returns-then-is_before

@@ -1,7 +1,7 @@
 use Rattle.std.proofs.Common.{ℕ, ◌+◌, ◌≤◌, arith}
 use Rattle.texts.proofs.Growth.{wrote_none}
 use Rattle.run_pictures.specs.Pictures.{era_begin}
-use Rattle.run_pictures.proofs.Parts.{bound_behind}
+use Rattle.run_pictures.proofs.Bounds.{bound_behind}
 use Rattle.run_pictures.proofs.marks.put_bound_mark.Goals as goal
 
 pub returns-else-chart-behind : goal.returns-else-chart-behind

@@ -1,8 +1,8 @@
 use Rattle.std.proofs.Common.{sym, ap, ◌∙◌}
-use Rattle.run_pictures.specs.declared.frames.Frame.{Frame}
+use Rattle.picture_parts.specs.declared.frames.Frame.{Frame}
 use Rattle.run_pictures.specs.Charts.{frame_of}
 use Rattle.run_pictures.specs.Pictures.{has_column}
-use Rattle.run_pictures.proofs.Parts.{wrote_unless}
+use Rattle.picture_parts.proofs.Parts.{wrote_unless}
 use Rattle.run_pictures.proofs.marks.put_mark_row.Goals as goal
 
 pub returns-else-has_column : goal.returns-else-has_column

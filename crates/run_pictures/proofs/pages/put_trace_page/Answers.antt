@@ -1,6 +1,6 @@
 use Rattle.texts.proofs.Growth.{cut_more, cut_then, puts_then}
 use Rattle.run_pictures.specs.Pages.{page_front}
-use Rattle.run_pictures.specs.TracePictures.{trace_picture}
+use Rattle.trace_pictures.specs.TracePictures.{trace_picture}
 use Rattle.run_pictures.proofs.pages.put_trace_page.Goals as goal
 
 pub returns-in-Err : goal.returns-in-Err

@@ -1,7 +1,7 @@
 use Rattle.std.specs.Prelude.{◌+◌, codes}
 use Rattle.texts.proofs.Growth.{cut_more, cut_then, puts_then}
-use Rattle.run_pictures.specs.Frames.{bottom}
-use Rattle.run_pictures.specs.Pictures.{number_caption, span_caption}
+use Rattle.picture_parts.specs.Frames.{bottom}
+use Rattle.picture_parts.specs.Captions.{number_caption, span_caption}
 use Rattle.run_pictures.proofs.pictures.put_facts_in.Goals as goal
 
 pub returns-in-Err : goal.returns-in-Err

@@ -1,7 +1,7 @@
 use Rattle.texts.proofs.Growth.{cut_more, puts_then}
 use Rattle.std.proofs.Common.{◌+◌, ◌*◌, length}
-use Rattle.run_pictures.specs.Frames.{bottom}
-use Rattle.run_pictures.specs.Pictures.{colour_legend}
+use Rattle.picture_parts.specs.Frames.{bottom}
+use Rattle.picture_parts.specs.Captions.{colour_legend}
 use Rattle.run_pictures.proofs.pictures.put_legend_in.Goals as goal
 
 pub returns-in-Err : goal.returns-in-Err

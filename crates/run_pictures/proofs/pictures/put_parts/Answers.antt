@@ -2,8 +2,8 @@ use Rattle.texts.proofs.Growth.{cut_more, cut_then, puts_then}
 use Rattle.std.specs.List.{flat_map}
 use Rattle.run_pictures.specs.Charts.{frame_of}
 use Rattle.run_pictures.specs.Cells.{cell_picture}
-use Rattle.run_pictures.specs.Pictures.{chart_legend, end_picture, facts, picture_ground}
-use Rattle.run_pictures.specs.Pictures.{sized_front}
+use Rattle.run_pictures.specs.Pictures.{chart_legend, end_picture, facts, sized_front}
+use Rattle.picture_parts.specs.Fronts.{picture_ground}
 use Rattle.run_pictures.proofs.pictures.put_parts.Goals as goal
 
 pub returns-in-Err : goal.returns-in-Err

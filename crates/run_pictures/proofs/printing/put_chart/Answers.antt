@@ -1,6 +1,7 @@
 use Rattle.texts.proofs.Growth.{cut_more, cut_then, puts_then}
 use Rattle.std.specs.List.{flat_map}
-use Rattle.run_pictures.specs.Charts.{bound_line, cell_words}
+use Rattle.picture_parts.specs.LineWords.{bound_line}
+use Rattle.run_pictures.specs.Charts.{cell_words}
 use Rattle.run_pictures.proofs.printing.put_chart.Goals as goal
 
 pub returns-in-Err : goal.returns-in-Err

@@ -1,5 +1,5 @@
 use Rattle.texts.proofs.Growth.{cut_more, puts_then}
-use Rattle.run_pictures.specs.Charts.{era_words}
+use Rattle.picture_parts.specs.LineWords.{era_words}
 use Rattle.run_pictures.proofs.printing.put_end.Goals as goal
 
 pub returns-in-Err : goal.returns-in-Err

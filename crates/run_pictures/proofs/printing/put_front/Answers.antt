@@ -1,4 +1,4 @@
-use Rattle.run_pictures.proofs.Parts.{wrote_unless_is}
+use Rattle.picture_parts.proofs.Parts.{wrote_unless_is}
 use Rattle.run_pictures.proofs.printing.put_front.Goals as goal
 
 pub returns-else-cell-eq0 : goal.returns-else-cell-eq0

@@ -1,5 +1,5 @@
 use Rattle.std.proofs.Common.{◌+◌}
-use Rattle.run_pictures.proofs.Parts.{wrote_unless_is}
+use Rattle.picture_parts.proofs.Parts.{wrote_unless_is}
 use Rattle.run_pictures.proofs.printing.put_row_end.Goals as goal
 
 pub returns-else-from : goal.returns-else-from

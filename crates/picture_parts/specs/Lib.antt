@@ -1,0 +1,9 @@
+pub mod Frames
+pub mod Faces
+pub mod Moduli
+pub mod Squares
+pub mod Marks
+pub mod Fronts
+pub mod Captions
+pub mod LineWords
+pub mod Hits

@@ -1,5 +1,0 @@
-use Rattle.run_pictures.proofs.pictures.put_span.Goals as goal
-
-pub returns : goal.returns
-returns g c =
-    rw (c.bottom.ensures.value, c.from.ensures, c.last_of.ensures) at c.put_span_at.ensures

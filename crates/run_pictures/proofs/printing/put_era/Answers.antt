@@ -1,5 +1,0 @@
-use Rattle.texts.proofs.Growth.{wrote_none}
-use Rattle.run_pictures.proofs.printing.put_era.Goals as goal
-
-pub returns-in-None : goal.returns-in-None
-returns-in-None g c = rw c.in-None.is (wrote_none _)

@@ -1,5 +1,0 @@
-use Rattle.run_pictures.proofs.Parts.{wrote_unless_is}
-use Rattle.run_pictures.proofs.squares.put_cell_head.Goals as goal
-
-pub returns-else-cell-eq0 : goal.returns-else-cell-eq0
-returns-else-cell-eq0 g c = wrote_unless_is c.args.cell.node 0 _ _ c.if-cell-eq0.false

@@ -1,4 +1,0 @@
-use Rattle.run_pictures.proofs.squares.put_cross.Goals as goal
-
-pub returns : goal.returns
-returns g c = rw (c.middle.ensures.value, c.spot_top.ensures.value) at c.put_pieces.ensures

@@ -1,4 +1,0 @@
-use Rattle.run_pictures.proofs.squares.put_hover_front.Goals as goal
-
-pub returns : goal.returns
-returns g c = rw c.configuration.ensures at c.put_pieces.ensures

@@ -1,6 +1,0 @@
-use Rattle.std.specs.Prelude.{◌%◌}
-use Rattle.run_pictures.proofs.Parts.{wrote_unless_is}
-use Rattle.run_pictures.proofs.squares.put_node_label.Goals as goal
-
-pub returns-else-spot-eq0 : goal.returns-else-spot-eq0
-returns-else-spot-eq0 g c = wrote_unless_is (c.args.spot.column % 120) 0 _ _ c.if-spot-eq0.false

@@ -1,6 +1,0 @@
-use Rattle.run_pictures.proofs.squares.put_rectangle.Goals as goal
-
-pub returns : goal.returns
-returns g c =
-    rw (c.left.ensures.value, c.spot_top.ensures.value, c.width.ensures.value)
-    at c.put_pieces.ensures

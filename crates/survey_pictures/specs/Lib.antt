@@ -1,0 +1,4 @@
+pub mod Sweeps
+pub mod SweepPictures
+pub mod Choices
+pub mod ChoicePictures

@@ -1,0 +1,3 @@
+pub mod TraceLines
+pub mod Hearing
+pub mod TurnsApart

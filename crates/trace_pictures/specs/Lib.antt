@@ -1,0 +1,5 @@
+pub mod Traces
+pub mod Strips
+pub mod TracePictures
+pub mod TraceSaid
+pub mod TraceLaid

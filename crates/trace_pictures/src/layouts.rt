@@ -1,0 +1,194 @@
+//! Lays out a trace: below the outputs a strip for each level, with the kings' turns above it.
+
+use crate::trace_reading::MOST_LEVELS;
+use crate::traces::{Heard, Level, Note, Register, Reign, Seen, Title, Trace};
+use picture_parts::{ChartError, MOST_COLUMNS, line_top};
+use std::alloc::{AllocFailed, Global};
+
+/// How many strips there may be, with one for no level.
+const STRIPS: usize = MOST_LEVELS as usize + 1;
+
+/// What is known of a level's strip.
+#[derive(Clone, Copy)]
+struct Strip {
+    /// Whether some node takes part in the level.
+    is_there: bool,
+    /// How many kings' turns stand in one column at most.
+    lanes: u32,
+    /// How many blocks vote.
+    blocks: Option<u64>,
+    /// The top of its kings' turns, in each band.
+    top: u32,
+    /// The top of its cells, in each band.
+    cells: u32,
+}
+
+/// A turn that a node hears.
+fn reign_of(column: u32, level: u64, heard: &Heard) -> Reign {
+    Reign {
+        column,
+        level,
+        king: heard.king,
+        turn: heard.turn,
+        lane: 0,
+        is_common: true,
+        top: 0,
+    }
+}
+
+/// Adds a turn to those of its column, which stand from place `from` on, if it is not there.
+/// Answers how many of its level there are then.
+fn add_reign(
+    reigns: &mut Vec<Reign>,
+    from: usize,
+    mut new: Reign,
+) -> Result<u32, AllocFailed<Reign>> {
+    for i in from..reigns.len() {
+        let old = reigns[i];
+        if old.level == new.level {
+            if old.king == new.king && old.turn == new.turn {
+                return Ok(0);
+            }
+            new.lane = new.lane.saturating_add(1);
+        }
+    }
+    if new.lane > 0 {
+        new.is_common = false;
+        for i in from..reigns.len() {
+            if reigns[i].level == new.level {
+                reigns[i].is_common = false;
+            }
+        }
+    }
+    reigns.push(new)?;
+    Ok(new.lane.saturating_add(1))
+}
+
+/// Takes what a node hears at a level, if it does.
+fn take_register(
+    reigns: &mut Vec<Reign>,
+    from: usize,
+    strip: &mut Strip,
+    note: &Note,
+    register: &Register,
+) -> Result<(), AllocFailed<Reign>> {
+    strip.is_there = true;
+    if let Some(heard) = &register.heard {
+        strip.blocks = Some(heard.votes.len() as u64);
+        if !note.is_faulty {
+            let reign = reign_of(note.column, register.level, heard);
+            let lanes = add_reign(reigns, from, reign)?;
+            strip.lanes = strip.lanes.max(lanes);
+        }
+    }
+    Ok(())
+}
+
+/// Finds the kings' turns that correct nodes hear, and what is known of each strip.
+fn find_reigns(trace: &mut Trace, strips: &mut [Strip]) -> Result<(), ChartError> {
+    let mut from = 0;
+    for note in trace.notes.iter() {
+        if note.is_first {
+            from = trace.reigns.len();
+        }
+        if let Seen::Holds(register) = &note.seen {
+            if let Some(strip) = strips.get_mut(register.level as usize) {
+                take_register(&mut trace.reigns, from, strip, note, register)?;
+            }
+        }
+    }
+    Ok(())
+}
+
+/// How high the lines of so many nodes are.
+fn lines_height(nodes: u16) -> u32 {
+    18 * u32::from(nodes)
+}
+
+/// Gives each strip its place below those before it. Answers where the last one ends.
+fn stack(strips: &mut [Strip], nodes: u16) -> u32 {
+    let mut y = line_top(nodes);
+    for strip in strips.iter_mut() {
+        if strip.is_there {
+            strip.top = y.saturating_add(8);
+            let lanes = strip.lanes.max(1).saturating_mul(16);
+            strip.cells = strip.top.saturating_add(lanes).saturating_add(2);
+            y = strip.cells.saturating_add(lines_height(nodes));
+        }
+    }
+    y
+}
+
+/// Gives each line and each turn its place.
+fn place_all(trace: &mut Trace, strips: &[Strip]) {
+    let mut place = 0;
+    for note in trace.notes.iter_mut() {
+        match &note.seen {
+            Seen::Shows(_) => {
+                place = if note.is_first { 0 } else { next_place(place) };
+                note.top = line_top(place);
+            }
+            Seen::Holds(register) => {
+                if let Some(strip) = strips.get(register.level as usize) {
+                    note.top = strip.cells.saturating_add(lines_height(place));
+                }
+            }
+        }
+    }
+    for reign in trace.reigns.iter_mut() {
+        if let Some(strip) = strips.get(reign.level as usize) {
+            reign.top = strip.top.saturating_add(reign.lane.saturating_mul(16));
+        }
+    }
+}
+
+/// The place of the next node.
+fn next_place(place: u16) -> u16 {
+    place.saturating_add(1)
+}
+
+/// Adds the words before a strip, one in each band, and its line in the caption.
+fn add_words(trace: &mut Trace, level: u64, strip: Strip) -> Result<(), ChartError> {
+    let mut column = 0;
+    for _ in 0..trace.frame.columns {
+        if column >= trace.frame.columns {
+            break;
+        }
+        trace.titles.push(Title {
+            column,
+            top: strip.top,
+            level,
+        })?;
+        column = column.saturating_add(MOST_COLUMNS);
+    }
+    let place = u32::try_from(trace.levels.len()).unwrap_or(0);
+    trace.levels.push(Level {
+        place,
+        level,
+        blocks: strip.blocks,
+        top: strip.top,
+        cells: strip.cells,
+    })?;
+    Ok(())
+}
+
+/// Lays out a trace.
+pub fn lay_out(trace: &mut Trace) -> Result<(), ChartError> {
+    let mut strips = [Strip {
+        is_there: false,
+        lanes: 0,
+        blocks: None,
+        top: 0,
+        cells: 0,
+    }; STRIPS];
+    find_reigns(trace, &mut strips)?;
+    trace.cells = stack(&mut strips, trace.nodes);
+    trace.frame.height = trace.cells.saturating_add(24);
+    place_all(trace, &strips);
+    for level in 0..STRIPS {
+        if strips[level].is_there {
+            add_words(trace, level as u64, strips[level])?;
+        }
+    }
+    Ok(())
+}

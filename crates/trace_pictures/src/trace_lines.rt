@@ -1,0 +1,284 @@
+//! Reads a line that `trace` writes.
+
+use crate::traces::{Heard, Held, Note, Output, Register, Seen, Turn};
+use edge_io::{Words, number};
+use picture_parts::{next_is, next_number};
+use std::alloc::{AllocFailed, Global};
+
+/// Why a line of a trace is not taken.
+#[derive(Clone, Copy)]
+pub enum TraceFault {
+    Unwanted,
+    NoMemory,
+}
+
+impl<T: Drop> From<AllocFailed<T>> for TraceFault {
+    fn from(_: AllocFailed<T>) -> Self {
+        TraceFault::NoMemory
+    }
+}
+
+/// What a line says.
+pub struct TraceLine {
+    pub t: u32,
+    pub node: u64,
+    pub is_faulty: bool,
+    pub seen: Seen,
+}
+
+// Written out, so that what lets go of one calls this, and no more.
+impl Drop for TraceLine {
+    fn drop(self) {
+        let TraceLine {
+            t: _,
+            node: _,
+            is_faulty: _,
+            seen,
+        } = self;
+        drop(seen);
+    }
+}
+
+impl TraceLine {
+    /// The line as it is drawn, in a column, with no height of its own yet.
+    pub fn into_note(self, column: u32, is_first: bool) -> Note {
+        let TraceLine {
+            t: _,
+            node,
+            is_faulty,
+            seen,
+        } = self;
+        Note {
+            column,
+            top: 0,
+            node,
+            is_first,
+            is_faulty,
+            is_hit: false,
+            is_lost: false,
+            seen,
+        }
+    }
+}
+
+/// The words of a line that are still to be read, whether one so far was not wanted, and whether
+/// memory ran out.
+#[derive(Drop)]
+struct Reader<'a> {
+    words: Words<'a>,
+    is_unwanted: bool,
+    lacks_memory: bool,
+}
+
+impl<'a> Reader<'a> {
+    /// Remembers that a word is not wanted, unless something holds.
+    fn want(&mut self, holds: bool) {
+        if !holds {
+            self.is_unwanted = true;
+        }
+    }
+
+    /// The next word, which must be there.
+    fn word(&mut self) -> &'a [u8] {
+        match self.words.next() {
+            Some(word) => word,
+            None => {
+                self.want(false);
+                &[]
+            }
+        }
+    }
+
+    /// The number of a word, which must be one.
+    fn number_of(&mut self, word: &[u8]) -> u64 {
+        match number(word) {
+            Some(n) => n,
+            None => {
+                self.want(false);
+                0
+            }
+        }
+    }
+
+    /// The next word as a number.
+    fn number(&mut self) -> u64 {
+        let word = self.word();
+        self.number_of(word)
+    }
+
+    /// The next word as a number of 32 bits.
+    fn small_number(&mut self) -> u32 {
+        match next_number(&mut self.words) {
+            Some(n) => n,
+            None => {
+                self.want(false);
+                0
+            }
+        }
+    }
+
+    /// The next word as a number, or None for `none`.
+    fn number_or_none(&mut self) -> Option<u64> {
+        let word = self.word();
+        if word == b"none".as_slice() {
+            None
+        } else {
+            Some(self.number_of(word))
+        }
+    }
+
+    /// Goes past a word that must stand there.
+    fn pass(&mut self, key: &[u8]) {
+        let is_there = next_is(&mut self.words, key);
+        self.want(is_there);
+    }
+
+    /// The number behind a word that must stand there.
+    fn number_after(&mut self, key: &[u8]) -> u64 {
+        self.pass(key);
+        self.number()
+    }
+
+    /// The number, or `none`, behind a word that must stand there.
+    fn number_or_none_after(&mut self, key: &[u8]) -> Option<u64> {
+        self.pass(key);
+        self.number_or_none()
+    }
+
+    /// How a register holds its value.
+    fn held(&mut self) -> Held {
+        let word = self.word();
+        if word == b"marked".as_slice() {
+            return Held::Marked;
+        }
+        if word == b"locked".as_slice() {
+            return Held::Locked;
+        }
+        self.want(word == b"unmarked".as_slice());
+        Held::Unmarked
+    }
+
+    /// What a king's turn has come to.
+    fn turn(&mut self) -> Turn {
+        let word = self.word();
+        if word == b"mark".as_slice() {
+            return Turn::Mark;
+        }
+        if word == b"king".as_slice() {
+            return Turn::King;
+        }
+        self.want(word == b"keep".as_slice());
+        Turn::Keep
+    }
+
+    /// The votes up to the word `lead`, which is read too.
+    fn votes(&mut self, alloc: Global) -> Vec<u64> {
+        let mut votes = Vec::new(alloc);
+        for _ in 0..MOST_BLOCKS {
+            let word = self.word();
+            if word == b"lead".as_slice() {
+                return votes;
+            }
+            let vote = self.number_of(word);
+            if self.is_unwanted {
+                return votes;
+            }
+            if votes.push(vote).is_err() {
+                self.lacks_memory = true;
+                return votes;
+            }
+        }
+        self.want(false);
+        votes
+    }
+
+    /// What a node hears, behind the word `votes`.
+    fn heard(&mut self, alloc: Global) -> Heard {
+        Heard {
+            votes: self.votes(alloc),
+            lead: self.number(),
+            position: self.number_after(b"position"),
+            turn: self.turn(),
+            king: self.number_after(b"king"),
+            same: self.number_after(b"same"),
+            least: self.number_or_none_after(b"least"),
+        }
+    }
+
+    /// What a node hears, if the line goes on.
+    fn heard_or_nothing(&mut self, alloc: Global) -> Option<Heard> {
+        match self.words.next() {
+            Some(word) => {
+                self.want(word == b"votes".as_slice());
+                Some(self.heard(alloc))
+            }
+            None => None,
+        }
+    }
+
+    /// A register, behind the word `level`.
+    fn register(&mut self, alloc: Global) -> Register {
+        Register {
+            level: self.number(),
+            value: self.number_or_none_after(b"value"),
+            held: self.held(),
+            heard: self.heard_or_nothing(alloc),
+        }
+    }
+
+    /// What a node shows, behind the word `number`.
+    fn output(&mut self) -> Output {
+        Output {
+            number: self.number_or_none(),
+            output: self.number_after(b"output"),
+        }
+    }
+
+    /// What a line is about, of which this is the first word.
+    fn seen(&mut self, alloc: Global, word: &[u8]) -> Seen {
+        if word == b"level".as_slice() {
+            return Seen::Holds(self.register(alloc));
+        }
+        self.want(word == b"number".as_slice());
+        Seen::Shows(self.output())
+    }
+
+    /// Ends the line: each word was wanted, and there are no more.
+    fn end(&mut self) -> Result<(), TraceFault> {
+        if self.lacks_memory {
+            return Err(TraceFault::NoMemory);
+        }
+        if self.is_unwanted || self.words.next().is_some() {
+            return Err(TraceFault::Unwanted);
+        }
+        Ok(())
+    }
+}
+
+/// How many words stand between `votes` and `lead` at most, with this.
+const MOST_BLOCKS: usize = 257;
+
+/// Reads a line of a trace.
+pub fn trace_line(alloc: Global, line: &[u8]) -> Result<TraceLine, TraceFault> {
+    let mut reader = Reader {
+        words: Words::new(line),
+        is_unwanted: false,
+        lacks_memory: false,
+    };
+    reader.pass(b"at");
+    let t = reader.small_number();
+    let node = reader.number_after(b"node");
+    let mut word = reader.word();
+    let is_faulty = word == b"faulty".as_slice();
+    if is_faulty {
+        word = reader.word();
+    }
+    let seen = reader.seen(alloc, word);
+    reader.end()?;
+    Ok(TraceLine {
+        t,
+        node,
+        is_faulty,
+        seen,
+    })
+}
