@@ -113,7 +113,7 @@ static void read_faulty(void) {
     want_end();
 }
 
-/* The line of a start behind that of `above`, which may not leave out a node that needs one. */
+/* The line of a start after that of `above`, which may not leave out a node that needs one. */
 static int read_start(int above) {
     int v = id();
     if (v <= above || is_faulty[v]) refuse();

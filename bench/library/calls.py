@@ -41,7 +41,7 @@ def output(plan, node, state):
 
 
 def cells(plan, packets):
-    """The whole packets of bytes, and behind these the node in whose cell they end, or None."""
+    """The whole packets of bytes, and after these the node in whose cell they end, or None."""
     found, at = [], 0
     while at < len(packets):
         packet = []

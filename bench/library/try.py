@@ -216,7 +216,7 @@ def some_register(source, level):
 
 
 def some_fields(source, plan):
-    """A number, and behind it a register of each level."""
+    """A number, and after it a register of each level."""
     registers = [some_register(source, level) for level in plan.levels]
     return [source.randrange(plan.base), *registers]
 
