@@ -8,8 +8,8 @@
 # (lib, include), bindings, examples, docs, README.md, CHANGELOG.md, LICENSE and VERSION, what the
 # commands of docs/ name (bench, crates), and the checksums of all these (SHA256SUMS). The programs
 # run on any x86-64 Linux whose C library is no older than the one that the line at the end names:
-# unpack it anywhere. They are tried in an empty root that has the C library alone, where this
-# machine lets one be entered, and a first program is linked with the library, where there is gcc.
+# unpack it anywhere. They are tried in an empty root that has the C library alone, if this
+# machine lets one be entered, and a first program is linked with the library, if there is gcc.
 set -eu
 [ $# -le 1 ] || { echo "usage: ./package.sh [FOLDER]" >&2; exit 2; }
 folder=$(cd "${1:-.}" && pwd)

@@ -31,7 +31,7 @@ def text_of(plan):
 
 
 def state_of(number, registers):
-    """A state of a number and pairs of a value, None where it is infinite, and a mark."""
+    """A state of a number and pairs of a value, None if it is infinite, and a mark."""
     return counter.State(number, registers)
 
 

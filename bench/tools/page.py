@@ -5,7 +5,7 @@
 PAGE.html is what `draw --page` wrote of a run or a trace, and CHROMIUM a program that behaves as
 headless Chromium does. The pointer is put on a cell, and arrow keys are pressed; what the page then
 says is compared with the rows in it, which are read here anew. Prints a line for each try, and ends
-with 1 where one fails. A picture of the page, after the last key, is written to SHOT.png if that is
+with 1 if one fails. A picture of the page, after the last key, is written to SHOT.png if that is
 named.
 """
 

@@ -89,7 +89,7 @@ def is_output(block, between):
 
 
 def cases_of(page):
-    """Each block of commands with what it has to print, or None where the page does not say it."""
+    """Each block of commands with what it has to print, or None if the page does not say it."""
     found = blocks_of(page)
     for i, (block, _) in enumerate(found):
         if block.language != "sh":

@@ -12,8 +12,8 @@ by `rt try --fail-alloc N --cases`, which refuses its Nth allocation and needs n
 each of 0 to N - 1 allocations before, so that each allocation of the row is refused in one run, if
 it has fewer than about N - 10.
 
-Each run has to end with status 10 and no byte taken, or, where the allocation that is refused is
-none of the row's, as it does where nothing is refused. The status is 1 where one ends otherwise.
+Each run has to end with status 10 and no byte taken, or, if the allocation that is refused is
+none of the row's, as it does if nothing is refused. The status is 1 if one ends otherwise.
 """
 
 import argparse
