@@ -8,9 +8,11 @@
 # (lib, include), bindings, examples, docs, README.md, CHANGELOG.md, LICENSE and VERSION, what the
 # commands of docs/ name (bench, crates), and the checksums of all these (SHA256SUMS). The programs
 # run on any x86-64 Linux whose C library is no older than the one that the line at the end names:
-# unpack it anywhere. They are tried in an empty root that has the C library alone, if this machine
-# lets one be entered; the quick commands of the pages are run in the folder, if there is python3; and
-# a first program is linked with the library, if there is gcc.
+# unpack it anywhere.
+#
+# It is tried before it is left: the programs in an empty root that has the C library alone, if this
+# machine lets one be entered; the quick commands of the pages in its folder, if there is python3;
+# and the library under a first program, if there is gcc. If one of these fails there is no tar.
 set -eu
 [ $# -le 1 ] || { echo "usage: ./package.sh [FOLDER]" >&2; exit 2; }
 folder=$(cd "${1:-.}" && pwd)
@@ -40,14 +42,14 @@ find "$room/$name" -name __pycache__ -prune -exec rm -rf {} +
 # the same files give the same tar
 stamp=$(git log -1 --format=@%ct 2> /dev/null || echo @0)
 tar -C "$room" --sort=name --owner=0 --group=0 --numeric-owner --mtime="$stamp" -cf - "$name" |
-    gzip -9n > "$folder/$name.tar.gz"
-(cd "$folder" && sha256sum "$name.tar.gz" > "$name.tar.gz.sha256")
+    gzip -9n > "$room/$name.tar.gz"
+(cd "$room" && sha256sum "$name.tar.gz" > "$name.tar.gz.sha256")
 
 # ---- a look at it, in a root with nothing but the C library
 
 root=$room/root
 mkdir "$root"
-tar -xzf "$folder/$name.tar.gz" -C "$root"
+tar -xzf "$room/$name.tar.gz" -C "$root"
 (cd "$root/$name" && sha256sum --quiet -c SHA256SUMS)
 for program in "$root/$name"/bin/*; do
     ldd "$program" | grep -o '/[^ ]*'
@@ -89,6 +91,7 @@ if command -v gcc > /dev/null; then
     "$room/first" > "$room/rows"
     echo "the library links, and its first program runs"
 fi
+mv "$room/$name.tar.gz" "$room/$name.tar.gz.sha256" "$folder"
 echo "wrote $folder/$name.tar.gz"
 if command -v objdump > /dev/null; then
     objdump -T "$root/$name"/bin/* | grep -o 'GLIBC_[0-9.]*' | sort -Vu | tail -n 1 |

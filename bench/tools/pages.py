@@ -4,8 +4,8 @@
     python3 bench/tools/pages.py [PAGE ..]
     python3 bench/tools/pages.py --quick
 
-PAGE is README.md or a page of docs/ or bench/, from the top of the repository; if none is named
-all are looked at. The blocks of `sh` of a page are run one after the other by one shell, in a copy of
+PAGE is README.md or a page of docs/ or bench/, from the top of the repository; if none is named all
+are looked at. The blocks of `sh` of a page are run one after the other by one shell, in a copy of
 the repository's files in which the built programs lie at their places (crates/NAME/out/NAME, as
 `rt ci` and `rt run` leave them). If a block without a language comes next, with nothing between or
 with a few lines that begin with "prints" or "writes", it is what the commands have to print, to the
@@ -209,6 +209,7 @@ def look(page, room, at, quick):
     for changed in changed_files(room) if cases else []:
         print(f"pages: {name}: {changed} is written otherwise than it is there")
         failed += 1
+        shutil.copyfile(TOP / changed, room / changed)
     return tried, compared, failed
 
 
