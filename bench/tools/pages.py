@@ -125,6 +125,7 @@ def files():
         names = listed.stdout.decode().split("\0")
     except (OSError, subprocess.CalledProcessError):  # no git, or no clone of one's own
         names = []
+    if not any(names):
         for at, folders, here in os.walk(TOP):
             folders[:] = [it for it in folders if it not in (".git", "out", "__pycache__")]
             names += [os.path.relpath(os.path.join(at, it), TOP) for it in here]
