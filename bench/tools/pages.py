@@ -188,7 +188,7 @@ def look(page, room, at, quick):
         elif why != "it only builds":
             left.append(f"line {block.line}: not tried, since {why}")
     if quick and left:
-        left = [f"{len(left)} blocks not tried, since their programs are not built"]
+        left = [f"not tried: {len(left)} of its blocks, whose programs are not built"]
     for it in left:
         print(f"pages: {name}, {it}")
     for (block, wanted), ran in zip(cases, run(cases, room, at, seconds)):
