@@ -13,6 +13,10 @@ case $1 in
 *) prefix=$PWD/$1 ;;
 esac
 cd "$(dirname "$0")"
+command -v rt > /dev/null || {
+    echo "install.sh: the kit is not here (rt); without it take the tar of package.sh" >&2
+    exit 1
+}
 page=$(rt doc) # in the kit's folder
 
 build() { # a program, by its crate

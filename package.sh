@@ -8,8 +8,11 @@
 # (lib, include), bindings, examples, docs, README.md, CHANGELOG.md, LICENSE and VERSION, what the
 # commands of docs/ name (bench, crates), and the checksums of all these (SHA256SUMS). The programs
 # run on any x86-64 Linux whose C library is no older than the one that the line at the end names:
-# unpack it anywhere. They are tried in an empty root that has the C library alone, where this
-# machine lets one be entered, and a first program is linked with the library, where there is gcc.
+# unpack it anywhere.
+#
+# It is tried before it is left: the programs in an empty root that has the C library alone, if this
+# machine lets one be entered; the quick commands of the pages in its folder, if there is python3;
+# and the library under a first program, if there is gcc. If one of these fails there is no tar.
 set -eu
 [ $# -le 1 ] || { echo "usage: ./package.sh [FOLDER]" >&2; exit 2; }
 folder=$(cd "${1:-.}" && pwd)
@@ -30,6 +33,7 @@ for program in "$room/$name"/bin/*; do
     crate=${crate#counterlab-}
     mkdir -p "$room/$name/crates/$crate/out"
     ln -s "../../../bin/$(basename "$program")" "$room/$name/crates/$crate/out/$crate"
+    [ ! -s "crates/$crate/stdin" ] || cp "crates/$crate/stdin" "$room/$name/crates/$crate"
 done
 find "$room/$name" -name __pycache__ -prune -exec rm -rf {} +
 (cd "$room/$name" && find . -type f ! -name SHA256SUMS | LC_ALL=C sort |
@@ -38,14 +42,14 @@ find "$room/$name" -name __pycache__ -prune -exec rm -rf {} +
 # the same files give the same tar
 stamp=$(git log -1 --format=@%ct 2> /dev/null || echo @0)
 tar -C "$room" --sort=name --owner=0 --group=0 --numeric-owner --mtime="$stamp" -cf - "$name" |
-    gzip -9n > "$folder/$name.tar.gz"
-(cd "$folder" && sha256sum "$name.tar.gz" > "$name.tar.gz.sha256")
+    gzip -9n > "$room/$name.tar.gz"
+(cd "$room" && sha256sum "$name.tar.gz" > "$name.tar.gz.sha256")
 
 # ---- a look at it, in a root with nothing but the C library
 
 root=$room/root
 mkdir "$root"
-tar -xzf "$folder/$name.tar.gz" -C "$root"
+tar -xzf "$room/$name.tar.gz" -C "$root"
 (cd "$root/$name" && sha256sum --quiet -c SHA256SUMS)
 for program in "$root/$name"/bin/*; do
     ldd "$program" | grep -o '/[^ ]*'
@@ -77,12 +81,19 @@ if enter counterlab-choose --version > /dev/null 2>&1; then
 else
     echo "not tried: no other root can be entered here"
 fi
+at=$root/$name
+if command -v python3 > /dev/null; then
+    (cd "$at" && python3 bench/tools/pages.py --quick)
+fi
 if command -v gcc > /dev/null; then
-    at=$root/$name
     gcc -I "$at/include" -o "$room/first" "$at/examples/library/four_nodes.c" \
         "$at/lib/libcounterlab.a"
     "$room/first" > "$room/rows"
     echo "the library links, and its first program runs"
 fi
-oldest=$(objdump -T "$root/$name"/bin/* | grep -o 'GLIBC_[0-9.]*' | sort -Vu | tail -n 1)
-echo "wrote $folder/$name.tar.gz; it wants a C library from $oldest on"
+mv "$room/$name.tar.gz" "$room/$name.tar.gz.sha256" "$folder"
+echo "wrote $folder/$name.tar.gz"
+if command -v objdump > /dev/null; then
+    objdump -T "$root/$name"/bin/* | grep -o 'GLIBC_[0-9.]*' | sort -Vu | tail -n 1 |
+        sed 's/^/it wants a C library from /; s/$/ on/'
+fi

@@ -1,5 +1,5 @@
 /* The proved step of a node, for C. Link libcounterlab.a, which install.sh makes, by
- * `pkg-config --libs counterlab`; or libcounterlab_c.a, and the kit's c/liblibc_c.a behind it.
+ * `pkg-config --libs counterlab`; or libcounterlab_c.a, and the kit's c/liblibc_c.a after it.
  *
  * Each function reads its plan's text anew and keeps nothing: no call hangs on another, calls from
  * several threads need no lock, nothing has to be freed. Any bytes and any numbers may be given.
@@ -18,8 +18,8 @@
 /* What a call answers. */
 struct counterlab_answer {
     uint32_t code;   /* one of those below */
-    uint32_t detail; /* where the code says so, else 0 */
-    uint64_t value;  /* the answer, or where the code says so, else 0 */
+    uint32_t detail; /* if the code says so, else 0 */
+    uint64_t value;  /* the answer, or if the code says so, else 0 */
 };
 
 /* The codes are those by which the program `counterlab` ends for the like. After any but the first
@@ -76,9 +76,9 @@ struct counterlab_answer counterlab_state_bytes(const uint8_t *plan, size_t plan
 struct counterlab_answer counterlab_output(const uint8_t *plan, size_t plan_size, uint32_t id,
                                            const uint8_t *state, size_t state_size);
 
-/* Steps node `id` behind each packet, and puts its new state in the place of the old one; value:
+/* Steps node `id` after each packet, and puts its new state in the place of the old one; value:
  * how many packets there were. A packet is a cell of each node, that of node 0 first; a cell is two
- * bytes of length, the high one first, and so many bytes of state. Where that length is not that of
+ * bytes of length, the high one first, and so many bytes of state. If that length is not that of
  * the sender's states, as 0 for a message that did not come, the zero state is heard. The own cell
  * is not looked at. The state may have any contents; no packet at all brings it into range. */
 struct counterlab_answer counterlab_step(const uint8_t *plan, size_t plan_size, uint32_t id,

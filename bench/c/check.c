@@ -25,7 +25,7 @@ static void refuse(void) {
     exit(4);
 }
 
-/* Takes the next line; 0 where no byte is left. */
+/* Takes the next line; 0 if no byte is left. */
 static int take_line(void) {
     char *found;
     line_number++;
@@ -50,7 +50,7 @@ static void want_line(void) {
     if (!take_line()) refuse();
 }
 
-/* Takes a text from the front of the line, where it is there. */
+/* Takes a text from the front of the line, if it is there. */
 static int takes(const char *text) {
     size_t length = strlen(text);
     if ((size_t)(line_end - line) < length || memcmp(line, text, length) != 0) return 0;
@@ -113,7 +113,7 @@ static void read_faulty(void) {
     want_end();
 }
 
-/* The line of a start behind that of `above`, which may not leave out a node that needs one. */
+/* The line of a start after that of `above`, which may not leave out a node that needs one. */
 static int read_start(int above) {
     int v = id();
     if (v <= above || is_faulty[v]) refuse();
@@ -159,7 +159,7 @@ static int read_row(uint64_t t) {
     return is_same;
 }
 
-/* Reads the lies of a round, the first of which stands in the line, where there are any. */
+/* Reads the lies of a round, the first of which stands in the line, if there are any. */
 static void read_lies(void) {
     for (int i = 0; i < faulty_count; i++)
         for (int v = 0; v < nodes; v++) {

@@ -24,7 +24,7 @@ struct reg {
 
 struct state {
     uint64_t x;
-    struct reg regs[MOST_LEVELS + 1]; /* the levels', and behind them one of a layer */
+    struct reg regs[MOST_LEVELS + 1]; /* the levels', and after them one of a layer */
 };
 
 static int depth, nodes = 1, faults, behind; /* behind: a layer's registers */

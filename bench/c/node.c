@@ -1,5 +1,5 @@
 /* One node that hears packets and answers each with the cell of its state, as the word `node` does:
- * a cell is written before any byte behind its packet is read.
+ * a cell is written before any byte after its packet is read.
  *
  *   gcc -O2 -o node bench/c/node.c
  *   python3 bench/tools/packets.py bench/inputs/node_twelve.txt 12 4 100000 > packets.bin

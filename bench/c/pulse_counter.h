@@ -53,7 +53,7 @@ static struct group right_of(const struct group *g) {
                           (uint64_t)instructions_of(g)};
 }
 
-/* The half in which a node of a group is; 0 where it is a spare. */
+/* The half in which a node of a group is; 0 if it is a spare. */
 static int half_of(const struct group *g, int v, struct group *half) {
     *half = left_of(g);
     if (v < half->first + half->nodes) return 1;
@@ -61,7 +61,7 @@ static int half_of(const struct group *g, int v, struct group *half) {
     return v < half->first + half->nodes;
 }
 
-/* The modulus of the number of a node, 1 where it lacks it. */
+/* The modulus of the number of a node, 1 if it lacks it. */
 static uint64_t base_of(int v) {
     struct group g = whole;
     for (struct group half; g.faults > 0; g = half)

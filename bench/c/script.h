@@ -289,7 +289,7 @@ static struct era *play(uint64_t t, struct era *era, void (*layer)(int v, struct
     return behind_it;
 }
 
-/* Looks whether configuration t is locked, where none of its era was. */
+/* Looks whether configuration t is locked, if none of its era was. */
 static void look(uint64_t t, struct era *era) {
     const struct reg *one = NULL;
     if (era->is_locked) return;

@@ -1,6 +1,6 @@
 """Cases of a file as steps.c and plans.c read them, by ctypes; then what ctypes alone gets wrong.
 
-It is run by try.py, and fails where an answer is another one.
+It is run by try.py, and fails if an answer is another one.
 """
 
 import ctypes

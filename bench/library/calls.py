@@ -31,7 +31,7 @@ def text_of(plan):
 
 
 def state_of(number, registers):
-    """A state of a number and pairs of a value, None where it is infinite, and a mark."""
+    """A state of a number and pairs of a value, None if it is infinite, and a mark."""
     return counter.State(number, registers)
 
 
@@ -41,7 +41,7 @@ def output(plan, node, state):
 
 
 def cells(plan, packets):
-    """The whole packets of bytes, and behind these the node in whose cell they end, or None."""
+    """The whole packets of bytes, and after these the node in whose cell they end, or None."""
     found, at = [], 0
     while at < len(packets):
         packet = []

@@ -1,4 +1,4 @@
-/* How long calls take: reads a plan, steps its node 0 behind packets of noise, in which two of three
+/* How long calls take: reads a plan, steps its node 0 after packets of noise, in which two of three
  * cells have common bytes, and prints microseconds of processor time for a step with one packet a
  * call, for a step with all packets in one call, and for an output.
  *

@@ -6,9 +6,9 @@
     python3 bench/library/try.py ARCHIVE      take this archive
 
 Random steps of nine plans of both constructions, and calls that are refused, have to give what the
-plain step of calls.py gives, and of boosting plans what `counterlab node` writes where the program
+plain step of calls.py gives, and of boosting plans what `counterlab node` writes if the program
 is built; the numbers of the example plans have to be those of their stored tables; each allocation
-is refused in turn. A line says what was not tried, and why. The status is 1 where an answer is not
+is refused in turn. A line says what was not tried, and why. The status is 1 if an answer is not
 what it has to be, or what was proved is not compiled or linked. A tool that is missing or does not
 work is no failure, nor is a machine that has too little memory, or takes more than ten minutes.
 """
@@ -185,7 +185,7 @@ def build_after_ci():
 
 
 def archive(words):
-    """The archive, built where no word names one."""
+    """The archive, built if no word names one."""
     if words == ["--after-ci"]:
         build_after_ci()
     elif words:
@@ -216,7 +216,7 @@ def some_register(source, level):
 
 
 def some_fields(source, plan):
-    """A number, and behind it a register of each level."""
+    """A number, and after it a register of each level."""
     registers = [some_register(source, level) for level in plan.levels]
     return [source.randrange(plan.base), *registers]
 

@@ -35,7 +35,7 @@ def width(count):
 
 
 class Plan:
-    """A plan from the lines of its text; behind it the values of each register of a layer."""
+    """A plan from the lines of its text; after it the values of each register of a layer."""
 
     def __init__(self, lines, behind=()):
         self.lines = lines

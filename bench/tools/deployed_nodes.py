@@ -9,7 +9,7 @@ or of an id LIAR a process that sends random bytes of random lengths, other ones
 each round. The correct nodes begin in states of random bytes. The hub gives each node a packet of
 the cells that were sent to it. In some rounds each link between two correct nodes fails with an even
 chance, and carries random bytes or none. Says since when the correct nodes count, and ends with 1
-where that is not as promised. It is no part of the proved program.
+if that is not as promised. It is no part of the proved program.
 
 With `reboots` no link fails; instead each correct node is ended and started anew, one after another
 and then all at once, first with the last cell that it wrote as its state, then in a state of random

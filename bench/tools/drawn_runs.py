@@ -114,7 +114,7 @@ def drawn_inputs(draws, plan, values):
 
 
 def request_lines(draws, plan, rounds):
-    """Requests: one stretch of rounds behind the other, in which so many nodes request."""
+    """Requests: one stretch of rounds after the other, in which so many nodes request."""
     lines, first = [], max(0, rounds - 60)
     while first < rounds and len(lines) + plan.nodes <= 256:
         last = first + draws.below(9)
@@ -171,7 +171,7 @@ def drawn_times(draws, plan, word):
 
 
 def script_lines(draws, plan, firsts, rounds):
-    """A script for a plan that has the layer's registers behind."""
+    """A script for a plan that has the layer's registers after its own."""
     faulty = [faulty_ids(draws, plan) for _ in firsts]
     lines = ["script 2", f"faulty{words(faulty[0])}", f"seed {draws.data(32).hex()}"]
     lines += [f"start {draws.one_of(['zero', 'noise', 'noise'])}", *start_lines(draws, plan)]

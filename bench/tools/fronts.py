@@ -21,7 +21,7 @@ plan of F faults or more.
                               writes at modulus 10
   fronts.py within BINARY     tests that the built `choose within N T 10` tolerates the most faults,
                               at each bound of a pulse plan and just below it, for some N
-  fronts.py none BINARY       tests what the built `choose` says on standard error where there is no
+  fronts.py none BINARY       tests what the built `choose` says on standard error if there is no
                               plan, for some N and each F
   fronts.py times BINARY      how long the built `choose boosting` takes, for the five slowest F from
                               0 to 85: the least of nine runs each
@@ -88,7 +88,7 @@ def front(rows, faults):
 
 
 def table_of(lines):
-    """The table of a plan of version 2 with these lines. It fails where the plan is refused."""
+    """The table of a plan of version 2 with these lines. It fails if the plan is refused."""
     assert lines[0] == 'plan 2' and lines[-1] == 'end', lines
     word, base = lines[1].split(' ')
     base = int(base)
@@ -115,7 +115,7 @@ def table_of(lines):
 
 
 def check(rows, faults, modulus, text):
-    """Fails where the text is not the front of these rows, in plans that have its numbers."""
+    """Fails if the text is not the front of these rows, in plans that have its numbers."""
     want = front(rows, faults)
     lines = text.splitlines(keepends=True)
     if not want:
@@ -150,7 +150,7 @@ def front_of_both(rows, faults, most):
 
 
 def check_both(rows, faults, modulus, most, text):
-    """Fails where the text is not the front of both constructions, in plans that have its numbers."""
+    """Fails if the text is not the front of both constructions, in plans that have its numbers."""
     want = front_of_both(rows, faults, most)
     lines = text.splitlines(keepends=True)
     if not want:

@@ -2,11 +2,11 @@
 # Compares what the built program `choose` writes with the search of fronts.py. From the top of the
 # repository:
 #
-#   sh bench/tools/fronts.sh [BINARY]          BINARY: crates/choose/out/choose where it is left out
+#   sh bench/tools/fronts.sh [BINARY]          BINARY: crates/choose/out/choose if it is left out
 #
 # For each F from 0 to 85, five moduli, and 256 nodes at most; and for eight F, three moduli and ten
 # numbers of nodes at most: of the plans of `counterlab` alone, and of both constructions. Then what
-# `within` tolerates, and what is said where there is no plan. It stops at the first that differs,
+# `within` tolerates, and what is said if there is no plan. It stops at the first that differs,
 # and then ends with a status that is not 0. It takes about a minute.
 set -e
 binary=${1:-crates/choose/out/choose}

@@ -113,7 +113,7 @@ CASES = [
     ("plan", "bytes, empty lines", 2**20, lambda n: "\n" * n),
     ("plan", "bytes, one line of `#`", 2**20, lambda n: "#" * n),
     ("plan", "bytes, empty lines before a plan", 2**20, lambda n: "\n" * (n - len(ONE)) + ONE),
-    ("run", "bytes, `#` behind a script", 2**20, lambda n: filled(ONE + script("", 0, 0), n)),
+    ("run", "bytes, `#` after a script", 2**20, lambda n: filled(ONE + script("", 0, 0), n)),
     ("table", "bytes, empty lines", 2**20, lambda n: "\n" * n),
     ("node", "bytes, empty lines", 2**20, lambda n: "\n" * n),
     ("plan", "lines of 4096 bytes before a plan", 255, lambda n: ("#" * 4096 + "\n") * n + ONE),
@@ -150,7 +150,7 @@ CASES = [
 
 
 def filled(text, length):
-    """A text with lines `#` behind it, so many bytes in all."""
+    """A text with lines `#` after it, so many bytes in all."""
     behind = length - len(text)
     return text + "#\n" * (behind // 2) + "\n" * (behind % 2)
 

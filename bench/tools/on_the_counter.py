@@ -17,13 +17,13 @@ def numbers(line):
 
 
 class Agreement:
-    """A register of agreement, the first one behind those of a plan."""
+    """A register of agreement, the first one after those of a plan."""
 
     def __init__(self, plan):
         self.plan, self.length = plan, 3 * (plan.faults + 1)
 
     def turn(self, x, v, heard):
-        """The register of node v behind turn x of a slot."""
+        """The register of node v after turn x of a slot."""
         place = self.plan.depth
         values = [state.registers[place][0] for state in heard]
         own = heard[v].registers[place]

@@ -1,4 +1,4 @@
-"""Writes a header and packets behind it, for the word `node`. It is no part of the proved program.
+"""Writes a header and packets after it, for the word `node`. It is no part of the proved program.
 
     python3 packets.py HEADER NODES BYTES PACKETS
 

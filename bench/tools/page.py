@@ -3,15 +3,17 @@
     python3 bench/tools/page.py PAGE.html [CHROMIUM] [SHOT.png]
 
 PAGE.html is what `draw --page` wrote of a run or a trace, and CHROMIUM a program that behaves as
-headless Chromium does. The pointer is put on a cell, and arrow keys are pressed; what the page then
-says is compared with the rows in it, which are read here anew. Prints a line for each try, and ends
-with 1 where one fails. A picture of the page, after the last key, is written to SHOT.png if that is
-named.
+headless Chromium does; if it is left out, the one that this machine has. The pointer is put on a
+cell, and arrow keys are pressed; what the page then says is compared with the rows in it, which are
+read here anew. Prints a line for each try, and ends with 1 if one fails. A picture of the page,
+after the last key, is written to SHOT.png if that is named. If there is no Chromium, a line says
+so, and the status is 0.
 """
 
 import html
 import pathlib
 import re
+import shutil
 import subprocess
 import sys
 import tempfile
@@ -78,11 +80,20 @@ def tries(said):
     yield (t, node), ["ArrowDown", "ArrowRight"], (later, other)
 
 
+def found():
+    """The Chromium of this machine, or None."""
+    names = ("chromium", "chromium-browser", "google-chrome", "chrome", "headless_shell")
+    return next((it for it in names if shutil.which(it)), None)
+
+
 def main():
     if len(sys.argv) < 2:
         sys.exit(__doc__)
     text = pathlib.Path(sys.argv[1]).read_text()
-    chromium = sys.argv[2] if len(sys.argv) > 2 else "chromium"
+    chromium = sys.argv[2] if len(sys.argv) > 2 else found()
+    if chromium is None:
+        print("page: not tried: there is no Chromium here")
+        return 0
     shot = pathlib.Path(sys.argv[3]).resolve() if len(sys.argv) > 3 else None
     said = lines_of(ROWS.search(text).group(1))
     failed = 0

@@ -2,9 +2,10 @@
 """Runs the commands of the pages, and compares what they print with what stands there.
 
     python3 bench/tools/pages.py [PAGE ..]
+    python3 bench/tools/pages.py --quick
 
-PAGE is README.md or a page of docs/ or bench/, from the top of the repository; where none is named
-these are all. The blocks of `sh` of a page are run one after the other by one shell, in a copy of
+PAGE is README.md or a page of docs/ or bench/, from the top of the repository; if none is named all
+are looked at. The blocks of `sh` of a page are run one after the other by one shell, in a copy of
 the repository's files in which the built programs lie at their places (crates/NAME/out/NAME, as
 `rt ci` and `rt run` leave them). If a block without a language comes next, with nothing between or
 with a few lines that begin with "prints" or "writes", it is what the commands have to print, to the
@@ -12,8 +13,14 @@ letter. Else they have to end with 0. Pictures and other files of the repository
 have to be what is there.
 
 Lines that prove or build by `rt`, and blocks that name what this machine lacks, are left out, and
-told: a program that is not built, or a path of the reader's own. The status is 1 where a block ends
-or prints otherwise.
+told: a program that is not built, or a path of the reader's own. The status is 1 if a block ends or
+prints otherwise.
+
+`--quick` is what `.ci/run` looks at: the blocks of all pages that call the programs alone, and take
+a second or two. What builds by gcc, starts processes that wait for one another, measures, or is one
+of the tests of `rt ci` is left out. It fails for no want: if there is no room for the copy, or a
+page takes longer than it may on a busy machine, it says that this was not tried, and of each page
+how many blocks name a program that is not built.
 """
 
 import os
@@ -26,10 +33,15 @@ import tempfile
 
 TOP = pathlib.Path(__file__).resolve().parent.parent.parent
 SECONDS = 300  # for a page
+QUICK_SECONDS = 60
 MOST_BETWEEN = 3  # lines that may stand between commands and what they print
 SAYS_OUTPUT = re.compile(r"((it|which|this|and) )?(prints|writes)\b")
 # what only its reader can fill in, what takes minutes, and what shows a failing machine
 NOT_RUN = [".ci/run", "NAME", "FOLDER", "examples/udp/run.py", "bench/library/try.py", "hostile.py"]
+# what takes more than a second or two, or hangs on more than the programs and a shell
+NOT_QUICK = ["gcc", "rt doc", "mkfifo", "deployed_nodes.py", "drawn_runs.py", "vectors.py", "time ",
+             "python3 ticks.py", "out/try_"]
+NOT_READ = (".rt", ".antt", ".edit")  # what no command of a page reads: the sources
 ARCHIVE = "crates/counterlab_c/out/libcounterlab_c.a"
 BUILDS = re.compile(r"\brt (run|lib|ci|try|check|must-fail)\b")
 BUILT = re.compile(r"\bout/(\w+)\b")
@@ -77,7 +89,7 @@ def is_output(block, between):
 
 
 def cases_of(page):
-    """Each block of commands with what it has to print, or None where the page does not say it."""
+    """Each block of commands with what it has to print, or None if the page does not say it."""
     found = blocks_of(page)
     for i, (block, _) in enumerate(found):
         if block.language != "sh":
@@ -105,13 +117,26 @@ def why_not(commands):
     return None
 
 
+def files():
+    """The names of the repository's files that commands may read."""
+    try:
+        listed = subprocess.run(["git", "ls-files", "-z"], cwd=TOP, stdout=subprocess.PIPE,
+                                stderr=subprocess.DEVNULL, check=True)
+        names = listed.stdout.decode().split("\0")
+    except (OSError, subprocess.CalledProcessError):  # no git, or no clone of one's own
+        names = []
+    if not any(names):
+        for at, folders, here in os.walk(TOP):
+            folders[:] = [it for it in folders if it not in (".git", "out", "__pycache__")]
+            names += [os.path.relpath(os.path.join(at, it), TOP) for it in here]
+    return [it for it in names if it and not it.endswith(NOT_READ) and (TOP / it).is_file()]
+
+
 def copy(room):
-    """The repository's files, and the programs that are built."""
-    listed = subprocess.run(["git", "ls-files", "-z"], cwd=TOP, stdout=subprocess.PIPE, check=True)
-    for name in listed.stdout.decode().split("\0"):
-        if name and (TOP / name).is_file():
-            (room / name).parent.mkdir(parents=True, exist_ok=True)
-            shutil.copyfile(TOP / name, room / name)
+    """The repository's files that commands may read, and the programs that are built."""
+    for name in files():
+        (room / name).parent.mkdir(parents=True, exist_ok=True)
+        shutil.copyfile(TOP / name, room / name)
     for made in TOP.glob("crates/*/out/*"):
         name = made.parent.parent.name
         if made.is_file() and made.name in (name, f"lib{name}.a"):
@@ -128,13 +153,13 @@ def changed_files(room):
             yield file.relative_to(room)
 
 
-def run(cases, room, at):
+def run(cases, room, at, seconds):
     """Runs the blocks of a page in one shell; what each printed, and its status, or None."""
     script = []
     for i, (block, _) in enumerate(cases):
         script += ["{", block.commands(), f"}} > {at}/{i}.out 2> {at}/{i}.err < /dev/null",
                    f"echo $? > {at}/{i}.status"]
-    how = {"cwd": room, "timeout": SECONDS, "env": {**os.environ, "HOME": str(at)}}
+    how = {"cwd": room, "timeout": seconds, "env": {**os.environ, "HOME": str(at)}}
     try:
         subprocess.run(["bash"], input="\n".join(script).encode(), **how)
     except subprocess.TimeoutExpired:
@@ -148,23 +173,33 @@ def run(cases, room, at):
         yield int(status.read_text()), *said
 
 
-def look(page, room, at):
+def look(page, room, at, quick):
     """Looks at a page: how many blocks were run, how many compared, and how many failed."""
     tried, compared, failed = 0, 0, 0
-    cases = []
+    cases, left = [], []
     name = page.relative_to(TOP)
+    seconds = QUICK_SECONDS if quick else SECONDS
     for block, wanted in cases_of(page):
+        if quick and any(it in block.commands() for it in NOT_QUICK + NOT_RUN):
+            continue
         why = why_not(block.commands())
         if why is None:
             cases.append((block, wanted))
         elif why != "it only builds":
-            print(f"pages: {name}, line {block.line}: not tried, since {why}")
-    for (block, wanted), ran in zip(cases, run(cases, room, at)):
+            left.append(f"line {block.line}: not tried, since {why}")
+    if quick and left:
+        left = [f"not tried: {len(left)} of its blocks, whose programs are not built"]
+    for it in left:
+        print(f"pages: {name}, {it}")
+    for (block, wanted), ran in zip(cases, run(cases, room, at, seconds)):
+        where = f"pages: {name}, line {block.line}"
+        if ran is None and quick:
+            print(f"{where}: not tried, since the page did not end in {seconds} seconds")
+            continue
         tried += 1
         compared += wanted is not None
-        where = f"pages: {name}, line {block.line}"
         if ran is None:
-            print(f"{where}: did not end in {SECONDS} seconds")
+            print(f"{where}: did not end in {seconds} seconds")
         elif wanted is not None and ran[1] != wanted:
             print(f"{where}: printed\n{ran[1]}{ran[2]}in place of\n{wanted}", end="")
         elif wanted is None and ran[0] != 0:
@@ -175,23 +210,45 @@ def look(page, room, at):
     for changed in changed_files(room) if cases else []:
         print(f"pages: {name}: {changed} is written otherwise than it is there")
         failed += 1
+        shutil.copyfile(TOP / changed, room / changed)
     return tried, compared, failed
 
 
-def main():
-    named = [(TOP / word).resolve() for word in sys.argv[1:]]
-    every = [TOP / "README.md", *sorted(TOP.glob("docs/**/*.md")), *sorted(TOP.glob("bench/*.md"))]
+def pages_of(words):
+    """The pages that are named, or all."""
+    if words:
+        return [(TOP / word).resolve() for word in words]
+    return [TOP / "README.md", *sorted(TOP.glob("docs/**/*.md")), *sorted(TOP.glob("bench/*.md"))]
+
+
+def look_at_all(pages, quick):
+    """Looks at pages, each in a copy of its own, or in the quick case all in one."""
     totals = [0, 0, 0]
-    for page in named or every:
-        if not page.is_file():
-            sys.exit(__doc__)
-        with tempfile.TemporaryDirectory(prefix="counterlab-pages-") as name:
-            room, at = pathlib.Path(name) / "top", pathlib.Path(name) / "at"
-            at.mkdir()
-            if any(True for _ in cases_of(page)):
+    with tempfile.TemporaryDirectory(prefix="counterlab-pages-") as name:
+        for number, page in enumerate(pages):
+            part = pathlib.Path(name) / ("all" if quick else str(number))
+            room, at = part / "top", part / f"at{number}"
+            at.mkdir(parents=True)
+            if any(True for _ in cases_of(page)) and not room.is_dir():
                 copy(room)
-            totals = [a + b for a, b in zip(totals, look(page, room, at))]
-    tried, compared, failed = totals
+            totals = [a + b for a, b in zip(totals, look(page, room, at, quick))]
+            if not quick:
+                shutil.rmtree(part, ignore_errors=True)
+    return totals
+
+
+def main():
+    quick = sys.argv[1:] == ["--quick"]
+    pages = pages_of([] if quick else sys.argv[1:])
+    if not all(page.is_file() for page in pages):
+        sys.exit(__doc__)
+    try:
+        tried, compared, failed = look_at_all(pages, quick)
+    except OSError as error:
+        if not quick:
+            raise
+        print(f"pages: not tried: {error}")
+        return 0
     print(f"pages: {tried} blocks of commands were run, {compared} compared with what stands "
           f"there, {failed} not as they should be")
     return 1 if failed else 0

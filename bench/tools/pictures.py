@@ -1,10 +1,11 @@
 #!/usr/bin/env python3
-"""Draws what the pages say of T.
+"""Draws what the pages say of T, and of what is proved.
 
     python3 bench/tools/pictures.py eras > docs/pictures/eras.svg           two eras, and T rounds into each
+    python3 bench/tools/pictures.py layers > docs/pictures/layers.svg       what stands on what, and how it is known
     python3 bench/tools/pictures.py bounds > docs/pictures/bounds.svg       nodes against T, for each F
 
-The second one has the plans of the tables of docs/CHOOSE.md, which are those that `choose` writes:
+The last one has the plans of the tables of docs/CHOOSE.md, which are those that `choose` writes:
 of pulses the one for each F, of boosting the front for each F up to 7.
 """
 
@@ -62,6 +63,33 @@ def eras():
     out += "".join(era(*it) for it in ERAS)
     arrow = f'<path d="M868 {TOP + 14} l10 6 l-10 6 z" fill="{LINE}"/>\n'
     return out + line(860, TOP + 20, 870, TOP + 20) + arrow + "</svg>\n"
+
+
+# ---- layers
+
+PROVED, TESTED, TRUSTED = "#cfe8cf", "#f6d9c6", "#e6e6e6"
+# from what its user sees down to the machine: what it is, its parts, and how it is known
+LAYERS = [
+    ("What you mean by a counter", "do the definitions say it?", "trusted: read them", TRUSTED),
+    ("The edges", "arguments, exit codes, output; header and link", "tested", TESTED),
+    ("Pictures, and states in words", "draw, states", "proved in part, tested", TESTED),
+    ("What is answered", "counterlab, pulselab, choose, trace, sweep, library", "proved", PROVED),
+    ("Why it counts", "every accepted plan, any start, any lies", "proved", PROVED),
+    ("Rattle", "its logic, compilers, library and crates", "trusted", TRUSTED),
+    ("Below", "C library, system, machine", "trusted", TRUSTED),
+]
+LAYER, WIDE = 34, 720
+
+
+def layers():
+    out = head(WIDE + 2 * LEFT, LAYER * len(LAYERS) + 20, "what is proved, tested and trusted")
+    for i, (what, parts, known, colour) in enumerate(LAYERS):
+        y = 10 + LAYER * i
+        out += box(LEFT, y, WIDE, LAYER, colour)
+        out += text(LEFT + 10, y + 22, 13, what, 'font-weight="bold"')
+        out += text(LEFT + 240, y + 22, 12, parts)
+        out += text(LEFT + WIDE - 10, y + 22, 12, known, END)
+    return out + "</svg>\n"
 
 
 # ---- nodes against bounds
@@ -134,7 +162,7 @@ def bounds():
     return out + "</svg>\n"
 
 
-PICTURES = {"eras": eras, "bounds": bounds}
+PICTURES = {"eras": eras, "layers": layers, "bounds": bounds}
 
 
 def main():

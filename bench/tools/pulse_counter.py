@@ -154,7 +154,7 @@ class Plan:
             group = next((half for half in halves if is_in(half, v)), None)
 
     def fields(self, v):
-        """The modulus of the number of node v, 1 where it lacks it, and those of its registers."""
+        """The modulus of the number of node v, 1 if it lacks it, and those of its registers."""
         moduli = []
         for group in self.groups(v):
             if group.faults == 0:

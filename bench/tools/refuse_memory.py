@@ -6,14 +6,14 @@
 
 A row is an input with its answer, NAME.txt and NAME.WORDS.out in crates/try_faults/data/short;
 without names all rows are taken. The program `try_faults` gives a row to the workbench over a
-source and a sink that never fail, behind so many allocations of its own. With `--pulses` the
+source and a sink that never fail, after so many allocations of its own. With `--pulses` the
 program is `try_random_pulses`, and its one row a call of a node of a pulse plan. The program is run
 by `rt try --fail-alloc N --cases`, which refuses its Nth allocation and needs no proof: once for
 each of 0 to N - 1 allocations before, so that each allocation of the row is refused in one run, if
 it has fewer than about N - 10.
 
-Each run has to end with status 10 and no byte taken, or, where the allocation that is refused is
-none of the row's, as it does where nothing is refused. The status is 1 where one ends otherwise.
+Each run has to end with status 10 and no byte taken, or, if the allocation that is refused is
+none of the row's, as it does if nothing is refused. The status is 1 if one ends otherwise.
 """
 
 import argparse
@@ -33,7 +33,7 @@ REFUSED = "10 0"
 
 
 def put_case(folder, row, spent):
-    """Puts a run of a row behind so many allocations into a folder."""
+    """Puts a run of a row after so many allocations into a folder."""
     case = folder / f"{row}.{spent}"
     arguments = ["spend", str(spent)]
     if row == PULSE_ROW:
@@ -46,7 +46,7 @@ def put_case(folder, row, spent):
 
 
 def answers(crate, rows, counts, flags):
-    """What each row answers behind each count of allocations: its status and how many bytes."""
+    """What each row answers after each count of allocations: its status and how many bytes."""
     with tempfile.TemporaryDirectory() as name:
         for row in rows:
             for spent in counts:
@@ -58,7 +58,7 @@ def answers(crate, rows, counts, flags):
     for row in rows:
         for spent in counts:
             if f"{row}.{spent}" not in found:
-                print(f"{row} has no answer behind {spent} allocations")
+                print(f"{row} has no answer after {spent} allocations")
     return {row: [found.get(f"{row}.{spent}") for spent in counts] for row in rows}, text
 
 

@@ -4,13 +4,13 @@
     python3 bench/tools/statuses.py [PROGRAM ..]
 
 PROGRAM is the path of a built `counterlab`, `pulselab`, `choose`, `draw`, `states`, `sweep` or
-`trace`; where none is named these are crates/NAME/out/NAME, as `rt ci` and `rt run` leave them. One
+`trace`; if none is named these are crates/NAME/out/NAME, as `rt ci` and `rt run` leave them. One
 that is not there is told in a line, and not tried. It is what the contracts of these programs leave
 to `main`: that all arguments are the words, that standard input, output and error are the source
 and the sinks, and that the status is the exit code. A case is an exit code, words, an input, the
 bytes that must come out, and how the line on standard error must begin, or that there is none. It
 also looks whether programs, header and crate say the version that the file VERSION has. The status
-is 1 where a case ends otherwise. A case that this machine cannot make is told in a line, and is no
+is 1 if a case ends otherwise. A case that this machine cannot make is told in a line, and is no
 failure, nor is a machine that takes more than a minute.
 """
 

@@ -9,7 +9,7 @@
                                                            or of pulse_counter.py
     python3 vectors.py cases FOLDER < VECTORS              of each vector such an input and answer
 
-CERTIFICATE is what `counterlab record` writes. The states behind its starts are counted here, by
+CERTIFICATE is what `counterlab record` writes. The states after its starts are counted here, by
 counter.py, and each row has to be what they show. `packets` and `cells` begin in configuration
 FROM, or 0, and go on as long as node V is correct and is put into no state. docs/VECTORS.md says
 what a vector is. This is no part of the proved program.
@@ -83,7 +83,7 @@ def expect_row(plan, config, words):
 
 
 def read_certificate(lines):
-    """The plan of a certificate, its rounds, and which nodes are put into states behind each."""
+    """The plan of a certificate, its rounds, and which nodes are put into states after each."""
     plan, rounds, hits = plan_of(lines), [], []
     config, lies, faulty, started = {}, {}, [], {}
     for key, *words in (line.split() for line in lines):

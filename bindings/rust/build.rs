@@ -1,4 +1,4 @@
-/// COUNTERLAB_ARCHIVE is the folder of libcounterlab.a, which install.sh makes; or, where
+/// COUNTERLAB_ARCHIVE is the folder of libcounterlab.a, which install.sh makes; or, if
 /// KIT_ARCHIVE is the kit's folder c, that of libcounterlab_c.a. The crate is built anew when a
 /// folder is another one, and when an archive in it has changed.
 fn main() {

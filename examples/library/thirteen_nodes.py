@@ -5,7 +5,7 @@
 The correct nodes begin in random states. In each round each liar sends each correct node something
 else: bytes of any length, or the state of some node. For each of so many seeds, or ten, it prints
 from which round on the correct nodes count, which the plan's bound tells beforehand, and it ends
-with 1 where that was later. It plays 300 rounds.
+with 1 if that was later. It plays 300 rounds.
 """
 
 import random

@@ -6,19 +6,19 @@
  *   ./node [-p] PLAN ID PORT WAIT < TICKS
  *   ./node PLAN                              prints the numbers of the plan
  *
- * Node ID of the plan in the file PLAN has the port PORT + ID. A round begins where a byte comes on
+ * Node ID of the plan in the file PLAN has the port PORT + ID. A round begins when a byte comes on
  * standard input, the tick, which all nodes get at about the same time; what the byte is tells
  * nothing. The node then steps from what came in since the last tick, and WAIT milliseconds later
  * sends its new state to each other node. It begins in a state of random bytes, since any will do,
- * and ends where the ticks do. With each tick it prints
+ * and ends when the ticks do. With each tick it prints
  *
  *   TICKS NUMBER SURE HEARD
  *
- * TICKS is how many came since the line before, 1 where it missed none. NUMBER is what it shows.
- * SURE is 1 where the node knows of no disturbance within the last T rounds: only then should a
- * system act on NUMBER. HEARD is how many states it stepped from, its own among them, or -1 where
+ * TICKS is how many came since the line before, 1 if it missed none. NUMBER is what it shows.
+ * SURE is 1 if the node knows of no disturbance within the last T rounds: only then should a
+ * system act on NUMBER. HEARD is how many states it stepped from, its own among them, or -1 if
  * memory was refused, so that it did not step, or NUMBER is not known. With -p each line has its
- * new state, too, and the bytes that came from each node, - where none did. */
+ * new state, too, and the bytes that came from each node, - if none did. */
 #define _POSIX_C_SOURCE 200809L
 #include "counterlab.h"
 #include <arpa/inet.h>
@@ -48,7 +48,7 @@ static int links[NODES];
 static struct {
     size_t size;
     uint8_t bytes[LONGEST];
-} heard[NODES]; /* the last datagram of each node in this round; a size of 0 where none came */
+} heard[NODES]; /* the last datagram of each node in this round; a size of 0 if none came */
 
 static void die(const char *what) {
     perror(what);
@@ -111,7 +111,7 @@ static void open_links(long port) {
     }
 }
 
-/* Waits for a tick, and never for a message; how many came, 0 where there are no more. */
+/* Waits for a tick, and never for a message; how many came, 0 if there are no more. */
 static ssize_t wait_for_tick(void) {
     char ticks[4096];
     ssize_t got;
@@ -137,12 +137,12 @@ static void hear_all(void) {
 
 static void send_all(void) {
     for (uint32_t u = 0; u < numbers.nodes; u++)
-        /* where it says that an earlier datagram met no process, it has sent nothing */
+        /* if it says that an earlier datagram met no process, it has sent nothing */
         if (u != id && send(links[u], state, sizes[id], 0) < 0 && errno == ECONNREFUSED)
             send(links[u], state, sizes[id], 0);
 }
 
-/* The step, from a packet of what was heard; how many states these were, -1 where it failed. */
+/* The step, from a packet of what was heard; how many states these were, -1 if it failed. */
 static int step(void) {
     static uint8_t packet[NODES * (2 + LONGEST)];
     size_t size = 0;
@@ -161,7 +161,7 @@ static int step(void) {
     return states;
 }
 
-/* How many rounds are left until the node is sure: T again where it knows of a disturbance.
+/* How many rounds are left until the node is sure: T again if it knows of a disturbance.
  * Whatever this number was, T good rounds later it is right. */
 static uint64_t rounds_left(uint64_t left, ssize_t ticks, int states) {
     if (ticks != 1 || states < (int)(numbers.nodes - numbers.faults) || left > numbers.bound)

@@ -14,17 +14,17 @@ of them lie as the plan tolerates. The stories:
     links    while all liars lie, then all but one, then all but two, few datagrams are lost for ten
              seconds; then the first liar floods for five
     told     four nodes start, and what they did for some seconds is written as a run certificate,
-             which bench/c/check.c and the program have to find true, where they are there
+             which bench/c/check.c and the program have to find true, if they are there
 
 Each event comes T rounds after the last, and some. Of each a line says from which round after it on
 all correct nodes show one number that grows by one, and how many rounds later than that did not
-count. A round is *clean* where each correct node has heard the true state of each other one. The
-last line is `as promised` where all counted in each round that had T clean ones before it: the
+count. A round is *clean* if each correct node has heard the true state of each other one. The
+last line is `as promised` if all counted in each round that had T clean ones before it: the
 machine may be late, and rounds unclean, but none of these may fail. The longest stretch of clean
 rounds of a boosting plan is written to CERTIFICATE, for `counterlab check`.
 
-The status is 1 where something is not as promised, or a certificate is not true. A tool that is
-missing is told in a line, and is no failure. Where it may, it runs in real time, before all other
+The status is 1 if something is not as promised, or a certificate is not true. A tool that is
+missing is named in a line, and is no failure. If it may, it runs in real time, before all other
 processes. Nothing here is proved but the step of the library. It kills only processes that it
 started, and ends by itself.
 """

@@ -62,7 +62,7 @@ mod archive {
 }
 
 impl Answer {
-    /// The value, or the answer itself where its code is not 0.
+    /// The value, or the answer itself if its code is not 0.
     pub fn ok(self) -> Result<u64, Answer> {
         match self.code {
             0 => Ok(self.value),
