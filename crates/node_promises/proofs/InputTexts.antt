@@ -13,6 +13,8 @@ use Rattle.node_header.specs.HeaderParts.{HeaderOf, header_in}
 use Rattle.node_stepper.specs.Packets.{Packets, packets_of, whole as all_whole}
 use Rattle.node_stepper.specs.Laws.{packet_text, AreFull}
 use Rattle.node_stepper.proofs.ReadBack.{packets_back}
+use Rattle.node_stepper.specs.Nodes.{node_text}
+use Rattle.node_runs.specs.Bytes.{AreBytes, StatesFit}
 use Rattle.node_runs.specs.Cells.{cell_number}
 use Rattle.node_runs.specs.NodeRuns.{Nodes, cell_given, IsCorrect, state_at}
 use Rattle.node_runs.proofs.Written.{node_writes_states}
@@ -23,15 +25,18 @@ use Rattle.node_words.specs.NodeAnswers.{node_outcome}
 use Rattle.node_promises.specs.Calls.{Call, whole, header_of, packets_behind, packets_in}
 use Rattle.node_promises.specs.Calls.{cell_heard, IsOfNode}
 use Rattle.node_promises.specs.CallWindows.{cell_written, AreCalls, CallsConnect}
-use Rattle.node_promises.specs.Inputs.{header_stated}
+use Rattle.node_promises.specs.Inputs.{header_stated, AreOneMachine}
 use Rattle.node_promises.specs.RestartInputs.{calls_of}
+use Rattle.node_promises.proofs.InputBytes.{PacketsFit, input_bytes}
 
--- A construction whose plans are sound machines, and the text of each header, which has so many
--- lines and is read as it at the front of any text.
+-- A construction whose plans are sound machines with states that fit into cells, and the text of
+-- each header, which is bytes, has so many lines, and is read as it at the front of any text.
 pub record AreWritten {Reader Plan Premise : Type 0} (words : Words Reader Plan Premise)
     (Accepted : Plan → Type 0) (lines : Plan → ℕ) (text : Plan → (v : ℕ) → State → List ℕ)
     : Type 0 where
   pub sound : (plan : Plan) → Accepted plan → IsSound (words.machine plan)
+  pub short : (plan : Plan) → Accepted plan → StatesFit (words.machine plan)
+  pub bytes : (plan : Plan) (v : ℕ) (s : State) → AreBytes (text plan v s)
   pub read : (plan : Plan) → Accepted plan → (v : ℕ) → v < (words.machine plan).nodes
       → (s : State) → IsState (words.machine plan) v s → (longer : Bool) (rest : List ℕ)
       → (header_in words.part (room_of longer (2 ^ 20)) (lines_of (text plan v s ++ rest))
@@ -48,6 +53,11 @@ pub record AreFed (m : Machine) (faulty : List ℕ) (nodes : Nodes) (count : ℕ
 
 abbrev pub input_with : (header : List ℕ) (packets : List (List (List ℕ))) → List ℕ
 input_with header packets = header ++ flat_map packet_text packets
+
+-- the header of each node, whose plan is its own
+abbrev pub texts_by : {Plan : Type 0} → (text : Plan → (v : ℕ) → State → List ℕ)
+    → (plans : ℕ → Plan) → (v : ℕ) → State → List ℕ
+texts_by text plans v s = text (plans v) v s
 
 abbrev pub inputs_of : (text : (v : ℕ) → State → List ℕ) → Nodes → ℕ → List ℕ
 inputs_of text nodes v = input_with (text v (nodes.starts v)) (nodes.packets v)
@@ -72,33 +82,48 @@ connect_same words m faulty calls others begins rounds same is = record {
 
 module _ {Reader Plan Premise : Type 0} (words : Words Reader Plan Premise)
     {Accepted : Plan → Type 0} (lines : Plan → ℕ) (text : Plan → (v : ℕ) → State → List ℕ)
-    (law : AreWritten words Accepted lines text) (plan : Plan) (accepted : Accepted plan) where
-  abbrev m : Machine
-  m = words.machine plan
+    (law : AreWritten words Accepted lines text) (m : Machine) (plans : ℕ → Plan)
+    (stated : AreOneMachine words Accepted m plans) where
+  pub sound : IsSound m
+  sound = subst IsSound (stated.machine 0) (law.sound (plans 0) (stated.accepted 0))
+
+  pub short : StatesFit m
+  short = subst StatesFit (stated.machine 0) (law.short (plans 0) (stated.accepted 0))
 
   -- ---- the input of one node
 
   module _ (v : ℕ) (lt : v < m.nodes) (s : State) (is : IsState m v s)
       (packets : List (List (List ℕ))) (full : AreFull m.nodes packets)
       (few : length packets ≤ 1000000) where
+    abbrev plan : Plan
+    plan = plans v
+
     abbrev input : List ℕ
     input = input_with (text plan v s) packets
 
     abbrev header : HeaderOf Plan
     header = header_stated (lines plan) plan v s
 
+    read : (longer : Bool)
+        → (header_in words.part (room_of longer (2 ^ 20)) (lines_of input) ≡ Ok header)
+        × (behind_lines (lines plan) input ≡ flat_map packet_text packets)
+    read longer =
+        law.read plan (stated.accepted v) v
+        (subst (λ (k : Machine). v < k.nodes) (sym (stated.machine v)) lt) s
+        (subst (λ (k : Machine). IsState k v s) (sym (stated.machine v)) is) longer
+        (flat_map packet_text packets)
+
     header_is : header_of words (whole input) ≡ Ok header
-    header_is =
-        (law.read plan accepted v lt s is (nat_lt (2 ^ 20) (length input))
-        (flat_map packet_text packets)).0
+    header_is = (read (nat_lt (2 ^ 20) (length input))).0
 
     abbrev all : Packets
     all = record { cells = packets; ending = all_whole (0 + length packets) }
 
     behind_is : packets_for words header (behind_lines (lines plan) input) ≡ all
     behind_is =
-        ap (packets_of m.nodes 1000000 0)
-        (law.read plan accepted v lt s is true (flat_map packet_text packets)).1
+        ap (packets_of (words.machine plan).nodes 1000000 0) (read true).1
+        ∙ ap (λ (k : Machine). packets_of k.nodes 1000000 0 (flat_map packet_text packets))
+        (stated.machine v)
         ∙ packets_back m.nodes packets 1000000 0 (omega (arith, lt)) full few
 
     packets_are : packets_in words (whole input) ≡ packets
@@ -114,13 +139,13 @@ module _ {Reader Plan Premise : Type 0} (words : Words Reader Plan Premise)
   module _ (faulty : List ℕ) (nodes : Nodes) (count : ℕ → ℕ) (fed : AreFed m faulty nodes count)
     where
       abbrev inputs : ℕ → List ℕ
-      inputs = inputs_of (text plan) nodes
+      inputs = inputs_of (texts_by text plans) nodes
 
       few_packets : (v : ℕ) → IsCorrect m faulty v → length (nodes.packets v) ≤ 1000000
       few_packets v correct = omega (arith, fed.long v correct, fed.few v correct)
 
       pub begin : (v : ℕ) → IsCorrect m faulty v → header_of words (whole (inputs v))
-          ≡ Ok (header_stated (lines plan) plan v (nodes.starts v))
+          ≡ Ok (header_stated (lines (plans v)) (plans v) v (nodes.starts v))
       begin v correct =
           header_is v correct.0 (nodes.starts v) (fed.starts v correct) (nodes.packets v)
           (fed.full v correct) (few_packets v correct)
@@ -137,7 +162,8 @@ module _ {Reader Plan Premise : Type 0} (words : Words Reader Plan Premise)
           ap (λ (ps : List (List (List ℕ))). get_or (get_or ps t []) u []) (same_packets v correct)
 
       outcome : (v : ℕ) → IsCorrect m faulty v → node_outcome words (inputs v)
-          ≡ served_outcome words (header_stated (lines plan) plan v (nodes.starts v))
+          ≡ served_outcome words
+          (header_stated (lines (plans v)) (plans v) v (nodes.starts v))
           (record {
             cells = nodes.packets v;
             ending = all_whole (0 + length (nodes.packets v));
@@ -146,12 +172,20 @@ module _ {Reader Plan Premise : Type 0} (words : Words Reader Plan Premise)
           outcome_is v correct.0 (nodes.starts v) (fed.starts v correct) (nodes.packets v)
           (fed.full v correct) (few_packets v correct)
 
+      -- they are bytes, where their packets fit into cells
+      pub are_bytes : (v : ℕ) → PacketsFit (nodes.packets v) → AreBytes (inputs v)
+      are_bytes v fit =
+          input_bytes (texts_by text plans v (nodes.starts v)) (nodes.packets v)
+          (law.bytes (plans v) v (nodes.starts v)) fit
+
       -- each writes its states
       pub wrote : (t v : ℕ) → t ≤ count v → IsCorrect m faulty v
           → cell_written words m (calls_of inputs) t v
           ≡ Some (written (m.fields v) (state_at m nodes t v))
       wrote t v le correct =
           ap (λ (o : Outcome Premise). cell_number t o.text) (outcome v correct)
+          ∙ ap (λ (k : Machine).
+          cell_number t (node_text k v (nodes.starts v) (nodes.packets v))) (stated.machine v)
           ∙ node_writes_states m v (nodes.starts v) (nodes.packets v) t
           (omega (arith, fed.long v correct, le))
 
@@ -169,9 +203,9 @@ module _ {Reader Plan Premise : Type 0} (words : Words Reader Plan Premise)
         pub are_calls : AreCalls words m faulty (calls_of inputs) begins rounds
         are_calls = record {
           headers = λ v correct. record {
-            header = header_stated (lines plan) plan v (nodes.starts v);
+            header = header_stated (lines (plans v)) (plans v) v (nodes.starts v);
             is = begin v correct;
-            names = refl;
+            names = stated.machine v;
             id = refl;
           };
           enough = λ v correct.

@@ -5,8 +5,14 @@ pub mod Processes
 pub mod Connected
 pub mod Heard
 pub mod Restarts
+pub mod TextBytes
+pub mod InputBytes
 pub mod InputTexts
 pub mod Inputs
 pub mod RestartInputs
+pub mod ResumedNodes
 pub mod ResumedInputs
 pub mod LossyInputs
+pub mod SkippedLines
+pub mod ShortInputs
+pub mod Skips

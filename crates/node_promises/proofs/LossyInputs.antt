@@ -9,26 +9,24 @@ use Rattle.node_runs.specs.Lossy.{ConnectsMost}
 use Rattle.node_runs.proofs.Connected.{any_losses_connect}
 use Rattle.node_runs.proofs.Losses.{not_so}
 use Rattle.node_words.specs.Constructions.{Words}
-use Rattle.node_promises.specs.Calls.{whole, header_of, cell_heard}
+use Rattle.node_promises.specs.Calls.{whole, cell_heard}
 use Rattle.node_promises.specs.CallWindows.{CallsAreHeard}
-use Rattle.node_promises.specs.Inputs.{header_stated}
+use Rattle.node_promises.specs.Inputs.{header_stated, AreOneMachine, BeginIn}
 use Rattle.node_promises.specs.RestartInputs.{calls_of}
 use Rattle.node_promises.specs.LossyInputs.{InputsLose, AnyInputsLose}
 use Rattle.node_promises.proofs.InputTexts.{AreWritten, AreFed, inputs_of, begin, same_cell, ends}
-use Rattle.node_promises.proofs.InputTexts.{are_calls, cell_is}
+use Rattle.node_promises.proofs.InputTexts.{are_calls, cell_is, texts_by, sound, short, are_bytes}
+use Rattle.node_promises.proofs.InputBytes.{lossy_fit}
 
 module _ {Reader Plan Premise : Type 0} (words : Words Reader Plan Premise)
     {Accepted : Plan → Type 0} (lines : Plan → ℕ) (text : Plan → (v : ℕ) → State → List ℕ)
-    (law : AreWritten words Accepted lines text) (plan : Plan) (accepted : Accepted plan)
-    (faulty : List ℕ) (starts : ℕ → State) (sent : ℕ → ℕ → ℕ → List ℕ)
+    (law : AreWritten words Accepted lines text) (m : Machine) (plans : ℕ → Plan)
+    (stated : AreOneMachine words Accepted m plans) (faulty : List ℕ) (starts : ℕ → State)
+    (sent : ℕ → ℕ → ℕ → List ℕ)
     (missed : (i v : ℕ) → List ℕ) (begins : ℕ → ℕ) (rounds : ℕ)
     (few : (v : ℕ) → begins v + rounds ≤ 1000000)
-    (are : (i v : ℕ) → i < rounds → IsCorrect (words.machine plan) faulty v
-    → AreMissed (words.machine plan) faulty v (missed i v))
-    (c : ConnectsMost (words.machine plan) faulty starts sent missed begins rounds) where
-  abbrev m : Machine
-  m = words.machine plan
-
+    (are : (i v : ℕ) → i < rounds → IsCorrect m faulty v → AreMissed m faulty v (missed i v))
+    (c : ConnectsMost m faulty starts sent missed begins rounds) where
   abbrev count : ℕ → ℕ
   count v = begins v + rounds
 
@@ -41,7 +39,7 @@ module _ {Reader Plan Premise : Type 0} (words : Words Reader Plan Premise)
   }
 
   abbrev inputs : ℕ → List ℕ
-  inputs = inputs_of (text plan) c.nodes
+  inputs = inputs_of (texts_by text plans) c.nodes
 
   within : (v : ℕ) → IsCorrect m faulty v → begins v + rounds ≤ count v
   within v correct = omega arith
@@ -54,43 +52,46 @@ module _ {Reader Plan Premise : Type 0} (words : Words Reader Plan Premise)
 
   heard : CallsAreHeard words m faulty (calls_of inputs) begins rounds
   heard = record {
-    are_calls = are_calls words lines text law plan accepted faulty c.nodes count fed begins rounds
+    are_calls = are_calls words lines text law m plans stated faulty c.nodes count fed begins rounds
         within;
     missed = missed;
     are = are;
     cells = λ i v u lt correct ult is other.
-        cell_is words lines text law plan accepted faulty c.nodes count fed begins rounds within i v
-        u lt correct (not_missed i v u lt correct ult is) (c.wrote i v u lt ult is);
+        cell_is words lines text law m plans stated faulty c.nodes count fed begins rounds within i
+        v u lt correct (not_missed i v u lt correct ult is) (c.wrote i v u lt ult is);
   }
 
-  begin_is : (v : ℕ) → IsCorrect m faulty v
-      → header_of words (whole (inputs v)) ≡ Ok (header_stated (lines plan) plan v (starts v))
+  begin_is : BeginIn words lines m plans faulty starts inputs
   begin_is v correct =
-      begin words lines text law plan accepted faulty c.nodes count fed v correct
-      ∙ ap (λ (s : ℕ → State). Ok (header_stated (lines plan) plan v (s v))) c.begin
+      begin words lines text law m plans stated faulty c.nodes count fed v correct
+      ∙ ap (λ (s : ℕ → State). Ok (header_stated (lines (plans v)) (plans v) v (s v))) c.begin
 
   same : (t v u : ℕ) → IsCorrect m faulty v
       → cell_heard words (whole (inputs v)) t u ≡ cell_given c.nodes t v u
   same t v u correct =
-      same_cell words lines text law plan accepted faulty c.nodes count fed t v u correct
+      same_cell words lines text law m plans stated faulty c.nodes count fed t v u correct
 
-  inputs_lose : InputsLose words (lines plan) plan faulty starts sent missed begins rounds
+  inputs_lose : InputsLose words lines m plans faulty starts sent missed begins rounds
   unfolding heard
   inputs_lose = record {
     inputs = inputs;
+    in_bytes = λ fits v correct.
+        are_bytes words lines text law m plans stated faulty c.nodes count fed v
+        (lossy_fit m (short words lines text law m plans stated) faulty starts sent begins rounds
+        fits missed c v);
     heard = heard;
     misses = refl;
     begin = begin_is;
     early = λ t v u lt correct ult. same t v u correct ∙ c.early t v u lt ult;
     lost = λ i v u lt correct ult is. same (begins v + i) v u correct ∙ c.lost i v u lt ult is;
-    ends = ends words lines text law plan accepted faulty c.nodes count fed;
+    ends = ends words lines text law m plans stated faulty c.nodes count fed;
   }
 
 pub any_lose : {Reader Plan Premise : Type 0} (words : Words Reader Plan Premise)
     (Accepted : Plan → Type 0) (lines : Plan → ℕ) (text : Plan → (v : ℕ) → State → List ℕ)
     → AreWritten words Accepted lines text → AnyInputsLose words lines Accepted
-any_lose words Accepted lines text law plan accepted faulty starts sent missed begins rounds few
+any_lose words Accepted lines text law m plans stated faulty starts sent missed begins rounds few
     begun are =
-    inputs_lose words lines text law plan accepted faulty starts sent missed begins rounds few are
-    (any_losses_connect (words.machine plan) (law.sound plan accepted) faulty starts sent missed
+    inputs_lose words lines text law m plans stated faulty starts sent missed begins rounds few are
+    (any_losses_connect m (sound words lines text law m plans stated) faulty starts sent missed
     begins rounds begun are)

@@ -9,13 +9,15 @@ use Rattle.node_runs.specs.NodeRuns.{Nodes, cell_given, IsCorrect}
 use Rattle.node_runs.specs.Restarts.{begins_later, AreFaultyMeanwhile, RestartConnects}
 use Rattle.node_runs.proofs.Restarts.{apart, correct_too, any_restart_connects}
 use Rattle.node_words.specs.Constructions.{Words}
-use Rattle.node_promises.specs.Calls.{whole, header_of, cell_heard}
+use Rattle.node_promises.specs.Calls.{whole, cell_heard}
 use Rattle.node_promises.specs.CallWindows.{CallsConnect}
 use Rattle.node_promises.specs.Restarts.{calls_after, begins_after}
-use Rattle.node_promises.specs.Inputs.{header_stated}
+use Rattle.node_promises.specs.Inputs.{header_stated, AreOneMachine, BeginIn}
 use Rattle.node_promises.specs.RestartInputs.{calls_of, restart_of, InputsRestart, AnyInputsRestart}
 use Rattle.node_promises.proofs.InputTexts.{AreWritten, AreFed, inputs_of, begin, same_cell, ends}
-use Rattle.node_promises.proofs.InputTexts.{connect, connect_same}
+use Rattle.node_promises.proofs.InputTexts.{connect, connect_same, texts_by, sound, short}
+use Rattle.node_promises.proofs.InputTexts.{are_bytes}
+use Rattle.node_promises.proofs.InputBytes.{connected_fit}
 use Rattle.node_promises.proofs.Inputs.{fed_by}
 
 -- packets are few in the rest too
@@ -57,82 +59,84 @@ call_same inputs node after v false other = refl
 
 module _ {Reader Plan Premise : Type 0} (words : Words Reader Plan Premise)
     {Accepted : Plan → Type 0} (lines : Plan → ℕ) (text : Plan → (v : ℕ) → State → List ℕ)
-    (law : AreWritten words Accepted lines text) (plan : Plan) (accepted : Accepted plan)
-    (faulty meanwhile : List ℕ) (node after : ℕ) (too : AreFaultyMeanwhile node faulty meanwhile)
+    (law : AreWritten words Accepted lines text) (m : Machine) (plans : ℕ → Plan)
+    (stated : AreOneMachine words Accepted m plans) (faulty meanwhile : List ℕ) (node after : ℕ)
+    (too : AreFaultyMeanwhile node faulty meanwhile)
     (starts : ℕ → State) (sent : ℕ → ℕ → ℕ → List ℕ) (begins : ℕ → ℕ) (rounds : ℕ)
     (few : (v : ℕ) → begins v + (after + rounds) ≤ 1000000)
-    (r : RestartConnects (words.machine plan) faulty meanwhile node after starts sent begins rounds)
-  where
-    abbrev m : Machine
-    m = words.machine plan
+    (r : RestartConnects m faulty meanwhile node after starts sent begins rounds) where
+  abbrev later : ℕ → ℕ
+  later = begins_later node after begins
 
-    abbrev later : ℕ → ℕ
-    later = begins_later node after begins
+  abbrev count : ℕ → ℕ
+  count v = later v + rounds
 
-    abbrev count : ℕ → ℕ
-    count v = later v + rounds
+  abbrev own : Nodes
+  own = r.rest.nodes
 
-    abbrev own : Nodes
-    own = r.rest.nodes
+  abbrev fed : AreFed m faulty own count
+  fed =
+      fed_by m faulty starts r.sent_later later rounds
+      (few_later node after begins rounds 1000000 few) r.rest
 
-    abbrev fed : AreFed m faulty own count
-    fed =
-        fed_by m faulty starts r.sent_later later rounds
-        (few_later node after begins rounds 1000000 few) r.rest
+  abbrev inputs : ℕ → List ℕ
+  inputs = inputs_of (texts_by text plans) own
 
-    abbrev inputs : ℕ → List ℕ
-    inputs = inputs_of (text plan) own
+  rest : CallsConnect words m faulty (calls_after (restart_of inputs node after)
+      (calls_of inputs)) (begins_after (restart_of inputs node after) begins) rounds
+  rest =
+      connect_same words m faulty (calls_of inputs)
+      (calls_after (restart_of inputs node after) (calls_of inputs)) later rounds
+      (λ v. call_same inputs node after v (v == node) refl)
+      (connect words lines text law m plans stated faulty own count fed later rounds
+      (λ v correct. omega arith)
+      (λ i v u lt correct other different. r.rest.wrote i v u lt other))
 
-    rest : CallsConnect words m faulty (calls_after (restart_of inputs node after)
-        (calls_of inputs)) (begins_after (restart_of inputs node after) begins) rounds
-    rest =
-        connect_same words m faulty (calls_of inputs)
-        (calls_after (restart_of inputs node after) (calls_of inputs)) later rounds
-        (λ v. call_same inputs node after v (v == node) refl)
-        (connect words lines text law plan accepted faulty own count fed later rounds
-        (λ v correct. omega arith)
-        (λ i v u lt correct other different. r.rest.wrote i v u lt other))
+  all : CallsConnect words m meanwhile (calls_of inputs) begins (after + rounds)
+  all =
+      connect words lines text law m plans stated meanwhile own count
+      (fed_meanwhile m faulty meanwhile node too own count fed) begins (after + rounds)
+      (λ v correct.
+      let at = later_is m faulty meanwhile node after begins too v correct in omega (arith, at))
+      (λ i v u lt correct other different. r.wrote i v u lt correct other)
 
-    all : CallsConnect words m meanwhile (calls_of inputs) begins (after + rounds)
-    all =
-        connect words lines text law plan accepted meanwhile own count
-        (fed_meanwhile m faulty meanwhile node too own count fed) begins (after + rounds)
-        (λ v correct.
-        let at = later_is m faulty meanwhile node after begins too v correct in omega (arith, at))
-        (λ i v u lt correct other different. r.wrote i v u lt correct other)
+  begin_is : BeginIn words lines m plans faulty starts inputs
+  begin_is v correct =
+      begin words lines text law m plans stated faulty own count fed v correct
+      ∙ ap (λ (s : ℕ → State). Ok (header_stated (lines (plans v)) (plans v) v (s v)))
+      r.rest.begin
 
-    begin_is : (v : ℕ) → IsCorrect m faulty v
-        → header_of words (whole (inputs v)) ≡ Ok (header_stated (lines plan) plan v (starts v))
-    begin_is v correct =
-        begin words lines text law plan accepted faulty own count fed v correct
-        ∙ ap (λ (s : ℕ → State). Ok (header_stated (lines plan) plan v (s v))) r.rest.begin
+  same : (t v u : ℕ) → IsCorrect m faulty v
+      → cell_heard words (whole (inputs v)) t u ≡ cell_given own t v u
+  same t v u correct =
+      same_cell words lines text law m plans stated faulty own count fed t v u correct
 
-    same : (t v u : ℕ) → IsCorrect m faulty v
-        → cell_heard words (whole (inputs v)) t u ≡ cell_given own t v u
-    same t v u correct =
-        same_cell words lines text law plan accepted faulty own count fed t v u correct
-
-    inputs_restart : InputsRestart words (lines plan) plan faulty meanwhile node after starts sent
-        begins rounds
-    inputs_restart = record {
-      inputs = inputs;
-      all = all;
-      rest = rest;
-      begin = begin_is;
-      given = λ t v u lt correct ult is.
-          same t v u (correct_too m faulty meanwhile node too v correct)
-          ∙ r.given t v u lt correct ult is;
-      given_anew = λ i u lt correct ult is.
-          same i node u correct ∙ r.given_anew i u lt ult is;
-      ends = ends words lines text law plan accepted faulty own count fed;
-    }
+  inputs_restart : InputsRestart words lines m plans faulty meanwhile node after starts sent
+      begins rounds
+  inputs_restart = record {
+    inputs = inputs;
+    in_bytes = λ fits v correct.
+        let few_bytes = short words lines text law m plans stated in
+        are_bytes words lines text law m plans stated faulty own count fed v
+        (connected_fit m few_bytes faulty starts r.sent_later later rounds (r.fit few_bytes fits)
+        r.rest v);
+    all = all;
+    rest = rest;
+    begin = begin_is;
+    given = λ t v u lt correct ult is.
+        same t v u (correct_too m faulty meanwhile node too v correct)
+        ∙ r.given t v u lt correct ult is;
+    given_anew = λ i u lt correct ult is.
+        same i node u correct ∙ r.given_anew i u lt ult is;
+    ends = ends words lines text law m plans stated faulty own count fed;
+  }
 
 pub any_restart : {Reader Plan Premise : Type 0} (words : Words Reader Plan Premise)
     (Accepted : Plan → Type 0) (lines : Plan → ℕ) (text : Plan → (v : ℕ) → State → List ℕ)
     → AreWritten words Accepted lines text → AnyInputsRestart words lines Accepted
-any_restart words Accepted lines text law plan accepted faulty meanwhile node after too starts sent
-    begins rounds few begun =
-    inputs_restart words lines text law plan accepted faulty meanwhile node after too starts sent
+any_restart words Accepted lines text law m plans stated faulty meanwhile node after too starts
+    sent begins rounds few begun =
+    inputs_restart words lines text law m plans stated faulty meanwhile node after too starts sent
     begins rounds few
-    (any_restart_connects (words.machine plan) (law.sound plan accepted) faulty meanwhile node after
+    (any_restart_connects m (sound words lines text law m plans stated) faulty meanwhile node after
     too starts sent begins rounds begun)

@@ -7,3 +7,4 @@ pub mod Inputs
 pub mod RestartInputs
 pub mod ResumedInputs
 pub mod LossyInputs
+pub mod Skips

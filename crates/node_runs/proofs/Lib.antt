@@ -6,6 +6,7 @@ pub mod Runs
 pub mod Settled
 pub mod Written
 pub mod Connected
+pub mod Fitting
 pub mod LossySteps
 pub mod Losses
 pub mod Heard

@@ -5,7 +5,7 @@ use Rattle.std.proofs.Common.{inl, inr, List, [], length, take, get_or, add-one,
 use Rattle.std.proofs.Common.{◌∙◌, subst, arith}
 use Rattle.std.specs.Prelude.{◌==◌, nat_lt, if◌then◌else◌}
 use Rattle.std.proofs.lemmas.Bool.{cases_lt, eqb-true, eqb-false, ne_eqb, eq-eqb, lt-ltb}
-use Rattle.std.proofs.lemmas.Bool.{le-ltb}
+use Rattle.std.proofs.lemmas.Bool.{le-ltb, ltb-true}
 use Rattle.std.proofs.lemmas.List.{take_more}
 use Rattle.sync_types.specs.States.{State}
 use Rattle.construction.specs.Runs.{is_in}
@@ -15,6 +15,7 @@ use Rattle.machines.specs.Machines.{Machine, IsState}
 use Rattle.machines.specs.Laws.{IsSound}
 use Rattle.node_stepper.specs.Nodes.{state_after, state_behind}
 use Rattle.node_stepper.proofs.NodeTexts.{state_push}
+use Rattle.node_runs.specs.Bytes.{FitsCell, StatesFit, AllFit}
 use Rattle.node_runs.specs.NodeRuns.{Nodes, cell_given, IsCorrect, state_at, state_in}
 use Rattle.node_runs.specs.NodeRuns.{AreConnected}
 use Rattle.node_runs.specs.Laws.{Connects}
@@ -22,6 +23,7 @@ use Rattle.node_runs.specs.Restarts.{begins_later, AreFaultyMeanwhile, RestartCo
 use Rattle.node_runs.specs.Restarts.{AnyRestartConnects, starts_later, ResumptionConnects}
 use Rattle.node_runs.specs.Restarts.{AnyResumptionConnects}
 use Rattle.node_runs.proofs.Connected.{lies_connect}
+use Rattle.node_runs.proofs.Fitting.{cells_fit}
 use Rattle.node_runs.proofs.States.{reads_back, behind_is_state, same_heard}
 
 -- ---- a node with the same cells is in the same state
@@ -187,6 +189,18 @@ module _ (m : Machine) (sound : IsSound m) (faulty meanwhile : List ℕ) (node a
       rest.given i node u (omega (arith, from, lt)) ult (inr is)
       ∙ ap (λ b. cond b (sent (begins node + after + i) node u) (sent_on i node u)) it
 
+  -- what is sent in the rest fits into cells, where all that is sent does
+  fit : StatesFit m → AllFit m sent → AllFit m sent_later
+  fit short fits t v u ult = by (v == node) (nat_lt t (begins v + after)) refl where
+    by : (anew early : Bool) → nat_lt t (begins v + after) ≡ early
+        → FitsCell (if anew then sent (begins v + after + t) v u
+        else if early then cell_given before t v u else sent t v u)
+    by true early is = fits (begins v + after + t) v u ult
+    by false true is =
+        cells_fit m short past.away past.starts_first sent begins after fits past.is t v u
+        (ltb-true t (begins v + after) is) ult
+    by false false is = fits t v u ult
+
   begun_rest : (v : ℕ) → IsCorrect m meanwhile v → IsState m v (rest.nodes.starts v)
   begun_rest v correct =
       subst (λ (s : ℕ → State). IsState m v (s v)) (sym rest.begin)
@@ -214,6 +228,7 @@ module _ (m : Machine) (sound : IsSound m) (faulty meanwhile : List ℕ) (node a
     wrote = wrote;
     given = given;
     given_anew = given_anew;
+    fit = fit;
   }
 
 -- ---- the node is away before

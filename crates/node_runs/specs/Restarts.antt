@@ -6,6 +6,7 @@ use Rattle.construction.specs.Runs.{is_in}
 use Rattle.state_codec.specs.Writing.{written}
 use Rattle.machines.specs.Machines.{Machine, IsState}
 use Rattle.machines.specs.Laws.{IsSound}
+use Rattle.node_runs.specs.Bytes.{StatesFit, AllFit}
 use Rattle.node_runs.specs.NodeRuns.{cell_given, IsCorrect, state_at, state_in, AreConnected}
 use Rattle.node_runs.specs.Laws.{Connects}
 
@@ -23,7 +24,8 @@ pub record AreFaultyMeanwhile (node : ℕ) (faulty meanwhile : List ℕ) : Type 
 -- are connected in the rest of the window, and the others in the whole one. There each is given, as
 -- the cell of each other one that is correct all the time, what that one writes, and as that of one
 -- which is faulty in the rest too, what is sent. What is sent to the one that is started anew goes
--- on behind what was sent to it before.
+-- on behind what was sent to it before. Where all that is sent fits into cells, as states do, so
+-- does what is sent before the rest and in it.
 pub record RestartConnects (m : Machine) (faulty meanwhile : List ℕ) (node after : ℕ)
     (starts : ℕ → State) (sent : ℕ → ℕ → ℕ → List ℕ) (begins : ℕ → ℕ) (rounds : ℕ)
     : Type 0 where
@@ -37,6 +39,7 @@ pub record RestartConnects (m : Machine) (faulty meanwhile : List ℕ) (node aft
       → u < m.nodes → is_in faulty u ≡ true → cell_given rest.nodes t v u ≡ sent t v u
   pub given_anew : (i u : ℕ) → i < rounds → u < m.nodes → is_in faulty u ≡ true
       → cell_given rest.nodes i node u ≡ sent (begins node + after + i) node u
+  pub fit : StatesFit m → AllFit m sent → AllFit m sent_later
 
 -- There are such nodes, whatever states they begin in, the one that is started anew too, after
 -- however many rounds, and whatever is sent.

@@ -13,6 +13,7 @@ pub mod TableWords
 pub mod WorkedValues
 pub mod SkippedLines
 pub mod Skips
+pub mod Answered
 pub mod PlanPromises
 pub mod Printed
 pub mod NodeCalls

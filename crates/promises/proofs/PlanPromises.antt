@@ -27,6 +27,7 @@ use Rattle.promises.specs.DemoLaws.{DemoIsAccepted, LiarsAreSpread}
 use Rattle.promises.specs.Skips.{SkippedLinesAreUnseen}
 use Rattle.promises.specs.Worked.{WorkedAnswers}
 use Rattle.promises.specs.PlanPromises.{AreTextsOf, IsTableOf, TextsAreKept, TextsAreRead}
+use Rattle.promises.proofs.Answered.{inputs_are_answered}
 use Rattle.promises.proofs.OnlyTexts.{only_texts}
 use Rattle.promises.proofs.ScriptInputs.{script_inputs_read}
 use Rattle.promises.proofs.TableWords.{table_is_said}
@@ -82,5 +83,6 @@ texts_read front whole tables wants slots inputs requests logs headers scripts w
       demo = demo;
       liars = liars;
       skips = skips;
+      answered = inputs_are_answered;
       worked = worked;
     }

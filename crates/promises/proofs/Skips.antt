@@ -31,9 +31,11 @@ use Rattle.slot_table.specs.SlotPart as slot_part
 use Rattle.consensus_layer.specs.AgreePart as agree_part
 use Rattle.firing.specs.FirePart as fire_part
 use Rattle.replicated_log.specs.LogPart as log_part
+use Rattle.node_promises.proofs.Skips.{header_skips}
 use Rattle.outcomes.specs.declared.refusals.Refusal.{Refusal}
 use Rattle.outcomes.specs.Inputs.{in_plan, in_part, or_refusal, Scripted, with_script}
 use Rattle.outcomes.specs.Inputs as inputs
+use Rattle.outcomes.specs.PlanWords.{plan_words}
 use Rattle.outcomes.specs.Layered.{Layered, slots_shape, agree_shape, fire_shape, log_shape}
 use Rattle.outcomes.specs.Layered as layered
 use Rattle.promises.specs.Skips.{put_in, with_line, moved_in, SkipsAreUnseen, SkippedLinesAreUnseen}
@@ -294,4 +296,5 @@ skipped_lines_are_unseen = record {
   consensus = layered_unseen part.Agree agree_part.agree_step agree_part.nothing_read agree_shape;
   fire = layered_unseen part.Fire fire_part.fire_step fire_part.nothing_read fire_shape;
   log = layered_unseen part.Log log_part.log_step log_part.nothing_read log_shape;
+  headers = header_skips plan_words;
 }

@@ -4,10 +4,12 @@ use Rattle.std.specs.Fmt.{digits}
 use Rattle.construction.specs.Widths.{width}
 use Rattle.state_codec.specs.Bits.{bits, number_of, bytes_of_bits}
 use Rattle.state_codec.specs.Shapes.{registers_bits, moduli_of}
+use Rattle.state_codec.specs.Reading.{registers_from}
 use Rattle.state_codec.specs.Writing.{bits_of_registers}
-use Rattle.hex.specs.Hex.{encode_with}
+use Rattle.hex.specs.Hex.{encode_with, decode_pairs}
 use Rattle.adversary_script.specs.ScriptPart.{script_for}
 use Rattle.promises.specs.Worked.{PlansAreRefused, PartsAreRefused, OthersAreRefused}
+use Rattle.promises.specs.Worked.{NodesAreAnswered}
 use Rattle.promises.specs.Worked.{TextsAreSpelled, LinesAreSpelled, WordsAreCommands, WorkedAnswers}
 
 plans_are_refused : PlansAreRefused
@@ -43,6 +45,13 @@ unfolding digits width
 others_are_refused =
     record { table = refl; value = refl; node = refl; certificate = refl; usage = refl }
 
+nodes_are_answered : NodesAreAnswered
+unfolding
+    digits width decode_pairs bytes_of_bits registers_bits registers_from moduli_of number_of bits
+    bits_of_registers
+nodes_are_answered =
+    record { cells = refl; cut = refl; skipped = refl; hex = refl; plan = refl }
+
 texts_are_spelled : TextsAreSpelled
 unfolding
     digits width encode_with bytes_of_bits registers_bits moduli_of number_of bits bits_of_registers
@@ -71,6 +80,7 @@ worked_answers = record {
   plans = plans_are_refused;
   parts = parts_are_refused;
   others = others_are_refused;
+  nodes = nodes_are_answered;
   texts = texts_are_spelled;
   lines = lines_are_spelled;
   words = words_are_commands;

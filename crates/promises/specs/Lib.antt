@@ -9,6 +9,7 @@ pub mod DemoLaws
 pub mod TableWords
 pub mod Worked
 pub mod Skips
+pub mod Answered
 pub mod PlanPromises
 pub mod EveryRun
 pub mod LayerParts

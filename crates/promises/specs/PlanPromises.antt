@@ -19,6 +19,7 @@ use Rattle.outcomes.specs.declared.refusals.Refusal.{Refusal}
 use Rattle.outcomes.specs.declared.commands.Batch.TheVariants as batch
 use Rattle.outcomes.specs.Inputs.{plan_alone, tabled_of, wants_of}
 use Rattle.outcomes.specs.Answers.{answer_of}
+use Rattle.promises.specs.Answered.{InputsAreAnswered}
 use Rattle.promises.specs.DemoLaws.{DemoIsAccepted, LiarsAreSpread}
 use Rattle.promises.specs.OnlyTexts.{OnlyTextsAreRead}
 use Rattle.promises.specs.ScriptInputs.{ScriptInputsAreRead}
@@ -54,8 +55,8 @@ pub record TextsAreKept : Type 0 where
 -- and in each later one, and a table; wants, slot tables, inputs to agree on, requests to fire,
 -- logs and headers of nodes have one. All but those of tables and of wants are read so at the front
 -- of any text, too. A script has one behind the text of its plan, and behind that of a part; what
--- `demo` makes of a seed is one. Skipped lines may stand anywhere. Worked values say how each text
--- and each refusal is spelled.
+-- `demo` makes of a seed is one. Skipped lines may stand anywhere. What is within the limit is
+-- answered. Worked values say how each text and each refusal is spelled.
 pub record TextsAreRead : Type 0 where
   pub plans : (plan : Plan) (version : ℕ) → IsAccepted plan → plan.version ≤ version → version ≤ 2
       → plan_alone (plan_text version plan) ≡ Ok (in_version version plan)
@@ -72,4 +73,5 @@ pub record TextsAreRead : Type 0 where
   pub demo : DemoIsAccepted
   pub liars : LiarsAreSpread
   pub skips : SkippedLinesAreUnseen
+  pub answered : InputsAreAnswered
   pub worked : WorkedAnswers

@@ -4,9 +4,11 @@ use Rattle.std.specs.Prelude.{if◌then◌else◌, Result, Ok, Err}
 use Rattle.texts.specs.Lines.{lines_of, is_one_line}
 use Rattle.texts.specs.Words.{text_of}
 use Rattle.texts.specs.Parts.{is_skipped}
+use Rattle.node_promises.specs.Skips.{HeaderSkipsAreUnseen}
 use Rattle.outcomes.specs.declared.refusals.Refusal.{Refusal}
 use Rattle.outcomes.specs.declared.refusals.Refusal.TheVariants as refusal
 use Rattle.outcomes.specs.Inputs.{plan_alone, scripted_of, wants_of}
+use Rattle.outcomes.specs.PlanWords.{plan_words}
 use Rattle.outcomes.specs.Layered.{slotted_of, agreed_of, firing_of, logging_of}
 
 -- lines with one more, behind the first n
@@ -40,7 +42,8 @@ SkipsAreUnseen read = (input : List ℕ) (n : ℕ) → n ≤ length (lines_of in
     → is_skipped line ≡ true → length line ≤ 4096 → is_one_line line ≡ true
     → read (with_line n line input) ≡ moved_in n (read input)
 
--- So it is of plans, of wants, and of scripts, alone or behind each part.
+-- So it is of plans, of wants, and of scripts, alone or behind each part; and of headers of `node`,
+-- whatever follows them, which are read and answered as without it.
 pub record SkippedLinesAreUnseen : Type 0 where
   pub plans : SkipsAreUnseen plan_alone
   pub wants : SkipsAreUnseen wants_of
@@ -49,3 +52,4 @@ pub record SkippedLinesAreUnseen : Type 0 where
   pub consensus : SkipsAreUnseen agreed_of
   pub fire : SkipsAreUnseen firing_of
   pub log : SkipsAreUnseen logging_of
+  pub headers : HeaderSkipsAreUnseen plan_words

@@ -32,6 +32,7 @@ use Rattle.outcomes.specs.Outcomes.{outcome_of}
 use Rattle.outcomes.specs.Answers.{answer_of}
 use Rattle.outcomes.specs.CheckAnswers.{true_line, false_line}
 use Rattle.outcomes.specs.Commands.{command_of}
+use Rattle.outcomes.specs.NodeAnswers.{node_outcome}
 
 -- ---- refusals
 
@@ -69,7 +70,7 @@ abbrev pub alone : List ℕ
 alone = codes "plan 1\nbase 8\nend\n"
 
 -- The first line of a part that fails, by its number in the whole input and its rule: each rule,
--- and each part but that of a header.
+-- and each part; that of a header stands below.
 pub record PartsAreRefused : Type 0 where
   pub form : IsAnswered batch.Run (alone ++ codes "script 1\nfaulty\n")
       (status.PartRefused part.Script 6 rule.Form) (codes "refused script line 6 rule form\n")
@@ -109,6 +110,33 @@ pub record OthersAreRefused : Type 0 where
       ≡ codes "refused node line 6 rule limit\n"
   pub certificate : refusal_line (refusal.Certificate 7) ≡ codes "refused certificate line 7\n"
   pub usage : refusal_line refusal.Usage ≡ codes "usage: counterlab COMMAND\n"
+
+-- ---- nodes
+
+-- the header of the one node of a plan, in state 5 of 8
+abbrev pub fifth : List ℕ
+fifth = alone ++ codes "node 1\nid 0\nstate a0\nend\n"
+
+-- What a call of `node` answers: the cells that it writes, at its start and behind each packet,
+-- whatever it is told of itself; also where the input ends inside a packet; and the first line of a
+-- header that fails. Skipped lines may stand in a header.
+pub record NodesAreAnswered : Type 0 where
+  pub cells : node_outcome (fifth ++ 0 ∷ 1 ∷ 255 ∷ 0 ∷ 0 ∷ [])
+      ≡ record { status = status.Ok; text = 0 ∷ 1 ∷ 160 ∷ 0 ∷ 1 ∷ 192 ∷ 0 ∷ 1 ∷ 224 ∷ [] }
+  pub cut : node_outcome (fifth ++ 0 ∷ 0 ∷ 0 ∷ [])
+      ≡ record { status = status.Cut 1 0; text = 0 ∷ 1 ∷ 160 ∷ 0 ∷ 1 ∷ 192 ∷ [] }
+  pub skipped : node_outcome (alone ++ codes "# it\nnode 1\nid 0\n\nstate a0\nend\n")
+      ≡ record { status = status.Ok; text = 0 ∷ 1 ∷ 160 ∷ [] }
+  pub hex : node_outcome (alone ++ codes "node 1\nid 0\nstate A0\nend\n")
+      ≡ record {
+        status = status.PartRefused part.Node 6 rule.Hex;
+        text = codes "refused node line 6 rule hex\n";
+      }
+  pub plan : node_outcome (codes "plan 1\nbase 1\n")
+      ≡ record {
+        status = status.PlanRefused 2 premise.Modulus;
+        text = codes "refused plan line 2 premise modulus\n";
+      }
 
 -- ---- texts
 
@@ -190,6 +218,7 @@ pub record WorkedAnswers : Type 0 where
   pub plans : PlansAreRefused
   pub parts : PartsAreRefused
   pub others : OthersAreRefused
+  pub nodes : NodesAreAnswered
   pub texts : TextsAreSpelled
   pub lines : LinesAreSpelled
   pub words : WordsAreCommands

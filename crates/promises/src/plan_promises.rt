@@ -27,8 +27,8 @@ pub fn texts_are_kept()
     versions_agree();
 }
 
-/// A skipped line may stand anywhere in an input: it is read as the same, and a refusal is that of
-/// the same line.
+/// A skipped line may stand anywhere in an input, and in a header of `node`: it is read as the
+/// same, and a refusal is that of the same line.
 pub fn skipped_lines_are_unseen()
     ensures { SkippedLinesAreUnseen }
 {}
@@ -36,8 +36,8 @@ pub fn skipped_lines_are_unseen()
 /// Each of these values has a text that is read as it: an accepted plan, in its own version and in
 /// each later one, and its table; wants, a slot table, inputs to agree on, requests to fire, a log
 /// and a header of a node; and a script, behind the texts of its plan and of a part. So has the
-/// text that `demo` makes of a seed. Skipped lines may stand anywhere in these, and worked values
-/// say how they and their refusals are spelled.
+/// text that `demo` makes of a seed. Skipped lines may stand anywhere in these, what is within the
+/// limit is answered, and worked values say how they and their refusals are spelled.
 pub fn texts_are_read()
     ensures { TextsAreRead }
 {

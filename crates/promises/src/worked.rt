@@ -2,8 +2,8 @@
 
 ghost use Rattle.promises.specs.Worked.{WorkedAnswers};
 
-/// Inputs that fail by each premise and each rule have these refusals, values these texts, and
-/// words these commands.
+/// Inputs that fail by each premise and each rule have these refusals, calls of `node` these cells,
+/// values these texts, and words these commands.
 pub fn worked_answers()
     ensures { WorkedAnswers }
 {}

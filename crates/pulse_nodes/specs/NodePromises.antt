@@ -12,6 +12,7 @@ use Rattle.node_promises.specs.Inputs.{AnyInputsConnect}
 use Rattle.node_promises.specs.RestartInputs.{AnyInputsRestart}
 use Rattle.node_promises.specs.ResumedInputs.{AnyInputsResume}
 use Rattle.node_promises.specs.LossyInputs.{AnyInputsLose}
+use Rattle.node_promises.specs.Skips.{HeaderSkipsAreUnseen}
 use Rattle.pulse_plan.specs.Plans.{PulseNumbers, IsAccepted}
 use Rattle.pulse_plan.specs.Laws.{machine_in}
 use Rattle.pulse_nodes.specs.PulseWords.{pulse_words}
@@ -19,7 +20,7 @@ use Rattle.pulse_nodes.specs.PulseWords.{pulse_words}
 -- What a node does is a call, whose text was written; connected calls count, and stay locked where
 -- cells are lost, whichever N - F correct ones are heard; a process that is started anew comes to
 -- count with the others; the plan that a call's header names is accepted, and of an accepted plan
--- some node is correct.
+-- some node is correct; skipped lines of a header change nothing.
 pub record PulseNodesKeepPromise : Type 0 where
   pub texts : CallsWriteTexts pulse_words
   pub kept : (plan : PulseNumbers) → ConnectedCallsCount pulse_words (machine_in plan)
@@ -31,27 +32,33 @@ pub record PulseNodesKeepPromise : Type 0 where
       → IsAccepted is.header.plan × IsSound (machine_in plan)
   pub some : (plan : PulseNumbers) → IsAccepted plan → (faulty : List ℕ)
       → IsBorne (machine_in plan) faulty → SomeIsCorrect (machine_in plan) faulty
+  pub skips : HeaderSkipsAreUnseen pulse_words
 
 -- Each call of a node is a process over packets, from the state on that its header states.
 abbrev pub PulseCallsAreProcesses : Type 0
 PulseCallsAreProcesses = CallsAreProcesses pulse_words
 
+-- a header has seven lines
+abbrev pub header_lines : PulseNumbers → ℕ
+header_lines plan = 7
+
 -- The premises can be met: there are inputs of connected calls, whatever states of theirs the
--- correct nodes begin in, and whatever is sent. Their headers have seven lines.
+-- correct nodes begin in, and whatever is sent; they are bytes where this is bytes that fit into
+-- cells.
 abbrev pub AnyPulseInputsConnect : Type 0
-AnyPulseInputsConnect = AnyInputsConnect pulse_words 7 IsAccepted
+AnyPulseInputsConnect = AnyInputsConnect pulse_words header_lines IsAccepted
 
 -- There are some to which cells are lost, whichever they are of those that may be missed.
 abbrev pub AnyPulseInputsLose : Type 0
-AnyPulseInputsLose = AnyInputsLose pulse_words (λ plan. 7) IsAccepted
+AnyPulseInputsLose = AnyInputsLose pulse_words header_lines IsAccepted
 
 -- There are some of which one is started anew, in whatever state of its node.
 abbrev pub AnyPulseInputsRestart : Type 0
-AnyPulseInputsRestart = AnyInputsRestart pulse_words (λ plan. 7) IsAccepted
+AnyPulseInputsRestart = AnyInputsRestart pulse_words header_lines IsAccepted
 
 -- And some of which one ends, and another input of its node goes on from its last cell.
 abbrev pub AnyPulseInputsResume : Type 0
-AnyPulseInputsResume = AnyInputsResume pulse_words (λ plan. 7) IsAccepted
+AnyPulseInputsResume = AnyInputsResume pulse_words header_lines IsAccepted
 
 -- all of these
 pub record AnyPulseInputs : Type 0 where

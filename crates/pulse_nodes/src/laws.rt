@@ -17,7 +17,8 @@ use pulse_plan::laws::accepted_are_sound;
 /// grows by one modulo C with each packet, and so they do from any locked configuration on. From
 /// there on they do so where cells are lost too, as long as each is given in each round those of
 /// N - F correct nodes, its own among them, whichever these are. A process that is started anew is
-/// a faulty node of the whole window and a correct one of its rest.
+/// a faulty node of the whole window and a correct one of its rest. A skipped line may stand
+/// anywhere in a header, and changes nothing but the numbers of lines that are refused.
 pub fn pulse_nodes_keep_promise()
     ensures { PulseNodesKeepPromise }
 {
@@ -33,7 +34,7 @@ pub fn calls_are_processes()
 
 /// There are inputs of such calls, whatever states of theirs the correct nodes begin in, wherever
 /// the window begins in each of them, and whatever is given as the cells of faulty ones, and of all
-/// nodes before the window.
+/// nodes before the window. Where that fits into cells they are bytes, as all inputs here are.
 pub fn any_inputs_connect()
     ensures { AnyPulseInputsConnect }
 {

@@ -4,6 +4,7 @@ use Rattle.node_promises.proofs.CallStates.{header_is, is_sound}
 use Rattle.node_promises.proofs.Connected.{connected_count}
 use Rattle.node_promises.proofs.Heard.{heard_stay_locked}
 use Rattle.node_promises.proofs.Restarts.{restarted_count}
+use Rattle.node_promises.proofs.Skips.{header_skips}
 use Rattle.pulse_plan.specs.Laws.{machine_in}
 use Rattle.pulse_nodes.specs.PulseWords.{pulse_words}
 use Rattle.pulse_nodes.proofs.Headers.{headers_are_served}
@@ -24,4 +25,5 @@ returns c = record {
   );
   some = λ plan accepted. some_left (machine_in plan)
       (c.accepted_are_sound.ensures plan accepted);
+  skips = header_skips pulse_words;
 }
