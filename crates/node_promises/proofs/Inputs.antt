@@ -1,8 +1,7 @@
 -- Inputs of calls that connect, whatever is sent.
-use Rattle.std.proofs.Common.{◌≡◌, ℕ, ◌+◌, ◌≤◌, List, Ok, ap, ◌∙◌, arith}
+use Rattle.std.proofs.Common.{ℕ, ◌+◌, ◌≤◌, List, Ok, ap, ◌∙◌, arith}
 use Rattle.sync_types.specs.States.{State}
-use Rattle.machines.specs.Machines.{Machine, IsState}
-use Rattle.node_runs.specs.NodeRuns.{IsCorrect}
+use Rattle.machines.specs.Machines.{Machine}
 use Rattle.node_runs.specs.Laws.{Connects}
 use Rattle.node_runs.proofs.Connected.{any_lies_connect}
 use Rattle.node_words.specs.Constructions.{Words}

@@ -16,16 +16,15 @@ use Rattle.edge_io.specs.FedParts.{limited_part}
 use Rattle.sync_types.specs.declared.answers.Rule.{Rule}
 use Rattle.sync_types.specs.declared.answers.Rule.TheVariants as rule
 use Rattle.node_header.specs.declared.header_lines.NodeHeader.{NodeHeader}
-use Rattle.node_header.specs.declared.headers.HeaderRefusal.{HeaderRefusal}
 use Rattle.node_header.specs.declared.headers.HeaderRefusal.TheVariants as refusal
 use Rattle.node_header.specs.NodePart.{header_step, nothing_read}
 use Rattle.node_header.specs.HeaderParts.{PlanPart, HeaderOf, behind_node, behind_plan, header_in}
 use Rattle.node_header.proofs.Unlimited.{without_room}
 use Rattle.node_words.specs.Constructions.{Words}
-use Rattle.node_words.specs.NodeAnswers.{Outcome, packets_for, served_outcome, behind_header}
+use Rattle.node_words.specs.NodeAnswers.{packets_for, served_outcome, behind_header}
 use Rattle.node_words.specs.NodeAnswers.{node_outcome}
 use Rattle.node_promises.specs.Calls.{whole, header_of}
-use Rattle.node_promises.specs.Skips.{with_line, further, moved, moved_header, IsShort, IsUnseen}
+use Rattle.node_promises.specs.Skips.{with_line, moved_header, IsShort}
 use Rattle.node_promises.specs.Skips.{HeaderSkipsAreUnseen}
 use Rattle.node_promises.proofs.SkippedLines.{Answer, Moves, IsBlind, at_end, end_is_blind, behind}
 use Rattle.node_promises.proofs.SkippedLines.{then_next, part_is_blind, goes_on}

@@ -4,9 +4,10 @@ use Rattle.std.specs.Fmt.{digits}
 use Rattle.construction.specs.Widths.{width}
 use Rattle.state_codec.specs.Bits.{bits, number_of, bytes_of_bits}
 use Rattle.state_codec.specs.Shapes.{registers_bits, moduli_of}
+use Rattle.hex.specs.Hex.{decode_pairs}
 use Rattle.state_codec.specs.Reading.{registers_from}
 use Rattle.state_codec.specs.Writing.{bits_of_registers}
-use Rattle.hex.specs.Hex.{encode_with, decode_pairs}
+use Rattle.hex.specs.Hex.{encode_with}
 use Rattle.adversary_script.specs.ScriptPart.{script_for}
 use Rattle.promises.specs.Worked.{PlansAreRefused, PartsAreRefused, OthersAreRefused}
 use Rattle.promises.specs.Worked.{NodesAreAnswered}
