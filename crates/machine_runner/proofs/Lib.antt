@@ -1,0 +1,4 @@
+pub mod Filled
+pub mod Keeping
+pub mod Laid
+pub mod Told

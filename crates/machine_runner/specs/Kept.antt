@@ -25,7 +25,9 @@ pub record IsKept (machine : Machine) (script : Script) (room : Room) (states : 
   pub read : IsReadFor machine script
   pub ready : IsReady script room
   pub shape : states.shape ≡ script.shape
+  pub size : length states.current ≡ script.nodes
   pub played : states.current ≡ played_at machine script at
   pub within : at ≤ script.rounds
   pub here : era ≡ era_of script at
+  pub eras : length locks ≡ length script.eras + 1
   pub known : locks ≡ locks_at machine script at

@@ -1,3 +1,7 @@
+ghost use Rattle.std.specs.Prelude.{◌≡◌, ◌∷◌, None, length, replicate, IfOk};
+ghost use Rattle.script_runs.specs.Locks.{is_locked, first_of};
+ghost use Rattle.machine_runner.specs.Rooms.{IsReady};
+
 use crate::locks::{is_locked, locked_so_far};
 use crate::stepping::{Room, Round, beginning_in, start_all};
 use adversary_script::{Noise, Script};
@@ -56,6 +60,40 @@ impl<'a, M: Machine> Model for Runner<'a, M> {
         IsKept (M.machine r.machine.now) r.script r.room r.states r.locks.items r.at r.era };
 }
 
+/// What rounds need beside two configurations, whose states have that shape.
+fn room_for(alloc: Global, script: &Script, shape: &StateShape) -> Result<Room, NoMemory>
+    requires { shape.now ≡ script.now.shape }
+    ensures { IfOk result (IsReady script.now) }
+{
+    let nodes = script.faulty().nodes();
+    let depth = shape.depth();
+    Ok(Room {
+        noise: Noise::with_room(alloc, script)?,
+        heard: NodeState::zeros(alloc, nodes, depth)?,
+        work: Work::new(alloc, nodes)?,
+        out: NodeState::zero(alloc, depth)?,
+    })
+}
+
+/// Of each era the first locked configuration so far, where configuration 0 is that one.
+fn first_locks<M: Machine>(
+    alloc: Global,
+    machine: &M,
+    script: &Script,
+    config: &Packed,
+) -> Result<Vec<Option<u64>>, NoMemory>
+    requires nodes { script.now.nodes ≡ (M.machine machine.now).nodes }
+    requires size { length config.now.current ≡ script.now.nodes }
+    ensures { IfOk result (λ locks. locks.items ≡ first_of None (is_locked
+        (M.machine machine.now) script.now.faulty config.now.current) 0
+        ∷ replicate (length script.now.eras) None) }
+{
+    let mut locks = vec![in alloc; None; script.eras()]?;
+    let locked = is_locked(machine, script.faulty(), config);
+    locks[0] = locked_so_far(None, locked, 0);
+    Ok(locks)
+}
+
 impl<'a, M: Machine> Runner<'a, M> {
     ghost use Rattle.std.specs.Prelude.{◌≡◌, ◌+◌, ◌-◌, ◌^◌, ◌<◌, ◌≤◌, length, IfOk};
     ghost use Rattle.construction.specs.Steps.{state_of};
@@ -81,19 +119,10 @@ impl<'a, M: Machine> Runner<'a, M> {
         shape.tell();
         machine.tell();
         let _rounds = script.rounds();
-        let nodes = machine.nodes();
-        let depth = shape.depth();
-        let mut room = Room {
-            noise: Noise::with_room(alloc, &script)?,
-            heard: NodeState::zeros(alloc, nodes, depth)?,
-            work: Work::new(alloc, nodes)?,
-            out: NodeState::zero(alloc, depth)?,
-        };
-        let mut states = Packed::new(alloc, shape, nodes)?;
+        let mut room = room_for(alloc, &script, &shape)?;
+        let mut states = Packed::new(alloc, shape, script.faulty().nodes())?;
         start_all(&script, &mut room, &mut states);
-        let mut locks = vec![in alloc; None; script.eras()]?;
-        let locked = is_locked(machine, script.faulty(), &states);
-        locks[0] = locked_so_far(None, locked, 0);
+        let locks = first_locks(alloc, machine, &script, &states)?;
         Ok(Runner {
             machine,
             script,

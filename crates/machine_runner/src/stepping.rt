@@ -3,10 +3,9 @@ ghost use Rattle.state_codec.specs.Shapes.{fields_at};
 ghost use Rattle.state_codec.specs.Ranges.{InRange};
 ghost use Rattle.adversary_script.specs.Eras.{era_of, faulty_at};
 ghost use Rattle.adversary_script.specs.Lookup.{hit_at};
-ghost use Rattle.machines.specs.Laws.{IsSound};
 ghost use Rattle.script_runs.specs.Beginnings.{BeginsAt, is_prop};
 ghost use Rattle.script_runs.specs.Laws.{IsReadFor};
-ghost use Rattle.script_runs.specs.Played.{starts, heard_at, after_round};
+ghost use Rattle.script_runs.specs.Played.{starts, state_after, after_round};
 ghost use Rattle.machine_runner.specs.Hearing.{AreHonest};
 ghost use Rattle.machine_runner.specs.Rooms.{IsReady, IsConfiguration};
 
@@ -102,9 +101,8 @@ impl Round<'_> {
         requires room { IsReady self.now.script.now room.old }
         requires honest { AreHonest self.now.script.now self.now.t states.now.current
             room.old.heard.items }
-        ensures state { room.new.out ≡ unwrap_or (hit_at self.now.script.now (self.now.t + 1) v)
-            ((M.machine machine.now).step v
-            (heard_at self.now.script.now self.now.t states.now.current v)) }
+        ensures state { room.new.out ≡ state_after (M.machine machine.now) self.now.script.now
+            self.now.t states.now.current v }
         ensures range { InRange (fields_at self.now.script.now.shape v) room.new.out }
         ensures room { IsReady self.now.script.now room.new }
         ensures honest { AreHonest self.now.script.now self.now.t states.now.current

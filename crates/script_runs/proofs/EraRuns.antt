@@ -6,7 +6,6 @@ use Rattle.std.proofs.lemmas.List.FromFn.{length-map-range_with_len, get_or-map-
 use Rattle.sync_types.specs.States.{State, zero_state}
 use Rattle.construction.specs.Steps.{state_of}
 use Rattle.construction.specs.Runs.{configuration, heard_by}
-use Rattle.state_codec.specs.Shapes.{fields_at}
 use Rattle.machines.specs.Machines.{Machine, IsState, IsConfiguration, IsTold, IsTable, Round}
 use Rattle.machines.specs.Machines.{IsNext, Run, AllShow, IsLocked, CountsFrom}
 use Rattle.machines.specs.Laws.{IsSound}

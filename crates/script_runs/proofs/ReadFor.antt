@@ -1,15 +1,15 @@
 -- What a script that was read for a machine says of the machine's nodes.
-use Rattle.std.proofs.Common.{◌≡◌, ℕ, ◌<◌, ◌≤◌, List, [], All, length, refl, sym, ◌∙◌, subst}
+use Rattle.std.proofs.Common.{ℕ, ◌<◌, ◌≤◌, [], All, length, refl, sym, ◌∙◌, subst}
 use Rattle.std.proofs.Common.{arith}
 use Rattle.std.proofs.lemmas.List.{length-map}
 use Rattle.std.proofs.lemmas.List.Elements.{All-get_or}
 use Rattle.sync_types.specs.States.{State}
-use Rattle.state_codec.specs.Shapes.{Fields, Shape, IsShape, fields_at, shape_nodes}
+use Rattle.state_codec.specs.Shapes.{Fields, fields_at}
 use Rattle.state_codec.specs.Ranges.{InRange}
 use Rattle.machines.specs.Machines.{Machine, IsState, IsBorne}
-use Rattle.adversary_script.specs.Scripts.{Era, Script, IsScript, faulty_sets}
+use Rattle.adversary_script.specs.Scripts.{Era, Script, faulty_sets}
 use Rattle.adversary_script.specs.Eras.{faulty_of_era}
-use Rattle.adversary_script.specs.ScriptPart.{IsTolerated, IsScriptFor}
+use Rattle.adversary_script.specs.ScriptPart.{IsTolerated}
 use Rattle.script_runs.specs.Laws.{IsShapeOf, IsReadFor, ReadersFit}
 
 -- what the reader of scripts says of a script, for a machine

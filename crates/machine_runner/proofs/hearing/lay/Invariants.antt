@@ -1,0 +1,5 @@
+use Rattle.machine_runner.proofs.Laid.{LaidBelow}
+use Rattle.machine_runner.proofs.hearing.lay.Given as goal
+
+abbrev pub invariant-loop-v : goal.invariant-loop-v
+invariant-loop-v l = LaidBelow l.states.current l.states.shape.depth l.v l.heard

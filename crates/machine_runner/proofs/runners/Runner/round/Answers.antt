@@ -1,0 +1,74 @@
+use Rattle.std.proofs.Common.{ℕ, ◌+◌, ◌<◌, List, Option, length, sym, ap, ◌∙◌, subst}
+use Rattle.std.proofs.Common.{arith}
+use Rattle.sync_types.specs.FaultSets.{FaultIds}
+use Rattle.sync_types.specs.States.{State}
+use Rattle.state_codec.specs.Packs.{Pack}
+use Rattle.adversary_script.specs.Eras.{faulty_of_era}
+use Rattle.machine_runner.specs.Runners.{Running, next}
+use Rattle.machine_runner.proofs.Keeping.{played_long, played_next, locks_go_on, locks_long}
+use Rattle.machine_runner.proofs.Keeping.{locked_next}
+use Rattle.machine_runner.proofs.runners.Runner.round.Goals as goal
+
+pub invariant_of-round : goal.invariant_of-round
+invariant_of-round g c =
+    let script = c.self.inside.script in
+    let kept = c.self.invariant in
+    record {
+      liars = c.era_faulty.ensures ∙ ap (λ (j : ℕ). let set : FaultIds =
+          record { nodes = script.nodes; ids = faulty_of_era script j } in set) kept.here;
+      left = subst (λ (r : Running _). r.at < r.script.rounds) (sym c.self.view_is) c.requires;
+      behind = c.beginning_in.ensures;
+    }
+
+pub step_all-requires-clause-config : goal.step_all-requires-clause-config
+step_all-requires-clause-config g c = record {
+  shape = c.self.invariant.shape;
+  size = c.self.invariant.size;
+}
+
+pub is_locked-requires-clause-nodes : goal.is_locked-requires-clause-nodes
+is_locked-requires-clause-nodes g c =
+    ap (λ (s : FaultIds). s.nodes) c.era_faulty-2.ensures ∙ c.self.invariant.read.right.nodes
+
+pub is_locked-requires-clause-size : goal.is_locked-requires-clause-size
+is_locked-requires-clause-size g c =
+    let machine = g.M.Machine.machine c.self.inside.machine.now in
+    let script = c.self.inside.script in
+    let t = c.self.inside.at in
+    let played = ap (λ (p : Pack). p.current) c.flip.ensures
+    ∙ ap (λ (p : Pack). p.next) c.step_all.ensures.states
+    ∙ played_next machine script t c.self.inside.states.current c.self.invariant.played in
+    ap (λ (xs : List State). length xs) played ∙ played_long machine script (t + 1)
+    ∙ sym (ap (λ (s : FaultIds). s.nodes) c.era_faulty-2.ensures)
+
+pub invariant_of-self : goal.invariant_of-self
+invariant_of-self g c =
+    let machine = g.M.Machine.machine c.self.inside.machine.now in
+    let script = c.self.inside.script in
+    let t = c.self.inside.at in
+    let kept = c.self.invariant in
+    let left = subst (λ (r : Running _). r.at < r.script.rounds) (sym c.self.view_is) c.requires in
+    let played = ap (λ (p : Pack). p.current) c.flip.ensures
+    ∙ ap (λ (p : Pack). p.next) c.step_all.ensures.states
+    ∙ played_next machine script t c.self.inside.states.current kept.played in
+    let known = locks_go_on machine script c.self.inside.locks.items t c.era_of-era.result
+    c.index.result.now (c.era_faulty-2.result.now).ids c.flip.new.self.current
+    c.locked_so_far.result kept.known c.era_of-era.ensures.value c.era_of-era.ensures.most
+    c.index.ensures (ap (λ (s : FaultIds). s.ids) c.era_faulty-2.ensures) played
+    (locked_next _ _ _ _ _ c.locked_so_far.ensures c.is_locked-locked.ensures) in
+    record {
+      sound = kept.sound;
+      read = kept.read;
+      ready = c.step_all.ensures.room;
+      shape = ap (λ (p : Pack). p.shape) c.flip.ensures
+          ∙ (ap (λ (p : Pack). p.shape) c.step_all.ensures.states ∙ kept.shape);
+      size = ap (λ (xs : List State). length xs) played ∙ played_long machine script (t + 1);
+      played = played;
+      within = omega (arith, left);
+      here = c.era_of-era.ensures.value;
+      eras = ap (λ (xs : List (Option ℕ)). length xs) known ∙ locks_long machine script (t + 1);
+      known = known;
+    }
+
+pub returns : goal.returns
+returns g c = ap next c.self.view_is

@@ -1,0 +1,116 @@
+use Rattle.std.proofs.Common.{◌+◌, ◌<◌, ℕ, List, All, length, refl, sym, ap, ◌∙◌, subst, arith}
+use Rattle.std.proofs.lemmas.List.{with_items_is}
+use Rattle.sync_types.specs.States.{State}
+use Rattle.construction.specs.Steps.{state_of}
+use Rattle.state_codec.specs.Packs.{Pack}
+use Rattle.state_codec.specs.Ranges.{InRange}
+use Rattle.state_codec.specs.Shapes.{Shape, fields_at}
+use Rattle.adversary_script.proofs.LiesInRange.{depth_of_node}
+use Rattle.script_runs.specs.Played.{state_after}
+use Rattle.script_runs.proofs.Places.{all_places}
+use Rattle.machine_runner.specs.Hearing.{AreHonest}
+use Rattle.machine_runner.proofs.Filled.{FilledBelow, none_filled, one_filled, all_filled}
+use Rattle.machine_runner.proofs.stepping.Round.step_all.Goals as goal
+
+pub lay-requires-clause-size : goal.lay-requires-clause-size
+lay-requires-clause-size g c =
+    ap (λ (xs : List State). length xs) c.deref_mut.ensures.value
+    ∙ (c.requires.room.heard.size ∙ sym c.requires.config.size)
+
+pub lay-requires-clause-deep : goal.lay-requires-clause-deep
+lay-requires-clause-deep g c =
+    subst (λ (xs : List State).
+    All (λ (s : State). length s.registers ≡ c.args.states.now.shape.depth) xs)
+    (sym c.deref_mut.ensures.value)
+    (subst (λ (d : ℕ). All (λ (s : State). length s.registers ≡ d) c.args.room.now.heard.items)
+    (sym (ap (λ (s : Shape). s.depth) c.requires.config.shape)) c.requires.room.heard.deep)
+
+pub loop-v-init : goal.loop-v-init
+loop-v-init g c =
+    let machine = g.M.Machine.machine c.args.machine.now in
+    let script = c.args.self.now.script.now in
+    let config = c.args.states.now.current in
+    let shape = c.args.states.now.shape in
+    let laid = with_items_is c.args.room.now.heard c.lay.new.heard
+    (c.lay.auto.heard ∙ c.deref_mut.ensures.len) ∙ c.lay.ensures in
+    record {
+      filled = none_filled (state_after machine script c.args.self.now.t config) script.nodes _
+          (c.tell.ensures.size ∙ c.requires.config.size);
+      fixed = refl;
+      ready = record {
+        noise = c.requires.room.noise;
+        heard = record {
+          size = ap (λ (xs : List State). length xs) laid ∙ c.requires.config.size;
+          deep = subst (λ (xs : List State).
+              All (λ (s : State). length s.registers ≡ script.shape.depth) xs) (sym laid)
+              (all_places (λ (s : State). length s.registers ≡ script.shape.depth) config (λ u lt.
+              depth_of_node shape u _ (c.tell.ensures.current u lt)
+              ∙ ap (λ (s : Shape). s.depth) c.requires.config.shape));
+        };
+        work = c.requires.room.work;
+        out = c.requires.room.out;
+      };
+      honest = λ u lt correct. ap (λ (xs : List State). state_of xs u) laid;
+    }
+
+pub loop-v-preserved : goal.loop-v-preserved
+loop-v-preserved g c =
+    let machine = g.M.Machine.machine c.args.machine.now in
+    let script = c.args.self.now.script.now in
+    let t = c.args.self.now.t in
+    let h = c.loop-v.invariant in
+    let fixed = h.fixed in
+    let lt : c.loop-v.v < script.nodes =
+    omega (arith, c.loop-v-test.true, c.nodes-v-end.ensures.current, c.requires.config.size) in
+    let after : ℕ → State = state_after machine script t c.args.states.now.current in
+    record {
+      filled = subst (λ (next : List State). FilledBelow after script.nodes (c.loop-v.v + 1) next)
+          (sym (ap (λ (p : Pack). p.next) c.put.ensures))
+          (one_filled after script.nodes c.loop-v.v c.loop-v.states.next c.step.new.room.out lt
+          h.filled (c.step.ensures.state
+          ∙ ap (λ (p : Pack). state_after machine script t p.current c.loop-v.v) fixed));
+      fixed = rw (c.put.ensures, fixed) refl;
+      ready = c.step.ensures.room;
+      honest = subst (λ (config : List State).
+          AreHonest script t config c.step.new.room.heard.items)
+          (ap (λ (p : Pack). p.current) fixed) c.step.ensures.honest;
+    }
+
+pub step-requires-clause-node : goal.step-requires-clause-node
+step-requires-clause-node g c =
+    omega (arith, c.loop-v-test.true, c.nodes-v-end.ensures.current, c.requires.config.size)
+
+pub step-requires-clause-config : goal.step-requires-clause-config
+step-requires-clause-config g c =
+    let fixed = c.loop-v.invariant.fixed in
+    record {
+      shape = ap (λ (p : Pack). p.shape) fixed ∙ c.requires.config.shape;
+      size = ap (λ (p : Pack). length p.current) fixed ∙ c.requires.config.size;
+    }
+
+pub step-requires-clause-honest : goal.step-requires-clause-honest
+step-requires-clause-honest g c =
+    subst (λ (config : List State). AreHonest c.args.self.now.script.now c.args.self.now.t config
+    c.loop-v.room.heard.items) (sym (ap (λ (p : Pack). p.current) c.loop-v.invariant.fixed))
+    c.loop-v.invariant.honest
+
+pub put-requires-clause-node : goal.put-requires-clause-node
+put-requires-clause-node g c =
+    let long = c.loop-v.invariant.filled.size in
+    omega (arith, c.loop-v-test.true, c.nodes-v-end.ensures.current, c.requires.config.size, long)
+
+pub put-requires-clause-range : goal.put-requires-clause-range
+put-requires-clause-range g c =
+    let shape = ap (λ (p : Pack). p.shape) c.loop-v.invariant.fixed ∙ c.requires.config.shape in
+    subst (λ (s : Shape). InRange (fields_at s c.loop-v.v) c.step.new.room.out) (sym shape)
+    c.step.ensures.range
+
+pub returns-clause-states : goal.returns-clause-states
+returns-clause-states g c =
+    c.loop-v.invariant.fixed
+    ∙ ap (λ (next : List State). let p : Pack = record c.args.states.now { next = next } in p)
+    (all_filled (state_after (g.M.Machine.machine c.args.machine.now) c.args.self.now.script.now
+    c.args.self.now.t c.args.states.now.current) c.args.self.now.script.now.nodes c.loop-v.v
+    c.loop-v.states.next
+    (omega (arith, c.loop-v-test.false, c.nodes-v-end.ensures.current, c.requires.config.size))
+    c.loop-v.invariant.filled)
