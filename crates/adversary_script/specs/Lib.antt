@@ -10,6 +10,7 @@ pub mod Links
 pub mod Lookup
 pub mod Noise
 pub mod NoiseSaid
+pub mod Rounds
 pub mod ScriptLaws
 pub mod ScriptPart
 pub mod ScriptRefusals

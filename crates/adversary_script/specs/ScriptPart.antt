@@ -1,6 +1,7 @@
 -- The script part of an input, line by line, to the end of the input.
-use Rattle.std.specs.Prelude.{◌≡◌, ⊤, ℕ, ◌+◌, List, All, Option, Some, None, Result, Ok, Err}
-use Rattle.std.specs.Prelude.{if◌then◌else◌}
+use Rattle.std.specs.Prelude.{◌≡◌, ⊤, ℕ, ◌+◌, ◌<◌, ◌≤◌, List, length, All, Option, Some, None}
+use Rattle.std.specs.Prelude.{Result, Ok, Err, if◌then◌else◌}
+use Rattle.std.specs.List.Sorted.{IsStrictlyIncreasing}
 use Rattle.texts.specs.Lines.{words_of}
 use Rattle.texts.specs.Parts.{Next, goes, ends, refuses, with_skips, Found, At, part_from}
 use Rattle.sync_types.specs.declared.answers.Rule.{Rule}
@@ -44,13 +45,13 @@ read_as s (Some (k, words)) =
 abbrev pub script_step : ScriptSoFar → List ℕ → Next ScriptSoFar Script Rule
 script_step s line = read_as s (kind_of (words_of line))
 
--- The script part at the front of these lines, of which the first has that number: its script, how
--- many lines it took through `end`, and the lines behind; or the first line that fails, with the
--- first rule that it fails.
-abbrev pub part_of : Plan → Shape → (number : ℕ) → List (List ℕ) → Result (Found Script) (At Rule)
-part_of plan shape number lines =
-    part_from (with_skips script_step Form) Form
-    (nothing_read (plan_nodes plan) (plan_faults plan) shape) 0 number lines
+-- The script part at the front of these lines, of which the first has that number, for so many
+-- nodes, of which so many may be faulty: its script, how many lines it took through `end`, and the
+-- lines behind; or the first line that fails, with the first rule that it fails.
+abbrev pub part_for : (nodes faults : ℕ) → Shape → (number : ℕ) → List (List ℕ)
+    → Result (Found Script) (At Rule)
+part_for nodes faults shape number lines =
+    part_from (with_skips script_step Form) Form (nothing_read nodes faults shape) 0 number lines
 
 -- the script, unless the line with that number follows it
 abbrev pub unless_followed : Option ℕ → Script → Result Script (At Rule)
@@ -64,8 +65,28 @@ alone number (Err refusal) = Err refusal
 
 -- The script of these lines, of which the first has that number and behind whose `end` only skipped
 -- ones stand; or the first line that fails, with the first rule that it fails.
-unfoldable pub script_of : Plan → Shape → (number : ℕ) → List (List ℕ) → Result Script (At Rule)
-script_of plan shape number lines = alone number (part_of plan shape number lines)
+unfoldable pub script_for : (nodes faults : ℕ) → Shape → (number : ℕ) → List (List ℕ)
+    → Result Script (At Rule)
+script_for nodes faults shape number lines = alone number (part_for nodes faults shape number lines)
+
+-- the script part for a plan's nodes, and the script
+abbrev pub part_of : Plan → Shape → (number : ℕ) → List (List ℕ) → Result (Found Script) (At Rule)
+part_of plan = part_for (plan_nodes plan) (plan_faults plan)
+
+abbrev pub script_of : Plan → Shape → (number : ℕ) → List (List ℕ) → Result Script (At Rule)
+script_of plan = script_for (plan_nodes plan) (plan_faults plan)
+
+-- a faulty set that a counter of n nodes tolerates, of which f may be faulty: rising ids of nodes
+pub record IsTolerated (n f : ℕ) (faulty : List ℕ) : Type 0 where
+  pub rising : IsStrictlyIncreasing faulty
+  pub ids : All (λ id. id < n) faulty
+  pub few : length faulty ≤ f
+
+-- a script for n nodes, of which f may be faulty in each era, and for states of that shape
+pub record IsScriptFor (n f : ℕ) (shape : Shape) (script : Script) : Type 0 where
+  pub nodes : script.nodes ≡ n
+  pub states : script.shape ≡ shape
+  pub borne : All (IsTolerated n f) (faulty_sets script)
 
 -- a script for a plan: for its nodes, for states of that shape, with faulty sets that the plan
 -- bears
@@ -75,11 +96,17 @@ pub record IsFor (plan : Plan) (shape : Shape) (script : Script) : Type 0 where
   pub borne : All (IsBorne plan) (faulty_sets script)
 
 -- reading these lines answers the script that is defined, or fails as defined
+abbrev pub IsAnswerFor : (nodes faults : ℕ) → Shape → (number : ℕ) → List (List ℕ)
+    → Result Script ScriptError → Type 0
+IsAnswerFor nodes faults shape number lines (Ok script) =
+    script_for nodes faults shape number lines ≡ Ok script
+IsAnswerFor nodes faults shape number lines (Err error) =
+    FailsAsDefined error (script_for nodes faults shape number lines)
+
+-- it does so for a plan
 abbrev pub IsAnswer : Plan → Shape → (number : ℕ) → List (List ℕ) → Result Script ScriptError
     → Type 0
-IsAnswer plan shape number lines (Ok script) = script_of plan shape number lines ≡ Ok script
-IsAnswer plan shape number lines (Err error) =
-    FailsAsDefined error (script_of plan shape number lines)
+IsAnswer plan = IsAnswerFor (plan_nodes plan) (plan_faults plan)
 
 -- where the rounds were said, all eras begin within them
 abbrev pub IsClosed : Option Kind → Script → Type 0

@@ -5,7 +5,7 @@ use Rattle.std.specs.List.{list_any}
 use Rattle.std.specs.List.Sorted.{IsStrictlyIncreasing}
 use Rattle.std.specs.Str.{bytes_eq}
 use Rattle.sync_types.specs.FaultSets.{is_in}
-use Rattle.construction.specs.Plans.{Plan, plan_nodes}
+use Rattle.construction.specs.Plans.{Plan, plan_nodes, plan_faults}
 use Rattle.state_codec.specs.Shapes.{Shape, fields_at, bytes_in}
 use Rattle.adversary_script.specs.declared.lies.Who.{Who}
 use Rattle.adversary_script.specs.declared.lies.Who.TheVariants as who
@@ -15,12 +15,12 @@ use Rattle.adversary_script.specs.declared.lies.Lie.{Lie}
 use Rattle.adversary_script.specs.declared.lies.Start.{Start}
 use Rattle.adversary_script.specs.WordTests.{is_name}
 use Rattle.adversary_script.specs.Scripts.{Group, Script, faulty_sets, IsScript}
-use Rattle.adversary_script.specs.ScriptPart.{IsFor}
+use Rattle.adversary_script.specs.ScriptPart.{IsScriptFor}
 use Rattle.adversary_script.specs.ScriptTexts.{group_in}
 
--- the digits of each node's states are some, and not too many for a line
-abbrev pub FitsLines : Plan → Shape → Type 0
-FitsLines plan shape = (v : ℕ) → v < plan_nodes plan
+-- the digits of the states of each of so many nodes are some, and not too many for a line
+abbrev pub FitsLines : (nodes : ℕ) → Shape → Type 0
+FitsLines nodes shape = (v : ℕ) → v < nodes
     → (1 ≤ bytes_in (fields_at shape v)) × (bytes_in (fields_at shape v) ≤ 2000)
 
 -- 32 bytes
@@ -68,10 +68,10 @@ pub record IsLie (nodes : ℕ) (groups : List Group) (sets : List (List ℕ)) (l
   pub who : IsHeard nodes groups lie.who
   pub what : IsSayable lie.what
 
--- A script for a plan and states of a shape that a text says: in version 1 it has no further eras,
--- and it has at most 256 lies.
-pub record IsWritable (plan : Plan) (shape : Shape) (s : Script) : Type 0 where
-  pub for : IsFor plan shape s
+-- A script for n nodes, of which f may be faulty, and states of a shape that a text says: in version
+-- 1 it has no further eras, and it has at most 256 lies.
+pub record IsWritableFor (n f : ℕ) (shape : Shape) (s : Script) : Type 0 where
+  pub for : IsScriptFor n f shape s
   pub whole : IsScript s
   pub oldest : 1 ≤ s.version
   pub newest : s.version ≤ 2
@@ -82,3 +82,7 @@ pub record IsWritable (plan : Plan) (shape : Shape) (s : Script) : Type 0 where
   pub groups : AreGroups s.nodes s.groups
   pub many : length s.lies ≤ 256
   pub lies : All (IsLie s.nodes s.groups (faulty_sets s)) s.lies
+
+-- a script for a plan and states of a shape that a text says
+abbrev pub IsWritable : (plan : Plan) → Shape → Script → Type 0
+IsWritable plan = IsWritableFor (plan_nodes plan) (plan_faults plan)

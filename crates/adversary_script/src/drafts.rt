@@ -1,7 +1,6 @@
 ghost use Rattle.std.specs.Prelude.{◌≡◌, ◌<◌, ◌≤◌, ◌++◌, ◌∷◌, [], None, IfOk, length, map};
 ghost use Rattle.std.specs.List.{list_any};
 ghost use Rattle.sync_types.specs.FaultSets.{is_in};
-ghost use Rattle.construction.specs.Plans.{plan_nodes};
 ghost use Rattle.state_codec.specs.Shapes.{fields_at, shape_nodes};
 ghost use Rattle.state_codec.specs.Ranges.{InRange};
 ghost use Rattle.adversary_script.specs.Scripts.{IsLying, AreWithin, empty_script};
@@ -14,7 +13,6 @@ use crate::lies::{CommonStart, Lie, Start};
 use crate::links::link;
 use crate::parts::{Era, Parts};
 use crate::scripts::Script;
-use plan_numbers::Plan;
 use state_codec::StateShape;
 use std::alloc::{AllocError, AllocFailed, Global};
 use std::marker::Model;
@@ -24,7 +22,6 @@ use sync_types::{FaultSet, NoMemory};
 /// What a script said so far.
 pub struct Draft<'a> {
     alloc: Global,
-    plan: &'a Plan,
     shape: &'a StateShape,
     faulty: Option<FaultSet>,
     parts: Parts,
@@ -35,13 +32,11 @@ impl<'a> Drop for Draft<'a> {
     fn drop(self) {
         let Draft {
             alloc,
-            plan,
             shape,
             faulty,
             parts,
         } = self;
         drop(alloc);
-        drop(plan);
         drop(shape);
         drop(faulty);
         drop(parts);
@@ -49,8 +44,6 @@ impl<'a> Drop for Draft<'a> {
 }
 
 impl<'a> Model for Draft<'a> {
-    ghost use Rattle.std.specs.Prelude.{◌≡◌};
-    ghost use Rattle.construction.specs.Plans.{plan_nodes};
     ghost use Rattle.state_codec.specs.Shapes.{shape_nodes};
     ghost use Rattle.adversary_script.specs.Scripts.{Script as ScriptSaid, IsFormed};
     ghost use Rattle.adversary_script.specs.Seen.{script_seen, faulty_or_none, IsOver};
@@ -58,23 +51,20 @@ impl<'a> Model for Draft<'a> {
     ghost Value = { ScriptSaid };
 
     ghost view = { λ d.
-        script_seen d.shape.now (faulty_or_none (plan_nodes d.plan.now) d.faulty) d.parts };
+        script_seen d.shape.now (faulty_or_none (shape_nodes d.shape.now) d.faulty) d.parts };
 
     ghost invariant = { λ d.
-        IsFormed (script_seen d.shape.now (faulty_or_none (plan_nodes d.plan.now) d.faulty) d.parts)
-        × IsOver (plan_nodes d.plan.now) d.faulty d.parts
-        × (shape_nodes d.shape.now ≡ plan_nodes d.plan.now) };
+        IsFormed (script_seen d.shape.now (faulty_or_none (shape_nodes d.shape.now) d.faulty)
+        d.parts) × IsOver (shape_nodes d.shape.now) d.faulty d.parts };
 }
 
 impl<'a> Draft<'a> {
     /// A script that says nothing yet.
-    pub fn new(alloc: Global, plan: &'a Plan, shape: &'a StateShape) -> Draft<'a>
-        requires { shape_nodes shape.now ≡ plan_nodes plan.now }
-        ensures { result ≡ empty_script (plan_nodes plan.now) shape.now }
+    pub fn new(alloc: Global, shape: &'a StateShape) -> Draft<'a>
+        ensures { result ≡ empty_script (shape_nodes shape.now) shape.now }
     {
         Draft {
             alloc,
-            plan,
             shape,
             faulty: None,
             parts: Parts::none(alloc),
@@ -86,7 +76,7 @@ impl<'a> Draft<'a> {
         requires { AreWithin self.old }
         ensures { IfOk result (λ script. script ≡ self.old) }
     {
-        let nodes = self.plan.nodes();
+        let nodes = self.shape.nodes();
         let shape = self.shape.try_clone(self.alloc)?;
         let links = link(self.alloc, nodes, &self.parts.lies)?;
         let parts = mem::replace(&mut self.parts, Parts::none(self.alloc));
@@ -241,7 +231,7 @@ impl<'a> Draft<'a> {
     pub fn nodes(&self) -> u32
         ensures { result ≡ self.now.nodes }
     {
-        self.plan.nodes()
+        self.shape.nodes()
     }
 
     /// Whether a node is faulty in era 0.

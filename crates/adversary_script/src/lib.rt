@@ -1,10 +1,10 @@
-//! Scripts: what an adversary does with a plan. A script says which nodes are faulty, in which
+//! Scripts: what an adversary does with a counter. A script says which nodes are faulty, in which
 //! states all nodes start, what the faulty nodes tell the others in which rounds, how many rounds
 //! are played and which configurations are shown. One of version 2 may have eras: from some
 //! configurations on other nodes are faulty, and there it may put nodes into states.
 //!
-//! [`read_script`] reads a script line by line and refuses the first line that fails, with the
-//! first rule that it fails. [`Script`] gives the states that it says: those in which nodes start,
+//! [`read_script_for`] reads a script for the nodes of a shape line by line and refuses the first line
+//! that fails, with the first rule that it fails; [`read_script`] one for a plan. [`Script`] gives the states that it says: those in which nodes start,
 //! those into which they are put where an era begins, and those that faulty nodes tell. The states
 //! of a node have the fields of that node. States of noise come from ChaCha8 by the script's key:
 //! the lies from node u to node v have the stream 256u + v, in which each round has its own words,
@@ -40,7 +40,7 @@ mod stretches;
 mod word_tests;
 
 pub use noise::Noise;
-pub use reading::read_script;
+pub use reading::{read_script, read_script_for};
 pub use refusals::{ScriptError, ScriptRefusal};
 pub use scripts::Script;
 pub use shifting::shift_into;

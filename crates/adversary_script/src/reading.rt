@@ -2,7 +2,7 @@ ghost use Rattle.std.specs.Prelude.{◌≡◌, ◌≤◌, ◌<◌, ◌+◌, ◌^
 ghost use Rattle.texts.specs.Lines.{lines_of};
 ghost use Rattle.construction.specs.Plans.{plan_nodes};
 ghost use Rattle.state_codec.specs.Shapes.{shape_nodes};
-ghost use Rattle.adversary_script.specs.ScriptPart.{IsAnswer, IsFor};
+ghost use Rattle.adversary_script.specs.ScriptPart.{IsAnswer, IsAnswerFor, IsFor, IsScriptFor};
 
 use crate::refusals::{ScriptError, ScriptRefusal};
 use crate::script_lines::ScriptLines;
@@ -37,8 +37,28 @@ pub fn read_script(
     ensures borne { IfOk result (λ script. IsFor plan.now shape.now script) }
     ensures eras { IfOk result (λ script. script.version ≡ 1 → script.eras ≡ []) }
 {
+    read_script_for(alloc, plan.faults(), shape, bytes, first_line)
+}
+
+/// Reads a script for the nodes of `shape`, of which at most `faults` may be faulty in an era, as
+/// [`read_script`] reads one for a plan.
+pub fn read_script_for(
+    alloc: Global,
+    faults: u32,
+    shape: &StateShape,
+    bytes: &[u8],
+    first_line: u64,
+) -> Result<Script, ScriptError>
+    requires first { 1 ≤ first_line }
+    requires count { first_line + length bytes.now < 2 ^ 64 }
+    ensures exact { IsAnswerFor (shape_nodes shape.now) faults shape.now first_line
+        (lines_of bytes.now) result }
+    ensures borne { IfOk result
+        (λ script. IsScriptFor (shape_nodes shape.now) faults shape.now script) }
+    ensures eras { IfOk result (λ script. script.version ≡ 1 → script.eras ≡ []) }
+{
     shape.tell();
-    read_exactly(alloc, plan, shape, &Numbered { bytes, first_line })
+    read_exactly(alloc, faults, shape, &Numbered { bytes, first_line })
 }
 
 /// Lines of an input, of which the first has a number.
@@ -51,18 +71,17 @@ struct Numbered<'a> {
 }
 
 /// Reads a script, exactly as it is defined.
-#[tactic(auto, unfolding(crate::specs::ScriptPart::script_of))]
+#[tactic(auto, unfolding(crate::specs::ScriptPart::script_for))]
 fn read_exactly(
     alloc: Global,
-    plan: &Plan,
+    faults: u32,
     shape: &StateShape,
     input: &Numbered,
 ) -> Result<Script, ScriptError>
-    requires { shape_nodes shape.now ≡ plan_nodes plan.now }
-    ensures { IsAnswer plan.now shape.now input.now.first_line (lines_of input.now.bytes.now)
-        result }
+    ensures { IsAnswerFor (shape_nodes shape.now) faults shape.now input.now.first_line
+        (lines_of input.now.bytes.now) result }
 {
-    let lines = ScriptLines::new(alloc, plan, shape);
+    let lines = ScriptLines::new(alloc, faults, shape);
     let read = read_part(lines, Rule::Form, input.bytes, input.first_line)?;
     match first_unskipped(&input.bytes[read.bytes..], input.first_line + read.lines) {
         Some(line) => Err(ScriptError::Refused(ScriptRefusal {

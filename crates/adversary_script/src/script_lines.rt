@@ -1,5 +1,4 @@
 ghost use Rattle.std.specs.Prelude.{◌≡◌, true, Some, IfOk, Ok};
-ghost use Rattle.construction.specs.Plans.{plan_nodes, plan_faults};
 ghost use Rattle.state_codec.specs.Shapes.{shape_nodes};
 ghost use Rattle.edge_io.specs.Taking.{Takes};
 ghost use Rattle.adversary_script.specs.Answers.{Adds};
@@ -11,7 +10,6 @@ use crate::drafts::Draft;
 use crate::kinds::{Kind, may_follow, read_kind};
 use crate::scripts::Script;
 use edge_io::{LineReader, TakeError, Words};
-use plan_numbers::Plan;
 use state_codec::StateShape;
 use std::alloc::Global;
 use std::marker::Model;
@@ -48,15 +46,15 @@ impl<'a> Model for ScriptLines<'a> {
 }
 
 impl<'a> ScriptLines<'a> {
-    /// A reader of a part of which nothing was read.
-    pub fn new(alloc: Global, plan: &'a Plan, shape: &'a StateShape) -> ScriptLines<'a>
-        requires { shape_nodes shape.now ≡ plan_nodes plan.now }
-        ensures { result ≡ nothing_read (plan_nodes plan.now) (plan_faults plan.now) shape.now }
+    /// A reader of a part of which nothing was read. At most `faults` nodes may be faulty in an
+    /// era.
+    pub fn new(alloc: Global, faults: u32, shape: &'a StateShape) -> ScriptLines<'a>
+        ensures { result ≡ nothing_read (shape_nodes shape.now) faults shape.now }
     {
         ScriptLines {
-            faults: plan.faults(),
+            faults,
             last: None,
-            draft: Draft::new(alloc, plan, shape),
+            draft: Draft::new(alloc, shape),
         }
     }
 

@@ -53,6 +53,13 @@ impl Machine for AnyMachine {
         }
     }
 
+    fn lock(&self) -> Option<usize> {
+        match self {
+            AnyMachine::Boosting(machine) => machine.lock(),
+            AnyMachine::Pulses(machine) => machine.lock(),
+        }
+    }
+
     fn tell(&self) {
         match self {
             AnyMachine::Boosting(machine) => machine.tell(),

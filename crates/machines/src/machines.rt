@@ -36,6 +36,10 @@ pub trait Machine: Drop {
     fn depth(&self) -> usize
         ensures { result ≡ (machine self.now).depth };
 
+    /// The register that tells whether a configuration is locked; None where each is.
+    fn lock(&self) -> Option<usize>
+        ensures { result ≡ (machine self.now).lock };
+
     /// Tells a caller's proof that the machine is sound. It does nothing when it runs.
     fn tell(&self)
         ensures { IsSound (machine self.now) };

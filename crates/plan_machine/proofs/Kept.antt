@@ -1,10 +1,11 @@
 -- What the shape and the tower of a plan give is what its machine says.
-use Rattle.std.proofs.Common.{◌≡◌, ℕ, zero, suc, ◌<◌, ◌≤◌, List, [], ◌∷◌, ◌++◌, length, get_or, All}
-use Rattle.std.proofs.Common.{refl, ap, ◌∙◌, subst, arith}
+use Rattle.std.proofs.Common.{◌≡◌, ℕ, zero, suc, ◌-◌, ◌<◌, ◌≤◌, List, [], ◌∷◌, ◌++◌, length, get_or}
+use Rattle.std.proofs.Common.{Option, Some, None, All, refl, ap, ◌∙◌, subst, arith}
+use Rattle.std.specs.Prelude.{SomeIff}
 use Rattle.std.proofs.lemmas.List.{append-nil, drop_all}
 use Rattle.sync_types.specs.declared.states.Reg.{Reg}
 use Rattle.sync_types.specs.States.{State, zero_state}
-use Rattle.construction.specs.Plans.{Plan, plan_nodes, plan_depth}
+use Rattle.construction.specs.Plans.{Level, Plan, plan_nodes, plan_depth}
 use Rattle.construction.specs.Steps.{state_of}
 use Rattle.construction.specs.Runs.{IsState}
 use Rattle.plan_laws.specs.PlanMeaning.{IsInRange}
@@ -16,7 +17,7 @@ use Rattle.state_codec.proofs.Plans.{depth_of_shape, nodes_of_shape}
 use Rattle.state_codec.proofs.PlanStates.{state_of_node}
 use Rattle.counter_core.specs.Meanings.{written}
 use Rattle.machines.specs.Machines.{IsConfiguration}
-use Rattle.plan_machine.specs.PlanMachines.{machine_of_plan}
+use Rattle.plan_machine.specs.PlanMachines.{machine_of_plan, lock_of}
 use Rattle.plan_machine.specs.Kept.{IsKept}
 
 -- a place within a list needs no default
@@ -32,6 +33,14 @@ whole_state d s out short =
     ap (λ (l : List Reg). let t : State = record { x = s.x; registers = l } in t)
     (ap (λ (l : List Reg). s.registers ++ l) (drop_all d out.registers short)
     ∙ append-nil s.registers)
+
+-- the register of the top level is the last of all
+pub lock_is : (levels : List Level) (last : Option ℕ)
+    → SomeIff last (1 ≤ length levels) (length levels - 1) → last ≡ lock_of levels
+lock_is [] None is = refl
+lock_is [] (Some register) is = absurd (omega (arith, is.0))
+lock_is (level ∷ below) None is = absurd (is (omega arith))
+lock_is (level ∷ below) (Some register) is = ap Some (omega (arith, is.1))
 
 module _ (plan : Plan) (shape : Shape) (kept : IsKept plan shape) where
   pub node_of_shape : (v : ℕ) → v < plan_nodes plan → v < shape_nodes shape

@@ -78,6 +78,10 @@ impl Machine for PlanMachine {
         self.tower.depth()
     }
 
+    fn lock(&self) -> Option<usize> {
+        self.tower.depth().checked_sub(1)
+    }
+
     fn tell(&self) {
         self.tower.tell();
     }

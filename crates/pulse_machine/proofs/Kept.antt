@@ -1,5 +1,6 @@
 -- What the fields of a plan's nodes give is what its machine says.
-use Rattle.std.proofs.Common.{◌≡◌, ℕ, ◌<◌, List, length, get_or, ap, ap₂, ◌∙◌, arith}
+use Rattle.std.proofs.Common.{◌≡◌, ◌≢◌, ℕ, zero, suc, ◌<◌, List, length, get_or, Some, None, refl}
+use Rattle.std.proofs.Common.{ap, ap₂, ◌∙◌, arith}
 use Rattle.std.proofs.lemmas.List.Elements.{All-from_get_or}
 use Rattle.std.proofs.lemmas.List.FromFn.{length-map-range_with_len, get_or-map-range_with_len}
 use Rattle.sync_types.specs.States.{State, zero_state}
@@ -7,9 +8,9 @@ use Rattle.construction.specs.Steps.{state_of}
 use Rattle.state_codec.specs.Shapes.{Fields}
 use Rattle.state_codec.specs.Ranges.{InRange}
 use Rattle.machines.specs.Machines.{IsConfiguration}
-use Rattle.pulse_construction.specs.Halvings.{halving_nodes}
+use Rattle.pulse_construction.specs.Halvings.{halving_nodes, halving_of}
 use Rattle.pulse_construction.specs.Steps.{halving_depth}
-use Rattle.pulse_construction.specs.Runs.{fields_in, all_fields}
+use Rattle.pulse_construction.specs.Runs.{fields_in, all_fields, lock_of}
 use Rattle.pulse_construction.proofs.Ranges.{positive_fields}
 use Rattle.pulse_plan_laws.proofs.States.{long, fields_most}
 use Rattle.pulse_plan.specs.Plans.{PulseNumbers, IsAccepted, tree_of}
@@ -17,6 +18,15 @@ use Rattle.pulse_plan.specs.Laws.{machine_in}
 use Rattle.pulse_plan.proofs.Sound.{nodes_are, accepted_are_sound}
 use Rattle.pulse_counter.specs.Groups.{CanHear, IsDeep}
 use Rattle.pulse_machine.specs.Kept.{IsKept}
+
+-- one node has no register that tells locks, and each other tree has the first one
+pub lock_of_none : (f spares : ℕ) → f ≡ 0 → None ≡ lock_of (halving_of f spares)
+lock_of_none zero spares is = refl
+lock_of_none (suc f) spares is = absurd (omega (arith, is))
+
+pub lock_of_some : (f spares : ℕ) → f ≢ 0 → Some 0 ≡ lock_of (halving_of f spares)
+lock_of_some zero spares not = absurd (not refl)
+lock_of_some (suc f) spares not = refl
 
 -- a modulus for each register
 pub all_long : (plan : PulseNumbers) → IsAccepted plan → (v : ℕ)

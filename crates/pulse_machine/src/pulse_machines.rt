@@ -87,6 +87,14 @@ impl Machine for PulseMachine {
         self.plan.depth()
     }
 
+    fn lock(&self) -> Option<usize> {
+        if self.plan.faults() == 0 {
+            None
+        } else {
+            Some(0)
+        }
+    }
+
     fn tell(&self) {
         let _plan = &self.plan;
     }

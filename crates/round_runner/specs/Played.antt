@@ -4,26 +4,10 @@ use Rattle.std.specs.List.{range_with_len}
 use Rattle.sync_types.specs.States.{State}
 use Rattle.construction.specs.Plans.{Plan}
 use Rattle.construction.specs.Steps.{step_of}
-use Rattle.construction.specs.Runs.{heard_by}
 use Rattle.adversary_script.specs.Scripts.{Script}
-use Rattle.adversary_script.specs.Eras.{first_of_era, end_of_era, faulty_at}
+use Rattle.adversary_script.specs.Eras.{first_of_era, end_of_era}
 use Rattle.adversary_script.specs.Lookup.{hit_at}
-use Rattle.adversary_script.specs.Lies.{start_of, lie_of}
-
--- the start of every node
-abbrev pub starts : Script → List State
-starts script = map (start_of script) (range_with_len 0 script.nodes)
-
--- what each node tells each other in round t; what correct nodes would tell is not heard
-abbrev pub lies_at : Script → (t : ℕ) → List State → List (List State)
-lies_at script t config =
-    map (λ u. map (λ v. lie_of script t u v config) (range_with_len 0 script.nodes))
-    (range_with_len 0 script.nodes)
-
--- what node v hears in round t
-abbrev pub heard_at : Script → (t : ℕ) → List State → (v : ℕ) → List State
-heard_at script t config v =
-    heard_by script.nodes (faulty_at script t) config (lies_at script t config) v
+pub use Rattle.adversary_script.specs.Rounds.{starts, lies_at, heard_at}
 
 -- Every node, the puppets of faulty ones too, steps from what it hears; where an era begins behind
 -- the round, a node with a start line there is put into its state.

@@ -1,4 +1,3 @@
-pub mod WordsSoFar
 pub mod FirstListed
 pub mod Shown
 pub mod Ranges

@@ -18,7 +18,7 @@ use Rattle.round_runner.specs.Runners.{Running, Advances, IsPlaying, scene_of, c
 use Rattle.run_lines.specs.RunTexts.{lock_lines}
 use Rattle.run_lines.specs.PlayedTexts.{Wording, line_if_shown, scene_in, configuration_in}
 use Rattle.run_lines.specs.Playing.{IsOver, HasPlayed}
-use Rattle.run_lines.proofs.WordsSoFar.{words_before, words_more, words_cut, words_all}
+use Rattle.run_texts.proofs.WordsSoFar.{words_before, words_more, words_cut, words_all}
 
 -- what holds holds where there is a value
 pub on_ok : {T E P : Type 0} (result : Result T E) → P → OnOk result P

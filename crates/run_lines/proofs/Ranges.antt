@@ -8,7 +8,7 @@ use Rattle.std.proofs.lemmas.Bool.{cases_lt, le-leb, lt-leb}
 use Rattle.std.proofs.lemmas.List.{take-append-drop}
 use Rattle.std.proofs.lemmas.List.Concat.{flat_map-append, flat_map-cons}
 use Rattle.run_lines.proofs.Shown.{row_if_shown}
-use Rattle.run_lines.proofs.WordsSoFar.{words_before}
+use Rattle.run_texts.proofs.WordsSoFar.{words_before}
 
 -- texts that are one by one the same
 pub same_texts : (f g : ℕ → List ℕ) (n a : ℕ) → ((t : ℕ) → a ≤ t → t < a + n → f t ≡ g t)

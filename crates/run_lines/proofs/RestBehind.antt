@@ -25,7 +25,7 @@ use Rattle.run_lines.specs.OutputTexts.{output_wording, counted_line}
 use Rattle.run_lines.proofs.CountedLines.{left_of_era, counted_rest}
 use Rattle.run_lines.proofs.Played.{LinesSoFar}
 use Rattle.run_lines.proofs.Ranges.{texts_split, texts_on}
-use Rattle.run_lines.proofs.WordsSoFar.{words_before}
+use Rattle.run_texts.proofs.WordsSoFar.{words_before}
 
 abbrev Plays : (began : List (Unit {0})) → Running NoOverlay → Type 0
 Plays began r = IsPlaying (λ o. no_layer) (λ o. []) began r

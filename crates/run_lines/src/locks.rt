@@ -2,24 +2,12 @@ ghost use Rattle.std.specs.Prelude.{◌≤◌, List, length};
 ghost use Rattle.texts.specs.Growth.{Puts};
 ghost use Rattle.round_runner.specs.Known.{KnowsLocks};
 ghost use Rattle.round_runner.specs.Runners.{IsPlaying, configuration_of};
-ghost use Rattle.run_lines.specs.RunTexts.{locked_line, era_line, lock_lines};
+ghost use Rattle.run_lines.specs.RunTexts.{era_line, lock_lines};
 
 use counter_core::Overlay;
 use edge_io::{TextSink, WriteFault};
 use round_runner::Runner;
-
-/// Writes which configuration is the first locked one.
-fn put_locked<K: TextSink>(sink: &mut K, locked: Option<u64>) -> Result<(), WriteFault>
-    ensures { Puts result (locked_line locked) (K.Sink.told sink.old) (K.Sink.told sink.new) }
-{
-    match locked {
-        Some(t) => {
-            sink.labelled(b"locked ", t)?;
-            sink.byte(b'\n')
-        }
-        None => sink.text(b"locked none\n"),
-    }
-}
+use run_texts::put_locked;
 
 /// Writes the line of an era, of a runner that knows the first locked configurations.
 fn put_era<K: TextSink, O: Overlay>(
@@ -34,9 +22,8 @@ fn put_era<K: TextSink, O: Overlay>(
         (configuration_of O.layer began runner.now) era)
         (K.Sink.told sink.old) (K.Sink.told sink.new) }
 {
-    sink.labelled(b"era ", runner.script().era_start(era))?;
-    sink.byte(b' ')?;
-    put_locked(sink, runner.locked_in(era))
+    let first = runner.script().era_start(era);
+    run_texts::put_era(sink, first, runner.locked_in(era))
 }
 
 /// Writes the first locked configuration of each era: for a script of version 1 one line, else one

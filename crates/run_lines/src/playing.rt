@@ -1,6 +1,5 @@
 ghost use Rattle.std.specs.Prelude.{OnOk};
 ghost use Rattle.texts.specs.Growth.{Puts};
-ghost use Rattle.run_lines.specs.RunTexts.{bound_line};
 ghost use Rattle.run_lines.specs.PlayedTexts.{lines_text};
 ghost use Rattle.run_lines.specs.Playing.{IsToPlay, HasPlayed, text_of};
 
@@ -10,6 +9,7 @@ use crate::words::put_if_shown;
 use counter_core::Overlay;
 use edge_io::{Gathered, RisingText, Sink, TextSink, WriteFault};
 use round_runner::Runner;
+use run_texts::put_bound;
 
 /// Plays all rounds of a script, and writes the lines that there are.
 fn put_lines<K: TextSink, O: Overlay, L: Lines<O>>(
@@ -35,15 +35,6 @@ fn put_lines<K: TextSink, O: Overlay, L: Lines<O>>(
         number.rise();
     }
     put_if_shown(sink, runner, lines, &number)
-}
-
-/// Writes the line of a plan's bound. `WriteFault` comes where the sink counted one; a front of the
-/// line was then taken.
-pub fn put_bound<K: TextSink>(sink: &mut K, bound: u64) -> Result<(), WriteFault>
-    ensures { Puts result (bound_line bound) (K.Sink.told sink.old) (K.Sink.told sink.new) }
-{
-    sink.labelled(b"bound ", bound)?;
-    sink.byte(b'\n')
 }
 
 /// Writes the bound, the lines that there are, and the first locked configurations.

@@ -12,11 +12,11 @@ use crate::counted::put_counted_lines;
 use crate::lines::OutputLines;
 use crate::locks::put_locks;
 use crate::outputs::Output;
-use crate::playing::put_bound;
 use crate::words::put_if_shown;
 use counter_core::NoOverlay;
 use edge_io::{Gathered, RisingText, Sink, TextSink, WriteFault};
 use round_runner::Runner;
+use run_texts::put_bound;
 
 /// Writes the lines of the runner's configuration and of those behind it before `end`, which are of
 /// its era, and in which the correct nodes count on from this number. Lines that are not shown take

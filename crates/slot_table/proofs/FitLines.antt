@@ -19,8 +19,8 @@ use Rattle.sync_types.specs.declared.answers.Rule.TheVariants.{Form, Limit, Node
 use Rattle.construction.specs.Plans.{Plan, plan_nodes, plan_modulus}
 use Rattle.slot_table.specs.declared.lines.SlotLine.{SlotLine}
 use Rattle.slot_table.specs.Tables.{covers, meets, AreApart}
-use Rattle.slot_table.specs.SlotPart.{SlotsSoFar, nothing_read, line_tested, line_in, goes_with}
-use Rattle.slot_table.specs.SlotPart.{slots_step, part_of, IsFor, AreFor}
+use Rattle.slot_table.specs.SlotPart.{SlotsSoFar, no_lines, line_tested, line_in, goes_with}
+use Rattle.slot_table.specs.SlotPart.{slots_step, part_for, part_of, IsFor, IsTable, AreFor}
 
 -- ---- a line that meets no other one
 
@@ -94,11 +94,11 @@ module _ (lines : List SlotLine) (line : SlotLine) (apart : AreApart lines)
 -- ---- each line that is read
 
 -- what holds of the lines so far
-record FitSoFar (plan : Plan) (s : SlotsSoFar) : Type 0 where
-  nodes : s.nodes ≡ plan_nodes plan
-  modulus : s.modulus ≡ plan_modulus plan
+record FitSoFar (nodes modulus : ℕ) (s : SlotsSoFar) : Type 0 where
+  same_nodes : s.nodes ≡ nodes
+  same_modulus : s.modulus ≡ modulus
   many : length s.lines ≤ 256
-  each : All (IsFor (plan_nodes plan) (plan_modulus plan)) s.lines
+  each : All (IsFor nodes modulus) s.lines
   apart : AreApart s.lines
 
 -- a line that may be put behind the others
@@ -146,42 +146,42 @@ still_apart s line numbers apart is =
     (tested s numbers) in
     apart_more s.lines line apart one.clear
 
-module _ (plan : Plan) where
+module _ (nodes modulus : ℕ) where
   abbrev Goes : Next SlotsSoFar (List SlotLine) Rule → Type 0
-  Goes next = After (FitSoFar plan) (AreFor plan) next
+  Goes next = After (FitSoFar nodes modulus) (IsTable nodes modulus) next
 
-  with_line : (s : SlotsSoFar) (line : Result SlotLine Rule) → FitSoFar plan s
+  with_line : (s : SlotsSoFar) (line : Result SlotLine Rule) → FitSoFar nodes modulus s
       → IfOk line (IsOneMore s) → Goes (goes_with s line)
   with_line s (Err rule) fit one = tt
   with_line s (Ok line) fit one = record {
-    nodes = fit.nodes;
-    modulus = fit.modulus;
+    same_nodes = fit.same_nodes;
+    same_modulus = fit.same_modulus;
     many = let room = one.room in omega (arith, length_push s.lines line, room);
-    each = All-push (IsFor (plan_nodes plan) (plan_modulus plan)) s.lines line fit.each
-        (subst (λ n. IsFor n (plan_modulus plan) line) fit.nodes
-        (subst (λ c. IsFor s.nodes c line) fit.modulus one.right));
+    each = All-push (IsFor nodes modulus) s.lines line fit.each
+        (subst (λ n. IsFor n modulus line) fit.same_nodes
+        (subst (λ c. IsFor s.nodes c line) fit.same_modulus one.right));
     apart = apart_more s.lines line fit.apart one.clear;
   }
 
-  headed : (s : SlotsSoFar) (is : Bool) → FitSoFar plan s
+  headed : (s : SlotsSoFar) (is : Bool) → FitSoFar nodes modulus s
       → Goes (if is then goes (record s { begun = true }) else refuses Form)
   headed s false fit = tt
   headed s true fit =
       record {
-        nodes = fit.nodes;
-        modulus = fit.modulus;
+        same_nodes = fit.same_nodes;
+        same_modulus = fit.same_modulus;
         many = fit.many;
         each = fit.each;
         apart = fit.apart;
       }
 
-  ended : (s : SlotsSoFar) (is : Bool) (line : List ℕ) → FitSoFar plan s
+  ended : (s : SlotsSoFar) (is : Bool) (line : List ℕ) → FitSoFar nodes modulus s
       → Goes (if is then ends s.lines else goes_with s (line_in s line))
   ended s true line fit = record { many = fit.many; each = fit.each; apart = fit.apart }
   ended s false line fit =
       with_line s (line_in s line) fit (tested s (numbers_after (codes "slot") 3 (words_of line)))
 
-  stepped : (s : SlotsSoFar) (line : List ℕ) (begun : Bool) → FitSoFar plan s
+  stepped : (s : SlotsSoFar) (line : List ℕ) (begun : Bool) → FitSoFar nodes modulus s
       → Goes (if begun
       then (if bytes_eq line (codes "end") then ends s.lines else goes_with s (line_in s line))
       else (if bytes_eq line (codes "slots 1") then goes (record s { begun = true })
@@ -189,20 +189,25 @@ module _ (plan : Plan) where
   stepped s line true fit = ended s (bytes_eq line (codes "end")) line fit
   stepped s line false fit = headed s (bytes_eq line (codes "slots 1")) fit
 
-  begins : FitSoFar plan (nothing_read plan)
+  begins : FitSoFar nodes modulus (no_lines nodes modulus)
   begins = record {
-    nodes = refl;
-    modulus = refl;
+    same_nodes = refl;
+    same_modulus = refl;
     many = omega arith;
-    each = All-nil (IsFor (plan_nodes plan) (plan_modulus plan));
+    each = All-nil (IsFor nodes modulus);
     apart = λ i j output d ilt jlt here there. absurd (omega (arith, ilt));
   }
 
--- what is read is for the plan
+-- what is read is a table
+pub tables_fit : (nodes modulus number : ℕ) (lines : List (List ℕ))
+    → IfOk (part_for nodes modulus number lines) (λ found. IsTable nodes modulus found.value)
+tables_fit nodes modulus number lines =
+    part_keeps _ Form (FitSoFar nodes modulus) (IsTable nodes modulus)
+    (λ s line fit. skips_keep slots_step Form (FitSoFar nodes modulus) (IsTable nodes modulus) s
+    line fit (stepped nodes modulus s line s.begun fit))
+    lines (no_lines nodes modulus) 0 number (begins nodes modulus)
+
+-- what is read for a plan is one for it
 pub lines_fit : (plan : Plan) (number : ℕ) (lines : List (List ℕ))
     → IfOk (part_of plan number lines) (λ found. AreFor plan found.value)
-lines_fit plan number lines =
-    part_keeps _ Form (FitSoFar plan) (AreFor plan)
-    (λ s line fit. skips_keep slots_step Form (FitSoFar plan) (AreFor plan) s line fit
-    (stepped plan s line s.begun fit))
-    lines (nothing_read plan) 0 number (begins plan)
+lines_fit plan number lines = tables_fit (plan_nodes plan) (plan_modulus plan) number lines

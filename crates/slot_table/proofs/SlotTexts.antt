@@ -21,14 +21,13 @@ use Rattle.texts.proofs.Printed.{IsPlain, ArePlain, spaced_length, decimal_is_pl
 use Rattle.texts.proofs.Printed.{words_joined, goes_behind, ends_there}
 use Rattle.sync_types.specs.declared.answers.Rule.{Rule}
 use Rattle.sync_types.specs.declared.answers.Rule.TheVariants.{Form}
-use Rattle.construction.specs.Plans.{Plan, plan_nodes, plan_modulus}
-use Rattle.plan_numbers.specs.Premises.{IsAccepted}
+use Rattle.construction.specs.Plans.{plan_nodes, plan_modulus}
 use Rattle.plan_laws.proofs.PlanCounter.{plan_sizes}
 use Rattle.slot_table.specs.declared.lines.SlotLine.{SlotLine}
 use Rattle.slot_table.specs.Tables.{covers, meets}
-use Rattle.slot_table.specs.SlotPart.{SlotsSoFar, nothing_read, line_tested, goes_with}
-use Rattle.slot_table.specs.SlotPart.{slots_step, IsFor, AreFor}
-use Rattle.slot_table.specs.SlotTexts.{slot_text, SlotTextIsRead}
+use Rattle.slot_table.specs.SlotPart.{SlotsSoFar, no_lines, line_tested, goes_with}
+use Rattle.slot_table.specs.SlotPart.{slots_step, IsFor, IsTable}
+use Rattle.slot_table.specs.SlotTexts.{slot_text, TableTextIsRead, SlotTextIsRead}
 
 -- a number of a line may be printed, in 15 digits at most, and is read
 small_plain : (n : ℕ) → n ≤ 2 ^ 40 → IsPlain (decimal n)
@@ -67,18 +66,18 @@ abbrev read_on : SlotsSoFar → (taken number : ℕ) → List ℕ → Result (Fo
 read_on s taken number text =
     part_from (with_skips slots_step Form) Form s taken number (lines_of text)
 
-module _ (plan : Plan) (accepted : IsAccepted plan) where
+module _ (nodes modulus : ℕ) (few : nodes ≤ 2 ^ 40) (low : modulus ≤ 2 ^ 40) where
   -- a part of which these lines were read
   abbrev with_lines : List SlotLine → SlotsSoFar
   with_lines lines = record {
-    nodes = plan_nodes plan;
-    modulus = plan_modulus plan;
+    nodes = nodes;
+    modulus = modulus;
     begun = true;
     lines = lines;
   }
 
   module _ (done more : List SlotLine) (line : SlotLine)
-      (are : AreFor plan (done ++ line ∷ more)) where
+      (are : IsTable nodes modulus (done ++ line ∷ more)) where
     abbrev all : List SlotLine
     all = done ++ line ∷ more
 
@@ -91,22 +90,16 @@ module _ (plan : Plan) (accepted : IsAccepted plan) where
         let zero_more : length done ≡ length done + 0 = omega arith in
         ap (λ i. get_or all i d) zero_more ∙ get_or-append-add done (line ∷ more) 0 d
 
-    is_for : IsFor (plan_nodes plan) (plan_modulus plan) line
-    is_for = subst (IsFor (plan_nodes plan) (plan_modulus plan)) (at_place line)
-        (All-get_or (IsFor (plan_nodes plan) (plan_modulus plan)) all (length done) line
+    is_for : IsFor nodes modulus line
+    is_for = subst (IsFor nodes modulus) (at_place line)
+        (All-get_or (IsFor nodes modulus) all (length done) line
         (omega (arith, long)) are.each)
 
     node_small : line.node ≤ 2 ^ 40
-    node_small =
-        let few = (plan_sizes plan accepted).most in
-        let lt = is_for.node in
-        omega (arith, few, lt)
+    node_small = let lt = is_for.node in omega (arith, few, lt)
 
     last_small : line.last ≤ 2 ^ 40
-    last_small =
-        let few = (plan_sizes plan accepted).modulus in
-        let lt = is_for.output in
-        omega (arith, few, lt)
+    last_small = let lt = is_for.output in omega (arith, low, lt)
 
     first_small : line.first ≤ 2 ^ 40
     first_small = let le = is_for.order in omega (arith, le, last_small)
@@ -159,10 +152,10 @@ module _ (plan : Plan) (accepted : IsAccepted plan) where
       abbrev old : SlotLine
       old = get_or done i line
 
-      old_for : IsFor (plan_nodes plan) (plan_modulus plan) old
-      old_for = subst (IsFor (plan_nodes plan) (plan_modulus plan))
+      old_for : IsFor nodes modulus old
+      old_for = subst (IsFor nodes modulus)
           (get_or_append_left done (line ∷ more) line i lt)
-          (All-get_or (IsFor (plan_nodes plan) (plan_modulus plan)) all i line
+          (All-get_or (IsFor nodes modulus) all i line
           (omega (arith, lt, long)) are.each)
 
       meet_at : (output : ℕ) → line.first ≤ output → output ≤ line.last → old.first ≤ output
@@ -196,9 +189,9 @@ module _ (plan : Plan) (accepted : IsAccepted plan) where
     tested =
         let many = are.many in rw (
           lt-leb 256 (length done) (omega (arith, many, long)),
-          lt-leb (plan_nodes plan) line.node is_for.node,
+          lt-leb nodes line.node is_for.node,
           le-ltb line.last line.first is_for.order,
-          lt-leb (plan_modulus plan) line.last is_for.output,
+          lt-leb modulus line.last is_for.output,
           none_meets,
         ) refl
 
@@ -231,7 +224,7 @@ module _ (plan : Plan) (accepted : IsAccepted plan) where
       (with_lines lines) taken number lines refl
 
   lines_read : (done more : List SlotLine) (taken number : ℕ) (rest : List ℕ)
-      → AreFor plan (done ++ more)
+      → IsTable nodes modulus (done ++ more)
       → read_on (with_lines done) taken number
       (text_of (map slot_text more ++ codes "end" ∷ []) ++ rest)
       ≡ Ok (record {
@@ -252,17 +245,24 @@ module _ (plan : Plan) (accepted : IsAccepted plan) where
       ap (read_on (with_lines done) taken number) (text_more (slot_text line) ended rest)
       ∙ line_read done more line are taken number (text_of ended ++ rest)
       ∙ lines_read (done ++ line ∷ []) more (taken + 1) (number + 1) rest
-      (subst (AreFor plan) (sym same) are)
+      (subst (IsTable nodes modulus) (sym same) are)
       ∙ rw (same, count) refl
+
+pub table_text_is_read : TableTextIsRead
+table_text_is_read nodes modulus few low lines are number rest =
+    let behind = map slot_text lines ++ codes "end" ∷ [] in
+    let count : 0 + 1 + (length lines + 1) ≡ length lines + 2 = omega arith in
+    ap (read_on (no_lines nodes modulus) 0 number)
+    (text_more nodes modulus few low (codes "slots 1") behind rest)
+    ∙ goes_behind slots_step Form (codes "slots") (codes "1" ∷ []) (text_of behind ++ rest)
+    (slots_plain, (one_plain, tt)) (omega arith) refl (no_lines nodes modulus) 0 number
+    (with_lines nodes modulus few low []) refl
+    ∙ lines_read nodes modulus few low [] lines (0 + 1) (number + 1) rest are
+    ∙ rw count refl
 
 pub slot_text_is_read : SlotTextIsRead
 slot_text_is_read plan accepted lines are number rest =
-    let behind = map slot_text lines ++ codes "end" ∷ [] in
-    let count : 0 + 1 + (length lines + 1) ≡ length lines + 2 = omega arith in
-    ap (read_on (nothing_read plan) 0 number)
-    (text_more plan accepted (codes "slots 1") behind rest)
-    ∙ goes_behind slots_step Form (codes "slots") (codes "1" ∷ []) (text_of behind ++ rest)
-    (slots_plain, (one_plain, tt)) (omega arith) refl (nothing_read plan) 0 number
-    (with_lines plan accepted []) refl
-    ∙ lines_read plan accepted [] lines (0 + 1) (number + 1) rest are
-    ∙ rw count refl
+    let few = (plan_sizes plan accepted).most in
+    let low = (plan_sizes plan accepted).modulus in
+    table_text_is_read (plan_nodes plan) (plan_modulus plan) (omega (arith, few))
+    (omega (arith, low)) lines are number rest

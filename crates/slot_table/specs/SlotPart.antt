@@ -21,11 +21,11 @@ pub record SlotsSoFar : Type 0 where
   pub begun : Bool
   pub lines : List SlotLine
 
--- a part of which nothing was read
-abbrev pub nothing_read : Plan → SlotsSoFar
-nothing_read plan = record {
-  nodes = plan_nodes plan;
-  modulus = plan_modulus plan;
+-- a part of which nothing was read, for so many nodes and outputs below that modulus
+abbrev pub no_lines : (nodes modulus : ℕ) → SlotsSoFar
+no_lines nodes modulus = record {
+  nodes = nodes;
+  modulus = modulus;
   begun = false;
   lines = [];
 }
@@ -60,18 +60,30 @@ slots_step s line =
 -- The slots part at the front of these lines, of which the first has that number: its table, how
 -- many lines it took through `end`, and the lines behind; or the first line that fails, with the
 -- first rule that it fails.
-abbrev pub part_of : Plan → (number : ℕ) → List (List ℕ) → Result (Found (List SlotLine)) (At Rule)
-part_of plan number lines =
-    part_from (with_skips slots_step Form) Form (nothing_read plan) 0 number lines
+abbrev pub part_for : (nodes modulus number : ℕ) → List (List ℕ)
+    → Result (Found (List SlotLine)) (At Rule)
+part_for nodes modulus number lines =
+    part_from (with_skips slots_step Form) Form (no_lines nodes modulus) 0 number lines
 
--- a line is of a node of the plan and of outputs that it shows
+-- a line is of one of so many nodes and of outputs below that modulus
 pub record IsFor (nodes modulus : ℕ) (line : SlotLine) : Type 0 where
   pub node : line.node < nodes
   pub order : line.first ≤ line.last
   pub output : line.last < modulus
 
--- what the lines of a table are that was read for a plan
-pub record AreFor (plan : Plan) (lines : List SlotLine) : Type 0 where
+-- what the lines of a table are that was read for these
+pub record IsTable (nodes modulus : ℕ) (lines : List SlotLine) : Type 0 where
   pub many : length lines ≤ 256
-  pub each : All (IsFor (plan_nodes plan) (plan_modulus plan)) lines
+  pub each : All (IsFor nodes modulus) lines
   pub apart : AreApart lines
+
+-- ---- the same for the nodes and outputs of a plan
+
+abbrev pub nothing_read : Plan → SlotsSoFar
+nothing_read plan = no_lines (plan_nodes plan) (plan_modulus plan)
+
+abbrev pub part_of : Plan → (number : ℕ) → List (List ℕ) → Result (Found (List SlotLine)) (At Rule)
+part_of plan number lines = part_for (plan_nodes plan) (plan_modulus plan) number lines
+
+abbrev pub AreFor : Plan → List SlotLine → Type 0
+AreFor plan lines = IsTable (plan_nodes plan) (plan_modulus plan) lines

@@ -4,8 +4,8 @@ ghost use Rattle.std.specs.Prelude.{ℕ, List, IfOk};
 ghost use Rattle.construction.specs.Plans.{Plan};
 ghost use Rattle.slot_table.specs.Tables.{HolderHolds, HolderIsOne};
 ghost use Rattle.slot_table.specs.HoldLaws.{AtMostOneHolds};
-ghost use Rattle.slot_table.specs.SlotPart.{part_of, AreFor};
-ghost use Rattle.slot_table.specs.SlotTexts.{SlotTextIsRead};
+ghost use Rattle.slot_table.specs.SlotPart.{part_for, part_of, IsTable, AreFor};
+ghost use Rattle.slot_table.specs.SlotTexts.{TableTextIsRead, SlotTextIsRead};
 
 /// Where no output stands in two lines, a node that holds at an output is its holder, and the
 /// holder holds.
@@ -20,14 +20,18 @@ pub fn at_most_one_holds()
     ensures { AtMostOneHolds }
 {}
 
-/// The lines of a table that is read are at most 256, of nodes and outputs of the plan, and no
-/// output stands in two of them.
+/// The lines of a table that is read are at most 256, of the nodes and outputs for which it is
+/// read, and no output stands in two of them.
 pub fn lines_fit()
-    ensures { (plan : Plan) (number : ℕ) (lines : List (List ℕ))
+    ensures any { (nodes modulus number : ℕ) (lines : List (List ℕ))
+        → IfOk (part_for nodes modulus number lines) (λ found. IsTable nodes modulus found.value) }
+    ensures plan { (plan : Plan) (number : ℕ) (lines : List (List ℕ))
         → IfOk (part_of plan number lines) (λ found. AreFor plan found.value) }
 {}
 
-/// The text of each table for an accepted plan is read as this table, at the front of any text.
+/// The text of each table is read as this table, at the front of any text, for an accepted plan
+/// too.
 pub fn slot_texts_read_back()
-    ensures { SlotTextIsRead }
+    ensures any { TableTextIsRead }
+    ensures plan { SlotTextIsRead }
 {}

@@ -1,4 +1,4 @@
-//! Slot tables: they name for each output of a plan's counter the node that holds it.
+//! Slot tables: they name for each output of a counter the node that holds it.
 //!
 //! No output stands in two lines of a table. So wherever correct nodes show one output, at most one
 //! of them holds.
@@ -12,6 +12,6 @@ mod slot_lines;
 mod tables;
 
 pub use lines::SlotLine;
-pub use reading::read_slots;
+pub use reading::{read_slots, read_slots_for};
 pub use refusals::{SlotError, SlotRefusal};
 pub use tables::SlotTable;

@@ -1,5 +1,5 @@
 ghost use Rattle.std.specs.Prelude.{◌≤◌, ◌<◌, ◌+◌, ◌^◌, length, IfOk};
-ghost use Rattle.slot_table.specs.SlotAnswers.{IsAnswer};
+ghost use Rattle.slot_table.specs.SlotAnswers.{IsAnswer, IsAnswerFor};
 
 use crate::refusals::SlotError;
 use crate::slot_lines::SlotLines;
@@ -9,16 +9,36 @@ use plan_numbers::Plan;
 use std::alloc::Global;
 use sync_types::Rule;
 
-/// Reads the slots part at the front of an input: the table for the plan's nodes and outputs, how
-/// many bytes stand through the part's `end` line, that line's newline among them, and how many
-/// lines these are, skipped ones counted. The first line of `bytes` has the number `first_line`,
-/// which is at least 1 and whose sum with the length of `bytes` is below 2^64.
+/// Reads the slots part at the front of an input: the table for so many nodes and outputs below
+/// that modulus, how many bytes stand through the part's `end` line, that line's newline among
+/// them, and how many lines these are, skipped ones counted. The first line of `bytes` has the
+/// number `first_line`, which is at least 1 and whose sum with the length of `bytes` is below 2^64.
 ///
 /// `Refused` is the first line that fails, with the first rule that it fails: `Form`, `Limit` for
 /// the 257th line, `Node` for an id that is not that of a node, `Range` for outputs that end before
-/// they begin or are not below the plan's modulus, `Overlap` for an output that stands in an
-/// earlier line. A part that lacks its `end` is refused `Form` at the line after the last.
-/// `NoMemory` comes where memory was refused.
+/// they begin or are not below the modulus, `Overlap` for an output that stands in an earlier line.
+/// A part that lacks its `end` is refused `Form` at the line after the last. `NoMemory` comes where
+/// memory was refused.
+pub fn read_slots_for(
+    alloc: Global,
+    nodes: u32,
+    modulus: u64,
+    bytes: &[u8],
+    first_line: u64,
+) -> Result<(SlotTable, usize, u64), SlotError>
+    requires first { 1 ≤ first_line }
+    requires count { first_line + length bytes.now < 2 ^ 64 }
+    ensures exact { IsAnswerFor nodes modulus first_line bytes.now result }
+    ensures within { IfOk result (λ read. read.1 ≤ length bytes.now) }
+    ensures lines { IfOk result (λ read. read.2 ≤ read.1) }
+{
+    let lines = SlotLines::new(alloc, nodes, modulus);
+    let read = read_part(lines, Rule::Form, bytes, first_line)?;
+    Ok((read.value, read.bytes, read.lines))
+}
+
+/// Reads the slots part at the front of an input for the nodes and outputs of a plan, as
+/// [`read_slots_for`] does.
 pub fn read_slots(
     alloc: Global,
     plan: &Plan,
@@ -31,7 +51,5 @@ pub fn read_slots(
     ensures within { IfOk result (λ read. read.1 ≤ length bytes.now) }
     ensures lines { IfOk result (λ read. read.2 ≤ read.1) }
 {
-    let lines = SlotLines::new(alloc, plan);
-    let read = read_part(lines, Rule::Form, bytes, first_line)?;
-    Ok((read.value, read.bytes, read.lines))
+    read_slots_for(alloc, plan.nodes(), plan.modulus(), bytes, first_line)
 }

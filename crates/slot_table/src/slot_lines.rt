@@ -1,11 +1,10 @@
 ghost use Rattle.std.specs.Prelude.{◌≡◌};
 ghost use Rattle.slot_table.specs.Tables.{meets};
-ghost use Rattle.slot_table.specs.SlotPart.{nothing_read, line_in};
+ghost use Rattle.slot_table.specs.SlotPart.{no_lines, line_in};
 
 use crate::lines::SlotLine;
 use crate::tables::SlotTable;
 use edge_io::{LineReader, TakeError, numbers_after};
-use plan_numbers::Plan;
 use std::alloc::Global;
 use std::marker::Model;
 use std::mem;
@@ -43,14 +42,15 @@ impl Model for SlotLines {
 impl SlotLines {
     ghost use Rattle.std.specs.List.{list_any};
 
-    /// A reader of a part of which nothing was read, for the nodes and outputs of a plan.
-    pub fn new(alloc: Global, plan: &Plan) -> SlotLines
-        ensures { result ≡ nothing_read plan.now }
+    /// A reader of a part of which nothing was read, for so many nodes and outputs below that
+    /// modulus.
+    pub fn new(alloc: Global, nodes: u32, modulus: u64) -> SlotLines
+        ensures { result ≡ no_lines nodes modulus }
     {
         SlotLines {
             alloc,
-            nodes: plan.nodes(),
-            modulus: plan.modulus(),
+            nodes,
+            modulus,
             begun: false,
             lines: Vec::new(alloc),
         }

@@ -1,6 +1,6 @@
 use Rattle.std.proofs.Common.{arith}
 use Rattle.texts.proofs.Growth.{wrote_none}
-use Rattle.run_lines.proofs.WordsSoFar.{words_more, words_cut, words_all}
+use Rattle.run_texts.proofs.WordsSoFar.{words_more, words_cut, words_all}
 use Rattle.run_lines.proofs.counted.put_words_at.Goals as goal
 
 pub loop-v-init : goal.loop-v-init

@@ -1,6 +1,6 @@
 use Rattle.texts.specs.Growth.{Wrote}
 use Rattle.run_lines.specs.RunTexts.{word_or_star}
-use Rattle.run_lines.proofs.WordsSoFar.{words_before}
+use Rattle.run_texts.proofs.WordsSoFar.{words_before}
 use Rattle.run_lines.proofs.counted.put_words_at.Given as goal
 
 abbrev pub invariant-loop-v : goal.invariant-loop-v

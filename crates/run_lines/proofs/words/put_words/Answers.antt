@@ -1,7 +1,7 @@
 use Rattle.std.proofs.Common.{arith}
 use Rattle.texts.proofs.Growth.{wrote_none}
 use Rattle.construction.specs.Plans.{plan_nodes}
-use Rattle.run_lines.proofs.WordsSoFar.{words_more, words_cut, words_all}
+use Rattle.run_texts.proofs.WordsSoFar.{words_more, words_cut, words_all}
 use Rattle.run_lines.proofs.words.put_words.Goals as goal
 
 pub loop-v-init : goal.loop-v-init

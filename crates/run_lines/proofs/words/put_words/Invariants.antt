@@ -2,7 +2,7 @@ use Rattle.texts.specs.Growth.{Wrote}
 use Rattle.construction.specs.Plans.{plan_nodes}
 use Rattle.round_runner.specs.Runners.{scene_of}
 use Rattle.run_lines.specs.RunTexts.{word_or_star}
-use Rattle.run_lines.proofs.WordsSoFar.{words_before}
+use Rattle.run_texts.proofs.WordsSoFar.{words_before}
 use Rattle.run_lines.proofs.words.put_words.Given as goal
 
 abbrev pub invariant-loop-v : goal.invariant-loop-v

@@ -1,5 +1,8 @@
 use Rattle.slot_table.proofs.laws.lines_fit.Goals as goal
 use Rattle.slot_table.proofs.FitLines as law
 
-pub returns : goal.returns
-returns c = law.lines_fit
+pub returns-clause-any : goal.returns-clause-any
+returns-clause-any c = law.tables_fit
+
+pub returns-clause-plan : goal.returns-clause-plan
+returns-clause-plan c = law.lines_fit

@@ -1,5 +1,5 @@
 use Rattle.texts.proofs.Growth.{puts_exit, puts_then, cut_more}
-use Rattle.run_lines.proofs.locks.put_locked.Goals as goal
+use Rattle.run_texts.proofs.putting.put_locked.Goals as goal
 
 pub returns-in_err-labelled-in-Some : goal.returns-in_err-labelled-in-Some
 returns-in_err-labelled-in-Some g c =

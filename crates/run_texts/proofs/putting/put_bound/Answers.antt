@@ -1,5 +1,5 @@
 use Rattle.texts.proofs.Growth.{puts_exit, puts_then, cut_more}
-use Rattle.run_lines.proofs.playing.put_bound.Goals as goal
+use Rattle.run_texts.proofs.putting.put_bound.Goals as goal
 
 pub returns-in_err-labelled : goal.returns-in_err-labelled
 returns-in_err-labelled g c =

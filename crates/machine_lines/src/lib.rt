@@ -1,0 +1,16 @@
+//! Lines of a script that is played on any machine, written while it is played.
+//!
+//! [`put_shown`] plays a script and writes the machine's bound, the line that some [`ShownLines`]
+//! have of each configuration that is shown, and the first locked configuration of each era.
+//! [`put_run`] writes so the rows of the word `run`.
+#![tactic(auto)]
+
+mod lines;
+mod locks;
+mod playing;
+mod rows;
+mod words;
+
+pub use lines::ShownLines;
+pub use playing::{put_run, put_shown};
+pub use rows::Rows;

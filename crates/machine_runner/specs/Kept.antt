@@ -1,0 +1,31 @@
+-- What a runner keeps: its configuration is the played one, and of each era it knows the first
+-- locked configuration so far.
+use Rattle.std.specs.Prelude.{◌≡◌, ℕ, ◌+◌, ◌≤◌, List, length, map, Option}
+use Rattle.std.specs.List.{range_with_len}
+use Rattle.state_codec.specs.Packs.{Pack}
+use Rattle.machines.specs.Machines.{Machine}
+use Rattle.machines.specs.Laws.{IsSound}
+use Rattle.adversary_script.specs.Scripts.{Script}
+use Rattle.adversary_script.specs.Eras.{era_of}
+use Rattle.script_runs.specs.Laws.{IsReadFor}
+use Rattle.script_runs.specs.Locks.{first_locked, era_locked}
+use Rattle.script_runs.specs.Played.{played_at}
+use Rattle.machine_runner.specs.declared.stepping.Room.{Room}
+use Rattle.machine_runner.specs.Rooms.{IsReady}
+
+-- of each era the first locked configuration up to number `at`
+abbrev pub locks_at : Machine → Script → (at : ℕ) → List (Option ℕ)
+locks_at machine script at =
+    map (λ j. first_locked (era_locked machine script (played_at machine script) j) at)
+    (range_with_len 0 (length script.eras + 1))
+
+pub record IsKept (machine : Machine) (script : Script) (room : Room) (states : Pack)
+    (locks : List (Option ℕ)) (at era : ℕ) : Type 0 where
+  pub sound : IsSound machine
+  pub read : IsReadFor machine script
+  pub ready : IsReady script room
+  pub shape : states.shape ≡ script.shape
+  pub played : states.current ≡ played_at machine script at
+  pub within : at ≤ script.rounds
+  pub here : era ≡ era_of script at
+  pub known : locks ≡ locks_at machine script at

@@ -1,0 +1,4 @@
+pub mod Hearing
+pub mod Kept
+pub mod Rooms
+pub mod Runners

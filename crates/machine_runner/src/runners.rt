@@ -1,0 +1,221 @@
+use crate::locks::{is_locked, locked_so_far};
+use crate::stepping::{Room, Round, beginning_in, start_all};
+use adversary_script::{Noise, Script};
+use counter_core::Work;
+use machines::Machine;
+use state_codec::{Packed, StateShape};
+use std::alloc::Global;
+use std::marker::Model;
+use sync_types::{FaultSet, NoMemory, NodeState};
+
+/// Plays a script round by round on a machine.
+pub struct Runner<'a, M: Machine> {
+    machine: &'a M,
+    script: Script,
+    room: Room,
+    states: Packed,
+    at: u64,
+    // The era of `at`.
+    era: usize,
+    // Of each era the first configuration so far that is locked.
+    locks: Vec<Option<u64>>,
+}
+
+// Written out, so that what lets go of one calls this, and no more.
+impl<'a, M: Machine> Drop for Runner<'a, M> {
+    fn drop(self) {
+        let Runner {
+            machine: _,
+            script,
+            room,
+            states,
+            at: _,
+            era: _,
+            locks,
+        } = self;
+        drop(script);
+        drop(room);
+        drop(states);
+        drop(locks);
+    }
+}
+
+impl<'a, M: Machine> Model for Runner<'a, M> {
+    ghost use Rattle.machine_runner.specs.Runners.{Running};
+    ghost use Rattle.machine_runner.specs.Kept.{IsKept};
+
+    ghost Value = { Running M };
+
+    ghost view = { λ r. record {
+      machine = r.machine.now;
+      script = r.script;
+      at = r.at;
+    } };
+
+    ghost invariant = { λ r.
+        IsKept (M.machine r.machine.now) r.script r.room r.states r.locks.items r.at r.era };
+}
+
+impl<'a, M: Machine> Runner<'a, M> {
+    ghost use Rattle.std.specs.Prelude.{◌≡◌, ◌+◌, ◌-◌, ◌^◌, ◌<◌, ◌≤◌, length, IfOk};
+    ghost use Rattle.construction.specs.Steps.{state_of};
+    ghost use Rattle.sync_types.specs.FaultSets.{is_in};
+    ghost use Rattle.adversary_script.specs.Eras.{faulty_at};
+    ghost use Rattle.machines.specs.Laws.{IsSound};
+    ghost use Rattle.script_runs.specs.Laws.{IsReadFor};
+    ghost use Rattle.machine_runner.specs.Runners.{begun, next, states_of, lock_of};
+
+    /// A runner of a script at configuration 0. It takes all the memory that it ever needs.
+    ///
+    /// The script was read for the machine, with this shape of its states.
+    pub fn new(
+        alloc: Global,
+        machine: &'a M,
+        shape: StateShape,
+        script: Script,
+    ) -> Result<Runner<'a, M>, NoMemory>
+        requires read { IsReadFor (M.machine machine.now) script }
+        requires shape { script.shape ≡ shape }
+        ensures { IfOk result (λ runner. runner ≡ begun machine.now script) }
+    {
+        shape.tell();
+        machine.tell();
+        let _rounds = script.rounds();
+        let nodes = machine.nodes();
+        let depth = shape.depth();
+        let mut room = Room {
+            noise: Noise::with_room(alloc, &script)?,
+            heard: NodeState::zeros(alloc, nodes, depth)?,
+            work: Work::new(alloc, nodes)?,
+            out: NodeState::zero(alloc, depth)?,
+        };
+        let mut states = Packed::new(alloc, shape, nodes)?;
+        start_all(&script, &mut room, &mut states);
+        let mut locks = vec![in alloc; None; script.eras()]?;
+        let locked = is_locked(machine, script.faulty(), &states);
+        locks[0] = locked_so_far(None, locked, 0);
+        Ok(Runner {
+            machine,
+            script,
+            room,
+            states,
+            at: 0,
+            era: 0,
+            locks,
+        })
+    }
+
+    /// Makes the next configuration: every node steps, the faulty ones too, from what it hears, and
+    /// where an era begins nodes are put into the states that it gives them. It takes no memory and
+    /// cannot fail. There is a round left to play.
+    pub fn round(&mut self)
+        requires { self.old.at < self.old.script.rounds }
+        ensures { self.new ≡ next self.old }
+    {
+        let era = self.script.era_of(self.at + 1);
+        let round = Round {
+            script: &self.script,
+            faulty: self.script.era_faulty(self.era),
+            t: self.at,
+            begins: beginning_in(&self.script, era, self.at + 1),
+        };
+        round.step_all(self.machine, &mut self.room, &mut self.states);
+        self.states.flip();
+        self.at += 1;
+        self.era = era;
+        let locked = is_locked(self.machine, self.script.era_faulty(era), &self.states);
+        self.locks[era] = locked_so_far(self.locks[era], locked, self.at);
+    }
+
+    /// Tells a caller's proof that the machine is sound, that the script was read for it, and that
+    /// no more rounds were played than there are. It does nothing when it runs.
+    pub fn tell(&self)
+        ensures sound { IsSound (M.machine self.now.machine) }
+        ensures read { IsReadFor (M.machine self.now.machine) self.now.script }
+        ensures within { self.now.at ≤ self.now.script.rounds }
+    {
+        self.machine.tell();
+    }
+
+    /// How many rounds were played.
+    pub fn at(&self) -> u64
+        ensures { result ≡ self.now.at }
+    {
+        self.at
+    }
+
+    /// How many rounds are left to play.
+    pub fn rounds_left(&self) -> u64
+        ensures { result ≡ self.now.script.rounds - self.now.at }
+    {
+        self.script.rounds() - self.at
+    }
+
+    /// How many nodes there are, at most 256.
+    pub fn nodes(&self) -> u32
+        ensures value { result ≡ (M.machine self.now.machine).nodes }
+        ensures most { result ≤ 256 }
+    {
+        self.machine.tell();
+        self.machine.nodes()
+    }
+
+    /// The machine.
+    pub fn machine(&self) -> &'a M
+        ensures { result.now ≡ self.now.machine }
+    {
+        self.machine
+    }
+
+    /// The script.
+    pub fn script(&self) -> &Script
+        ensures { result.now ≡ self.now.script }
+    {
+        &self.script
+    }
+
+    /// The state of node `v`.
+    pub fn state(&self, v: u32) -> &NodeState
+        requires { v < (M.machine self.now.machine).nodes }
+        ensures { result.now ≡ state_of (states_of M.machine self.now) v }
+    {
+        self.states.state(v)
+    }
+
+    /// What node `v` shows, below the machine's modulus.
+    pub fn output(&self, v: u32) -> u64
+        requires { v < (M.machine self.now.machine).nodes }
+        ensures value { result ≡ (M.machine self.now.machine).shows v
+            (state_of (states_of M.machine self.now) v) }
+        ensures below { result < (M.machine self.now.machine).modulus }
+    {
+        self.machine.tell();
+        self.states.tell();
+        self.machine.output(v, self.states.state(v))
+    }
+
+    /// Who is faulty in the configuration, and in the round that begins with it.
+    pub fn faulty(&self) -> &FaultSet
+        ensures { result.now ≡ record {
+          nodes = (M.machine self.now.machine).nodes;
+          ids = faulty_at self.now.script self.now.at;
+        } }
+    {
+        self.script.era_faulty(self.era)
+    }
+
+    /// Whether node `v` is faulty in the configuration.
+    pub fn is_faulty(&self, v: u32) -> bool
+        ensures { result ≡ is_in (faulty_at self.now.script self.now.at) v }
+    {
+        self.faulty().contains(v)
+    }
+
+    /// Of era `j` the first locked configuration so far.
+    pub fn lock_of(&self, j: usize) -> Option<u64>
+        requires { j ≤ length self.now.script.eras }
+        ensures { result ≡ lock_of M.machine self.now j }
+    {
+        self.locks[j]
+    }
+}

@@ -1,0 +1,147 @@
+ghost use Rattle.std.specs.Prelude.{◌≡◌, ◌+◌, ◌<◌, length, unwrap_or};
+ghost use Rattle.state_codec.specs.Shapes.{fields_at};
+ghost use Rattle.state_codec.specs.Ranges.{InRange};
+ghost use Rattle.adversary_script.specs.Eras.{era_of, faulty_at};
+ghost use Rattle.adversary_script.specs.Lookup.{hit_at};
+ghost use Rattle.machines.specs.Laws.{IsSound};
+ghost use Rattle.script_runs.specs.Beginnings.{BeginsAt, is_prop};
+ghost use Rattle.script_runs.specs.Laws.{IsReadFor};
+ghost use Rattle.script_runs.specs.Played.{starts, heard_at, after_round};
+ghost use Rattle.machine_runner.specs.Hearing.{AreHonest};
+ghost use Rattle.machine_runner.specs.Rooms.{IsReady, IsConfiguration};
+
+use crate::hearing::{Receiver, lay};
+use adversary_script::{Noise, Script};
+use counter_core::{Heard, Work};
+use machines::Machine;
+use state_codec::Packed;
+use sync_types::{FaultSet, NodeState};
+
+/// What rounds need beside two configurations.
+#[derive(Drop)]
+pub struct Room {
+    /// The noise of the script.
+    pub noise: Noise,
+    /// What a node hears, by place.
+    pub heard: Vec<NodeState>,
+    /// What steps need.
+    pub work: Work,
+    /// A node's new state.
+    pub out: NodeState,
+}
+
+/// A round of a script.
+#[derive(Clone, Copy, Drop)]
+pub struct Round<'a> {
+    /// The script.
+    pub script: &'a Script,
+    /// The nodes that are faulty in it.
+    pub faulty: &'a FaultSet,
+    /// Its number.
+    pub t: u64,
+    /// The further era that begins behind it, where one does.
+    pub begins: Option<usize>,
+    ghost liars: { faulty.now
+        ≡ record { nodes = script.now.nodes; ids = faulty_at script.now t } },
+    ghost left: { t < script.now.rounds },
+    ghost behind: { BeginsAt script.now (t + 1) begins } by { is_prop script.now (t + 1) begins },
+}
+
+/// The further era that begins with configuration `t`, which is of that era, where one does.
+pub fn beginning_in(script: &Script, era: usize, t: u64) -> Option<usize>
+    requires { era ≡ era_of script.now t }
+    ensures { BeginsAt script.now t result }
+{
+    let _rounds = script.rounds();
+    if era > 0 && script.era_start(era) == t {
+        Some(era)
+    } else {
+        None
+    }
+}
+
+/// Puts every node into the state in which it starts.
+pub fn start_all(script: &Script, room: &mut Room, states: &mut Packed)
+    requires config { IsConfiguration script.now states.old }
+    requires noise { room.old.noise ≡ script.now.key }
+    requires out { length room.old.out.registers ≡ script.now.shape.depth }
+    ensures shape { states.new.shape ≡ states.old.shape }
+    ensures states { states.new.current ≡ starts script.now }
+    ensures noise { room.new.noise ≡ script.now.key }
+    ensures out { length room.new.out.registers ≡ script.now.shape.depth }
+    ensures same { room.new ≡ record room.old { noise = room.new.noise; out = room.new.out } }
+{
+    states.tell();
+    for v in 0..script.faulty().nodes() {
+        script.start_into(&mut room.noise, v, &mut room.out);
+        states.put(v, &room.out);
+    }
+    states.flip();
+}
+
+impl Round<'_> {
+    /// Puts node `v` into the state that it is put into where an era begins behind the round.
+    fn put_at(&self, v: u32, out: &mut NodeState)
+        requires { length out.old.registers ≡ self.now.script.now.shape.depth }
+        ensures state { out.new
+            ≡ unwrap_or (hit_at self.now.script.now (self.now.t + 1) v) out.old }
+        ensures range { InRange (fields_at self.now.script.now.shape v) out.old
+            → InRange (fields_at self.now.script.now.shape v) out.new }
+    {
+        let _rounds = self.script.rounds();
+        if let Some(era) = self.begins {
+            self.script.hit_into(era, v, out);
+        }
+    }
+
+    /// The step of node `v`: its new state is written into the room.
+    fn step<M: Machine>(&self, machine: &M, v: u32, room: &mut Room, states: &Packed)
+        requires read { IsReadFor (M.machine machine.now) self.now.script.now }
+        requires node { v < self.now.script.now.nodes }
+        requires config { IsConfiguration self.now.script.now states.now }
+        requires room { IsReady self.now.script.now room.old }
+        requires honest { AreHonest self.now.script.now self.now.t states.now.current
+            room.old.heard.items }
+        ensures state { room.new.out ≡ unwrap_or (hit_at self.now.script.now (self.now.t + 1) v)
+            ((M.machine machine.now).step v
+            (heard_at self.now.script.now self.now.t states.now.current v)) }
+        ensures range { InRange (fields_at self.now.script.now.shape v) room.new.out }
+        ensures room { IsReady self.now.script.now room.new }
+        ensures honest { AreHonest self.now.script.now self.now.t states.now.current
+            room.new.heard.items }
+    {
+        machine.tell();
+        states.tell();
+        let receiver = Receiver {
+            script: self.script,
+            faulty: self.faulty,
+            states,
+            t: self.t,
+            v,
+        };
+        receiver.hear(&mut room.noise, &mut room.heard);
+        let heard = Heard::of(&room.heard);
+        machine.advance(v, &heard, &mut room.work, &mut room.out);
+        self.put_at(v, &mut room.out);
+    }
+
+    /// The steps of all nodes, from the current states to the next ones. Where an era begins behind
+    /// the round, nodes are put into the states that it gives them.
+    pub fn step_all<M: Machine>(&self, machine: &M, room: &mut Room, states: &mut Packed)
+        requires read { IsReadFor (M.machine machine.now) self.now.script.now }
+        requires config { IsConfiguration self.now.script.now states.old }
+        requires room { IsReady self.now.script.now room.old }
+        ensures states { states.new ≡ record states.old {
+          next = after_round (M.machine machine.now) self.now.script.now self.now.t
+              states.old.current;
+        } }
+        ensures room { IsReady self.now.script.now room.new }
+    {
+        states.tell();
+        lay(states, &mut room.heard);
+        for v in 0..states.nodes() {
+            self.step(machine, v, room, &*states);
+            states.put(v, &room.out);
+        }
+    }
+}

@@ -1,0 +1,11 @@
+pub mod Correct
+pub mod EraRuns
+pub mod FirstLocked
+pub mod Firsts
+pub mod Heard
+pub mod HeardAt
+pub mod Hits
+pub mod KnownLocks
+pub mod Locked
+pub mod Places
+pub mod ReadFor

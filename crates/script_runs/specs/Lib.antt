@@ -1,0 +1,4 @@
+pub mod Beginnings
+pub mod Laws
+pub mod Locks
+pub mod Played

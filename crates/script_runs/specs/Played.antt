@@ -1,0 +1,27 @@
+-- The run of a script on a machine: configurations 0 to its last round.
+use Rattle.std.specs.Prelude.{ℕ, zero, suc, ◌+◌, ◌-◌, List, map, unwrap_or}
+use Rattle.std.specs.List.{range_with_len}
+use Rattle.sync_types.specs.States.{State}
+use Rattle.machines.specs.Machines.{Machine}
+use Rattle.adversary_script.specs.Scripts.{Script}
+use Rattle.adversary_script.specs.Eras.{first_of_era, end_of_era}
+use Rattle.adversary_script.specs.Lookup.{hit_at}
+pub use Rattle.adversary_script.specs.Rounds.{starts, lies_at, heard_at}
+
+-- Every node, the puppets of faulty ones too, steps from what it hears; where an era begins behind
+-- the round, a node with a start line there is put into its state.
+abbrev pub after_round : Machine → Script → (t : ℕ) → List State → List State
+after_round machine script t config =
+    map (λ v. unwrap_or (hit_at script (t + 1) v) (machine.step v (heard_at script t config v)))
+    (range_with_len 0 script.nodes)
+
+-- configuration t
+abbrev pub played_at : Machine → Script → ℕ → List State
+played_at machine script zero = starts script
+played_at machine script (suc t) = after_round machine script t (played_at machine script t)
+
+-- the configurations of era j
+abbrev pub era_run : Machine → Script → (j : ℕ) → List (List State)
+era_run machine script j =
+    map (λ i. played_at machine script (first_of_era script j + i))
+    (range_with_len 0 (end_of_era script j - first_of_era script j))
