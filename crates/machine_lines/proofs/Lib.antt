@@ -1,3 +1,4 @@
 pub mod Numbers
 pub mod Playing
 pub mod LinesSoFar
+pub mod HoldLaws

@@ -1,6 +1,5 @@
 -- The lines that are written while a runner plays.
 use Rattle.std.proofs.Common.{◌≡◌, ℕ, ◌+◌, ◌-◌, ◌<◌, ◌≤◌, List, refl, sym, ap, ◌∙◌, subst, arith}
-use Rattle.adversary_script.specs.Scripts.{Script}
 use Rattle.texts.specs.Growth.{Told, Wrote, Cut}
 use Rattle.machines.specs.Machines.{Machine}
 use Rattle.machine_runner.specs.Runners.{Running}

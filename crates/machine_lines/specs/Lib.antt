@@ -1,1 +1,3 @@
 pub mod RunTexts
+pub mod HoldTexts
+pub mod Laws

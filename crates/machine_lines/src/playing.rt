@@ -1,7 +1,9 @@
 ghost use Rattle.std.specs.Prelude.{◌≡◌, ◌≤◌, OnOk};
 ghost use Rattle.texts.specs.Growth.{Puts};
 ghost use Rattle.machine_lines.specs.RunTexts.{shown_lines, shown_text, run_text};
+ghost use Rattle.machine_lines.specs.HoldTexts.{hold_text};
 
+use crate::holds::HoldLines;
 use crate::lines::ShownLines;
 use crate::locks::put_locks;
 use crate::rows::Rows;
@@ -98,4 +100,23 @@ pub fn put_run<K: Sink, M: Machine>(
         (K.told sink.old) (K.told sink.new) }
 {
     put_shown(sink, runner, &Rows)
+}
+
+/// Plays a script to its end, and writes the machine's bound, of each configuration that is shown
+/// which nodes hold by a slot table, and the first locked configuration of each era. It takes no
+/// memory.
+///
+/// The runner is at configuration 0. `WriteFault` comes where the sink counted one; a front of the
+/// text was then taken.
+pub fn put_holds<K: Sink, M: Machine>(
+    sink: &mut K,
+    runner: &mut Runner<'_, M>,
+    lines: &HoldLines,
+) -> Result<(), WriteFault>
+    requires { runner.old.at ≡ 0 }
+    ensures { Puts result
+        (hold_text lines.now.table (M.machine runner.old.machine) runner.old.script)
+        (K.told sink.old) (K.told sink.new) }
+{
+    put_shown(sink, runner, lines)
 }

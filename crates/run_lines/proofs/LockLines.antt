@@ -5,6 +5,7 @@ use Rattle.texts.specs.Growth.{Told, Wrote}
 use Rattle.counter_core.specs.Overlays.{Layer}
 use Rattle.round_runner.specs.Locks.{first_locked, era_locked}
 use Rattle.round_runner.specs.Runners.{Running, IsPlaying, configuration_of}
+pub use Rattle.run_texts.proofs.LockLines.{puts_last}
 use Rattle.run_texts.proofs.WordsSoFar.{words_before}
 use Rattle.run_lines.specs.RunTexts.{lock_of_era, era_line}
 use Rattle.run_lines.proofs.FirstListed.{first_listed}

@@ -1,21 +1,15 @@
 -- What the word `slots` writes: for each configuration that is shown, which nodes hold at the
 -- outputs that they show.
-use Rattle.std.specs.Prelude.{ℕ, nat_eq, List, Some, codes, if◌then◌else◌}
-use Rattle.std.specs.Option.{option_eq}
+use Rattle.std.specs.Prelude.{ℕ, List, codes}
 use Rattle.sync_types.specs.States.{State}
 use Rattle.construction.specs.Plans.{Plan, plan_depth}
 use Rattle.construction.specs.Shown.{shown}
 use Rattle.construction.specs.Steps.{state_of}
 use Rattle.adversary_script.specs.Scripts.{Script}
 use Rattle.slot_table.specs.declared.lines.SlotLine.{SlotLine}
-use Rattle.slot_table.specs.Tables.{holder_of}
+pub use Rattle.slot_table.specs.HoldWords.{hold_word_at}
 use Rattle.run_lines.specs.PlayedTexts.{Wording}
 use Rattle.run_lines.specs.ShownTexts.{shown_text, shown_wording}
-
--- a node's word where it shows an output: whether it is its holder
-abbrev pub hold_word_at : List SlotLine → (output v : ℕ) → List ℕ
-hold_word_at lines output v =
-    if option_eq nat_eq (holder_of lines output) (Some v) then codes " 1" else codes " ."
 
 -- a node's word: whether it is the holder of the output that it shows
 abbrev pub hold_word : Plan → List SlotLine → List State → (v : ℕ) → List ℕ

@@ -5,7 +5,7 @@ ghost use Rattle.run_lines.specs.LayerLaws.{RowsAsDefined, HoldsAsDefined, Decis
 ghost use Rattle.run_lines.specs.LayerLaws.{AtMostOneInALine, HoldWordsAreExact};
 ghost use Rattle.run_lines.specs.LogLaws.{FiresAsDefined, EntriesAsDefined};
 
-use slot_table::laws::one_holder;
+use slot_table::laws::hold_words;
 
 /// What is written of a run while a script is played is a row for each configuration that is shown.
 pub fn rows_as_defined()
@@ -30,7 +30,7 @@ pub fn decisions_as_defined()
 pub fn hold_words_are_exact()
     ensures { HoldWordsAreExact }
 {
-    one_holder();
+    hold_words();
 }
 
 /// In each line of a slot table at most one word of a correct node is 1, from the plan's bound on,

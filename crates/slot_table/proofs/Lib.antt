@@ -1,3 +1,4 @@
 pub mod Holders
 pub mod FitLines
 pub mod SlotTexts
+pub mod HoldWords

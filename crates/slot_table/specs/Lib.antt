@@ -4,3 +4,4 @@ pub mod SlotPart
 pub mod SlotRefusals
 pub mod SlotAnswers
 pub mod SlotTexts
+pub mod HoldWords

@@ -4,6 +4,7 @@ ghost use Rattle.std.specs.Prelude.{ℕ, List, IfOk};
 ghost use Rattle.construction.specs.Plans.{Plan};
 ghost use Rattle.slot_table.specs.Tables.{HolderHolds, HolderIsOne};
 ghost use Rattle.slot_table.specs.HoldLaws.{AtMostOneHolds};
+ghost use Rattle.slot_table.specs.HoldWords.{WordsAreExact, OneHolds};
 ghost use Rattle.slot_table.specs.SlotPart.{part_for, part_of, IsTable, AreFor};
 ghost use Rattle.slot_table.specs.SlotTexts.{TableTextIsRead, SlotTextIsRead};
 
@@ -12,6 +13,13 @@ ghost use Rattle.slot_table.specs.SlotTexts.{TableTextIsRead, SlotTextIsRead};
 pub fn one_holder()
     ensures holds { HolderHolds }
     ensures is_one { HolderIsOne }
+{}
+
+/// In a line of who holds a node's word is 1 exactly where the table gives it the output that it
+/// shows, and so that of one node at most where all show one.
+pub fn hold_words()
+    ensures exact { WordsAreExact }
+    ensures one { OneHolds }
 {}
 
 /// In each configuration of a run of an accepted plan, from the plan's bound on, at most one

@@ -1,6 +1,6 @@
 use Rattle.std.proofs.Common.{inl}
 use Rattle.texts.proofs.Growth.{puts_exit, puts_then, cut_more, cut_then}
-use Rattle.run_texts.proofs.LockLines.{puts_last}
+use Rattle.run_lines.proofs.LockLines.{puts_last}
 use Rattle.run_lines.proofs.Played.{locks_after, end_at}
 use Rattle.run_lines.proofs.playing.put_all_lines.Goals as goal
 

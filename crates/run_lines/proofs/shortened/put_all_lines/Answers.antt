@@ -1,7 +1,7 @@
 use Rattle.std.proofs.Common.{[]}
 use Rattle.counter_core.specs.NoLayers.{no_layer}
 use Rattle.texts.proofs.Growth.{puts_exit, puts_then, cut_more, cut_then}
-use Rattle.run_texts.proofs.LockLines.{puts_last}
+use Rattle.run_lines.proofs.LockLines.{puts_last}
 use Rattle.run_lines.proofs.Played.{locks_after}
 use Rattle.run_lines.proofs.shortened.put_all_lines.Goals as goal
 
