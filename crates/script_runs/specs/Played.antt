@@ -8,12 +8,16 @@ use Rattle.adversary_script.specs.Eras.{first_of_era, end_of_era}
 use Rattle.adversary_script.specs.Lookup.{hit_at}
 pub use Rattle.adversary_script.specs.Rounds.{starts, lies_at, heard_at}
 
--- Every node, the puppets of faulty ones too, steps from what it hears; where an era begins behind
--- the round, a node with a start line there is put into its state.
+-- The state of node v after round t. Every node, the puppets of faulty ones too, steps from what it
+-- hears; where an era begins behind the round, a node with a start line there is put into its state.
+abbrev pub state_after : Machine → Script → (t : ℕ) → List State → (v : ℕ) → State
+state_after machine script t config v =
+    unwrap_or (hit_at script (t + 1) v) (machine.step v (heard_at script t config v))
+
+-- those of all nodes
 abbrev pub after_round : Machine → Script → (t : ℕ) → List State → List State
 after_round machine script t config =
-    map (λ v. unwrap_or (hit_at script (t + 1) v) (machine.step v (heard_at script t config v)))
-    (range_with_len 0 script.nodes)
+    map (state_after machine script t config) (range_with_len 0 script.nodes)
 
 -- configuration t
 abbrev pub played_at : Machine → Script → ℕ → List State
