@@ -2,11 +2,17 @@
 use Rattle.std.proofs.Common.{refl}
 use Rattle.std.specs.Fmt.{digits}
 use Rattle.construction.specs.Widths.{width}
-use Rattle.pulselab.specs.Worked.{PlansAreSpelled, LinesAreRefused, WordsAskFor, WorkedValues}
+use Rattle.adversary_script.specs.ScriptPart.{script_for}
+use Rattle.pulselab.specs.Worked.{PlansAreSpelled, RunsAreSpelled, LinesAreRefused, WordsAskFor}
+use Rattle.pulselab.specs.Worked.{WorkedValues}
 
 plans_are_spelled : PlansAreSpelled
 unfolding digits width
 plans_are_spelled = record { text = refl; read = refl; skipped = refl; table = refl }
+
+runs_are_spelled : RunsAreSpelled
+unfolding digits width script_for
+runs_are_spelled = record { single = refl; script = refl; plan = refl }
 
 lines_are_refused : LinesAreRefused
 unfolding digits width
@@ -23,5 +29,9 @@ words_ask_for : WordsAskFor
 words_ask_for = record { single = refl; two = refl; none = refl }
 
 pub worked_values : WorkedValues
-worked_values =
-    record { plans = plans_are_spelled; refused = lines_are_refused; words = words_ask_for }
+worked_values = record {
+  plans = plans_are_spelled;
+  runs = runs_are_spelled;
+  refused = lines_are_refused;
+  words = words_ask_for;
+}

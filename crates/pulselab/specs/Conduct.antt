@@ -7,6 +7,7 @@ use Rattle.pulselab.specs.declared.requests.Request.{Request}
 use Rattle.pulselab.specs.declared.requests.Request.TheVariants as request
 use Rattle.pulselab.specs.HelpText.{help_text, version_text}
 use Rattle.pulselab.specs.PlanWord.{PlanDone, PlanFails}
+use Rattle.pulselab.specs.RunWord.{RunDone, RunFails}
 use Rattle.pulselab.specs.NodeWord.{NodeDone, NodeFails}
 
 -- nothing was read
@@ -31,12 +32,15 @@ Answers (Some request.Version) left left' before now old new =
     IsUnread left left' before now × Wrote version_text old new
 Answers (Some request.Plan) left left' before now old new =
     PlanDone left left' before now old new
+Answers (Some request.Run) left left' before now old new =
+    RunDone left left' before now old new
 Answers (Some request.Node) left left' before now old new =
     NodeDone left left' before now old new
 
 -- words that read nothing leave the source as it was, whatever it tells
 abbrev pub LeavesUnread : {S : Type 0} → Option Request → (old new : S) → Type 0
 LeavesUnread (Some request.Plan) old new = Unit {0}
+LeavesUnread (Some request.Run) old new = Unit {0}
 LeavesUnread (Some request.Node) old new = Unit {0}
 LeavesUnread other old new = new ≡ old
 
@@ -55,5 +59,7 @@ Fails (Some request.Version) left left' before now old new error =
     IsCut version_text left left' before now old new error
 Fails (Some request.Plan) left left' before now old new error =
     PlanFails left left' before now old new error
+Fails (Some request.Run) left left' before now old new error =
+    RunFails left left' before now old new error
 Fails (Some request.Node) left left' before now old new error =
     NodeFails left left' before now old new error

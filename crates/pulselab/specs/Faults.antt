@@ -15,6 +15,7 @@ use Rattle.pulselab.specs.declared.requests.Request.TheVariants as request
 -- the exit code: 1 for a refused plan, and else that of `counterlab`'s status for the same cause
 abbrev pub code_of : LabError → ℕ
 code_of (error.Refused refusal) = 1
+code_of (error.ScriptRefused line rule) = codes.code_of (status.PartRefused part.Script line rule)
 code_of (error.NodeRefused line rule) = codes.code_of (status.PartRefused part.Node line rule)
 code_of error.Usage = codes.code_of status.Usage
 code_of error.ReadFault = codes.code_of status.ReadFault
@@ -53,6 +54,7 @@ UnmetAt before now other = Unit {0}
 -- the answer says it
 abbrev pub IsAnswered : LabError → Type 0
 IsAnswered (error.Refused refusal) = Unit {0}
+IsAnswered (error.ScriptRefused line rule) = Unit {0}
 IsAnswered (error.NodeRefused line rule) = Unit {0}
 IsAnswered error.Usage = ⊥
 IsAnswered error.ReadFault = ⊥

@@ -4,10 +4,14 @@ use Rattle.std.specs.List.{concat}
 
 abbrev pub help_text : List ℕ
 help_text = concat (
-    codes "usage: pulselab plan < PLAN, or pulselab node < HEADER_AND_PACKETS\n"
+    codes "usage: pulselab plan < PLAN, pulselab run < PLAN_AND_SCRIPT,\n"
+    ∷ codes "or pulselab node < HEADER_AND_PACKETS\n"
     ∷ codes "plan: reads a pulse plan, the lines `pulses 1`, `group N F C` and\n"
     ∷ codes "`end`, and writes its table: its numbers and bound, what a state\n"
     ∷ codes "takes, and a line for each group, from all nodes down to single ones.\n"
+    ∷ codes "run: reads a pulse plan and a script for it, plays the script, and\n"
+    ∷ codes "writes the bound, a row of what the nodes show in each configuration\n"
+    ∷ codes "that is shown, and which configuration is the first locked one.\n"
     ∷ codes "node: reads a pulse plan and the lines `node 1`, `id V`, `state H` and\n"
     ∷ codes "`end`, and then packets, and writes the state of node V at the start\n"
     ∷ codes "and behind each packet, as bytes.\n" ∷ [])

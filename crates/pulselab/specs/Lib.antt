@@ -1,7 +1,9 @@
 pub mod HelpText
 pub mod Requests
 pub mod Faults
+pub mod WholeWord
 pub mod PlanWord
+pub mod RunWord
 pub mod NodeWord
 pub mod Conduct
 pub mod Worked

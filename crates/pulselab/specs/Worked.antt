@@ -1,5 +1,5 @@
--- Worked values: plans with their texts and tables, texts with their refusals, and the words of the
--- command line, letter by letter.
+-- Worked values: plans with their texts and tables, a run, texts with their refusals, and the words
+-- of the command line, letter by letter.
 use Rattle.std.specs.Prelude.{◌≡◌, ℕ, List, [], ◌∷◌, ◌++◌, map, Some, None, Ok, codes}
 use Rattle.sync_types.specs.declared.answers.Rule.TheVariants as rule
 use Rattle.node_header.specs.declared.headers.HeaderRefusal.TheVariants as header
@@ -9,6 +9,8 @@ use Rattle.pulse_texts.specs.PulsesPart.{whole_pulses_of}
 use Rattle.pulse_texts.specs.PulsesTexts.{pulses_text}
 use Rattle.pulse_tables.specs.Tables.{table_text}
 use Rattle.pulse_nodes.specs.PulseWords.{pulse_words}
+use Rattle.pulse_runs.specs.RunInputs.{scripted_of}
+use Rattle.pulse_runs.specs.RunTexts as run
 use Rattle.pulselab.specs.declared.requests.Request.TheVariants as request
 use Rattle.pulselab.specs.PlanWord.{text_of}
 use Rattle.pulselab.specs.Requests.{request_of}
@@ -37,6 +39,20 @@ pub record PlansAreSpelled : Type 0 where
       ++ codes "group 0 nodes 1 faults 0 modulus 17\n"
       ++ codes "group 1 nodes 1 faults 0 modulus 6\nend\n"
 
+-- what the word `run` writes of a text
+abbrev pub IsRunAs : (text answer : List ℕ) → Type 0
+IsRunAs text answer = run.text_of (scripted_of text) ≡ answer
+
+-- The run of a node alone, and a script and a plan that are refused.
+pub record RunsAreSpelled : Type 0 where
+  pub single : IsRunAs
+      (codes "pulses 1\ngroup 1 0 3\nend\nscript 1\nfaulty\nstart zero\nrounds 4\nshow 1 4\nend\n")
+      (codes "bound 0\nrow 1 1\nrow 2 2\nrow 3 0\nrow 4 1\nlocked 0\n")
+  pub script : IsRunAs (codes "pulses 1\ngroup 1 0 3\nend\nscript 1\nfaulty 0\n")
+      (codes "refused script line 5 rule faults\n")
+  pub plan : IsRunAs (codes "pulses 1\ngroup 3 1 10\nend\nscript 1\nfaulty 0\n")
+      (codes "refused pulses line 2 premise quorum\n")
+
 -- The first line of a plan that fails, by its number and its premise, each premise; and a line of
 -- the node part of a header.
 pub record LinesAreRefused : Type 0 where
@@ -56,14 +72,16 @@ pub record LinesAreRefused : Type 0 where
 -- Each word asks for what it says, and nothing else asks for anything.
 pub record WordsAskFor : Type 0 where
   pub single : map (λ w. request_of (w ∷ []))
-      (codes "plan" ∷ codes "node" ∷ codes "--help" ∷ codes "--version" ∷ codes "plan " ∷ [])
-      ≡ Some request.Plan ∷ Some request.Node ∷ Some request.Help ∷ Some request.Version ∷ None
-      ∷ []
+      (codes "plan" ∷ codes "run" ∷ codes "node" ∷ codes "--help" ∷ codes "--version"
+      ∷ codes "plan " ∷ [])
+      ≡ Some request.Plan ∷ Some request.Run ∷ Some request.Node ∷ Some request.Help
+      ∷ Some request.Version ∷ None ∷ []
   pub two : request_of (codes "plan" ∷ codes "node" ∷ []) ≡ None
   pub none : request_of [] ≡ None
 
 -- Each of these is so by computation.
 pub record WorkedValues : Type 0 where
   pub plans : PlansAreSpelled
+  pub runs : RunsAreSpelled
   pub refused : LinesAreRefused
   pub words : WordsAskFor

@@ -7,6 +7,7 @@ ghost use Rattle.pulse_tables.specs.TableLaws.{TablesAreRead, OnlyTablesAreRead}
 ghost use Rattle.pulse_header.specs.HeaderTexts.{PulseHeaderTextIsRead};
 ghost use Rattle.pulse_nodes.specs.NodePromises.{PulseNodesKeepPromise, PulseCallsAreProcesses};
 ghost use Rattle.pulse_nodes.specs.NodePromises.{AnyPulseInputs};
+ghost use Rattle.pulse_runs.specs.RunPromises.{RunsKeepPromise};
 ghost use Rattle.pulselab.specs.Faults.{KeptAt, UnmetAt};
 ghost use Rattle.pulselab.specs.Requests.{request_of};
 ghost use Rattle.pulselab.specs.Conduct.{Answers, Fails, LeavesUnread};
@@ -17,24 +18,28 @@ use crate::faults::LabError;
 use crate::node_word::node;
 use crate::plan_word::table_plan;
 use crate::requests::{Request, request_of};
+use crate::run_word::play_script;
 use crate::worked::worked_values;
 use edge_io::{Sink, Source};
 use pulse_header::laws::header_texts_read_back;
 use pulse_nodes::laws::{any_inputs, calls_are_processes, pulse_nodes_keep_promise};
 use pulse_plan::laws::every_plan_settles;
+use pulse_runs::laws::runs_keep_promise;
 use pulse_tables::tables_read_back;
 use pulse_texts::pulses_texts_read_back;
 use std::alloc::Global;
 
 /// Does what the words ask for. `plan` reads all of the input as a pulse plan, which has at most
-/// 2^20 bytes, and writes its table. `node` reads a header, which has at most 2^20 bytes, and then
+/// 2^20 bytes, and writes its table. `run` reads all of an input that is a pulse plan and a script
+/// for it, of at most 2^20 bytes together, plays the script, and writes the bound, a row of each
+/// configuration that is shown, and the first locked configuration of each era. `node` reads a header, which has at most 2^20 bytes, and then
 /// packets, and writes the node's cell when the header has been read, and one behind each packet
 /// before it reads on. `--help` and `--version` read nothing, and write what they say.
 ///
 /// `Usage` comes exactly where the words ask for nothing; nothing was read or written then.
-/// `Refused` and `NodeRefused` name the first line of the input that fails, and why; the line of
-/// the refusal was written. At `NoMemory` nothing was written; of `plan`, nor at `ReadFault` and
-/// `TooLong`. Of `node`, at `ReadFault` the cells of the whole packets that were read were
+/// `Refused`, `ScriptRefused` and `NodeRefused` name the first line of the input that fails, and
+/// why; the line of the refusal was written. At `NoMemory` nothing was written; of `plan` and of
+/// `run`, nor at `ReadFault` and `TooLong`. Of `node`, at `ReadFault` the cells of the whole packets that were read were
 /// written; `TooLong` comes where the header is too long, and nothing was written, or at the
 /// first byte of packet 1,000,001, and all cells were. `Cut` comes of `node` alone, exactly where
 /// the input ends inside a packet. `WriteFault` comes only where the sink counted a fault; a
@@ -70,6 +75,11 @@ pub fn pulselab<S: Source, K: Sink>(
     // Plans with their texts and tables, refusals, and what words ask for, letter by letter.
     ensures worked { WorkedValues }
 
+    // What `run` writes of an input is the run of its script on its plan. Each era is a run of the
+    // plan, and from T rounds into it to its end all correct nodes show one number, which grows by
+    // one modulo C; the first locked configuration that is written of it is the first one.
+    ensures runs { RunsKeepPromise }
+
     // N calls of `node`, over a window of rounds that begins in each at a packet of its own: where
     // each is given the cells that the correct ones write, and any bytes as those of few faulty
     // ones, what they write is a run of the plan, and counts. Once they are locked they stay so
@@ -92,6 +102,7 @@ pub fn pulselab<S: Source, K: Sink>(
     pulses_texts_read_back();
     tables_read_back();
     worked_values();
+    runs_keep_promise();
     pulse_nodes_keep_promise();
     calls_are_processes();
     header_texts_read_back();
@@ -101,6 +112,7 @@ pub fn pulselab<S: Source, K: Sink>(
         Some(Request::Help) => Ok(write_help(sink)?),
         Some(Request::Version) => Ok(write_version(sink)?),
         Some(Request::Plan) => table_plan(alloc, source, sink),
+        Some(Request::Run) => play_script(alloc, source, sink),
         Some(Request::Node) => node(alloc, source, sink),
     }
 }

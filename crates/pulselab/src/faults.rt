@@ -13,11 +13,19 @@ use thiserror::Error;
 #[derive(Clone, Copy, Debug, PartialEq, Eq, Error)]
 pub enum LabError {
     /// The words ask for nothing.
-    #[error("usage: pulselab plan, pulselab node, or pulselab --help")]
+    #[error("usage: pulselab plan, pulselab run, pulselab node, or pulselab --help")]
     Usage,
     /// The plan is refused, and a line that says so was written.
     #[error("refused pulses line {} premise {}", .0.line, .0.premise.word())]
     Refused(PulsesRefusal),
+    /// The script after the plan is refused, and a line that says so was written.
+    #[error("refused script line {line} rule {}", rule_word(*rule))]
+    ScriptRefused {
+        /// The line's number, from 1 through the whole input.
+        line: u64,
+        /// The first rule that the line fails.
+        rule: Rule,
+    },
     /// The node part behind the plan is refused, and a line that says so was written.
     #[error("refused node line {line} rule {}", rule_word(*rule))]
     NodeRefused {
@@ -29,8 +37,8 @@ pub enum LabError {
     /// A read failed.
     #[error("the input could not be read")]
     ReadFault,
-    /// The plan, or the header of a node, is longer than 2^20 bytes, or there are more than
-    /// 1,000,000 packets.
+    /// The plan, the plan and the script, or the header of a node is longer than 2^20 bytes, or
+    /// there are more than 1,000,000 packets.
     #[error("the input is too long")]
     TooLong,
     /// The input ended inside a packet.
@@ -57,7 +65,7 @@ impl LabError {
         match self {
             LabError::Refused(_) => 1,
             LabError::Usage => 2,
-            LabError::NodeRefused { .. } => 3,
+            LabError::ScriptRefused { .. } | LabError::NodeRefused { .. } => 3,
             LabError::ReadFault => 6,
             LabError::WriteFault => 7,
             LabError::TooLong => 8,
@@ -71,7 +79,9 @@ impl LabError {
         ensures { IsTrue result ↔ IsAnswered self }
     {
         match self {
-            LabError::Refused(_) | LabError::NodeRefused { .. } => true,
+            LabError::Refused(_)
+            | LabError::ScriptRefused { .. }
+            | LabError::NodeRefused { .. } => true,
             _ => false,
         }
     }

@@ -14,7 +14,7 @@ use pulse_texts::{PulsesError, read_whole_pulses};
 use std::alloc::Global;
 
 /// How many bytes an input may have.
-const LONGEST_INPUT: usize = 1 << 20;
+pub(crate) const LONGEST_INPUT: usize = 1 << 20;
 
 /// Writes the table of the plan that an input is, or the line of its refusal.
 fn answer<K: Sink>(input: &[u8], sink: &mut K) -> Result<(), LabError>

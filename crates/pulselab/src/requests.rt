@@ -12,6 +12,8 @@ pub enum Request {
     Version,
     /// The table of the plan that is read.
     Plan,
+    /// What the nodes of the plan that is read show while the script after it is played.
+    Run,
     /// One node that is given packets: its cell at the start and behind each packet.
     Node,
 }
@@ -26,6 +28,8 @@ fn asked_alone(word: &str) -> Option<Request>
         Some(Request::Version)
     } else if word == "plan" {
         Some(Request::Plan)
+    } else if word == "run" {
+        Some(Request::Run)
     } else if word == "node" {
         Some(Request::Node)
     } else {

@@ -7,6 +7,7 @@ use crate::plan_texts::read_plan;
 use crate::refusals::Stop;
 use crate::runs::Run;
 use crate::script_texts::read_script;
+use crate::sizes::Sizes;
 use crate::texts::Text;
 use reference_steps::plans::{Level, Plan, quotient, remainder};
 use reference_steps::scripts::Script;
@@ -209,6 +210,6 @@ pub fn answer<'a>(alloc: Global, plan: &'a Plan, script: &'a Script) -> Result<S
 /// What `explain` writes.
 pub fn explain(alloc: Global, lines: &mut Lines) -> Result<String, Stop> {
     let plan = read_plan(alloc, lines)?;
-    let script = read_script(alloc, &plan, lines)?;
+    let script = read_script(alloc, &Sizes::of(&plan), lines)?;
     Ok(answer(alloc, &plan, &script)?)
 }

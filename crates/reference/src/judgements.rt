@@ -5,6 +5,7 @@ use crate::plan_texts::{take_base, take_levels};
 use crate::refusals::Stop;
 use crate::runs::is_locked;
 use crate::script_texts::want_faulty;
+use crate::sizes::Sizes;
 use crate::texts::Text;
 use reference_steps::plans::Plan;
 use reference_steps::states::{State, ZERO_STATE, read, state_of};
@@ -66,7 +67,7 @@ fn front(alloc: Global, lines: &mut Lines) -> Result<Certificate, AllocError> {
     take_levels(lines, PART, &mut plan);
     lines.want_word(0, "faulty");
     let faulty = lines.numbers(alloc, 1);
-    want_faulty(lines, &plan, &faulty, true);
+    want_faulty(lines, &Sizes::of(&plan), &faulty, true);
     Ok(Certificate {
         version,
         plan,
@@ -227,7 +228,7 @@ impl Certificate {
         let is_next = lines.number(1) == at;
         lines.want(is_next && self.version > 1 && self.eras <= MOST_ERAS, RULE);
         let mut faulty = lines.numbers(alloc, 2);
-        want_faulty(lines, &self.plan, &faulty, true);
+        want_faulty(lines, &Sizes::of(&self.plan), &faulty, true);
         mem::swap(&mut self.faulty, &mut faulty);
         self.locked = None;
         self.starts(alloc, lines, &faulty);

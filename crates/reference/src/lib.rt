@@ -16,6 +16,7 @@ pub mod program;
 pub mod refusals;
 pub mod runs;
 pub mod script_texts;
+pub mod sizes;
 pub mod spans;
 mod table_texts;
 pub mod tables;

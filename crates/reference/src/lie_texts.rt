@@ -1,7 +1,7 @@
 //! Lines of lies from texts.
 
 use crate::lines::Lines;
-use reference_steps::plans::Plan;
+use crate::sizes::Sizes;
 use reference_steps::scripts::{Lie, Receivers, Rule, Script};
 use std::alloc::Global;
 
@@ -79,7 +79,7 @@ fn is_liar(script: &Script, node: u64) -> bool {
 /// by a node that is faulty at some time.
 pub fn lie_of(
     alloc: Global,
-    plan: &Plan,
+    sizes: &Sizes,
     names: &[&[u8]],
     script: &Script,
     lines: &mut Lines,
@@ -94,9 +94,9 @@ pub fn lie_of(
     lines.want(has_room, "limit");
     let (from, to) = told_nodes(receivers);
     let most = sender.max(copied).max(from).max(to);
-    lines.want(most < plan.nodes() && is_liar(script, sender), "node");
+    lines.want(most < sizes.nodes && is_liar(script, sender), "node");
     lines.want(first <= last && from <= to, "range");
-    let lie = what_of(alloc, lines, place, plan.bytes(sender));
+    let lie = what_of(alloc, lines, place, sizes.bytes(sender));
     if let Receivers::Group(group) = receivers {
         lines.want(group < names.len(), "name");
     }

@@ -6,6 +6,7 @@ use crate::plan_texts::{read_plan, want_none_broken};
 use crate::refusals::Stop;
 use crate::runs::answer;
 use crate::script_texts::read_script;
+use crate::sizes::Sizes;
 use crate::spans::{Span, read_spans};
 use reference_steps::plans::{Plan, remainder};
 use std::alloc::Global;
@@ -162,6 +163,6 @@ pub fn play(alloc: Global, word: &str, lines: &mut Lines) -> Result<String, Stop
         commands: Vec::new(alloc),
     };
     let part = parts.read(alloc, word, &mut plan, lines);
-    let script = read_script(alloc, &plan, lines)?;
+    let script = read_script(alloc, &Sizes::of(&plan), lines)?;
     Ok(answer(alloc, &plan, &script, part)?)
 }

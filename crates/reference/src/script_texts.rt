@@ -3,7 +3,7 @@
 use crate::lie_texts::{group_of, lie_of};
 use crate::lines::Lines;
 use crate::refusals::Stop;
-use reference_steps::plans::Plan;
+use crate::sizes::Sizes;
 use reference_steps::scripts::{Era, Script, Start};
 use std::alloc::Global;
 
@@ -21,8 +21,8 @@ const PART: &str = "script";
 
 /// Refuses the line where its ids are not those of nodes, or do not rise, or where it is not behind
 /// the one before.
-fn want_ids(lines: &mut Lines, plan: &Plan, ids: &[u64], is_behind: bool) {
-    let nodes = plan.nodes();
+fn want_ids(lines: &mut Lines, sizes: &Sizes, ids: &[u64], is_behind: bool) {
+    let nodes = sizes.nodes;
     let mut are_nodes = true;
     let mut is_ordered = is_behind;
     let mut least = 0u64;
@@ -37,13 +37,13 @@ fn want_ids(lines: &mut Lines, plan: &Plan, ids: &[u64], is_behind: bool) {
 
 /// Refuses the line where its ids are not those of a faulty set, or where it is not behind the one
 /// before.
-pub fn want_faulty(lines: &mut Lines, plan: &Plan, ids: &[u64], is_behind: bool) {
-    want_ids(lines, plan, ids, is_behind);
-    lines.want(ids.len() as u64 <= plan.faults(), "faults");
+pub fn want_faulty(lines: &mut Lines, sizes: &Sizes, ids: &[u64], is_behind: bool) {
+    want_ids(lines, sizes, ids, is_behind);
+    lines.want(ids.len() as u64 <= sizes.faults, "faults");
 }
 
 /// Takes the lines of nodes' starts, and the line behind them.
-fn read_starts(alloc: Global, plan: &Plan, lines: &mut Lines) -> Vec<Start> {
+fn read_starts(alloc: Global, sizes: &Sizes, lines: &mut Lines) -> Vec<Start> {
     let mut starts = Vec::new(alloc);
     let mut least = 0u64;
     for _ in 0..=lines.most() {
@@ -54,10 +54,10 @@ fn read_starts(alloc: Global, plan: &Plan, lines: &mut Lines) -> Vec<Start> {
         lines.want_form(4, "start");
         lines.want_word(1, "node");
         let node = lines.number(2);
-        lines.want(node < plan.nodes(), "node");
+        lines.want(node < sizes.nodes, "node");
         lines.want(least <= node, "order");
         least = node.wrapping_add(1);
-        let bytes = lines.bytes(alloc, 3, plan.bytes(node));
+        let bytes = lines.bytes(alloc, 3, sizes.bytes(node));
         lines.put(&mut starts, Start { node, bytes });
     }
     starts
@@ -65,7 +65,7 @@ fn read_starts(alloc: Global, plan: &Plan, lines: &mut Lines) -> Vec<Start> {
 
 /// Takes the lines of the eras, the first of which is taken if there is one, and the line behind
 /// them.
-fn read_eras(alloc: Global, plan: &Plan, lines: &mut Lines) -> Vec<Era> {
+fn read_eras(alloc: Global, sizes: &Sizes, lines: &mut Lines) -> Vec<Era> {
     let mut eras = Vec::new(alloc);
     let mut before = 0u64;
     for _ in 0..=lines.most() {
@@ -76,9 +76,9 @@ fn read_eras(alloc: Global, plan: &Plan, lines: &mut Lines) -> Vec<Era> {
         let first = lines.number(1);
         let faulty = lines.numbers(alloc, 3);
         lines.want(eras.len() < MOST_ERAS, "limit");
-        want_faulty(lines, plan, &faulty, before < first);
+        want_faulty(lines, sizes, &faulty, before < first);
         before = first;
-        let starts = read_starts(alloc, plan, lines);
+        let starts = read_starts(alloc, sizes, lines);
         let era = Era {
             first,
             faulty,
@@ -102,7 +102,7 @@ fn is_name(word: &[u8]) -> bool {
 /// them. Their names are put behind `names`.
 fn read_groups<'a>(
     alloc: Global,
-    plan: &Plan,
+    sizes: &Sizes,
     lines: &mut Lines<'a>,
     names: &mut Vec<&'a [u8]>,
 ) -> Vec<Vec<u64>> {
@@ -115,7 +115,7 @@ fn read_groups<'a>(
         lines.want(has_form, "form");
         let group = lines.numbers(alloc, 2);
         lines.want(groups.len() < MOST_LINES, "limit");
-        want_ids(lines, plan, &group, true);
+        want_ids(lines, sizes, &group, true);
         let name = lines.word(1);
         let is_free = group_of(names, name) == names.len();
         lines.want(is_free && is_name(name), "name");
@@ -128,15 +128,15 @@ fn read_groups<'a>(
 
 /// Takes the lines of the groups and of the lies, the first of which is taken if there is one, and
 /// the line behind them.
-fn read_rules(alloc: Global, plan: &Plan, lines: &mut Lines, script: &mut Script) {
+fn read_rules(alloc: Global, sizes: &Sizes, lines: &mut Lines, script: &mut Script) {
     let mut names = Vec::new(alloc);
-    script.groups = read_groups(alloc, plan, lines, &mut names);
+    script.groups = read_groups(alloc, sizes, lines, &mut names);
     for _ in 0..=lines.most() {
         if !lines.begins("lie") {
             break;
         }
         let has_room = script.rules.len() < MOST_LINES;
-        let rule = lie_of(alloc, plan, &names, script, lines, has_room);
+        let rule = lie_of(alloc, sizes, &names, script, lines, has_room);
         lines.put(&mut script.rules, rule);
         lines.take(PART);
     }
@@ -184,17 +184,17 @@ fn is_noisy(lines: &mut Lines) -> bool {
 }
 
 /// Takes the lines of a script down to those of its eras, and the line behind them.
-fn read_front(alloc: Global, plan: &Plan, lines: &mut Lines) -> Script {
+fn read_front(alloc: Global, sizes: &Sizes, lines: &mut Lines) -> Script {
     let version = lines.take_version(PART, 2);
     lines.take(PART);
     lines.want_word(0, "faulty");
     let faulty = lines.numbers(alloc, 1);
-    want_faulty(lines, plan, &faulty, true);
+    want_faulty(lines, sizes, &faulty, true);
     let key = read_key(alloc, lines);
     let noisy = is_noisy(lines);
-    let starts = read_starts(alloc, plan, lines);
+    let starts = read_starts(alloc, sizes, lines);
     let eras = if version == 2 {
-        read_eras(alloc, plan, lines)
+        read_eras(alloc, sizes, lines)
     } else {
         Vec::new(alloc)
     };
@@ -214,9 +214,9 @@ fn read_front(alloc: Global, plan: &Plan, lines: &mut Lines) -> Script {
 }
 
 /// Takes the lines of a script, behind which there may be none.
-pub fn read_script(alloc: Global, plan: &Plan, lines: &mut Lines) -> Result<Script, Stop> {
-    let mut script = read_front(alloc, plan, lines);
-    read_rules(alloc, plan, lines, &mut script);
+pub fn read_script(alloc: Global, sizes: &Sizes, lines: &mut Lines) -> Result<Script, Stop> {
+    let mut script = read_front(alloc, sizes, lines);
+    read_rules(alloc, sizes, lines, &mut script);
     read_rounds(lines, &mut script);
     lines.result()?;
     Ok(script)

@@ -1,21 +1,25 @@
 //! Compares what the calls of pulse plans answer with a plain and slow computation of what plans,
-//! states and steps mean, which shares no code with them: texts and tables, single steps, and runs
-//! in which the most nodes lie, from any start to some rounds after the bound. What is tried is
-//! drawn, the same each time. Besides, each read and each write of a node fails in turn. With the
-//! arguments `spend N` it makes one call of a node alone, behind N allocations.
+//! states, steps and scripts mean, which shares no code with them: texts and tables, single steps,
+//! runs in which the most nodes lie, from any start to some rounds after the bound, and scripts,
+//! some of three eras that go on behind the bound. What is tried is drawn, the same each time.
+//! Besides, each read and each write of a node fails in turn. With the arguments `spend N` it makes
+//! one call of a node alone, behind N allocations.
 #![tactic(auto)]
 
 mod calling;
 mod drawn_plans;
+mod drawn_scripts;
 mod drawn_states;
 mod drawn_texts;
 mod draws;
 mod fault_trials;
 mod memory_trial;
+mod plain_runs;
 mod plain_tables;
 mod plain_texts;
 mod rounds;
 mod run_trials;
+mod script_trials;
 mod step_trials;
 mod text_trials;
 
@@ -23,6 +27,7 @@ use crate::draws::Draws;
 use crate::fault_trials::try_faults;
 use crate::memory_trial::try_node;
 use crate::run_trials::try_runs;
+use crate::script_trials::try_scripts;
 use crate::step_trials::try_steps;
 use crate::text_trials::try_texts;
 use std::{env, io};
@@ -47,5 +52,6 @@ fn main(rt: HostRuntime) -> anyhow::Result<()> {
     let mut draws = Draws::new(rt.alloc());
     try_texts(&rt, &mut draws)?;
     try_steps(&rt, &mut draws)?;
-    try_runs(&rt, &mut draws)
+    try_runs(&rt, &mut draws)?;
+    try_scripts(&rt, &mut draws)
 }

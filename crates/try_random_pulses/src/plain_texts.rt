@@ -9,9 +9,8 @@ use std::alloc::{AllocError, Global};
 /// The name of the part.
 const PART: &str = "pulses";
 
-/// The plan that the whole of a text is.
-pub fn plan_of(text: &[u8]) -> Result<Group, Stop> {
-    let mut lines = Lines::of(text);
+/// Takes the lines of a plan.
+pub fn read_plan(lines: &mut Lines) -> Result<Group, Stop> {
     lines.take_first(PART);
     lines.take(PART);
     lines.want_form(4, "group");
@@ -25,6 +24,14 @@ pub fn plan_of(text: &[u8]) -> Result<Group, Stop> {
         lines.want(false, premise);
     }
     lines.take_end(PART);
+    lines.result()?;
+    Ok(plan)
+}
+
+/// The plan that the whole of a text is.
+pub fn plan_of(text: &[u8]) -> Result<Group, Stop> {
+    let mut lines = Lines::of(text);
+    let plan = read_plan(&mut lines)?;
     lines.want_none(PART);
     lines.result()?;
     Ok(plan)

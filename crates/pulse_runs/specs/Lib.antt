@@ -1,0 +1,4 @@
+pub mod RunInputs
+pub mod Readings
+pub mod RunTexts
+pub mod RunPromises

@@ -1,0 +1,96 @@
+//! What is written of a plan and a script, plainly.
+
+use crate::plain_texts::read_plan;
+use reference::lines::Lines;
+use reference::refusals::Stop;
+use reference::script_texts::read_script;
+use reference::sizes::Sizes;
+use reference::texts::Text;
+use reference_pulses::groups::Group;
+use reference_pulses::runs::Run;
+use reference_steps::scripts::Script;
+use std::alloc::{AllocError, Global};
+
+/// What a script has to know of a plan.
+pub fn sizes_of(plan: &Group) -> Sizes {
+    let mut sizes = Sizes::new(plan.nodes, plan.faults);
+    for node in 0..plan.nodes {
+        sizes.put(node, plan.bytes(node));
+    }
+    sizes
+}
+
+/// Writes the row of the configuration that a run is at.
+fn write_row(out: &mut Text, nodes: u64, run: &Run) {
+    out.put("row", &[run.at()]);
+    for node in 0..nodes {
+        match run.output(node) {
+            Some(output) => out.put("", &[output]),
+            None => out.word(" *"),
+        }
+    }
+    out.word("\n");
+}
+
+/// Writes which configuration is the first locked one of the era that begins with `first`.
+fn write_lock(out: &mut Text, script: &Script, first: u64, locked: Option<u64>) {
+    if script.version == 2 {
+        out.put("era", &[first]);
+        out.word(" ");
+    }
+    match locked {
+        Some(at) => out.line("locked", &[at]),
+        None => out.line("locked none", &[]),
+    }
+}
+
+/// Plays a script, and writes all that is written of it.
+fn write_run(
+    alloc: Global,
+    plan: &Group,
+    script: &Script,
+    out: &mut Text,
+    locks: &mut Text,
+) -> Result<(), AllocError> {
+    let mut run = Run::begin(alloc, plan, script)?;
+    let mut first = 0u64;
+    let mut locked = None;
+    out.line("bound", &[plan.bound()]);
+    for at in 0..=script.rounds {
+        if script.era_at(at) != first {
+            write_lock(locks, script, first, locked);
+            first = script.era_at(at);
+            locked = None;
+        }
+        if locked.is_none() && run.is_locked() {
+            locked = Some(at);
+        }
+        if script.first <= at && at <= script.last {
+            write_row(out, plan.nodes, &run);
+        }
+        run.round(alloc)?;
+    }
+    write_lock(locks, script, first, locked);
+    Ok(())
+}
+
+/// What is written of a plan and a script.
+pub fn answer(alloc: Global, plan: &Group, script: &Script) -> Result<String, AllocError> {
+    let mut text = String::new(alloc);
+    let mut lines = String::new(alloc);
+    let mut locks = Text::behind(&mut lines);
+    let mut out = Text::behind(&mut text);
+    write_run(alloc, plan, script, &mut out, &mut locks)?;
+    out.end()?;
+    locks.end()?;
+    text.push_str(&lines)?;
+    Ok(text)
+}
+
+/// What is written of an input of a plan and a script, or why it is refused.
+pub fn answer_of(alloc: Global, input: &[u8]) -> Result<String, Stop> {
+    let mut lines = Lines::of(input);
+    let plan = read_plan(&mut lines)?;
+    let script = read_script(alloc, &sizes_of(&plan), &mut lines)?;
+    Ok(answer(alloc, &plan, &script)?)
+}

@@ -1,0 +1,149 @@
+//! Scripts that are played over pulse plans, and inputs that are near to a plan and a script.
+
+use crate::drawn_scripts::Near;
+use crate::draws::Draws;
+use crate::plain_runs::answer_of;
+use crate::plain_texts::text_of;
+use edge_io::MemSink;
+use pulse_runs::{PlayError, play, put_refusal};
+use reference::input_texts::write_script;
+use reference::refusals::Stop;
+use reference_pulses::groups::Group;
+use std::alloc::{AllocError, Global};
+
+/// How many scripts of a kind are played.
+const SCRIPTS: u64 = 40;
+
+/// How many inputs are tried that are near to a plan and a script.
+const INPUTS: u64 = 400;
+
+/// What is written for an input, there being room for one byte more than that.
+fn is_answered(alloc: Global, input: &[u8], wanted: &[u8]) -> anyhow::Result<bool> {
+    let room = wanted.len().saturating_add(1);
+    let mut sink = MemSink::new(alloc, room, Vec::new(alloc), Vec::new(alloc))?;
+    if let Err(error) = play(alloc, input, &mut sink) {
+        match error {
+            PlayError::Refused(refusal) => put_refusal(&mut sink, refusal)?,
+            PlayError::NoMemory | PlayError::WriteFault => return Ok(false),
+        }
+    }
+    Ok(sink.taken() == wanted)
+}
+
+/// How many inputs were tried, how many of them are answered as they should be, and how many are
+/// refused.
+#[derive(Clone, Copy)]
+struct Counts {
+    tried: u64,
+    right: u64,
+    refused: u64,
+}
+
+/// No inputs.
+const NO_INPUTS: Counts = Counts {
+    tried: 0,
+    right: 0,
+    refused: 0,
+};
+
+impl Counts {
+    /// Tries an input. One that is answered otherwise is printed.
+    fn try_input(&mut self, rt: &HostRuntime, input: &[u8]) -> anyhow::Result<()> {
+        self.tried = self.tried.wrapping_add(1);
+        let wanted = match answer_of(rt.alloc(), input) {
+            Ok(text) => text,
+            Err(Stop::Refused(refusal)) => {
+                self.refused = self.refused.wrapping_add(1);
+                refusal.text(rt.alloc())?
+            }
+            Err(Stop::NoMemory(error)) => return Err(error.into()),
+        };
+        if is_answered(rt.alloc(), input, wanted.as_bytes())? {
+            self.right = self.right.wrapping_add(1);
+        } else {
+            println!(rt; "an input is answered otherwise: {input:?}")?;
+        }
+        Ok(())
+    }
+}
+
+/// An input of a plan and a drawn script of so many eras after the first, of so many rounds each.
+fn drawn_input(
+    draws: &mut Draws,
+    plan: &Group,
+    eras: u64,
+    length: u64,
+) -> Result<String, AllocError> {
+    let states = draws.near_states(plan)?;
+    let near = Near {
+        plan,
+        states: &states,
+    };
+    let script = draws.script(near, eras, length)?;
+    let mut input = text_of(draws.alloc, plan)?;
+    write_script(&mut input, &script)?;
+    Ok(input)
+}
+
+/// Plays scripts of so many eras after the first whose eras go on behind the bound.
+fn try_eras(
+    rt: &HostRuntime,
+    draws: &mut Draws,
+    plan: &Group,
+    eras: u64,
+    scripts: u64,
+) -> anyhow::Result<()> {
+    let mut counts = NO_INPUTS;
+    for _ in 0..scripts {
+        let input = drawn_input(draws, plan, eras, plan.bound().wrapping_add(3))?;
+        counts.try_input(rt, input.as_bytes())?;
+    }
+    let nodes = plan.nodes;
+    let Counts {
+        tried,
+        right,
+        refused: _,
+    } = counts;
+    let all = eras.wrapping_add(1);
+    println!(rt; "{nodes} nodes, scripts of {all} eras: {right} of {tried} runs agree")?;
+    Ok(())
+}
+
+/// Tries inputs that are near to a plan and a script.
+fn try_near_inputs(rt: &HostRuntime, draws: &mut Draws) -> anyhow::Result<()> {
+    let mut counts = NO_INPUTS;
+    for _ in 0..INPUTS {
+        let plan = draws.plan(10);
+        let eras = draws.below(4);
+        let length = draws.between(1, 12);
+        let input = drawn_input(draws, &plan, eras, length)?.into_bytes();
+        let input = if draws.once_in(2) {
+            draws.changed(&input)?
+        } else {
+            input
+        };
+        counts.try_input(rt, &input)?;
+    }
+    let Counts {
+        tried,
+        right,
+        refused,
+    } = counts;
+    println!(rt; "plans and scripts: {right} of {tried} agree, {refused} of them refused")?;
+    Ok(())
+}
+
+/// Tries scripts.
+pub fn try_scripts(rt: &HostRuntime, draws: &mut Draws) -> anyhow::Result<()> {
+    for faults in 1..=4 {
+        let plan = Group {
+            first: 0,
+            nodes: faults * 3 + 1,
+            faults,
+            modulus: 10,
+        };
+        let scripts = SCRIPTS / (faults * faults);
+        try_eras(rt, draws, &plan, 2, scripts)?;
+    }
+    try_near_inputs(rt, draws)
+}
