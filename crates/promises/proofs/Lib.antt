@@ -10,6 +10,7 @@ pub mod LockPromises
 pub mod FindPromises
 pub mod ScriptInputs
 pub mod TableWords
+pub mod WorkedLies
 pub mod WorkedValues
 pub mod SkippedLines
 pub mod Skips

@@ -11,6 +11,7 @@ use Rattle.hex.specs.Hex.{encode_with}
 use Rattle.adversary_script.specs.ScriptPart.{script_for}
 use Rattle.promises.specs.Worked.{PlansAreRefused, PartsAreRefused, OthersAreRefused}
 use Rattle.promises.specs.Worked.{NodesAreAnswered}
+use Rattle.promises.proofs.WorkedLies.{lies_are_worked}
 use Rattle.promises.specs.Worked.{TextsAreSpelled, LinesAreSpelled, WordsAreCommands, WorkedAnswers}
 
 plans_are_refused : PlansAreRefused
@@ -82,6 +83,7 @@ worked_answers = record {
   parts = parts_are_refused;
   others = others_are_refused;
   nodes = nodes_are_answered;
+  lies = lies_are_worked;
   texts = texts_are_spelled;
   lines = lines_are_spelled;
   words = words_are_commands;

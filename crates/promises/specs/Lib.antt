@@ -7,6 +7,7 @@ pub mod Laws
 pub mod ScriptInputs
 pub mod DemoLaws
 pub mod TableWords
+pub mod WorkedLies
 pub mod Worked
 pub mod Skips
 pub mod Answered

@@ -33,6 +33,7 @@ use Rattle.outcomes.specs.Answers.{answer_of}
 use Rattle.outcomes.specs.CheckAnswers.{true_line, false_line}
 use Rattle.outcomes.specs.Commands.{command_of}
 use Rattle.outcomes.specs.NodeAnswers.{node_outcome}
+use Rattle.promises.specs.WorkedLies.{LiesAreWorked}
 
 -- ---- refusals
 
@@ -219,6 +220,7 @@ pub record WorkedAnswers : Type 0 where
   pub parts : PartsAreRefused
   pub others : OthersAreRefused
   pub nodes : NodesAreAnswered
+  pub lies : LiesAreWorked
   pub texts : TextsAreSpelled
   pub lines : LinesAreSpelled
   pub words : WordsAreCommands

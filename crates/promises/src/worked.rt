@@ -3,7 +3,7 @@
 ghost use Rattle.promises.specs.Worked.{WorkedAnswers};
 
 /// Inputs that fail by each premise and each rule have these refusals, calls of `node` these cells,
-/// values these texts, and words these commands.
+/// lies give these states, values have these texts, and words are these commands.
 pub fn worked_answers()
     ensures { WorkedAnswers }
 {}
