@@ -1,4 +1,4 @@
 pub mod Numbers
-pub mod Playing
+pub mod PlayedOn
 pub mod LinesSoFar
 pub mod HoldLaws

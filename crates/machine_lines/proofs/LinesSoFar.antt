@@ -5,7 +5,7 @@ use Rattle.machines.specs.Machines.{Machine}
 use Rattle.machine_runner.specs.Runners.{Running}
 use Rattle.machine_lines.specs.RunTexts.{shown_line, shown_lines}
 use Rattle.machine_lines.proofs.Numbers.{lines_before, none_before, one_more, one_cut, all_before}
-use Rattle.machine_lines.proofs.Playing.{at_number, at_is, plays_on}
+use Rattle.machine_lines.proofs.PlayedOn.{at_number, at_is, plays_on}
 
 module _ {M : Type 0} (machine : M → Machine) (front : List ℕ) (word : (output v : ℕ) → List ℕ)
     (start : Running M) where

@@ -37,7 +37,9 @@ fn put_lines<K: TextSink, M: Machine, L: ShownLines>(
     ensures played { OnOk result
         (runner.new ≡ record runner.old { at = runner.old.script.last }) }
 {
-    let (first, last) = runner.script().shown();
+    let script = runner.script();
+    let _rounds = script.rounds();
+    let (first, last) = script.shown();
     for t in first..last + 1 {
         play_to(runner, t);
         match put_line(sink, runner, lines) {

@@ -2,7 +2,7 @@ use Rattle.std.proofs.Common.{ap, ◌∙◌}
 use Rattle.adversary_script.specs.Scripts.{Script}
 use Rattle.adversary_script.specs.Eras.{first_of_era}
 use Rattle.run_texts.proofs.LockLines.{puts_era}
-use Rattle.machine_lines.proofs.Playing.{lock_at_end}
+use Rattle.machine_lines.proofs.PlayedOn.{lock_at_end}
 use Rattle.machine_lines.proofs.locks.put_era.Goals as goal
 
 pub returns : goal.returns

@@ -5,7 +5,7 @@ use Rattle.run_texts.specs.RunTexts.{era_line}
 use Rattle.run_texts.proofs.WordsSoFar.{words_more, words_cut, words_all}
 use Rattle.run_texts.proofs.LockLines.{puts_locked, puts_one, cut_of_many, wrote_many}
 use Rattle.machine_lines.specs.RunTexts.{lock_played}
-use Rattle.machine_lines.proofs.Playing.{lock_at_end}
+use Rattle.machine_lines.proofs.PlayedOn.{lock_at_end}
 use Rattle.machine_lines.proofs.locks.put_locks.Goals as goal
 
 pub returns-then-version-eq1 : goal.returns-then-version-eq1

@@ -1,12 +1,13 @@
 use Rattle.std.proofs.Common.{ap, ◌∙◌, arith}
 use Rattle.adversary_script.specs.Scripts.{Script}
-use Rattle.machine_lines.proofs.Playing.{script_is}
+use Rattle.machine_lines.proofs.PlayedOn.{script_is}
 use Rattle.machine_lines.proofs.LinesSoFar.{lines_begin, lines_go_on, lines_cut, lines_end, at_last}
 use Rattle.machine_lines.proofs.playing.put_lines.Goals as goal
 
 pub loop-t-init : goal.loop-t-init
 loop-t-init g c =
-    let first = c.shown.ensures.first ∙ ap (λ (s : Script). s.first) c.script.ensures in
+    let first = c.shown-first.ensures.first
+    ∙ ap (λ (s : Script). s.first) c.script-script.ensures in
     lines_begin _ _ _ _ _ _ first c.requires
 
 pub play_to-requires-clause-from : goal.play_to-requires-clause-from
@@ -14,39 +15,48 @@ play_to-requires-clause-from g c = c.loop-t.invariant.before
 
 pub play_to-requires-clause-within : goal.play_to-requires-clause-within
 play_to-requires-clause-within g c =
-    let here = ap (λ (s : Script). s.rounds) (script_is _ _ _ c.loop-t.invariant.same) in
-    let rounds = ap (λ (s : Script). s.rounds) c.script.ensures in
-    let within = c.shown.ensures.within in
+    let here = ap (λ (s : Script). s.rounds)
+    (script_is c.args.runner.now _ _ c.loop-t.invariant.same) in
+    let rounds = ap (λ (s : Script). s.rounds) c.script-script.ensures in
+    let within = c.shown-first.ensures.within in
     omega (arith, here, rounds, within, c.loop-t-test.true)
 
 pub returns-in-Err-clause-lines : goal.returns-in-Err-clause-lines
 returns-in-Err-clause-lines g c =
-    let first = c.shown.ensures.first ∙ ap (λ (s : Script). s.first) c.script.ensures in
-    let last = c.shown.ensures.last ∙ ap (λ (s : Script). s.last) c.script.ensures in
+    let first = c.shown-first.ensures.first
+    ∙ ap (λ (s : Script). s.first) c.script-script.ensures in
+    let last = c.shown-first.ensures.last
+    ∙ ap (λ (s : Script). s.last) c.script-script.ensures in
     lines_cut _ _ _ _ _ _ _ _ _ _ c.loop-t.invariant c.play_to.ensures
-    (omega (arith, first, c.loop-t.auto.t-start)) (omega (arith, last, c.loop-t-test.true))
+    (omega (arith, first, c.loop-t.auto.t)) (omega (arith, last, c.loop-t-test.true))
     c.in-Err.ensures
 
 pub loop-t-preserved : goal.loop-t-preserved
 loop-t-preserved g c =
-    let first = c.shown.ensures.first ∙ ap (λ (s : Script). s.first) c.script.ensures in
-    let last = c.shown.ensures.last ∙ ap (λ (s : Script). s.last) c.script.ensures in
+    let first = c.shown-first.ensures.first
+    ∙ ap (λ (s : Script). s.first) c.script-script.ensures in
+    let last = c.shown-first.ensures.last
+    ∙ ap (λ (s : Script). s.last) c.script-script.ensures in
     lines_go_on _ _ _ _ _ _ _ _ _ _ c.loop-t.invariant c.play_to.ensures
-    (omega (arith, first, c.loop-t.auto.t-start)) (omega (arith, last, c.loop-t-test.true))
+    (omega (arith, first, c.loop-t.auto.t)) (omega (arith, last, c.loop-t-test.true))
     c.in-Ok.ensures
 
 pub returns-clause-lines : goal.returns-clause-lines
 returns-clause-lines g c =
-    let first = c.shown.ensures.first ∙ ap (λ (s : Script). s.first) c.script.ensures in
-    let last = c.shown.ensures.last ∙ ap (λ (s : Script). s.last) c.script.ensures in
-    let order = c.shown.ensures.order in
+    let first = c.shown-first.ensures.first
+    ∙ ap (λ (s : Script). s.first) c.script-script.ensures in
+    let last = c.shown-first.ensures.last
+    ∙ ap (λ (s : Script). s.last) c.script-script.ensures in
+    let order = c.shown-first.ensures.order in
     lines_end _ _ _ _ _ _ _ _ c.loop-t.invariant (omega (arith, first, last, order))
-    (omega (arith, last, order, first, c.loop-t.auto.t-end, c.loop-t-test.false))
+    (omega (arith, last, order, first, c.loop-t.auto.t, c.loop-t-test.false))
 
 pub returns-clause-played : goal.returns-clause-played
 returns-clause-played g c =
-    let first = c.shown.ensures.first ∙ ap (λ (s : Script). s.first) c.script.ensures in
-    let last = c.shown.ensures.last ∙ ap (λ (s : Script). s.last) c.script.ensures in
-    let order = c.shown.ensures.order in
+    let first = c.shown-first.ensures.first
+    ∙ ap (λ (s : Script). s.first) c.script-script.ensures in
+    let last = c.shown-first.ensures.last
+    ∙ ap (λ (s : Script). s.last) c.script-script.ensures in
+    let order = c.shown-first.ensures.order in
     at_last _ _ _ _ _ _ _ _ c.loop-t.invariant (omega (arith, first, last, order))
-    (omega (arith, last, order, first, c.loop-t.auto.t-end, c.loop-t-test.false))
+    (omega (arith, last, order, first, c.loop-t.auto.t, c.loop-t-test.false))
