@@ -7,7 +7,6 @@ use Rattle.texts.specs.Parts.{Next, refuses, with_skips, Found, At}
 use Rattle.texts.proofs.Parts.{After, skips_keep, part_keeps}
 use Rattle.sync_types.specs.declared.answers.Rule.{Rule}
 use Rattle.sync_types.specs.declared.answers.Rule.TheVariants as rule
-use Rattle.construction.specs.Plans.{Plan, plan_nodes, plan_faults}
 use Rattle.state_codec.specs.Shapes.{Shape}
 use Rattle.plan_reader.specs.Skipped.{first_unskipped}
 use Rattle.adversary_script.specs.declared.kinds.Kind.{Kind}
@@ -16,17 +15,16 @@ use Rattle.adversary_script.specs.Kinds.{kind_of, may_follow}
 use Rattle.adversary_script.specs.Scripts.{Script, empty_script}
 use Rattle.adversary_script.specs.Steps.{line_step}
 use Rattle.adversary_script.specs.ScriptPart.{ScriptSoFar, nothing_read, passed, read_as}
-use Rattle.adversary_script.specs.ScriptPart.{script_step, part_of, unless_followed, alone}
-use Rattle.adversary_script.specs.ScriptPart.{script_of}
+use Rattle.adversary_script.specs.ScriptPart.{script_step, part_for, unless_followed, alone}
+use Rattle.adversary_script.specs.ScriptPart.{script_for}
 
 -- P speaks of the kind of the last line and of what was said
-module _ (plan : Plan) (shape : Shape) (P : Option Kind → Script → Type 0)
+module _ (nodes faults : ℕ) (shape : Shape) (P : Option Kind → Script → Type 0)
     (line_keeps : (last : Option Kind) (k : Kind) (s : Script) (words : List (List ℕ))
-    → may_follow last k ≡ true → P last s → IfOk (line_step (plan_faults plan) k s words)
-    (P (Some k))) where
+    → may_follow last k ≡ true → P last s → IfOk (line_step faults k s words) (P (Some k))) where
   -- what is kept from line to line
   abbrev Kept : ScriptSoFar → Type 0
-  Kept s = (s.faults ≡ plan_faults plan) × P s.last s.script
+  Kept s = (s.faults ≡ faults) × P s.last s.script
 
   -- what the last line leaves
   abbrev Closed : Script → Type 0
@@ -69,11 +67,11 @@ module _ (plan : Plan) (shape : Shape) (P : Option Kind → Script → Type 0)
       followed_keeps (first_unskipped (number + found.taken) found.behind) found.value h
   alone_keeps number (Err refusal) h = tt
 
-  pub script_has : P None (empty_script (plan_nodes plan) shape)
-      → (number : ℕ) (lines : List (List ℕ)) → IfOk (script_of plan shape number lines)
+  pub script_has : P None (empty_script nodes shape)
+      → (number : ℕ) (lines : List (List ℕ)) → IfOk (script_for nodes faults shape number lines)
       (P (Some kind.End))
-  unfolding script_of
+  unfolding script_for
   script_has empty number lines =
-      alone_keeps number (part_of plan shape number lines)
+      alone_keeps number (part_for nodes faults shape number lines)
       (part_keeps (with_skips script_step rule.Form) rule.Form Kept Closed step_keeps lines
-      (nothing_read (plan_nodes plan) (plan_faults plan) shape) 0 number (refl, empty))
+      (nothing_read nodes faults shape) 0 number (refl, empty))

@@ -8,7 +8,6 @@ use Rattle.std.proofs.lemmas.Bool.{true≢false, eq-eqb}
 use Rattle.sync_types.specs.declared.answers.Rule.{Rule}
 use Rattle.sync_types.specs.declared.answers.Rule.TheVariants as rule
 use Rattle.sync_types.specs.States.{State}
-use Rattle.construction.specs.Plans.{Plan, plan_faults}
 use Rattle.state_codec.specs.Shapes.{Shape, fields_at}
 use Rattle.adversary_script.specs.declared.kinds.Kind.{Kind}
 use Rattle.adversary_script.specs.declared.kinds.Kind.TheVariants as kind
@@ -32,7 +31,7 @@ use Rattle.adversary_script.specs.LieSteps.{lie_tested}
 use Rattle.adversary_script.specs.Steps.{done, head_tested, key_of_digits, with_key, seed_tested}
 use Rattle.adversary_script.specs.Steps.{group_tested, group_step, rounds_tested, show_tested}
 use Rattle.adversary_script.specs.Steps.{line_step}
-use Rattle.adversary_script.specs.ScriptPart.{IsAnswer, script_of}
+use Rattle.adversary_script.specs.ScriptPart.{IsAnswerFor, script_for}
 use Rattle.adversary_script.proofs.LineByLine.{script_has}
 use Rattle.adversary_script.proofs.SoundLines.{guarded}
 
@@ -193,16 +192,16 @@ line_keeps f last kind.Show s words may h = show_keeps s (behind last s h) (numb
 line_keeps f last kind.End s words may h = done_keeps s words (behind last s h)
 
 -- so it is of every script that is read
-pub script_has_eras : (plan : Plan) (shape : Shape) (number : ℕ) (lines : List (List ℕ))
-    → IfOk (script_of plan shape number lines) HasEras
-script_has_eras plan shape number lines =
-    script_has plan shape HasErasBehind
-    (λ last k s words may h. line_keeps (plan_faults plan) last k s words may h) refl number lines
+pub script_has_eras : (nodes faults : ℕ) (shape : Shape) (number : ℕ) (lines : List (List ℕ))
+    → IfOk (script_for nodes faults shape number lines) HasEras
+script_has_eras nodes faults shape number lines =
+    script_has nodes faults shape HasErasBehind
+    (λ last k s words may h. line_keeps faults last k s words may h) refl number lines
 
 -- a reading that is exact gives a script of which this holds
-pub read_has_eras : (plan : Plan) (shape : Shape) (number : ℕ) (lines : List (List ℕ))
-    (r : Result Script ScriptError)
-    → IsAnswer plan shape number lines r → IfOk r (λ script. script.version ≡ 1 → script.eras ≡ [])
-read_has_eras plan shape number lines (Ok script) is =
-    rw is at (script_has_eras plan shape number lines)
-read_has_eras plan shape number lines (Err e) is = tt
+pub read_has_eras : (nodes faults : ℕ) (shape : Shape) (number : ℕ) (lines : List (List ℕ))
+    (r : Result Script ScriptError) → IsAnswerFor nodes faults shape number lines r
+    → IfOk r (λ script. script.version ≡ 1 → script.eras ≡ [])
+read_has_eras nodes faults shape number lines (Ok script) is =
+    rw is at (script_has_eras nodes faults shape number lines)
+read_has_eras nodes faults shape number lines (Err e) is = tt

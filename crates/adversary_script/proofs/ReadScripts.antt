@@ -1,10 +1,10 @@
--- Every script that is read is well formed and for its plan.
+-- Every script that is read is well formed and for its counter.
 use Rattle.std.proofs.Common.{◌≡◌, ℕ, map, get_or, ◌<◌, ◌≤◌, List, [], ◌∷◌, length, true, ◌||◌}
 use Rattle.std.proofs.Common.{nat_lt, Option, Some, Result, Ok, Err, refl, sym, arith}
 use Rattle.std.specs.Prelude.{⊤, All, IfOk}
 use Rattle.std.proofs.lemmas.Bool.{ltb-false, true≢false}
 use Rattle.std.proofs.lemmas.List.{length-map}
-use Rattle.std.proofs.lemmas.List.Elements.{All-cons}
+use Rattle.std.proofs.lemmas.List.Elements.{All-cons, All-weaker}
 use Rattle.texts.specs.Parts.{At}
 use Rattle.sync_types.specs.declared.answers.Rule.{Rule}
 use Rattle.sync_types.specs.declared.answers.Rule.TheVariants as rule
@@ -17,10 +17,11 @@ use Rattle.adversary_script.specs.declared.refusals.ScriptError.{ScriptError}
 use Rattle.adversary_script.specs.Kinds.{may_follow}
 use Rattle.adversary_script.specs.WordTests.{numbers_in}
 use Rattle.adversary_script.specs.Scripts.{Era, Script, firsts, AreWithin, IsFormed, IsScript}
-use Rattle.adversary_script.specs.Scripts.{empty_script}
+use Rattle.adversary_script.specs.Scripts.{empty_script, faulty_sets}
 use Rattle.adversary_script.specs.FaultySteps.{last_first}
 use Rattle.adversary_script.specs.Steps.{done, rounds_tested, show_tested, line_step}
-use Rattle.adversary_script.specs.ScriptPart.{IsClosed, IsAnswer, IsFor, script_of}
+use Rattle.adversary_script.specs.ScriptPart.{IsClosed, IsAnswerFor, IsTolerated}
+use Rattle.adversary_script.specs.ScriptPart.{IsScriptFor, IsFor, script_for, script_of}
 use Rattle.adversary_script.proofs.EraLists.{last_is, most_last}
 use Rattle.adversary_script.proofs.LineByLine.{script_has}
 use Rattle.adversary_script.proofs.SoundLines.{guarded, IsSound, line_kept}
@@ -80,14 +81,15 @@ line_closes f last kind.End s words may formed closed =
 line_closes f last k s words may formed closed = any_ok (line_step f k s words)
 
 -- what holds of what was said, behind a line of a kind
-record IsSoFar (plan : Plan) (shape : Shape) (last : Option Kind) (s : Script) : Type 0 where
-  sound : IsSound plan shape s
+record IsSoFar (nodes faults : ℕ) (shape : Shape) (last : Option Kind) (s : Script) : Type 0 where
+  sound : IsSound nodes faults shape s
   closed : IsClosed last s
 
-both_ok : (plan : Plan) (shape : Shape) (last : Option Kind) (r : Result Script Rule)
-    → IfOk r (IsSound plan shape) → IfOk r (IsClosed last) → IfOk r (IsSoFar plan shape last)
-both_ok plan shape last (Ok s) sound closed = record { sound = sound; closed = closed }
-both_ok plan shape last (Err e) sound closed = tt
+both_ok : (nodes faults : ℕ) (shape : Shape) (last : Option Kind) (r : Result Script Rule)
+    → IfOk r (IsSound nodes faults shape) → IfOk r (IsClosed last)
+    → IfOk r (IsSoFar nodes faults shape last)
+both_ok nodes faults shape last (Ok s) sound closed = record { sound = sound; closed = closed }
+both_ok nodes faults shape last (Err e) sound closed = tt
 
 pub empty_is : (nodes : ℕ) (shape : Shape) → IsFormed (empty_script nodes shape)
 empty_is nodes shape = record {
@@ -110,50 +112,76 @@ elim_ok : {P Q : Script → Type 0} (r : Result Script (At Rule)) → IfOk r P
 elim_ok (Ok s) h f = f s h
 elim_ok (Err e) h f = tt
 
-module _ (plan : Plan) (shape : Shape) (sound : IsShape shape) (number : ℕ) (lines : List (List ℕ))
-  where
-    script_is : IfOk (script_of plan shape number lines) (IsSoFar plan shape (Some kind.End))
-    script_is =
-        script_has plan shape (IsSoFar plan shape)
-        (λ last k s words may h. both_ok plan shape (Some k)
-        (line_step (plan_faults plan) k s words)
-        (line_kept plan shape sound s h.sound k words)
-        (line_closes (plan_faults plan) last k s words may h.sound.formed h.closed))
-        (record {
-          sound = record {
-            formed = empty_is (plan_nodes plan) shape;
-            right =
-                record {
-                  nodes = refl;
-                  states = refl;
-                  borne = All-cons (IsBorne plan) [] [] none_borne
-                      (λ k d lt. absurd (omega arith));
-                };
+module _ (nodes faults : ℕ) (shape : Shape) (sound : IsShape shape) (number : ℕ)
+    (lines : List (List ℕ)) where
+  script_is : IfOk (script_for nodes faults shape number lines)
+      (IsSoFar nodes faults shape (Some kind.End))
+  script_is =
+      script_has nodes faults shape (IsSoFar nodes faults shape)
+      (λ last k s words may h. both_ok nodes faults shape (Some k) (line_step faults k s words)
+      (line_kept nodes faults shape sound s h.sound k words)
+      (line_closes faults last k s words may h.sound.formed h.closed))
+      (record {
+        sound = record {
+          formed = empty_is nodes shape;
+          right = record {
+            nodes = refl;
+            states = refl;
+            borne = All-cons (IsTolerated nodes faults) [] [] none_faulty
+                (λ k d lt. absurd (omega arith));
           };
-          closed = tt;
-        })
-        number lines
-      where
-        none_borne : IsBorne plan []
-        none_borne =
-            record {
-              rising = λ k lt. absurd (omega arith);
-              ids = λ k d lt. absurd (omega arith);
-              few = omega arith;
-            }
+        };
+        closed = tt;
+      })
+      number lines
+    where
+      none_faulty : IsTolerated nodes faults []
+      none_faulty = record {
+        rising = λ k lt. absurd (omega arith);
+        ids = λ k d lt. absurd (omega arith);
+        few = omega arith;
+      }
 
-    pub script_is_script : IfOk (script_of plan shape number lines) IsScript
-    script_is_script =
-        elim_ok (script_of plan shape number lines) script_is
-        (λ s h. record { formed = h.sound.formed; within = h.closed })
+  pub script_is_script : IfOk (script_for nodes faults shape number lines) IsScript
+  script_is_script =
+      elim_ok (script_for nodes faults shape number lines) script_is
+      (λ s h. record { formed = h.sound.formed; within = h.closed })
 
-    pub script_is_for : IfOk (script_of plan shape number lines) (IsFor plan shape)
-    script_is_for = elim_ok (script_of plan shape number lines) script_is (λ s h. h.sound.right)
+  pub script_fits : IfOk (script_for nodes faults shape number lines)
+      (IsScriptFor nodes faults shape)
+  script_fits =
+      elim_ok (script_for nodes faults shape number lines) script_is (λ s h. h.sound.right)
 
--- a reading that is exact gives a script for its plan
-pub read_is_for : (plan : Plan) (shape : Shape) → IsShape shape
+-- a reading that is exact gives a script for its counter
+pub read_fits : (nodes faults : ℕ) (shape : Shape) → IsShape shape
     → (number : ℕ) (lines : List (List ℕ)) (r : Result Script ScriptError)
-    → IsAnswer plan shape number lines r → IfOk r (IsFor plan shape)
-read_is_for plan shape sound number lines (Ok script) is =
-    rw is at (script_is_for plan shape sound number lines)
-read_is_for plan shape sound number lines (Err e) is = tt
+    → IsAnswerFor nodes faults shape number lines r → IfOk r (IsScriptFor nodes faults shape)
+read_fits nodes faults shape sound number lines (Ok script) is =
+    rw is at (script_fits nodes faults shape sound number lines)
+read_fits nodes faults shape sound number lines (Err e) is = tt
+
+-- ---- for a plan
+
+-- a script for a plan's nodes is one for the plan
+pub for_plan : (plan : Plan) (shape : Shape) (s : Script)
+    → IsScriptFor (plan_nodes plan) (plan_faults plan) shape s → IsFor plan shape s
+for_plan plan shape s is = record {
+  nodes = is.nodes;
+  states = is.states;
+  borne = All-weaker (IsTolerated (plan_nodes plan) (plan_faults plan)) (IsBorne plan)
+      (λ ids set. record { rising = set.rising; ids = set.ids; few = set.few }) (faulty_sets s)
+      is.borne;
+}
+
+pub script_is_for : (plan : Plan) (shape : Shape) → IsShape shape
+    → (number : ℕ) (lines : List (List ℕ)) → IfOk (script_of plan shape number lines)
+    (IsFor plan shape)
+script_is_for plan shape sound number lines =
+    elim_ok (script_of plan shape number lines)
+    (script_fits (plan_nodes plan) (plan_faults plan) shape sound number lines)
+    (for_plan plan shape)
+
+pub read_is_for : (plan : Plan) (shape : Shape) (r : Result Script ScriptError)
+    → IfOk r (IsScriptFor (plan_nodes plan) (plan_faults plan) shape) → IfOk r (IsFor plan shape)
+read_is_for plan shape (Ok script) is = for_plan plan shape script is
+read_is_for plan shape (Err e) is = tt

@@ -14,7 +14,6 @@ use Rattle.sync_types.specs.declared.answers.Rule.{Rule}
 use Rattle.sync_types.specs.declared.answers.Rule.TheVariants as rule
 use Rattle.sync_types.specs.FaultSets.{is_in}
 use Rattle.sync_types.specs.States.{State}
-use Rattle.construction.specs.Plans.{Plan, plan_nodes, plan_faults}
 use Rattle.state_codec.specs.Shapes.{Shape, fields_at}
 use Rattle.adversary_script.specs.declared.kinds.Kind.{Kind}
 use Rattle.adversary_script.specs.declared.kinds.Kind.TheVariants as kind
@@ -36,15 +35,15 @@ use Rattle.adversary_script.specs.LieSteps.{lie_tested}
 use Rattle.adversary_script.specs.Steps.{done, head_tested, key_of_digits, with_key}
 use Rattle.adversary_script.specs.Steps.{seed_tested, group_tested, group_step, rounds_tested}
 use Rattle.adversary_script.specs.Steps.{show_tested, line_step}
-use Rattle.adversary_script.specs.ScriptPart.{IsFor, script_of}
+use Rattle.adversary_script.specs.ScriptPart.{IsScriptFor, script_for}
 use Rattle.adversary_script.specs.Writable.{IsKey, AreStarts, IsGroup, IsHeard, IsSayable, IsLie}
-use Rattle.adversary_script.specs.Writable.{IsWritable}
+use Rattle.adversary_script.specs.Writable.{IsWritableFor}
 use Rattle.adversary_script.specs.ScriptLaws.{ReadIsWritable}
 use Rattle.adversary_script.specs.declared.lies.CommonStart.{CommonStart}
 use Rattle.adversary_script.proofs.LineByLine.{script_has}
 use Rattle.adversary_script.proofs.SoundLines.{guarded, kept_if, rises}
 use Rattle.adversary_script.proofs.RisingIds.{id_below}
-use Rattle.adversary_script.proofs.ReadScripts.{script_is_script, script_is_for}
+use Rattle.adversary_script.proofs.ReadScripts.{script_is_script, script_fits}
 use Rattle.adversary_script.proofs.OneEra.{HasEras, script_has_eras}
 use Rattle.adversary_script.proofs.SaidLines.{IsSaid, with_others, with_faulty, with_era_said}
 use Rattle.adversary_script.proofs.SaidLines.{started_said, with_group_said, with_lie_said}
@@ -281,11 +280,11 @@ empty_says nodes shape = record {
   lies = All-nil (IsLie nodes [] ([] ∷ []));
 }
 
-all_of : (plan : Plan) (shape : Shape) (r : Result Script (At Rule)) → IfOk r (IsFor plan shape)
-    → IfOk r IsScript → IfOk r HasEras → IfOk r (IsSoFar (Some kind.End))
-    → IfOk r (IsWritable plan shape)
-all_of plan shape (Err e) for whole eras so = tt
-all_of plan shape (Ok s) for whole eras so =
+all_of : (nodes faults : ℕ) (shape : Shape) (r : Result Script (At Rule))
+    → IfOk r (IsScriptFor nodes faults shape) → IfOk r IsScript → IfOk r HasEras
+    → IfOk r (IsSoFar (Some kind.End)) → IfOk r (IsWritableFor nodes faults shape)
+all_of nodes faults shape (Err e) for whole eras so = tt
+all_of nodes faults shape (Ok s) for whole eras so =
     let said = so.said in
     record {
       for = for;
@@ -302,10 +301,11 @@ all_of plan shape (Ok s) for whole eras so =
     }
 
 pub read_is_writable : ReadIsWritable
-read_is_writable plan shape sound number lines =
-    all_of plan shape (script_of plan shape number lines)
-    (script_is_for plan shape sound number lines) (script_is_script plan shape sound number lines)
-    (script_has_eras plan shape number lines)
-    (script_has plan shape IsSoFar
-    (λ last k s words may h. line_says (plan_faults plan) last k s words may h)
-    (record { said = empty_says (plan_nodes plan) shape; none = refl }) number lines)
+read_is_writable nodes faults shape sound number lines =
+    all_of nodes faults shape (script_for nodes faults shape number lines)
+    (script_fits nodes faults shape sound number lines)
+    (script_is_script nodes faults shape sound number lines)
+    (script_has_eras nodes faults shape number lines)
+    (script_has nodes faults shape IsSoFar
+    (λ last k s words may h. line_says faults last k s words may h)
+    (record { said = empty_says nodes shape; none = refl }) number lines)

@@ -30,7 +30,7 @@ use Rattle.adversary_script.specs.Writable.{IsKey, AreStarts, IsGroup, AreGroups
 use Rattle.adversary_script.specs.Writable.{IsLie}
 use Rattle.adversary_script.proofs.EraLists.{rising_pushed, same_with_start}
 
--- what a text says of a script, beside that it is well formed and for its plan
+-- what a text says of a script, beside that it is well formed and for its counter
 pub record IsSaid (s : Script) : Type 0 where
   pub oldest : 1 ≤ s.version
   pub newest : s.version ≤ 2

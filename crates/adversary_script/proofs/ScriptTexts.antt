@@ -8,10 +8,6 @@ use Rattle.std.proofs.lemmas.Bool.{le-ltb, cases_lt}
 use Rattle.std.proofs.lemmas.List.{append-nil, length-map, get_or-map}
 use Rattle.std.proofs.lemmas.List.Elements.{All-head}
 use Rattle.texts.specs.Lines.{lines_of}
-use Rattle.construction.specs.Plans.{Plan, plan_nodes, plan_faults}
-use Rattle.construction.specs.Runs.{IsBorne}
-use Rattle.plan_numbers.specs.Premises.{IsAccepted}
-use Rattle.plan_numbers.proofs.Accepted.{accepted_sized}
 use Rattle.state_codec.specs.Shapes.{Shape, IsShape, IsFields, fields_at, bytes_in}
 use Rattle.state_codec.proofs.Lows.{fields_limited}
 use Rattle.adversary_script.specs.declared.kinds.Kind.{Kind}
@@ -20,12 +16,13 @@ use Rattle.adversary_script.specs.declared.lies.Start.{Start}
 use Rattle.adversary_script.specs.Scripts.{Era, Script, empty_script, firsts, faulty_sets}
 use Rattle.adversary_script.specs.FaultySteps.{last_first}
 use Rattle.adversary_script.specs.Steps.{rounds_tested, show_tested}
-use Rattle.adversary_script.specs.ScriptPart.{ScriptSoFar, nothing_read, part_of, alone, script_of}
+use Rattle.adversary_script.specs.ScriptPart.{ScriptSoFar, nothing_read, part_for, alone}
+use Rattle.adversary_script.specs.ScriptPart.{script_for, IsTolerated}
 use Rattle.adversary_script.specs.ScriptTexts.{version_line, faulty_line, seed_lines, common_line}
 use Rattle.adversary_script.specs.ScriptTexts.{start_line, era_lines, group_line, lie_line}
 use Rattle.adversary_script.specs.ScriptTexts.{rounds_line, show_line, head_lines, eras_lines}
 use Rattle.adversary_script.specs.ScriptTexts.{lies_lines, last_lines, script_lines, script_text}
-use Rattle.adversary_script.specs.Writable.{FitsLines, AreStarts, IsWritable}
+use Rattle.adversary_script.specs.Writable.{FitsLines, AreStarts, IsWritableFor}
 use Rattle.adversary_script.specs.ScriptLaws.{ScriptTextIsRead, ScriptTextIsWhole}
 use Rattle.adversary_script.proofs.EraLists.{last_is}
 use Rattle.adversary_script.proofs.WrittenWords.{number_plain, number_short, number_read}
@@ -118,28 +115,21 @@ grouped last may = record { group = may.group; lie = may.lie; rounds = may.round
 lied : (last : Option Kind) → IsGrouped last → IsLied last
 lied last may = record { lie = may.lie; rounds = may.rounds }
 
-module _ (plan : Plan) (accepted : IsAccepted plan) (sound_shape : Shape)
-    (sound : IsShape sound_shape) (fits_shape : FitsLines plan sound_shape) (s : Script)
-    (w : IsWritable plan sound_shape s) where
-  abbrev f : ℕ
-  f = plan_faults plan
-
-  few_plan : plan_nodes plan ≤ 256
-  few_plan = (accepted_sized plan.base plan.levels accepted.levels).most
-
+module _ (n f : ℕ) (few_nodes : n ≤ 256) (sound_shape : Shape) (sound : IsShape sound_shape)
+    (fits_shape : FitsLines n sound_shape) (s : Script) (w : IsWritableFor n f sound_shape s) where
   few : s.nodes ≤ 256
-  few = let nodes = w.for.nodes in omega (arith, nodes, few_plan)
+  few = let nodes = w.for.nodes in omega (arith, nodes, few_nodes)
 
   limited : (v : ℕ) → IsFields (fields_at s.shape v)
   limited v = fields_limited s.shape v (subst IsShape (sym w.for.states) sound)
 
-  fits_plan : (v : ℕ) → v < plan_nodes plan → (1 ≤ bytes_in (fields_at s.shape v))
+  fits_nodes : (v : ℕ) → v < n → (1 ≤ bytes_in (fields_at s.shape v))
       × (bytes_in (fields_at s.shape v) ≤ 2000)
-  fits_plan = subst (FitsLines plan) (sym w.for.states) fits_shape
+  fits_nodes = subst (FitsLines n) (sym w.for.states) fits_shape
 
   fits : (v : ℕ) → v < s.nodes → (1 ≤ bytes_in (fields_at s.shape v))
       × (bytes_in (fields_at s.shape v) ≤ 2000)
-  fits v lt = let nodes = w.for.nodes in fits_plan v (omega (arith, nodes, lt))
+  fits v lt = let nodes = w.for.nodes in fits_nodes v (omega (arith, nodes, lt))
 
   abbrev begun : Script
   begun = record (empty_script s.nodes s.shape) { version = s.version; faulty = s.faulty }
@@ -168,7 +158,7 @@ module _ (plan : Plan) (accepted : IsAccepted plan) (sound_shape : Shape)
   head_goes =
       let nothing = empty_script s.nodes s.shape in
       let first : Script = record nothing { version = s.version } in
-      let borne = All-head (IsBorne plan) s.faulty _ w.for.borne in
+      let borne = All-head (IsTolerated n f) s.faulty _ w.for.borne in
       let below = All-head (All (λ id. id < s.nodes)) s.faulty _ w.whole.formed.ids in
       let seed = seed_leads f begun refl s.key w.key s.common in
       record {
@@ -193,7 +183,7 @@ module _ (plan : Plan) (accepted : IsAccepted plan) (sound_shape : Shape)
     adds = λ xs x. refl;
   }
 
-  eras_are : All (IsEra plan s.shape few_plan fits_plan limited) s.eras
+  eras_are : All (IsEra n f s.shape few_nodes fits_nodes limited) s.eras
   eras_are k d lt =
       let inside : suc k < length (faulty_sets s) =
       omega (arith, lt, length-map s.eras (λ (era : Era). era.faulty)) in
@@ -202,7 +192,7 @@ module _ (plan : Plan) (accepted : IsAccepted plan) (sound_shape : Shape)
       let most = w.whole.within (suc k) 0 begins in
       let rounds = w.whole.formed.few in
       record {
-        borne = subst (IsBorne plan) (get_or-map (λ (era : Era). era.faulty) s.eras k d [] lt)
+        borne = subst (IsTolerated n f) (get_or-map (λ (era : Era). era.faulty) s.eras k d [] lt)
             (w.for.borne (suc k) [] inside);
         small = omega (
           arith,
@@ -233,7 +223,7 @@ module _ (plan : Plan) (accepted : IsAccepted plan) (sound_shape : Shape)
       (map (start_line s.shape) s.starts) (flat_map (era_lines s.shape) s.eras)
       (starts_lead f s.nodes s.shape few fits limited with_starts starts_open last may [] s.starts
       w.starts w.whole.formed.starts)
-      (λ next so. eras_lead plan s.shape few_plan fits_plan limited (with_eras []) w.for.nodes refl
+      (λ next so. eras_lead n f s.shape few_nodes fits_nodes limited (with_eras []) w.for.nodes refl
       next so [] s.eras w.whole.formed.many newer w.whole.formed.rising eras_are)
 
   lies_are : All (IsTold f grouped_so few w.groups fits limited) s.lies
@@ -273,23 +263,23 @@ module _ (plan : Plan) (accepted : IsAccepted plan) (sound_shape : Shape)
       last_ends f told_so s.rounds s.first s.last formed.few reached formed.order formed.shown k
       may)))
 
-  start_is : nothing_read (plan_nodes plan) f sound_shape
+  start_is : nothing_read n f sound_shape
       ≡ at f None (empty_script s.nodes s.shape)
   start_is =
       ap (λ n. nothing_read n f sound_shape) (sym w.for.nodes)
       ∙ ap (λ (shape : Shape). nothing_read s.nodes f shape) (sym w.for.states)
 
 pub script_text_is_read : ScriptTextIsRead
-script_text_is_read plan accepted shape sound fits s w number rest =
+script_text_is_read n f few shape sound fits s w number rest =
     let count : 0 + length (script_lines s) ≡ length (script_lines s) = omega arith in
     ap (λ (start : ScriptSoFar). read_on start 0 number (script_text s ++ rest))
-    (start_is plan accepted shape sound fits s w)
-    ∙ is_read plan accepted shape sound fits s w 0 number rest
+    (start_is n f few shape sound fits s w)
+    ∙ is_read n f few shape sound fits s w 0 number rest
     ∙ rw count refl
 
 pub script_text_is_whole : ScriptTextIsWhole
-unfolding script_of
-script_text_is_whole plan accepted shape sound fits s w number =
-    ap (λ text. alone number (part_of plan shape number (lines_of text)))
+unfolding script_for
+script_text_is_whole n f few shape sound fits s w number =
+    ap (λ text. alone number (part_for n f shape number (lines_of text)))
     (sym (append-nil (script_text s)))
-    ∙ ap (alone number) (script_text_is_read plan accepted shape sound fits s w number [])
+    ∙ ap (alone number) (script_text_is_read n f few shape sound fits s w number [])

@@ -1,4 +1,4 @@
--- Each line keeps a script well formed and for its plan.
+-- Each line keeps a script well formed and for its counter.
 use Rattle.std.proofs.Common.{◌≡◌, ℕ, add-one, suc, ◌<◌, ◌≤◌, List, [], ◌∷◌, length, Bool, true}
 use Rattle.std.proofs.Common.{false, ◌&&◌, ◌||◌, not, nat_lt, nat_le, ◌==◌, if◌then◌else◌, Option}
 use Rattle.std.proofs.Common.{Some, None, Result, Ok, Err, refl, sym, arith}
@@ -14,8 +14,6 @@ use Rattle.sync_types.specs.declared.answers.Rule.{Rule}
 use Rattle.sync_types.specs.declared.answers.Rule.TheVariants as rule
 use Rattle.sync_types.specs.FaultSets.{is_in}
 use Rattle.sync_types.specs.States.{State}
-use Rattle.construction.specs.Plans.{Plan, plan_faults}
-use Rattle.construction.specs.Runs.{IsBorne}
 use Rattle.state_codec.specs.Shapes.{Fields, Shape, IsFields, IsShape, fields_at}
 use Rattle.state_codec.specs.Ranges.{InRange}
 use Rattle.state_codec.specs.Texts.{is_state_text, read_text, decoded}
@@ -43,7 +41,7 @@ use Rattle.adversary_script.specs.LieSteps.{lie_tested}
 use Rattle.adversary_script.specs.Steps.{done, head_tested, key_of_digits, with_key, seed_tested}
 use Rattle.adversary_script.specs.Steps.{group_tested, group_step, rounds_tested, show_tested}
 use Rattle.adversary_script.specs.Steps.{line_step}
-use Rattle.adversary_script.specs.ScriptPart.{IsFor}
+use Rattle.adversary_script.specs.ScriptPart.{IsTolerated, IsScriptFor}
 use Rattle.adversary_script.proofs.RisingIds.{id_below, rises_at}
 use Rattle.adversary_script.proofs.FormedEras.{era_formed, sets_pushed, sets_started, start_formed}
 
@@ -103,16 +101,20 @@ module _ (n : ℕ) (sets : List (List ℕ)) (l : LieSaid) (ids : are_ids n sets 
 pub rises : (ids : List ℕ) → is_rising ids ≡ true → IsStrictlyIncreasing ids
 rises ids rising k lt = rw add-one (rises_at ids k 0 rising (omega arith))
 
--- a script that is well formed and for a plan
-pub record IsSound (plan : Plan) (shape : Shape) (s : Script) : Type 0 where
+-- a script that is well formed and for so many nodes, so many of which may be faulty
+pub record IsSound (nodes faults : ℕ) (shape : Shape) (s : Script) : Type 0 where
   pub formed : IsFormed s
-  pub right : IsFor plan shape s
+  pub right : IsScriptFor nodes faults shape s
 
-module _ (plan : Plan) (shape : Shape) (sound : IsShape shape) (s : Script)
-    (h : IsSound plan shape s) where
+module _ (nodes faults : ℕ) (shape : Shape) (sound : IsShape shape) (s : Script)
+    (h : IsSound nodes faults shape s) where
+  -- what each line keeps
+  abbrev Kept : Script → Type 0
+  Kept = IsSound nodes faults shape
+
   -- a faulty set that passes its tests
   set_borne : (ids : List ℕ) → are_below s.nodes ids ≡ true → is_rising ids ≡ true
-      → length ids ≤ plan_faults plan → IsBorne plan ids
+      → length ids ≤ faults → IsTolerated nodes faults ids
   set_borne ids below rising few = record {
     rising = rises ids rising;
     ids = λ k d lt. rw h.right.nodes at (id_below s.nodes ids k d below lt);
@@ -126,7 +128,7 @@ module _ (plan : Plan) (shape : Shape) (sound : IsShape shape) (s : Script)
 
   -- with another version, key, common start or other groups
   with_others : (version : ℕ) (key : List ℕ) (common : CommonStart) (groups : List Group)
-      → IsSound plan shape
+      → Kept
       (record s { version = version; key = key; common = common; groups = groups })
   with_others version key common groups =
       let f = h.formed in
@@ -149,47 +151,45 @@ module _ (plan : Plan) (shape : Shape) (sound : IsShape shape) (s : Script)
         right = record { nodes = h.right.nodes; states = h.right.states; borne = h.right.borne };
       }
 
-  head_kept : (word : Option (List ℕ)) → IfOk (head_tested s word) (IsSound plan shape)
+  head_kept : (word : Option (List ℕ)) → IfOk (head_tested s word) Kept
   head_kept None = tt
   head_kept (Some word) =
-      kept_if (IsSound plan shape) (bytes_eq word (codes "1")) _ _
+      kept_if Kept (bytes_eq word (codes "1")) _ _
       (with_others 1 s.key s.common s.groups)
-      (kept_if (IsSound plan shape) (bytes_eq word (codes "2")) _ _
+      (kept_if Kept (bytes_eq word (codes "2")) _ _
       (with_others 2 s.key s.common s.groups) tt)
 
-  with_key_kept : (key : Option (List ℕ)) → IfOk (with_key s key) (IsSound plan shape)
+  with_key_kept : (key : Option (List ℕ)) → IfOk (with_key s key) Kept
   with_key_kept None = tt
   with_key_kept (Some key) = with_others s.version key s.common s.groups
 
-  seed_kept : (word : Option (List ℕ)) → IfOk (seed_tested s word) (IsSound plan shape)
+  seed_kept : (word : Option (List ℕ)) → IfOk (seed_tested s word) Kept
   seed_kept None = tt
   seed_kept (Some word) = with_key_kept (key_of_digits word)
 
-  done_kept : (t : Script) (words : List (List ℕ)) → IsSound plan shape t
-      → IfOk (done t words) (IsSound plan shape)
+  done_kept : (t : Script) (words : List (List ℕ)) → Kept t → IfOk (done t words) Kept
   done_kept t [] kept = kept
   done_kept t (word ∷ words) kept = tt
 
-  named_kept : (name : List ℕ) (ids : Option (List ℕ)) → IfOk (group_tested s name ids)
-      (IsSound plan shape)
+  named_kept : (name : List ℕ) (ids : Option (List ℕ)) → IfOk (group_tested s name ids) Kept
   named_kept name None = tt
   named_kept name (Some []) = tt
   named_kept name (Some (id ∷ ids)) =
-      guarded (IsSound plan shape) (nat_le 256 (length s.groups)) rule.Limit _ (λ _.
-      guarded (IsSound plan shape) (not (are_below s.nodes (id ∷ ids))) rule.Node _ (λ _.
-      guarded (IsSound plan shape) (not (is_rising (id ∷ ids))) rule.Order _ (λ _.
-      guarded (IsSound plan shape)
+      guarded Kept (nat_le 256 (length s.groups)) rule.Limit _ (λ _.
+      guarded Kept (not (are_below s.nodes (id ∷ ids))) rule.Node _ (λ _.
+      guarded Kept (not (is_rising (id ∷ ids))) rule.Order _ (λ _.
+      guarded Kept
       (not (is_name name) || bytes_eq name (codes "all") || is_some (group_at s.groups name))
       rule.Name _ (λ _.
       with_others s.version s.key s.common _))))
 
-  group_kept : (words : List (List ℕ)) → IfOk (group_step s words) (IsSound plan shape)
+  group_kept : (words : List (List ℕ)) → IfOk (group_step s words) Kept
   group_kept [] = tt
   group_kept (name ∷ words) = named_kept name (numbers_in words)
 
   -- with other faulty nodes in era 0
-  with_faulty : (ids : List ℕ) → are_below s.nodes ids ≡ true → IsBorne plan ids
-      → IsSound plan shape (record s { faulty = ids })
+  with_faulty : (ids : List ℕ) → are_below s.nodes ids ≡ true → IsTolerated nodes faults ids
+      → Kept (record s { faulty = ids })
   with_faulty ids below borne =
       let f = h.formed in
       record {
@@ -212,26 +212,25 @@ module _ (plan : Plan) (shape : Shape) (sound : IsShape shape) (s : Script)
             record {
               nodes = h.right.nodes;
               states = h.right.states;
-              borne = All-cons (IsBorne plan)
+              borne = All-cons (IsTolerated nodes faults)
                   ids _ borne (λ k d lt. h.right.borne (suc k) d (omega arith));
             };
       }
 
-  faulty_kept : (ids : Option (List ℕ)) → IfOk (faulty_tested (plan_faults plan) s ids)
-      (IsSound plan shape)
+  faulty_kept : (ids : Option (List ℕ)) → IfOk (faulty_tested faults s ids) Kept
   faulty_kept None = tt
   faulty_kept (Some ids) =
-      guarded (IsSound plan shape) (not (are_below s.nodes ids)) rule.Node _ (λ below.
-      guarded (IsSound plan shape) (not (is_rising ids)) rule.Order _ (λ rising.
-      guarded (IsSound plan shape) (nat_lt (plan_faults plan) (length ids)) rule.Faults
+      guarded Kept (not (are_below s.nodes ids)) rule.Node _ (λ below.
+      guarded Kept (not (is_rising ids)) rule.Order _ (λ rising.
+      guarded Kept (nat_lt faults (length ids)) rule.Faults
       (Ok (record s { faulty = ids })) (λ few.
       with_faulty ids (not-false _ below)
       (set_borne ids (not-false _ below) (not-false _ rising)
-      (ltb-false (plan_faults plan) (length ids) few)))))
+      (ltb-false faults (length ids) few)))))
 
   -- with one more era
   with_era_kept : (first : ℕ) (ids : List ℕ) → length s.eras < 16 → last_first s < first
-      → are_below s.nodes ids ≡ true → IsBorne plan ids → IsSound plan shape (with_era s first ids)
+      → are_below s.nodes ids ≡ true → IsTolerated nodes faults ids → Kept (with_era s first ids)
   with_era_kept first ids room above below borne = record {
     formed =
         era_formed s h.formed first ids room above (λ k d lt. id_below s.nodes ids k d below lt);
@@ -240,31 +239,30 @@ module _ (plan : Plan) (shape : Shape) (sound : IsShape shape) (s : Script)
           nodes = h.right.nodes;
           states = h.right.states;
           borne = sets_pushed s h.formed
-              (IsBorne plan) (record { first = first; faulty = ids; starts = [] }) h.right.borne
-              borne;
+              (IsTolerated nodes faults) (record { first = first; faulty = ids; starts = [] })
+              h.right.borne borne;
         };
   }
 
-  era_kept : (said : Option (ℕ × List ℕ)) → IfOk (era_tested (plan_faults plan) s said)
-      (IsSound plan shape)
+  era_kept : (said : Option (ℕ × List ℕ)) → IfOk (era_tested faults s said) Kept
   era_kept None = tt
   era_kept (Some said) =
-      guarded (IsSound plan shape) (s.version == 1) rule.Form _ (λ _.
-      guarded (IsSound plan shape) (nat_le 16 (length s.eras)) rule.Limit _ (λ room.
-      guarded (IsSound plan shape) (not (are_below s.nodes said.1)) rule.Node _ (λ below.
-      guarded (IsSound plan shape) (nat_le said.0 (last_first s) || not (is_rising said.1))
+      guarded Kept (s.version == 1) rule.Form _ (λ _.
+      guarded Kept (nat_le 16 (length s.eras)) rule.Limit _ (λ room.
+      guarded Kept (not (are_below s.nodes said.1)) rule.Node _ (λ below.
+      guarded Kept (nat_le said.0 (last_first s) || not (is_rising said.1))
       rule.Order _ (λ order.
-      guarded (IsSound plan shape) (nat_lt (plan_faults plan) (length said.1)) rule.Faults
+      guarded Kept (nat_lt faults (length said.1)) rule.Faults
       (Ok (with_era s said.0 said.1)) (λ few.
       let parts = or_parts (nat_le said.0 (last_first s)) (not (is_rising said.1)) order in
       with_era_kept said.0 said.1 (leb-false 16 (length s.eras) room)
       (leb-false said.0 (last_first s) parts.0) (not-false _ below)
       (set_borne said.1 (not-false _ below) (not-false _ parts.1)
-      (ltb-false (plan_faults plan) (length said.1) few)))))))
+      (ltb-false faults (length said.1) few)))))))
 
   -- with one more start
   started_for : (found : Option Era) (start : Start) → last_era s.eras ≡ found
-      → IsFor plan shape (started s found start)
+      → IsScriptFor nodes faults shape (started s found start)
   started_for None start last =
       record { nodes = h.right.nodes; states = h.right.states; borne = h.right.borne }
   started_for (Some era) start last =
@@ -272,11 +270,11 @@ module _ (plan : Plan) (shape : Shape) (sound : IsShape shape) (s : Script)
         nodes = h.right.nodes;
         states = h.right.states;
         borne = sets_started s h.formed
-            (IsBorne plan) era start last h.right.borne;
+            (IsTolerated nodes faults) era start last h.right.borne;
       }
 
   with_start_kept : (v : ℕ) (state : Option State) → IfSome state (InRange (fields_at s.shape v))
-      → IfOk (with_start s v state) (IsSound plan shape)
+      → IfOk (with_start s v state) Kept
   with_start_kept v None range = tt
   with_start_kept v (Some state) range =
       let start : Start = record { node = v; state = state } in
@@ -286,23 +284,22 @@ module _ (plan : Plan) (shape : Shape) (sound : IsShape shape) (s : Script)
             started_for (last_era s.eras) start refl;
       }
 
-  start_tested_kept : (v : Option ℕ) (word : List ℕ) → IfOk (start_tested s v word)
-      (IsSound plan shape)
+  start_tested_kept : (v : Option ℕ) (word : List ℕ) → IfOk (start_tested s v word) Kept
   start_tested_kept None word = tt
   start_tested_kept (Some v) word =
-      guarded (IsSound plan shape) (nat_le s.nodes v) rule.Node _ (λ _.
-      guarded (IsSound plan shape) (not (is_above (last_starts s) v)) rule.Order _ (λ _.
+      guarded Kept (nat_le s.nodes v) rule.Node _ (λ _.
+      guarded Kept (not (is_above (last_starts s) v)) rule.Order _ (λ _.
       with_start_kept v (state_of_digits (fields_at s.shape v) word)
       (digits_in_range (fields_at s.shape v) word (limited v))))
 
-  start_kept : (words : Option (List ℕ × List ℕ)) → IfOk (start_step s words) (IsSound plan shape)
+  start_kept : (words : Option (List ℕ × List ℕ)) → IfOk (start_step s words) Kept
   start_kept None = tt
   start_kept (Some words) = start_tested_kept (number_of words.0) words.1
 
   -- with one more lie
   with_lie_kept : (l : LieSaid) (said : Option What) (who : Option Who) → l.sender < s.nodes
       → IfSome said (IsLying s.nodes (fields_at s.shape l.sender)) → IfOk (with_lie s l said who)
-      (IsSound plan shape)
+      Kept
   with_lie_kept l None who sender lies = tt
   with_lie_kept l (Some said) None sender lies = tt
   with_lie_kept l (Some said) (Some who) sender lies =
@@ -327,12 +324,12 @@ module _ (plan : Plan) (shape : Shape) (sound : IsShape shape) (s : Script)
         right = record { nodes = h.right.nodes; states = h.right.states; borne = h.right.borne };
       }
 
-  lie_kept : (l : Option LieSaid) → IfOk (lie_tested s l) (IsSound plan shape)
+  lie_kept : (l : Option LieSaid) → IfOk (lie_tested s l) Kept
   lie_kept None = tt
   lie_kept (Some l) =
-      guarded (IsSound plan shape) (nat_le 256 (length s.lies)) rule.Limit _ (λ _.
-      guarded (IsSound plan shape) (not (are_ids s.nodes (faulty_sets s) l)) rule.Node _ (λ ids.
-      guarded (IsSound plan shape) (nat_lt l.last l.first || is_crossed l.who) rule.Range _ (λ _.
+      guarded Kept (nat_le 256 (length s.lies)) rule.Limit _ (λ _.
+      guarded Kept (not (are_ids s.nodes (faulty_sets s) l)) rule.Node _ (λ ids.
+      guarded Kept (nat_lt l.last l.first || is_crossed l.who) rule.Range _ (λ _.
       with_lie_kept l (what_of (fields_at s.shape l.sender) l.what) (who_of s.groups l.who)
       (sender_below s.nodes (faulty_sets s) l (not-false _ ids))
       (what_lies s.nodes (fields_at s.shape l.sender) l.what (limited l.sender)
@@ -340,7 +337,7 @@ module _ (plan : Plan) (shape : Shape) (sound : IsShape shape) (s : Script)
 
   -- with numbers in their order
   with_numbers : (rounds first last : ℕ) → rounds ≤ 1000000 → first ≤ last → last ≤ rounds
-      → IsSound plan shape (record s { rounds = rounds; first = first; last = last })
+      → Kept (record s { rounds = rounds; first = first; last = last })
   with_numbers rounds first last few order shown =
       let f = h.formed in
       record {
@@ -361,22 +358,22 @@ module _ (plan : Plan) (shape : Shape) (sound : IsShape shape) (s : Script)
         right = record { nodes = h.right.nodes; states = h.right.states; borne = h.right.borne };
       }
 
-  rounds_kept : (numbers : Option (List ℕ)) → IfOk (rounds_tested s numbers) (IsSound plan shape)
+  rounds_kept : (numbers : Option (List ℕ)) → IfOk (rounds_tested s numbers) Kept
   rounds_kept (Some (r ∷ [])) =
-      guarded (IsSound plan shape) (nat_lt 1000000 r) rule.Limit _ (λ few.
-      guarded (IsSound plan shape) (nat_lt r (last_first s)) rule.Range _ (λ _.
+      guarded Kept (nat_lt 1000000 r) rule.Limit _ (λ few.
+      guarded Kept (nat_lt r (last_first s)) rule.Range _ (λ _.
       with_numbers r 0 0 (ltb-false 1000000 r few) (omega arith) (omega arith)))
   rounds_kept other = tt
 
-  show_kept : (numbers : Option (List ℕ)) → IfOk (show_tested s numbers) (IsSound plan shape)
+  show_kept : (numbers : Option (List ℕ)) → IfOk (show_tested s numbers) Kept
   show_kept (Some (a ∷ b ∷ [])) =
-      guarded (IsSound plan shape) (nat_lt b a || nat_lt s.rounds b) rule.Range _ (λ crossed.
+      guarded Kept (nat_lt b a || nat_lt s.rounds b) rule.Range _ (λ crossed.
       let parts = or_parts (nat_lt b a) (nat_lt s.rounds b) crossed in
       with_numbers s.rounds a b h.formed.few (ltb-false b a parts.0) (ltb-false s.rounds b parts.1))
   show_kept other = tt
 
-  pub line_kept : (k : Kind) (words : List (List ℕ)) → IfOk (line_step (plan_faults plan) k s words)
-      (IsSound plan shape)
+  pub line_kept : (k : Kind) (words : List (List ℕ)) → IfOk (line_step faults k s words)
+      (IsSound nodes faults shape)
   line_kept kind.Script words = head_kept (only words)
   line_kept kind.Faulty words = faulty_kept (numbers_in words)
   line_kept kind.Seed words = seed_kept (only words)

@@ -10,8 +10,6 @@ use Rattle.std.proofs.lemmas.Bool.{lt-leb, le-ltb}
 use Rattle.std.proofs.lemmas.List.{append-nil, length-append, length_push, get_or_at}
 use Rattle.std.proofs.lemmas.List.{set_at}
 use Rattle.std.proofs.lemmas.Option.{slice_get-get_or}
-use Rattle.construction.specs.Plans.{Plan, plan_nodes, plan_faults}
-use Rattle.construction.specs.Runs.{IsBorne}
 use Rattle.state_codec.specs.Shapes.{Shape, IsFields, fields_at, bytes_in}
 use Rattle.sync_types.proofs.RisingIds.{count_below}
 use Rattle.adversary_script.specs.declared.kinds.Kind.{Kind}
@@ -22,6 +20,7 @@ use Rattle.adversary_script.specs.Scripts.{Era, Script, AreInRange}
 use Rattle.adversary_script.specs.FaultySteps.{era_words, last_era, last_first, with_era}
 use Rattle.adversary_script.specs.FaultySteps.{era_tested}
 use Rattle.adversary_script.specs.StartSteps.{starts_in, started}
+use Rattle.adversary_script.specs.ScriptPart.{IsTolerated}
 use Rattle.adversary_script.specs.ScriptTexts.{start_line, era_line, era_lines}
 use Rattle.adversary_script.specs.Writable.{AreStarts}
 use Rattle.adversary_script.proofs.EraLists.{last_is, tail_rises}
@@ -90,19 +89,13 @@ above_last : (done more : List Era) (era : Era)
 above_last done more era rises =
     subst (λ last. last < era.first) (sym (last_is 0 done)) (above_by 0 done more era rises)
 
-module _ (plan : Plan) (shape : Shape) (few : plan_nodes plan ≤ 256)
-    (fits : (v : ℕ) → v < plan_nodes plan → (1 ≤ bytes_in (fields_at shape v))
+module _ (n f : ℕ) (shape : Shape) (few : n ≤ 256)
+    (fits : (v : ℕ) → v < n → (1 ≤ bytes_in (fields_at shape v))
     × (bytes_in (fields_at shape v) ≤ 2000))
     (limited : (v : ℕ) → IsFields (fields_at shape v)) where
-  abbrev f : ℕ
-  f = plan_faults plan
-
-  abbrev n : ℕ
-  n = plan_nodes plan
-
   -- what is asked of an era
   pub record IsEra (era : Era) : Type 0 where
-    pub borne : IsBorne plan era.faulty
+    pub borne : IsTolerated n f era.faulty
     pub small : era.first ≤ 1000000
     pub starts : AreStarts n era.starts
     pub range : AreInRange shape era.starts

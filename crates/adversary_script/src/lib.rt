@@ -3,13 +3,14 @@
 //! are played and which configurations are shown. One of version 2 may have eras: from some
 //! configurations on other nodes are faulty, and there it may put nodes into states.
 //!
-//! [`read_script_for`] reads a script for the nodes of a shape line by line and refuses the first line
-//! that fails, with the first rule that it fails; [`read_script`] one for a plan. [`Script`] gives the states that it says: those in which nodes start,
-//! those into which they are put where an era begins, and those that faulty nodes tell. The states
-//! of a node have the fields of that node. States of noise come from ChaCha8 by the script's key:
-//! the lies from node u to node v have the stream 256u + v, in which each round has its own words,
-//! and the start of node v has the stream 65536 + v. [`Noise`] keeps the words of the lies that
-//! were last made.
+//! [`read_script_for`] reads a script line by line, by how many nodes may be faulty and the shape
+//! of the states, and refuses the first line that fails, with the first rule that it fails;
+//! [`read_script`] reads one for a plan. [`Script`] gives the states that it says: those in which
+//! nodes start, those into which they are put where an era begins, and those that faulty nodes
+//! tell. The states of a node have the fields of that node. States of noise come from ChaCha8 by
+//! the script's key: the lies from node u to node v have the stream 256u + v, in which each round
+//! has its own words, and the start of node v has the stream 65536 + v. [`Noise`] keeps the words
+//! of the lies that were last made.
 #![tactic(auto)]
 
 mod drafts;

@@ -5,7 +5,7 @@ use Rattle.std.proofs.lemmas.List.{append-nil}
 use Rattle.sync_types.specs.declared.answers.Rule.{Rule}
 use Rattle.sync_types.specs.declared.answers.Part.TheVariants as part
 use Rattle.texts.specs.Parts.{At}
-use Rattle.construction.specs.Plans.{Plan}
+use Rattle.construction.specs.Plans.{Plan, plan_nodes, plan_faults}
 use Rattle.counter_core.specs.NoLayers.{no_layer}
 use Rattle.state_codec.specs.Shapes.{Shape, IsShape, moduli_of, shape_of, shape_over, shape_with}
 use Rattle.adversary_script.specs.Scripts.{Script, IsScript}
@@ -31,7 +31,7 @@ pub read_is_script : (plan : Plan) (shape : Shape) (number : ℕ) (lines : List 
     → IsShape shape → script_of plan shape number lines ≡ Ok s → IsScript s
 read_is_script plan shape number lines s sound read =
     subst (λ (r : Result Script (At Rule)). IfOk r IsScript) read
-    (script_is_script plan shape sound number lines)
+    (script_is_script (plan_nodes plan) (plan_faults plan) shape sound number lines)
 
 pub slots_text_is : (input : List ℕ) (plan played_plan : Plan) (script played : Script)
     (table : List SlotLine)

@@ -9,7 +9,7 @@ use Rattle.sync_types.specs.declared.answers.Premise.{Premise}
 use Rattle.sync_types.specs.declared.answers.Rule.{Rule}
 use Rattle.sync_types.specs.declared.answers.Part.{Part}
 use Rattle.sync_types.specs.declared.answers.Part.TheVariants as part
-use Rattle.construction.specs.Plans.{Plan}
+use Rattle.construction.specs.Plans.{Plan, plan_nodes, plan_faults}
 use Rattle.plan_numbers.specs.Premises.{IsAccepted}
 use Rattle.plan_laws.specs.PlanMeaning.{plan_meaning}
 use Rattle.plan_reader.specs.PlanPart.{plan_of}
@@ -78,7 +78,8 @@ module _ {Said : Type 0} (name : Part)
       script_read plan found.value accepted fits
       (script_of plan shape (number + found.taken) found.behind)
       (script_is_for plan shape is (number + found.taken) found.behind)
-      (script_is_script plan shape is (number + found.taken) found.behind)
+      (script_is_script (plan_nodes plan) (plan_faults plan) shape is (number + found.taken)
+      found.behind)
 
   plan_read : (plan : Result (Found Plan) (At Premise))
       → IfOk plan (λ found. IsAccepted found.value)

@@ -4,7 +4,7 @@ use Rattle.std.specs.Prelude.{IfOk}
 use Rattle.texts.specs.Parts.{Found, At}
 use Rattle.sync_types.specs.declared.answers.Premise.{Premise}
 use Rattle.sync_types.specs.declared.answers.Rule.{Rule}
-use Rattle.construction.specs.Plans.{Plan}
+use Rattle.construction.specs.Plans.{Plan, plan_nodes, plan_faults}
 use Rattle.plan_numbers.specs.Premises.{IsAccepted}
 use Rattle.plan_reader.specs.PlanPart.{plan_of}
 use Rattle.plan_reader.proofs.AcceptedPlans.{plan_accepted}
@@ -41,8 +41,10 @@ behind_read (Ok found) accepted =
     let sound = shape_of_accepted found.value accepted in
     script_read found.value (script_of found.value shape (1 + found.taken) found.behind) accepted
     (script_is_for found.value shape sound (1 + found.taken) found.behind)
-    (script_is_script found.value shape sound (1 + found.taken) found.behind)
-    (λ s is. read_has_eras found.value shape (1 + found.taken) found.behind (Ok s) is)
+    (script_is_script (plan_nodes found.value) (plan_faults found.value) shape sound
+    (1 + found.taken) found.behind)
+    (λ s is. read_has_eras (plan_nodes found.value) (plan_faults found.value) shape
+    (1 + found.taken) found.behind (Ok s) is)
 
 pub scripted_read : (input : List ℕ) → IfOk (scripted_of input) IsRead
 scripted_read input = behind_read (plan_of input) (plan_accepted input)

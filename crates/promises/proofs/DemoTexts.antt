@@ -26,7 +26,7 @@ use Rattle.adversary_script.specs.Kinds.{kind_of}
 use Rattle.adversary_script.specs.Scripts.{Script, empty_script}
 use Rattle.adversary_script.specs.Steps.{decoded_bytes, key_of_digits, with_key}
 use Rattle.adversary_script.specs.ScriptPart.{ScriptSoFar, passed, read_as, script_step, alone}
-use Rattle.adversary_script.specs.ScriptPart.{script_of}
+use Rattle.adversary_script.specs.ScriptPart.{script_for}
 use Rattle.outcomes.specs.declared.demo.Liars.{Liars}
 use Rattle.outcomes.specs.declared.refusals.Refusal.{Refusal}
 use Rattle.outcomes.specs.Outcomes.{outcome_of}
@@ -218,7 +218,7 @@ module _ (word key : List ℕ) (plain : IsPlain word) (long : length word ≡ 64
       MatchResult (with_script demo_plan (alone 6 part)) (IsDemo key liars) (λ refusal. ⊥)
 
   spread : IsRead (record { first = 0; second = 4; third = 8 })
-  unfolding IsRead Meant read_from before after behind_seed digits script_of
+  unfolding IsRead Meant read_from before after behind_seed digits script_for
   spread =
       let liars : Liars = record { first = 0; second = 4; third = 8 } in
       subst (Meant liars) (sym (seed_read (0 ∷ 4 ∷ 8 ∷ []) (behind_seed liars)))
@@ -235,7 +235,7 @@ module _ (word key : List ℕ) (plain : IsPlain word) (long : length word ≡ 64
       })
 
   together : IsRead (record { first = 0; second = 1; third = 2 })
-  unfolding IsRead Meant read_from before after behind_seed digits script_of
+  unfolding IsRead Meant read_from before after behind_seed digits script_for
   together =
       let liars : Liars = record { first = 0; second = 1; third = 2 } in
       subst (Meant liars) (sym (seed_read (0 ∷ 1 ∷ 2 ∷ []) (behind_seed liars)))
@@ -252,7 +252,7 @@ module _ (word key : List ℕ) (plain : IsPlain word) (long : length word ≡ 64
       })
 
   divided : IsRead (record { first = 3; second = 4; third = 5 })
-  unfolding IsRead Meant read_from before after behind_seed digits script_of
+  unfolding IsRead Meant read_from before after behind_seed digits script_for
   divided =
       let liars : Liars = record { first = 3; second = 4; third = 5 } in
       subst (Meant liars) (sym (seed_read (3 ∷ 4 ∷ 5 ∷ []) (behind_seed liars)))

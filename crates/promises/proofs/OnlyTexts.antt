@@ -6,7 +6,7 @@ use Rattle.sync_types.specs.declared.answers.Premise.{Premise}
 use Rattle.sync_types.specs.declared.answers.Rule.{Rule}
 use Rattle.sync_types.specs.declared.answers.Part.{Part}
 use Rattle.sync_types.specs.declared.answers.Part.TheVariants as part
-use Rattle.construction.specs.Plans.{Plan}
+use Rattle.construction.specs.Plans.{Plan, plan_nodes, plan_faults}
 use Rattle.plan_numbers.specs.Premises.{IsAccepted}
 use Rattle.plan_reader.specs.PlanPart.{plan_of}
 use Rattle.plan_reader.proofs.AcceptedPlans.{plan_accepted}
@@ -65,8 +65,8 @@ module _ (writable : ReadIsWritable) {Said : Type 0} (name : Part)
       let shape = shape_for plan found.value in
       by_script plan accepted found.value fits
       (script_of plan shape (number + found.taken) found.behind)
-      (writable plan shape (sound plan found.value accepted fits) (number + found.taken)
-      found.behind)
+      (writable (plan_nodes plan) (plan_faults plan) shape
+      (sound plan found.value accepted fits) (number + found.taken) found.behind)
 
   by_plan : (r : Result (Found Plan) (At Premise)) → IfOk r (λ found. IsAccepted found.value)
       → IfOk (behind_plan name part_of shape_for r) Holds

@@ -10,10 +10,10 @@ use Rattle.sync_types.specs.declared.answers.Premise.{Premise}
 use Rattle.sync_types.specs.declared.answers.Rule.{Rule}
 use Rattle.sync_types.specs.declared.answers.Part.{Part}
 use Rattle.sync_types.specs.declared.answers.Part.TheVariants as part
-use Rattle.construction.specs.Plans.{Plan, plan_depth, plan_low}
+use Rattle.construction.specs.Plans.{Plan, plan_nodes, plan_faults, plan_depth, plan_low}
 use Rattle.construction.proofs.Ranges.{low_most}
 use Rattle.plan_numbers.specs.Premises.{IsAccepted}
-use Rattle.plan_numbers.proofs.Accepted.{accepted_depth}
+use Rattle.plan_numbers.proofs.Accepted.{accepted_sized, accepted_depth}
 use Rattle.plan_reader.specs.PlanPart.{plan_of}
 use Rattle.plan_reader.proofs.AcceptedPlans.{plan_accepted}
 use Rattle.plan_certificate.specs.PlanTexts.{plan_text, PlanTextIsRead}
@@ -45,7 +45,7 @@ use Rattle.promises.specs.ScriptInputs.{scripted_text, layered_text, ScriptInput
 module _ (plan : Plan) (accepted : IsAccepted plan) (moduli : List ℕ)
     (full : AreAll (all_over plan moduli)) (deep : plan_depth plan ≤ length moduli)
     (few : length moduli ≤ 7) where
-  fits_over : FitsLines plan (shape_over plan moduli)
+  fits_over : FitsLines (plan_nodes plan) (shape_over plan moduli)
   fits_over v lt =
       let all : Fields = all_over plan moduli in
       let low = plan_low plan v in
@@ -58,6 +58,9 @@ module _ (plan : Plan) (accepted : IsAccepted plan) (moduli : List ℕ)
   is_over = over_accepted plan moduli accepted full
 
 module _ (plan : Plan) (accepted : IsAccepted plan) where
+  few_nodes : plan_nodes plan ≤ 256
+  few_nodes = (accepted_sized plan.base plan.levels accepted.levels).most
+
   five : length (moduli_of plan.levels) ≤ 5
   five = omega (
     arith,
@@ -72,7 +75,7 @@ module _ (plan : Plan) (accepted : IsAccepted plan) where
   own_is = is_over plan accepted (moduli_of plan.levels) (all_of_accepted plan accepted) own_deep
       (omega (arith, five))
 
-  own_fits : FitsLines plan (shape_of plan)
+  own_fits : FitsLines (plan_nodes plan) (shape_of plan)
   own_fits = fits_over plan accepted (moduli_of plan.levels) (all_of_accepted plan accepted)
       own_deep (omega (arith, five))
 
@@ -102,7 +105,7 @@ module _ (plan : Plan) (accepted : IsAccepted plan) where
     with_is = is_over plan accepted moduli full (omega (arith, long, own_deep))
         (omega (arith, long, five, few))
 
-    with_fits : FitsLines plan (shape_with plan values count)
+    with_fits : FitsLines (plan_nodes plan) (shape_with plan values count)
     with_fits = fits_over plan accepted moduli full (omega (arith, long, own_deep))
         (omega (arith, long, five, few))
 
@@ -119,15 +122,17 @@ module _ (fronts : PlanTextIsRead) (whole : ScriptTextIsWhole) (plan : Plan)
       ≡ Ok (record { plan = plan; script = script })
   run_read script is =
       ap behind_plan (front_read (script_text script))
-      ∙ ap (with_script plan) (whole plan accepted (shape_of plan) (own_is plan accepted)
-      (own_fits plan accepted) script is (1 + (plan_depth plan + 3)))
+      ∙ ap (with_script plan) (whole (plan_nodes plan) (plan_faults plan) (few_nodes plan accepted)
+      (shape_of plan) (own_is plan accepted) (own_fits plan accepted) script is
+      (1 + (plan_depth plan + 3)))
 
   module _ {Said : Type 0} (name : Part)
       (part_of : Plan → (number : ℕ) → List (List ℕ) → Result (Found Said) (At Rule))
       (shape_for : Plan → Said → Shape) (said : Said) (text : List ℕ) (taken : ℕ)
       (read : (number : ℕ) (rest : List ℕ) → part_of plan number (lines_of (text ++ rest))
       ≡ Ok (record { value = said; taken = taken; behind = lines_of rest }))
-      (is : IsShape (shape_for plan said)) (fits : FitsLines plan (shape_for plan said)) where
+      (is : IsShape (shape_for plan said))
+      (fits : FitsLines (plan_nodes plan) (shape_for plan said)) where
     layered_read : (script : Script) → IsWritable plan (shape_for plan said) script
         → layered.layered_of name part_of shape_for (layered_text plan text script)
         ≡ Ok (record { plan = plan; said = said; script = script })
@@ -137,7 +142,8 @@ module _ (fronts : PlanTextIsRead) (whole : ScriptTextIsWhole) (plan : Plan)
         ∙ ap (layered.behind_part name part_of shape_for plan number)
         (read number (script_text script))
         ∙ ap (layered.layered_with name part_of shape_for plan said)
-        (whole plan accepted (shape_for plan said) is fits script writable (number + taken))
+        (whole (plan_nodes plan) (plan_faults plan) (few_nodes plan accepted) (shape_for plan said)
+        is fits script writable (number + taken))
 
 -- what any input is read as
 module _ (fronts : PlanTextIsRead) (whole : ScriptTextIsWhole) (writable : ReadIsWritable) where
@@ -155,7 +161,8 @@ module _ (fronts : PlanTextIsRead) (whole : ScriptTextIsWhole) (writable : ReadI
   by_plan (Ok found) accepted =
       let plan = found.value in
       by_script plan accepted (script_of plan (shape_of plan) (1 + found.taken) found.behind)
-      (writable plan (shape_of plan) (own_is plan accepted) (1 + found.taken) found.behind)
+      (writable (plan_nodes plan) (plan_faults plan) (shape_of plan) (own_is plan accepted)
+      (1 + found.taken) found.behind)
 
   read_again : (input : List ℕ) → IfOk (scripted_of input) IsReadAgain
   read_again input = by_plan (plan_of input) (plan_accepted input)

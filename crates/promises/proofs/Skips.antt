@@ -26,7 +26,7 @@ use Rattle.plan_finder.specs.declared.want_lines.FindStage.TheVariants as find_s
 use Rattle.state_codec.specs.Shapes.{Shape, shape_of}
 use Rattle.adversary_script.specs.Scripts.{Script}
 use Rattle.adversary_script.specs.ScriptPart as script_part
-use Rattle.adversary_script.specs.ScriptPart.{script_of}
+use Rattle.adversary_script.specs.ScriptPart.{script_for}
 use Rattle.slot_table.specs.SlotPart as slot_part
 use Rattle.consensus_layer.specs.AgreePart as agree_part
 use Rattle.firing.specs.FirePart as fire_part
@@ -196,7 +196,7 @@ module _ {X : Type 0} (plan : Plan) (shape : Shape) (wrap : Script → X) where
 
   script_is_blind : (line : List ℕ) → is_skipped line ≡ true → length line ≤ 4096
       → IsBlind line read_script
-  unfolding script_of
+  unfolding script_for
   script_is_blind line skipped short =
       blind_as line read_script
       (then_next (in_part part.Script) script_end script_part.script_step rule.Form none_read)
@@ -208,8 +208,8 @@ module _ {X : Type 0} (plan : Plan) (shape : Shape) (wrap : Script → X) where
       none_read)
 
 -- behind its plan alone
-abbrev script_for : Plan → (number : ℕ) → List (List ℕ) → Result Scripted Refusal
-script_for plan =
+abbrev script_behind : Plan → (number : ℕ) → List (List ℕ) → Result Scripted Refusal
+script_behind plan =
     read_script plan (shape_of plan) (λ script. record { plan = plan; script = script })
 
 scripted_by : (plan : Plan) (r : Result Script (At Rule))
@@ -219,7 +219,7 @@ scripted_by plan (Err at) = refl
 scripted_by plan (Ok script) = refl
 
 scripted_is : (r : Result (Found Plan) (At Premise))
-    → inputs.behind_plan r ≡ behind in_plan script_for 1 r
+    → inputs.behind_plan r ≡ behind in_plan script_behind 1 r
 scripted_is (Err at) = refl
 scripted_is (Ok found) =
     scripted_by found.value (script_part.script_of found.value (shape_of found.value)
@@ -227,9 +227,9 @@ scripted_is (Ok found) =
 
 scripts_unseen : SkipsAreUnseen inputs.scripted_of
 scripts_unseen =
-    unseen_as inputs.scripted_of (λ input. read_plan script_for 1 (lines_of input))
+    unseen_as inputs.scripted_of (λ input. read_plan script_behind 1 (lines_of input))
     (λ input. scripted_is (plan_part.plan_of input))
-    (behind_plan_unseen script_for (λ line skipped short plan.
+    (behind_plan_unseen script_behind (λ line skipped short plan.
     script_is_blind plan (shape_of plan) (λ script. record { plan = plan; script = script })
     line skipped short))
 

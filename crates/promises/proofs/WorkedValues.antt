@@ -6,7 +6,7 @@ use Rattle.state_codec.specs.Bits.{bits, number_of, bytes_of_bits}
 use Rattle.state_codec.specs.Shapes.{registers_bits, moduli_of}
 use Rattle.state_codec.specs.Writing.{bits_of_registers}
 use Rattle.hex.specs.Hex.{encode_with}
-use Rattle.adversary_script.specs.ScriptPart.{script_of}
+use Rattle.adversary_script.specs.ScriptPart.{script_for}
 use Rattle.promises.specs.Worked.{PlansAreRefused, PartsAreRefused, OthersAreRefused}
 use Rattle.promises.specs.Worked.{TextsAreSpelled, LinesAreSpelled, WordsAreCommands, WorkedAnswers}
 
@@ -24,7 +24,7 @@ plans_are_refused = record {
 }
 
 parts_are_refused : PartsAreRefused
-unfolding digits script_of
+unfolding digits script_for
 parts_are_refused = record {
   form = refl;
   order = refl;

@@ -1,6 +1,6 @@
 use Rattle.std.proofs.Common.{refl, ◌∙◌}
 use Rattle.std.specs.Prelude.{is_ok}
-use Rattle.construction.specs.Plans.{plan_nodes}
+use Rattle.state_codec.specs.Shapes.{shape_nodes}
 use Rattle.adversary_script.proofs.DraftEras.{pushed_formed, pushed_over, over_nodes}
 use Rattle.adversary_script.proofs.drafts.Draft.add_era.Goals as goal
 
@@ -16,10 +16,9 @@ invariant_of-self c =
       record {
         first = c.self.invariant.1.first;
         further =
-            pushed_over (plan_nodes c.self.inside.plan.now) (is_ok c.push.result) _ eras
+            pushed_over (shape_nodes c.self.inside.shape.now) (is_ok c.push.result) _ eras
             c.push.new.self.items c.push.ensures.items
-            (nodes ∙ over_nodes (plan_nodes c.self.inside.plan.now) c.self.inside.faulty
+            (nodes ∙ over_nodes (shape_nodes c.self.inside.shape.now) c.self.inside.faulty
             c.self.invariant.1.first) c.self.invariant.1.further;
       },
-      c.self.invariant.2,
     )

@@ -1,7 +1,7 @@
 use Rattle.std.proofs.Common.{◌≡◌, ◌-◌, length, refl, ap, ◌∙◌, arith}
 use Rattle.std.specs.Prelude.{is_ok}
 use Rattle.std.proofs.lemmas.List.Elements.{All-set}
-use Rattle.construction.specs.Plans.{plan_nodes}
+use Rattle.state_codec.specs.Shapes.{shape_nodes}
 use Rattle.adversary_script.specs.declared.parts.Era as kept
 use Rattle.adversary_script.specs.Scripts.{Script}
 use Rattle.adversary_script.specs.FaultySteps.{last_era}
@@ -21,12 +21,11 @@ invariant_of-self-2 c =
       record {
         first = c.self.invariant.1.first;
         further =
-            All-set (λ (era : kept.Era). era.faulty.nodes ≡ plan_nodes c.self.inside.plan.now) eras
-            (length eras - 1) _
+            All-set (λ (era : kept.Era). era.faulty.nodes ≡ shape_nodes c.self.inside.shape.now)
+            eras (length eras - 1) _
             (rw (← at) at (c.self.invariant.1.further (length eras - 1) c.index_mut.result.now
             (omega arith))) c.self.invariant.1.further;
       },
-      c.self.invariant.2,
     )
 
 pub returns : goal.returns
