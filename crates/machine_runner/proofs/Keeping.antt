@@ -8,13 +8,15 @@ use Rattle.counter_core.specs.declared.work.Work.{Work}
 use Rattle.counter_core.specs.Working.{IsFor, IsAsRoomy}
 use Rattle.state_codec.specs.Shapes.{Shape, fields_at}
 use Rattle.state_codec.specs.Ranges.{InRange}
-use Rattle.machines.specs.Machines.{Machine}
+use Rattle.machines.specs.Machines.{Machine, IsState}
 use Rattle.adversary_script.specs.Scripts.{Script, IsScript}
 use Rattle.adversary_script.specs.Eras.{era_of, faulty_of_era, faulty_at}
 use Rattle.adversary_script.specs.Lies.{AreStates, start_of}
+use Rattle.script_runs.specs.Laws.{IsReadFor}
 use Rattle.script_runs.specs.Locks.{is_locked, first_of, first_locked, era_locked}
 use Rattle.script_runs.specs.Played.{state_after, after_round, played_at}
 use Rattle.script_runs.proofs.KnownLocks.{known_at, known_long, first_known, next_known}
+use Rattle.script_runs.proofs.ReadFor.{state_is}
 use Rattle.machine_runner.specs.Kept.{locks_at}
 
 -- a workspace that is as roomy is for as many nodes
@@ -33,6 +35,17 @@ pub range_of : (own shape : Shape) (nodes : ℕ) (config : List State) → own �
 range_of own shape nodes config same size range v lt =
     subst (λ (s : Shape). InRange (fields_at s v) (state_of config v)) same
     (range v (omega (arith, lt, size)))
+
+-- so the state of a node is one of the machine's
+pub state_in : (machine : Machine) (script : Script) (own : Shape) (config : List State) (v : ℕ)
+    (state : State) → IsReadFor machine script → own ≡ script.shape → length config ≡ script.nodes
+    → ((u : ℕ) → u < length config → InRange (fields_at own u) (state_of config u))
+    → v < machine.nodes → state ≡ state_of config v → IsState machine v state
+state_in machine script own config v state read same size range lt is =
+    let nodes = read.right.nodes in
+    subst (λ (s : State). IsState machine v s) (sym is)
+    (state_is machine script read v (omega (arith, lt, nodes)) (state_of config v)
+    (range_of own script.shape script.nodes config same size range v (omega (arith, lt, nodes))))
 
 module _ (machine : Machine) (script : Script) where
   pub played_long : (t : ℕ) → length (played_at machine script t) ≡ script.nodes

@@ -66,6 +66,7 @@ pub fn start_all(script: &Script, room: &mut Room, states: &mut Packed)
     requires out { length room.old.out.registers ≡ script.now.shape.depth }
     ensures shape { states.new.shape ≡ states.old.shape }
     ensures states { states.new.current ≡ starts script.now }
+    ensures size { length states.new.current ≡ script.now.nodes }
     ensures noise { room.new.noise ≡ script.now.key }
     ensures out { length room.new.out.registers ≡ script.now.shape.depth }
     ensures same { room.new ≡ record room.old { noise = room.new.noise; out = room.new.out } }

@@ -1,4 +1,4 @@
-use Rattle.std.proofs.Common.{◌+◌, ◌<◌, ◌∙◌, List, refl, sym, ap, subst, arith}
+use Rattle.std.proofs.Common.{◌+◌, ◌<◌, ◌∙◌, List, length, refl, sym, ap, subst, arith}
 use Rattle.sync_types.specs.FaultSets.{FaultIds}
 use Rattle.sync_types.specs.States.{State}
 use Rattle.state_codec.specs.Packs.{Pack}
@@ -49,3 +49,7 @@ returns-clause-states c =
     ap (λ (p : Pack). p.current) c.flip.ensures
     ∙ all_filled (start_of script) script.nodes c.loop-v.v c.loop-v.states.next
     (omega (arith, nodes, c.loop-v-test.false, c.nodes-v-end.ensures)) c.loop-v.invariant.filled
+
+pub returns-clause-size : goal.returns-clause-size
+returns-clause-size c =
+    ap (λ (p : Pack). length p.current) c.flip.ensures ∙ c.loop-v.invariant.filled.size

@@ -1,4 +1,5 @@
 use Rattle.std.proofs.Common.{◌≡◌, ℕ, ◌<◌, List, true, length, refl, sym, ap, ◌∙◌, subst, arith}
+use Rattle.std.specs.Prelude.{slice_index}
 use Rattle.sync_types.specs.FaultSets.{FaultIds, is_in}
 use Rattle.adversary_script.specs.Eras.{faulty_at}
 use Rattle.adversary_script.proofs.LiesInRange.{depth_of_node}
@@ -61,7 +62,8 @@ lie_into-requires-clause-sender c =
     let lt : c.loop-i.i < length ids =
     omega (arith, c.loop-i-test.true, c.len-i-end.ensures.exact) in
     subst (λ (u : ℕ). is_in (faulty_at self.script.now self.t) u ≡ true) (sym c.at-u.ensures.id)
-    (subst (λ (all : List ℕ). is_in all _ ≡ true) same (is_among ids c.loop-i.i lt))
+    (subst (λ (all : List ℕ). is_in all (slice_index ids c.loop-i.i) ≡ true) same
+    (is_among ids c.loop-i.i lt))
 
 pub returns-clause-heard : goal.returns-clause-heard
 returns-clause-heard c =

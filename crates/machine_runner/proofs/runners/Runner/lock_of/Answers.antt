@@ -4,6 +4,13 @@ use Rattle.script_runs.proofs.KnownLocks.{known_at}
 use Rattle.machine_runner.specs.Runners.{Running, lock_of}
 use Rattle.machine_runner.proofs.runners.Runner.lock_of.Goals as goal
 
+pub index-requires : goal.index-requires
+index-requires g c =
+    let long = c.self.invariant.eras in
+    let among = subst (λ (r : Running _). c.args.j ≤ length r.script.eras) (sym c.self.view_is)
+    c.requires in
+    omega (arith, among, long)
+
 pub returns : goal.returns
 returns g c =
     let machine = g.M.Machine.machine c.self.inside.machine.now in

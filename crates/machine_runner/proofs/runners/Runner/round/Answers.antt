@@ -3,22 +3,10 @@ use Rattle.std.proofs.Common.{arith}
 use Rattle.sync_types.specs.FaultSets.{FaultIds}
 use Rattle.sync_types.specs.States.{State}
 use Rattle.state_codec.specs.Packs.{Pack}
-use Rattle.adversary_script.specs.Eras.{faulty_of_era}
-use Rattle.machine_runner.specs.Runners.{Running, next}
+use Rattle.machine_runner.specs.Runners.{Running}
 use Rattle.machine_runner.proofs.Keeping.{played_long, played_next, locks_go_on, locks_long}
 use Rattle.machine_runner.proofs.Keeping.{locked_next}
 use Rattle.machine_runner.proofs.runners.Runner.round.Goals as goal
-
-pub invariant_of-round : goal.invariant_of-round
-invariant_of-round g c =
-    let script = c.self.inside.script in
-    let kept = c.self.invariant in
-    record {
-      liars = c.era_faulty.ensures ∙ ap (λ (j : ℕ). let set : FaultIds =
-          record { nodes = script.nodes; ids = faulty_of_era script j } in set) kept.here;
-      left = subst (λ (r : Running _). r.at < r.script.rounds) (sym c.self.view_is) c.requires;
-      behind = c.beginning_in.ensures;
-    }
 
 pub step_all-requires-clause-config : goal.step_all-requires-clause-config
 step_all-requires-clause-config g c = record {
@@ -26,12 +14,8 @@ step_all-requires-clause-config g c = record {
   size = c.self.invariant.size;
 }
 
-pub is_locked-requires-clause-nodes : goal.is_locked-requires-clause-nodes
-is_locked-requires-clause-nodes g c =
-    ap (λ (s : FaultIds). s.nodes) c.era_faulty-2.ensures ∙ c.self.invariant.read.right.nodes
-
-pub is_locked-requires-clause-size : goal.is_locked-requires-clause-size
-is_locked-requires-clause-size g c =
+pub is_locked-locked-requires-clause-size : goal.is_locked-locked-requires-clause-size
+is_locked-locked-requires-clause-size g c =
     let machine = g.M.Machine.machine c.self.inside.machine.now in
     let script = c.self.inside.script in
     let t = c.self.inside.at in
@@ -69,6 +53,3 @@ invariant_of-self g c =
       eras = ap (λ (xs : List (Option ℕ)). length xs) known ∙ locks_long machine script (t + 1);
       known = known;
     }
-
-pub returns : goal.returns
-returns g c = ap next c.self.view_is

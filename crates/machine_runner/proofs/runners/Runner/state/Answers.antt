@@ -1,12 +1,12 @@
-use Rattle.std.proofs.Common.{◌≡◌, List, ap, ◌∙◌, subst}
-use Rattle.sync_types.specs.States.{State}
-use Rattle.construction.specs.Steps.{state_of}
-use Rattle.machine_runner.specs.Runners.{Running, states_of}
+use Rattle.std.proofs.Common.{◌<◌, sym, subst, arith}
+use Rattle.machine_runner.specs.Runners.{Running}
 use Rattle.machine_runner.proofs.runners.Runner.state.Goals as goal
 
-pub returns : goal.returns
-returns g c =
-    subst (λ (r : Running _). c.state.result.now
-    ≡ state_of (states_of g.M.Machine.machine r) c.args.v) c.self.view_is
-    (c.state.ensures
-    ∙ ap (λ (config : List State). state_of config c.args.v) c.self.invariant.played)
+pub state-requires : goal.state-requires
+state-requires g c =
+    let kept = c.self.invariant in
+    let nodes = kept.read.right.nodes in
+    let size = kept.size in
+    let lt = subst (λ (r : Running _). c.args.v < (g.M.Machine.machine r.machine).nodes)
+    (sym c.self.view_is) c.requires in
+    omega (arith, lt, nodes, size)

@@ -3,27 +3,13 @@ use Rattle.std.proofs.lemmas.List.{with_items_is}
 use Rattle.sync_types.specs.States.{State}
 use Rattle.construction.specs.Steps.{state_of}
 use Rattle.state_codec.specs.Packs.{Pack}
-use Rattle.state_codec.specs.Ranges.{InRange}
-use Rattle.state_codec.specs.Shapes.{Shape, fields_at}
+use Rattle.state_codec.specs.Shapes.{Shape}
 use Rattle.adversary_script.proofs.LiesInRange.{depth_of_node}
 use Rattle.script_runs.specs.Played.{state_after}
 use Rattle.script_runs.proofs.Places.{all_places}
 use Rattle.machine_runner.specs.Hearing.{AreHonest}
 use Rattle.machine_runner.proofs.Filled.{FilledBelow, none_filled, one_filled, all_filled}
 use Rattle.machine_runner.proofs.stepping.Round.step_all.Goals as goal
-
-pub lay-requires-clause-size : goal.lay-requires-clause-size
-lay-requires-clause-size g c =
-    ap (λ (xs : List State). length xs) c.deref_mut.ensures.value
-    ∙ (c.requires.room.heard.size ∙ sym c.requires.config.size)
-
-pub lay-requires-clause-deep : goal.lay-requires-clause-deep
-lay-requires-clause-deep g c =
-    subst (λ (xs : List State).
-    All (λ (s : State). length s.registers ≡ c.args.states.now.shape.depth) xs)
-    (sym c.deref_mut.ensures.value)
-    (subst (λ (d : ℕ). All (λ (s : State). length s.registers ≡ d) c.args.room.now.heard.items)
-    (sym (ap (λ (s : Shape). s.depth) c.requires.config.shape)) c.requires.room.heard.deep)
 
 pub loop-v-init : goal.loop-v-init
 loop-v-init g c =
@@ -75,35 +61,6 @@ loop-v-preserved g c =
           AreHonest script t config c.step.new.room.heard.items)
           (ap (λ (p : Pack). p.current) fixed) c.step.ensures.honest;
     }
-
-pub step-requires-clause-node : goal.step-requires-clause-node
-step-requires-clause-node g c =
-    omega (arith, c.loop-v-test.true, c.nodes-v-end.ensures.current, c.requires.config.size)
-
-pub step-requires-clause-config : goal.step-requires-clause-config
-step-requires-clause-config g c =
-    let fixed = c.loop-v.invariant.fixed in
-    record {
-      shape = ap (λ (p : Pack). p.shape) fixed ∙ c.requires.config.shape;
-      size = ap (λ (p : Pack). length p.current) fixed ∙ c.requires.config.size;
-    }
-
-pub step-requires-clause-honest : goal.step-requires-clause-honest
-step-requires-clause-honest g c =
-    subst (λ (config : List State). AreHonest c.args.self.now.script.now c.args.self.now.t config
-    c.loop-v.room.heard.items) (sym (ap (λ (p : Pack). p.current) c.loop-v.invariant.fixed))
-    c.loop-v.invariant.honest
-
-pub put-requires-clause-node : goal.put-requires-clause-node
-put-requires-clause-node g c =
-    let long = c.loop-v.invariant.filled.size in
-    omega (arith, c.loop-v-test.true, c.nodes-v-end.ensures.current, c.requires.config.size, long)
-
-pub put-requires-clause-range : goal.put-requires-clause-range
-put-requires-clause-range g c =
-    let shape = ap (λ (p : Pack). p.shape) c.loop-v.invariant.fixed ∙ c.requires.config.shape in
-    subst (λ (s : Shape). InRange (fields_at s c.loop-v.v) c.step.new.room.out) (sym shape)
-    c.step.ensures.range
 
 pub returns-clause-states : goal.returns-clause-states
 returns-clause-states g c =
