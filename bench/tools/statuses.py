@@ -97,19 +97,30 @@ NODE_OF_FOUR = FOUR_PULSES + b"node 1\nid 1\nstate 000000\nend\n"
 ZERO_CELL, CELL_BEHIND_ZEROS = b"\x00\x03\x00\x00\x00", b"\x00\x03\x22\x20\xd0"
 
 
+TABLE_OF_ONE = (
+    b"table pulses 1\nplan nodes 1 faults 0 modulus 10\nbound 0 levels 0 bits 4 bytes 1\n"
+    b"group 0 nodes 1 faults 0 modulus 10\nend\n"
+)
+
+
 def pulselab_cases():
     refused = b"refused pulses line 2 premise quorum\n"
     too_few = b"pulses 1\ngroup 3 1 10\nend\n"
+    two_liars = b"refused script line 5 rule faults\n"
     no_such = FOUR_PULSES + b"node 1\nid 4\n"
     cut = b"the input ends in packet 0, in the cell of node 1"
     return [
         own_run("pulselab"),
         (0, ["node"], NODE_OF_FOUR + 4 * ZERO_CELL, ZERO_CELL + CELL_BEHIND_ZEROS, b""),
         (1, ["plan"], too_few, refused, b""),
+        (0, ["plan"], b"pulses 1\ngroup 1 0 10\nend\n", TABLE_OF_ONE, b""),
+        (1, ["run"], too_few, refused, b""),
         (1, ["node"], too_few, refused, b""),
         told(2, [], b"", b"usage: pulselab "),
+        (3, ["run"], FOUR_PULSES + b"script 1\nfaulty 0 1\n", two_liars, b""),
         (3, ["node"], no_such, b"refused node line 5 rule node\n", b""),
         told(8, ["plan"], TOO_LONG, b"the input is too long"),
+        told(8, ["run"], TOO_LONG, b"the input is too long"),
         told(8, ["node"], TOO_LONG, b"the input is too long"),
         (9, ["node"], NODE_OF_FOUR + ZERO_CELL, ZERO_CELL, cut),
     ]

@@ -3,7 +3,9 @@
 
 ghost use Rattle.pulse_runs.specs.RunPromises.{RunsKeepPromise};
 
-use script_runs::laws::{eras_are_runs, eras_count, eras_lock, eras_stay_locked, firsts_are_locked};
+use script_runs::laws::{
+    eras_are_runs, eras_count, eras_lock, eras_stay_locked, firsts_are_locked,
+};
 
 /// An input that is read as a plan and a script is an accepted plan, and a script for the plan's
 /// machine. Each of its eras is a run of the plan with few faulty nodes, which say what the script

@@ -79,9 +79,8 @@ impl LabError {
         ensures { IsTrue result ↔ IsAnswered self }
     {
         match self {
-            LabError::Refused(_)
-            | LabError::ScriptRefused { .. }
-            | LabError::NodeRefused { .. } => true,
+            LabError::Refused(_) | LabError::ScriptRefused { .. } | LabError::NodeRefused { .. } =>
+                true,
             _ => false,
         }
     }

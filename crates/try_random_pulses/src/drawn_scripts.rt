@@ -158,12 +158,7 @@ impl Draws {
     }
 
     /// A script of a version whose nodes start by noise, zero or lines, with nothing else.
-    fn bare_script(
-        &mut self,
-        near: Near,
-        version: u64,
-        rounds: u64,
-    ) -> Result<Script, AllocError> {
+    fn bare_script(&mut self, near: Near, version: u64, rounds: u64) -> Result<Script, AllocError> {
         Ok(Script {
             version,
             faulty: self.faulty(near.plan)?,
