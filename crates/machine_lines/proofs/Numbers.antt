@@ -1,8 +1,9 @@
 -- What is written of each of n numbers from a on, one after the other.
-use Rattle.std.proofs.Common.{◌≡◌, ℕ, ◌+◌, ◌-◌, ◌<◌, ◌≤◌, List, length, take, get_or, ap, subst}
-use Rattle.std.proofs.Common.{arith}
+use Rattle.std.proofs.Common.{◌≡◌, ℕ, zero, suc, ◌+◌, ◌-◌, ◌<◌, ◌≤◌, List, ◌++◌, length, take}
+use Rattle.std.proofs.Common.{get_or, refl, sym, ap, ap₂, ◌∙◌, subst, arith}
 use Rattle.std.specs.List.{flat_map, range_with_len}
 use Rattle.std.proofs.lemmas.List.{take_all}
+use Rattle.std.proofs.lemmas.List.Concat.{flat_map-cons}
 use Rattle.std.proofs.lemmas.List.FromFn.{get_or-range_with_len, length-range_with_len}
 use Rattle.texts.specs.Growth.{Told, Wrote, Cut}
 use Rattle.texts.proofs.Growth.{wrote_none, wrote_at, cut_at}
@@ -43,3 +44,13 @@ module _ (line : ℕ → List ℕ) (a n : ℕ) where
       let whole = take_all (t - a) (range_with_len a n)
       (let size = length-range_with_len a n in omega (arith, size, le)) in
       rw (← whole) before
+
+-- texts that are one by one the same
+pub same_texts : (f g : ℕ → List ℕ) (n a : ℕ) → ((t : ℕ) → a ≤ t → t < a + n → f t ≡ g t)
+    → flat_map f (range_with_len a n) ≡ flat_map g (range_with_len a n)
+same_texts f g zero a same = refl
+same_texts f g (suc n) a same =
+    flat_map-cons f a (range_with_len (a + 1) n)
+    ∙ (ap₂ (λ (x y : List ℕ). x ++ y) (same a (omega arith) (omega arith))
+    (same_texts f g n (a + 1) (λ t lo hi. same t (omega (arith, lo)) (omega (arith, hi))))
+    ∙ sym (flat_map-cons g a (range_with_len (a + 1) n)))

@@ -1,13 +1,13 @@
--- A runner that plays on, and one that has played its script.
-use Rattle.std.proofs.Common.{◌≡◌, ℕ, ◌<◌, ◌≤◌, Option, Result, sym, ap, ◌∙◌, subst, arith}
+-- A runner that plays on.
+use Rattle.std.proofs.Common.{◌≡◌, ◌≢◌, ℕ, ◌<◌, ◌≤◌, inl, inr, true, List, Result, sym, ap, ◌∙◌}
+use Rattle.std.proofs.Common.{subst, arith}
 use Rattle.texts.specs.Growth.{Told, Puts}
 use Rattle.adversary_script.specs.Scripts.{Script}
 use Rattle.machines.specs.Machines.{Machine}
-use Rattle.script_runs.specs.Locks.{first_locked, era_locked}
-use Rattle.script_runs.specs.Played.{played_at}
-use Rattle.machine_runner.specs.Runners.{Running, lock_of}
+use Rattle.machine_runner.specs.Runners.{Running}
 use Rattle.run_texts.specs.RunTexts.{lock_lines}
-use Rattle.machine_lines.specs.RunTexts.{lock_played}
+use Rattle.machine_lines.specs.RunTexts.{shown_line, lock_played}
+use Rattle.machine_lines.specs.Counting.{is_counting, Knows}
 
 module _ {M : Type 0} (start : Running M) where
   -- the same runner at configuration t
@@ -24,6 +24,9 @@ module _ {M : Type 0} (start : Running M) where
     pub at_is : r.at ≡ t
     at_is = ap (λ (r : Running M). r.at) is
 
+    pub own_number : r ≡ at_number r.at
+    own_number = is ∙ ap at_number (sym at_is)
+
     -- there is a round to play before that one
     pub has_round : (end : ℕ) → t < end → end ≤ start.script.rounds → r.at < r.script.rounds
     has_round end lt within =
@@ -35,17 +38,25 @@ module _ {M : Type 0} (start : Running M) where
     plays_on new n on =
         on ∙ ap (λ (r : Running M). let s : Running M = record r { at = n } in s) is
 
-    pub has_played : (end : ℕ) → t ≡ end → r ≡ at_number end
-    has_played end there = is ∙ ap at_number there
-
 module _ {M : Type 0} (machine : M → Machine) where
-  -- the first locked configuration so far is that of all
-  pub lock_at_end : (r : Running M) (j : ℕ) (known : Option ℕ) → r.at ≡ r.script.rounds
-      → known ≡ lock_of machine r j → known ≡ lock_played (machine r.machine) r.script j
-  lock_at_end r j known end is =
-      is
-      ∙ ap (first_locked (era_locked (machine r.machine) r.script
-      (played_at (machine r.machine) r.script) j)) end
+  -- the line of the runner's configuration is that of its number
+  pub line_there : {T E : Type 0} (front : List ℕ) (word : (output v : ℕ) → List ℕ)
+      (r : Running M) (t : ℕ) (result : Result T E) (s u : Told) → r.at ≡ t
+      → Puts result (shown_line front word (machine r.machine) r.script r.at) s u
+      → Puts result (shown_line front word (machine r.machine) r.script t) s u
+  line_there front word r t result s u is puts =
+      subst (λ (t : ℕ). Puts result (shown_line front word (machine r.machine) r.script t) s u) is
+      puts
+
+  -- where it is not there, its correct nodes count
+  pub counts_there : (r : Running M) (t : ℕ) → Knows machine r t → (r.at ≢ t)
+      → is_counting machine r ≡ true
+  counts_there r t (inl there) other = absurd (other there)
+  counts_there r t (inr counting) other = counting
+
+  -- what is known of one number is of another that is the same
+  pub knows_there : (r : Running M) (t u : ℕ) → t ≡ u → Knows machine r t → Knows machine r u
+  knows_there r t u same knows = subst (λ (t : ℕ). Knows machine r t) same knows
 
   -- what is written behind the lines is of the same run
   pub locks_after : {T E : Type 0} (result : Result T E) (start r : Running M) (n : ℕ) (s t : Told)

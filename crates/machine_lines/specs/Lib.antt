@@ -1,3 +1,4 @@
 pub mod RunTexts
 pub mod HoldTexts
+pub mod Counting
 pub mod Laws

@@ -6,6 +6,7 @@
 //! `slots`.
 #![tactic(auto)]
 
+mod counting;
 mod holds;
 pub mod laws;
 mod lines;

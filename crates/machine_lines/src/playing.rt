@@ -1,8 +1,9 @@
-ghost use Rattle.std.specs.Prelude.{◌≡◌, ◌≤◌, OnOk};
+ghost use Rattle.std.specs.Prelude.{◌≡◌, OnOk};
 ghost use Rattle.texts.specs.Growth.{Puts};
 ghost use Rattle.machine_lines.specs.RunTexts.{shown_lines, shown_text, run_text};
 ghost use Rattle.machine_lines.specs.HoldTexts.{hold_text};
 
+use crate::counting::play_to;
 use crate::holds::HoldLines;
 use crate::lines::ShownLines;
 use crate::locks::put_locks;
@@ -13,18 +14,8 @@ use machine_runner::Runner;
 use machines::Machine;
 use run_texts::put_bound;
 
-/// Plays on to configuration `end`.
-fn play_to<M: Machine>(runner: &mut Runner<'_, M>, end: u64)
-    requires from { runner.old.at ≤ end }
-    requires within { end ≤ runner.old.script.rounds }
-    ensures { runner.new ≡ record runner.old { at = end } }
-{
-    for _ in runner.at()..end {
-        runner.round();
-    }
-}
-
-/// Plays a script to the last configuration that is shown, and writes the lines.
+/// Plays a script, to the last configuration that is shown or until its correct nodes count, and
+/// writes the lines.
 fn put_lines<K: TextSink, M: Machine, L: ShownLines>(
     sink: &mut K,
     runner: &mut Runner<'_, M>,
@@ -35,14 +26,14 @@ fn put_lines<K: TextSink, M: Machine, L: ShownLines>(
         (shown_lines (L.front lines.now) (L.word lines.now) (M.machine runner.old.machine)
         runner.old.script) (K.Sink.told sink.old) (K.Sink.told sink.new) }
     ensures played { OnOk result
-        (runner.new ≡ record runner.old { at = runner.old.script.last }) }
+        (runner.new ≡ record runner.old { at = runner.new.at }) }
 {
     let script = runner.script();
     let _rounds = script.rounds();
     let (first, last) = script.shown();
     for t in first..last + 1 {
         play_to(runner, t);
-        match put_line(sink, runner, lines) {
+        match put_line(sink, runner, lines, t) {
             Ok(()) => {}
             Err(WriteFault) => return Err(WriteFault),
         }
@@ -50,7 +41,8 @@ fn put_lines<K: TextSink, M: Machine, L: ShownLines>(
     Ok(())
 }
 
-/// Plays a script to its end, and writes the bound, the lines and the first locked configurations.
+/// Plays a script, to its end or until its correct nodes count, and writes the bound, the lines and
+/// the first locked configurations.
 fn put_all<K: TextSink, M: Machine, L: ShownLines>(
     sink: &mut K,
     runner: &mut Runner<'_, M>,
@@ -63,13 +55,15 @@ fn put_all<K: TextSink, M: Machine, L: ShownLines>(
 {
     put_bound(sink, runner.machine().bound())?;
     put_lines(sink, runner, lines)?;
+    runner.tell();
     let rounds = runner.script().rounds();
     play_to(runner, rounds);
     put_locks(sink, runner)
 }
 
-/// Plays a script to its end, and writes the machine's bound, the line of each configuration that
-/// is shown, and the first locked configuration of each era. It takes no memory.
+/// Plays a script, and writes the machine's bound, the line of each configuration that is shown,
+/// and the first locked configuration of each era. It takes no memory, and plays no more rounds
+/// than it must: once the last era is locked its correct nodes count to the end.
 ///
 /// The runner is at configuration 0. `WriteFault` comes where the sink counted one; a front of the
 /// text was then taken.
@@ -88,7 +82,7 @@ pub fn put_shown<K: Sink, M: Machine, L: ShownLines>(
     gathered.finish(written)
 }
 
-/// Plays a script to its end, and writes the machine's bound, a row of each configuration that is
+/// Plays a script, and writes the machine's bound, a row of each configuration that is
 /// shown, and the first locked configuration of each era. It takes no memory.
 ///
 /// The runner is at configuration 0. `WriteFault` comes where the sink counted one; a front of the
@@ -104,7 +98,7 @@ pub fn put_run<K: Sink, M: Machine>(
     put_shown(sink, runner, &Rows)
 }
 
-/// Plays a script to its end, and writes the machine's bound, of each configuration that is shown
+/// Plays a script, and writes the machine's bound, of each configuration that is shown
 /// which nodes hold by a slot table, and the first locked configuration of each era. It takes no
 /// memory.
 ///

@@ -5,15 +5,16 @@ use Rattle.run_texts.specs.RunTexts.{era_line}
 use Rattle.run_texts.proofs.WordsSoFar.{words_more, words_cut, words_all}
 use Rattle.run_texts.proofs.LockLines.{puts_locked, puts_one, cut_of_many, wrote_many}
 use Rattle.machine_lines.specs.RunTexts.{lock_played}
-use Rattle.machine_lines.proofs.PlayedOn.{lock_at_end}
+use Rattle.machine_lines.proofs.Counted.{known_at_end}
 use Rattle.machine_lines.proofs.locks.put_locks.Goals as goal
 
 pub returns-then-version-eq1 : goal.returns-then-version-eq1
 returns-then-version-eq1 g c =
     let r = c.args.runner.now in
     let version = c.version.ensures ∙ ap (λ (s : Script). s.version) c.script.ensures in
-    let known = lock_at_end g.M.Machine.machine r 0 c.lock_of.result c.requires
-    c.lock_of.ensures in
+    let known = c.lock_of.ensures
+    ∙ known_at_end g.M.Machine.machine r c.tell.ensures.read.whole c.tell.ensures.within
+    c.requires 0 in
     puts_one r.script (lock_played (g.M.Machine.machine r.machine) r.script) _ version _ _ _
     c.if-version-eq1.true (puts_locked _ _ _ _ _ known c.put_locked.ensures)
 

@@ -1,8 +1,8 @@
-use Rattle.std.proofs.Common.{ap, ◌∙◌, arith}
+use Rattle.std.proofs.Common.{sym, ap, ◌∙◌, arith}
 use Rattle.adversary_script.specs.Scripts.{Script}
 use Rattle.texts.proofs.Growth.{puts_exit, puts_then, cut_more, cut_then}
 use Rattle.run_texts.proofs.LockLines.{puts_last}
-use Rattle.machine_lines.proofs.PlayedOn.{script_is, at_is, plays_on, locks_after}
+use Rattle.machine_lines.proofs.PlayedOn.{script_is, plays_on, knows_there, locks_after}
 use Rattle.machine_lines.proofs.playing.put_all.Goals as goal
 
 pub returns-in_err-put_bound : goal.returns-in_err-put_bound
@@ -22,13 +22,9 @@ returns-in_err-put_lines g c =
 
 pub play_to-requires-clause-from : goal.play_to-requires-clause-from
 play_to-requires-clause-from g c =
-    let played = c.in_ok-put_lines.ensures.played in
-    let at = at_is c.args.runner.now _ _ played in
-    let whole = c.rounds-rounds.ensures.script in
-    let within = whole.formed.shown in
-    let last = ap (λ (s : Script). s.last)
-    (c.script.ensures ∙ script_is c.args.runner.now _ _ played) in
-    omega (arith, at, within, last, c.rounds-rounds.ensures.value)
+    let within = c.tell.ensures.within in
+    let rounds = c.rounds-rounds.ensures.value ∙ ap (λ (s : Script). s.rounds) c.script.ensures in
+    omega (arith, within, rounds)
 
 pub play_to-requires-clause-within : goal.play_to-requires-clause-within
 play_to-requires-clause-within g c =
@@ -38,10 +34,10 @@ play_to-requires-clause-within g c =
 pub put_locks-requires : goal.put_locks-requires
 put_locks-requires g c =
     let rounds = c.rounds-rounds.ensures.value ∙ ap (λ (s : Script). s.rounds) c.script.ensures in
-    let at = at_is c.put_lines.new.runner _ _ c.play_to.ensures in
     let same = ap (λ (s : Script). s.rounds)
-    (script_is c.put_lines.new.runner _ _ c.play_to.ensures) in
-    omega (arith, rounds, at, same)
+    (script_is c.put_lines.new.runner _ _ c.play_to.ensures.same) in
+    knows_there g.M.Machine.machine c.play_to.new.runner _ _ (rounds ∙ sym same)
+    c.play_to.ensures.knows
 
 pub returns : goal.returns
 returns g c =
@@ -52,5 +48,5 @@ returns g c =
     (puts_then _ _ _ _ _ _ lines.lines
     (puts_last _ _ _ _
     (locks_after g.M.Machine.machine _ c.args.runner.now _ _ _ _
-    (plays_on c.args.runner.now c.put_lines.new.runner _ lines.played _ _ c.play_to.ensures)
-    c.put_locks.ensures)))
+    (plays_on c.args.runner.now c.put_lines.new.runner _ lines.played _ _
+    c.play_to.ensures.same) c.put_locks.ensures)))

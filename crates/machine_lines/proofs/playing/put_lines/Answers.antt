@@ -1,7 +1,7 @@
 use Rattle.std.proofs.Common.{ap, ◌∙◌, arith}
 use Rattle.adversary_script.specs.Scripts.{Script}
 use Rattle.machine_lines.proofs.PlayedOn.{script_is}
-use Rattle.machine_lines.proofs.LinesSoFar.{lines_begin, lines_go_on, lines_cut, lines_end, at_last}
+use Rattle.machine_lines.proofs.LinesSoFar.{lines_begin, lines_go_on, lines_cut, lines_end}
 use Rattle.machine_lines.proofs.playing.put_lines.Goals as goal
 
 pub loop-t-init : goal.loop-t-init
@@ -27,8 +27,9 @@ returns-in-Err-clause-lines g c =
     ∙ ap (λ (s : Script). s.first) c.script-script.ensures in
     let last = c.shown-first.ensures.last
     ∙ ap (λ (s : Script). s.last) c.script-script.ensures in
-    lines_cut _ _ _ _ _ _ _ _ _ _ c.loop-t.invariant c.play_to.ensures
-    (omega (arith, first, c.loop-t.auto.t)) (omega (arith, last, c.loop-t-test.true))
+    lines_cut _ _ _ _ _ _ _ _ _ _ c.loop-t.invariant c.play_to.ensures.same
+    c.play_to.ensures.most (omega (arith, first, c.loop-t.auto.t))
+    (omega (arith, last, c.loop-t-test.true))
     c.in-Err.ensures
 
 pub loop-t-preserved : goal.loop-t-preserved
@@ -37,9 +38,20 @@ loop-t-preserved g c =
     ∙ ap (λ (s : Script). s.first) c.script-script.ensures in
     let last = c.shown-first.ensures.last
     ∙ ap (λ (s : Script). s.last) c.script-script.ensures in
-    lines_go_on _ _ _ _ _ _ _ _ _ _ c.loop-t.invariant c.play_to.ensures
-    (omega (arith, first, c.loop-t.auto.t)) (omega (arith, last, c.loop-t-test.true))
+    lines_go_on _ _ _ _ _ _ _ _ _ _ c.loop-t.invariant c.play_to.ensures.same
+    c.play_to.ensures.most (omega (arith, first, c.loop-t.auto.t))
+    (omega (arith, last, c.loop-t-test.true))
     c.in-Ok.ensures
+
+pub put_line-requires-clause-within : goal.put_line-requires-clause-within
+put_line-requires-clause-within g c =
+    let here = ap (λ (s : Script). s.rounds)
+    (script_is c.args.runner.now _ _ c.loop-t.invariant.same) in
+    let there = ap (λ (s : Script). s.rounds)
+    (script_is c.loop-t.runner _ _ c.play_to.ensures.same) in
+    let rounds = ap (λ (s : Script). s.rounds) c.script-script.ensures in
+    let within = c.shown-first.ensures.within in
+    omega (arith, here, there, rounds, within, c.loop-t-test.true)
 
 pub returns-clause-lines : goal.returns-clause-lines
 returns-clause-lines g c =
@@ -52,11 +64,4 @@ returns-clause-lines g c =
     (omega (arith, last, order, first, c.loop-t.auto.t, c.loop-t-test.false))
 
 pub returns-clause-played : goal.returns-clause-played
-returns-clause-played g c =
-    let first = c.shown-first.ensures.first
-    ∙ ap (λ (s : Script). s.first) c.script-script.ensures in
-    let last = c.shown-first.ensures.last
-    ∙ ap (λ (s : Script). s.last) c.script-script.ensures in
-    let order = c.shown-first.ensures.order in
-    at_last _ _ _ _ _ _ _ _ c.loop-t.invariant (omega (arith, first, last, order))
-    (omega (arith, last, order, first, c.loop-t.auto.t, c.loop-t-test.false))
+returns-clause-played g c = c.loop-t.invariant.same

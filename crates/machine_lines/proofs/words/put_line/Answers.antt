@@ -1,23 +1,18 @@
-use Rattle.std.proofs.Common.{ℕ, List, ◌++◌, ap₂}
-use Rattle.std.specs.Prelude.{decimal}
-use Rattle.texts.proofs.Growth.{puts_exit, puts_then, cut_more, cut_then}
+use Rattle.std.proofs.Common.{sym, ◌∙◌, arith}
+use Rattle.machine_lines.proofs.PlayedOn.{line_there, counts_there}
 use Rattle.machine_lines.proofs.words.put_line.Goals as goal
 
-pub returns-in_err-labelled : goal.returns-in_err-labelled
-returns-in_err-labelled g c =
-    let front = ap₂ (λ (label : List ℕ) (t : ℕ). label ++ decimal t) c.label.ensures c.at.ensures in
-    puts_exit _ _ _ _ _ c.from_residual.ensures.1
-    (cut_more _ _ _ _ (rw front at c.in_err-labelled.ensures))
+pub returns-then-at-t : goal.returns-then-at-t
+returns-then-at-t g c =
+    line_there g.M.Machine.machine (g.L.ShownLines.front c.args.lines.now)
+    (g.L.ShownLines.word c.args.lines.now) c.args.runner.now c.args.t _ _ _
+    (sym c.at.ensures ∙ c.if-at-t.true) c.put_own_line.ensures
 
-pub returns-in_err-put_words : goal.returns-in_err-put_words
-returns-in_err-put_words g c =
-    let front = ap₂ (λ (label : List ℕ) (t : ℕ). label ++ decimal t) c.label.ensures c.at.ensures in
-    puts_exit _ _ _ _ _ c.from_residual-in_err-put_words.ensures.1
-    (cut_then _ _ _ _ _ (rw front at c.in_ok-labelled.ensures)
-    (cut_more _ _ _ _ c.in_err-put_words.ensures))
+pub put_counted_line-requires-clause-counts : goal.put_counted_line-requires-clause-counts
+put_counted_line-requires-clause-counts g c =
+    counts_there g.M.Machine.machine c.args.runner.now c.args.t c.requires.knows
+    (λ same. c.if-at-t.false (c.at.ensures ∙ same))
 
-pub returns : goal.returns
-returns g c =
-    let front = ap₂ (λ (label : List ℕ) (t : ℕ). label ++ decimal t) c.label.ensures c.at.ensures in
-    puts_then _ _ _ _ _ _ (rw front at c.in_ok-labelled.ensures)
-    (puts_then _ _ _ _ _ _ c.in_ok-put_words.ensures c.byte.ensures)
+pub put_counted_line-requires-clause-behind : goal.put_counted_line-requires-clause-behind
+put_counted_line-requires-clause-behind g c =
+    let from = c.requires.from in omega (arith, from, c.at.ensures, c.if-at-t.false)
