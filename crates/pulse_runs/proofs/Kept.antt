@@ -1,5 +1,5 @@
 -- What holds of each run, by the laws of what is played of a script.
-use Rattle.std.proofs.Common.{◌≡◌, arith}
+use Rattle.std.proofs.Common.{arith}
 use Rattle.machines.specs.Machines.{Machine}
 use Rattle.machines.specs.Laws.{IsSound}
 use Rattle.script_runs.specs.Laws.{ErasAreRuns, ErasCount, ErasLock, ErasStayLocked}

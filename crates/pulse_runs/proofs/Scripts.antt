@@ -8,7 +8,6 @@ use Rattle.state_codec.specs.Shapes.{shape_nodes}
 use Rattle.adversary_script.specs.Scripts.{Script, IsScript}
 use Rattle.adversary_script.specs.ScriptPart.{script_for, IsScriptFor}
 use Rattle.adversary_script.proofs.ReadScripts.{script_fits, script_is_script}
-use Rattle.machines.specs.Machines.{Machine}
 use Rattle.script_runs.specs.Laws.{IsShapeOf, IsReadFor}
 use Rattle.script_runs.proofs.ReadFor.{readers_fit}
 use Rattle.pulse_construction.specs.Halvings.{halving_faults}

@@ -2,6 +2,7 @@
 use Rattle.std.proofs.Common.{refl}
 use Rattle.std.specs.Fmt.{digits}
 use Rattle.construction.specs.Widths.{width}
+use Rattle.adversary_script.specs.Lies.{start_of, lie_of}
 use Rattle.adversary_script.specs.ScriptPart.{script_for}
 use Rattle.pulselab.specs.Worked.{PlansAreSpelled, RunsAreSpelled, LinesAreRefused, WordsAskFor}
 use Rattle.pulselab.specs.Worked.{WorkedValues}
@@ -11,7 +12,7 @@ unfolding digits width
 plans_are_spelled = record { text = refl; read = refl; skipped = refl; table = refl }
 
 runs_are_spelled : RunsAreSpelled
-unfolding digits width script_for
+unfolding digits width script_for start_of lie_of
 runs_are_spelled = record { single = refl; script = refl; plan = refl }
 
 lines_are_refused : LinesAreRefused
