@@ -56,10 +56,10 @@ pub record LiesAreWorked : Type 0 where
   pub zero : common_start three common.Zero 1
       ≡ record { x = 0; registers = record { a = Some 0; d = false } ∷ [] }
   pub fits : fitted (record { base = 4; moduli = 5 ∷ 0 ∷ [] }) (record {
-      x = 5;
-      registers = record { a = Some 9; d = true } ∷ record { a = Some 1; d = true } ∷ [];
-      })
+    x = 5;
+    registers = record { a = Some 9; d = true } ∷ record { a = Some 1; d = true } ∷ [];
+  })
       ≡ record {
-      x = 0;
-      registers = record { a = None; d = true } ∷ record { a = Some 0; d = false } ∷ [];
+        x = 0;
+        registers = record { a = None; d = true } ∷ record { a = Some 0; d = false } ∷ [];
       }
