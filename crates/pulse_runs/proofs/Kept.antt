@@ -5,6 +5,7 @@ use Rattle.machines.specs.Laws.{IsSound}
 use Rattle.script_runs.specs.Laws.{ErasAreRuns, ErasCount, ErasLock, ErasStayLocked}
 use Rattle.script_runs.specs.Laws.{FirstsAreLocked}
 use Rattle.script_runs.specs.Played.{played_at}
+use Rattle.script_runs.specs.Plays.{ScriptsArePlayed}
 use Rattle.script_runs.proofs.ReadFor.{borne_in}
 use Rattle.pulse_plan.specs.Laws.{machine_in}
 use Rattle.pulse_plan.proofs.Sound.{accepted_are_sound}
@@ -12,8 +13,8 @@ use Rattle.pulse_runs.specs.RunPromises.{RunsKeepPromise}
 use Rattle.pulse_runs.proofs.Scripts.{IsRead, is_read}
 
 pub runs_keep : ErasAreRuns → ErasCount → ErasLock → ErasStayLocked → FirstsAreLocked
-    → RunsKeepPromise
-runs_keep run count lock stay firsts input scripted is =
+    → ScriptsArePlayed → RunsKeepPromise
+runs_keep run count lock stay firsts play input scripted is =
     let read : IsRead scripted = is_read input scripted is in
     let machine : Machine = machine_in scripted.plan in
     let sound : IsSound machine = accepted_are_sound scripted.plan read.accepted in
@@ -21,6 +22,7 @@ runs_keep run count lock stay firsts input scripted is =
     record {
       accepted = read.accepted;
       read = read.for;
+      plays = play machine s read.for;
       eras = λ j among. record {
         borne = borne_in machine s read.for j among;
         run = run machine s sound read.for j among;

@@ -1,3 +1,4 @@
 pub mod Kept
 pub mod Read
 pub mod Scripts
+pub mod ScriptInputs

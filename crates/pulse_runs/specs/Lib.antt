@@ -2,3 +2,4 @@ pub mod RunInputs
 pub mod Readings
 pub mod RunTexts
 pub mod RunPromises
+pub mod ScriptInputs

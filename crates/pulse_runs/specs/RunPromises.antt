@@ -7,6 +7,7 @@ use Rattle.machine_lines.specs.RunTexts.{lock_played}
 use Rattle.script_runs.specs.Laws.{IsReadFor, IsUpTo, EraIsRun, EraCountsFrom, EraStaysLocked}
 use Rattle.script_runs.specs.Locks.{IsFirstLocked}
 use Rattle.script_runs.specs.Played.{played_at}
+use Rattle.script_runs.specs.Plays.{PlaysScript}
 use Rattle.pulse_plan.specs.Plans.{PulseNumbers, IsAccepted}
 use Rattle.pulse_plan.specs.Laws.{machine_in}
 use Rattle.pulse_runs.specs.RunInputs.{Scripted, scripted_of}
@@ -26,10 +27,11 @@ pub record EraKeepsPromise (machine : Machine) (script : Script) (j : ℕ) : Typ
       → IsLocked machine (faulty_at script t) (played_at machine script t)
       → EraStaysLocked machine script j t
 
--- the plan is accepted, and the script is one for its machine
+-- The plan is accepted, and the script is one for its machine. What is played is the script's.
 pub record RunKeepsPromise (plan : PulseNumbers) (script : Script) : Type 0 where
   pub accepted : IsAccepted plan
   pub read : IsReadFor (machine_in plan) script
+  pub plays : PlaysScript (machine_in plan) script
   pub eras : (j : ℕ) → j ≤ length script.eras → EraKeepsPromise (machine_in plan) script j
 
 -- So it is with each input that is read as a plan and a script.

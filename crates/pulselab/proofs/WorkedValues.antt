@@ -2,6 +2,9 @@
 use Rattle.std.proofs.Common.{refl}
 use Rattle.std.specs.Fmt.{digits}
 use Rattle.construction.specs.Widths.{width}
+use Rattle.state_codec.specs.Bits.{bits, number_of}
+use Rattle.state_codec.specs.Shapes.{registers_bits}
+use Rattle.state_codec.specs.Reading.{registers_from}
 use Rattle.adversary_script.specs.Lies.{start_of, lie_of}
 use Rattle.adversary_script.specs.ScriptPart.{script_for}
 use Rattle.pulselab.specs.Worked.{PlansAreSpelled, RunsAreSpelled, LinesAreRefused, WordsAskFor}
@@ -12,8 +15,19 @@ unfolding digits width
 plans_are_spelled = record { text = refl; read = refl; skipped = refl; table = refl }
 
 runs_are_spelled : RunsAreSpelled
-unfolding digits width script_for start_of lie_of
-runs_are_spelled = record { single = refl; script = refl; plan = refl }
+unfolding
+    digits width script_for start_of lie_of number_of bits registers_from registers_bits
+runs_are_spelled = record {
+  single = refl;
+  script = refl;
+  plan = refl;
+  eras = refl;
+  unlocked = refl;
+  locked = refl;
+  counted = refl;
+  lacking = refl;
+  more = refl;
+}
 
 lines_are_refused : LinesAreRefused
 unfolding digits width

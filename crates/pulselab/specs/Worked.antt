@@ -43,7 +43,9 @@ pub record PlansAreSpelled : Type 0 where
 abbrev pub IsRunAs : (text answer : List ℕ) → Type 0
 IsRunAs text answer = run.text_of (scripted_of text) ≡ answer
 
--- The run of a node alone, and a script and a plan that are refused.
+-- The runs of a node alone: also with eras, a comment, an empty line and starts; the first
+-- configurations of four nodes, one of them faulty, that are not locked, and that are; and a script
+-- and a plan that are refused, with skipped lines counted, no script, and a line behind one.
 pub record RunsAreSpelled : Type 0 where
   pub single : IsRunAs
       (codes "pulses 1\ngroup 1 0 3\nend\nscript 1\nfaulty\nstart zero\nrounds 4\nshow 1 4\nend\n")
@@ -52,6 +54,29 @@ pub record RunsAreSpelled : Type 0 where
       (codes "refused script line 5 rule faults\n")
   pub plan : IsRunAs (codes "pulses 1\ngroup 3 1 10\nend\nscript 1\nfaulty 0\n")
       (codes "refused pulses line 2 premise quorum\n")
+  pub eras : IsRunAs
+      (codes "pulses 1\n# one\ngroup 1 0 3\nend\nscript 2\nfaulty\nstart zero\nstart node 0 80\n"
+      ++ codes "era 2 faulty\nstart node 0 40\nera 4 faulty\n\nrounds 5\nshow 0 5\nend\n")
+      (codes "bound 0\nrow 0 2\nrow 1 0\nrow 2 1\nrow 3 2\nrow 4 0\nrow 5 1\n"
+      ++ codes "era 0 locked 0\nera 2 locked 2\nera 4 locked 4\n")
+  pub unlocked : IsRunAs
+      (codes "pulses 1\ngroup 4 1 10\nend\nscript 1\nfaulty 3\nstart zero\n"
+      ++ codes "rounds 0\nshow 0 0\nend\n")
+      (codes "bound 41\nrow 0 0 0 0 *\nlocked none\n")
+  pub locked : IsRunAs
+      (codes "pulses 1\ngroup 4 1 10\nend\nscript 1\nfaulty 3\nstart zero\n"
+      ++ codes "start node 0 024000\nstart node 1 090000\nstart node 2 480000\n"
+      ++ codes "rounds 0\nshow 0 0\nend\n")
+      (codes "bound 41\nrow 0 4 4 4 *\nlocked 0\n")
+  pub counted : IsRunAs
+      (codes "# a\npulses 1\ngroup 1 0 3\n\nend\n# b\nscript 1\n\nfaulty 0\n")
+      (codes "refused script line 9 rule faults\n")
+  pub lacking : IsRunAs (codes "pulses 1\ngroup 1 0 3\nend\n")
+      (codes "refused script line 4 rule form\n")
+  pub more : IsRunAs
+      (codes "pulses 1\ngroup 1 0 3\nend\nscript 1\nfaulty\nstart zero\n"
+      ++ codes "rounds 0\nshow 0 0\nend\nmore\n")
+      (codes "refused script line 10 rule form\n")
 
 -- The first line of a plan that fails, by its number and its premise, each premise; and a line of
 -- the node part of a header.

@@ -8,6 +8,7 @@ ghost use Rattle.pulse_header.specs.HeaderTexts.{PulseHeaderTextIsRead};
 ghost use Rattle.pulse_nodes.specs.NodePromises.{PulseNodesKeepPromise, PulseCallsAreProcesses};
 ghost use Rattle.pulse_nodes.specs.NodePromises.{AnyPulseInputs};
 ghost use Rattle.pulse_runs.specs.RunPromises.{RunsKeepPromise};
+ghost use Rattle.pulse_runs.specs.ScriptInputs.{ScriptInputsAreRead};
 ghost use Rattle.pulselab.specs.Faults.{KeptAt, UnmetAt};
 ghost use Rattle.pulselab.specs.Requests.{request_of};
 ghost use Rattle.pulselab.specs.Conduct.{Answers, Fails, LeavesUnread};
@@ -24,7 +25,7 @@ use edge_io::{Sink, Source};
 use pulse_header::laws::header_texts_read_back;
 use pulse_nodes::laws::{any_inputs, calls_are_processes, pulse_nodes_keep_promise};
 use pulse_plan::laws::every_plan_settles;
-use pulse_runs::laws::runs_keep_promise;
+use pulse_runs::laws::{runs_keep_promise, script_inputs_read_back};
 use pulse_tables::tables_read_back;
 use pulse_texts::pulses_texts_read_back;
 use std::alloc::Global;
@@ -75,9 +76,15 @@ pub fn pulselab<S: Source, K: Sink>(
     // Plans with their texts and tables, refusals, and what words ask for, letter by letter.
     ensures worked { WorkedValues }
 
-    // What `run` writes of an input is the run of its script on its plan. Each era is a run of the
+    // The texts of a plan that is accepted and of a script for it are read as these, and there are
+    // no other inputs of `run`: what any input is read as, such texts are read as.
+    ensures scripts { ScriptInputsAreRead }
+
+    // An input that is read as a plan and a script is an accepted plan, and a script for it. What
+    // is played is the script's: its starts, its faulty nodes, its lies. Each era is a run of the
     // plan, and from T rounds into it to its end all correct nodes show one number, which grows by
-    // one modulo C; the first locked configuration that is written of it is the first one.
+    // one modulo C. The first locked configuration that is written of it is the first one, which is
+    // T rounds into it at most, where it has so many; from each locked one on they stay locked.
     ensures runs { RunsKeepPromise }
 
     // N calls of `node`, over a window of rounds that begins in each at a packet of its own: where
@@ -102,6 +109,7 @@ pub fn pulselab<S: Source, K: Sink>(
     pulses_texts_read_back();
     tables_read_back();
     worked_values();
+    script_inputs_read_back();
     runs_keep_promise();
     pulse_nodes_keep_promise();
     calls_are_processes();

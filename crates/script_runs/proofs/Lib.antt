@@ -8,4 +8,5 @@ pub mod Hits
 pub mod KnownLocks
 pub mod Locked
 pub mod Places
+pub mod Plays
 pub mod ReadFor

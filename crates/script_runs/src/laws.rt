@@ -4,11 +4,18 @@
 ghost use Rattle.script_runs.specs.Laws.{EachIsOfOneEra, ErasAreRuns, ErasLock, ErasCount};
 ghost use Rattle.script_runs.specs.Laws.{ErasStayLocked, LockTestIsExact, FirstsAreLocked};
 ghost use Rattle.script_runs.specs.Laws.{ReadersFit};
+ghost use Rattle.script_runs.specs.Plays.{ScriptsArePlayed};
 
 /// A script that the reader of scripts read for the nodes and faults of a machine, and for the
 /// shape of its states, is read for the machine.
 pub fn readers_fit()
     ensures { ReadersFit }
+{}
+
+/// What is played of a script that was read for a machine is the script's: its starts, its faulty
+/// nodes, its lies; and each node that no start line hits steps as the machine does.
+pub fn scripts_are_played()
+    ensures { ScriptsArePlayed }
 {}
 
 /// Each configuration up to the last is of exactly one era.
