@@ -1,6 +1,7 @@
 -- What rounds leave as it was made, and what is known after one more.
 use Rattle.std.proofs.Common.{◌≡◌, ℕ, zero, suc, ◌+◌, ◌<◌, ◌≤◌, List, ◌∷◌, Bool, length, Option}
-use Rattle.std.proofs.Common.{None, replicate, set, get_or, add-one, sym, ap, ap₂, ◌∙◌, subst, arith}
+use Rattle.std.proofs.Common.{None, replicate, set, get_or, add-one, sym, ap, ap₂, ◌∙◌, subst}
+use Rattle.std.proofs.Common.{arith}
 use Rattle.std.proofs.lemmas.List.FromFn.{length-map-range_with_len}
 use Rattle.sync_types.specs.States.{State}
 use Rattle.construction.specs.Steps.{state_of}

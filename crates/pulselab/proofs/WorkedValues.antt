@@ -1,6 +1,7 @@
 -- The worked values, by computation.
 use Rattle.std.proofs.Common.{refl}
 use Rattle.std.specs.Fmt.{digits}
+use Rattle.hex.specs.Hex.{decode_pairs}
 use Rattle.construction.specs.Widths.{width}
 use Rattle.state_codec.specs.Bits.{bits, number_of}
 use Rattle.state_codec.specs.Shapes.{registers_bits}
@@ -17,6 +18,7 @@ plans_are_spelled = record { text = refl; read = refl; skipped = refl; table = r
 runs_are_spelled : RunsAreSpelled
 unfolding
     digits width script_for start_of lie_of number_of bits registers_from registers_bits
+    decode_pairs
 runs_are_spelled = record {
   single = refl;
   script = refl;

@@ -1,5 +1,5 @@
--- What the word `run` does: it reads all of its input, plays the script on the plan, and writes what
--- its nodes show.
+-- What the word `run` does: it reads all of its input, plays the script on the plan, and writes
+-- what its nodes show.
 use Rattle.std.specs.Prelude.{◌≡◌, ℕ, List, Option, Err}
 use Rattle.texts.specs.Growth.{Told, Wrote, Cut}
 use Rattle.pulse_runs.specs.declared.errors.RunRefusal.TheVariants as refusal

@@ -33,18 +33,19 @@ use std::alloc::Global;
 /// Does what the words ask for. `plan` reads all of the input as a pulse plan, which has at most
 /// 2^20 bytes, and writes its table. `run` reads all of an input that is a pulse plan and a script
 /// for it, of at most 2^20 bytes together, plays the script, and writes the bound, a row of each
-/// configuration that is shown, and the first locked configuration of each era. `node` reads a header, which has at most 2^20 bytes, and then
-/// packets, and writes the node's cell when the header has been read, and one behind each packet
-/// before it reads on. `--help` and `--version` read nothing, and write what they say.
+/// configuration that is shown, and the first locked configuration of each era. `node` reads a
+/// header, which has at most 2^20 bytes, and then packets, and writes the node's cell when the
+/// header has been read, and one behind each packet before it reads on. `--help` and `--version`
+/// read nothing, and write what they say.
 ///
 /// `Usage` comes exactly where the words ask for nothing; nothing was read or written then.
 /// `Refused`, `ScriptRefused` and `NodeRefused` name the first line of the input that fails, and
 /// why; the line of the refusal was written. At `NoMemory` nothing was written; of `plan` and of
-/// `run`, nor at `ReadFault` and `TooLong`. Of `node`, at `ReadFault` the cells of the whole packets that were read were
-/// written; `TooLong` comes where the header is too long, and nothing was written, or at the
-/// first byte of packet 1,000,001, and all cells were. `Cut` comes of `node` alone, exactly where
-/// the input ends inside a packet. `WriteFault` comes only where the sink counted a fault; a
-/// prefix of the answer was then taken.
+/// `run`, nor at `ReadFault` and `TooLong`. Of `node`, at `ReadFault` the cells of the whole
+/// packets that were read were written; `TooLong` comes where the header is too long, and nothing
+/// was written, or at the first byte of packet 1,000,001, and all cells were. `Cut` comes of `node`
+/// alone, exactly where the input ends inside a packet. `WriteFault` comes only where the sink
+/// counted a fault; a prefix of the answer was then taken.
 pub fn pulselab<S: Source, K: Sink>(
     alloc: Global,
     words: &[String],

@@ -165,8 +165,8 @@ module _ (machine : Machine) (s : Script) (sound : IsSound machine)
       grows = λ t lo hi.
           let next : t + 1 - first_of_era s j ≡ t - first_of_era s j + 1 = omega arith in
           subst (λ i. counts.output i
-          ≡ (counts.output (t - first_of_era s j) + 1) % machine.modulus) (sym next) (counts.grows (t - first_of_era s j) (omega arith)
-          (omega (arith, length_is)));
+          ≡ (counts.output (t - first_of_era s j) + 1) % machine.modulus) (sym next)
+          (counts.grows (t - first_of_era s j) (omega arith) (omega (arith, length_is)));
     }
 
     era_locks : first_of_era s j + machine.bound < end_of_era s j

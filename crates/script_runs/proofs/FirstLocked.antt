@@ -51,7 +51,8 @@ module _ (passes : ℕ → Bool) where
 
 -- the first locked one of the configurations of an era, by the test
 module _ (machine : Machine) (script : Script) (config_at : ℕ → List State)
-    (whole : IsScript script) (j at : ℕ) (among : j ≤ length script.eras) (within : at ≤ script.rounds) where
+    (whole : IsScript script) (j at : ℕ) (among : j ≤ length script.eras)
+    (within : at ≤ script.rounds) where
   same_faulty : (t : ℕ) → era_of script t ≡ j → faulty_at script t ≡ faulty_of_era script j
   same_faulty t here = ap (faulty_of_era script) here
 

@@ -9,7 +9,8 @@ use Rattle.adversary_script.specs.Lookup.{hit_at}
 pub use Rattle.adversary_script.specs.Rounds.{starts, lies_at, heard_at}
 
 -- The state of node v after round t. Every node, the puppets of faulty ones too, steps from what it
--- hears; where an era begins behind the round, a node with a start line there is put into its state.
+-- hears; where an era begins behind the round, a node with a start line there is put into its
+-- state.
 abbrev pub state_after : Machine → Script → (t : ℕ) → List State → (v : ℕ) → State
 state_after machine script t config v =
     unwrap_or (hit_at script (t + 1) v) (machine.step v (heard_at script t config v))
