@@ -6,9 +6,9 @@
 //! `slots`.
 #![tactic(auto)]
 
-mod counting;
 mod holds;
 pub mod laws;
+mod leading;
 mod lines;
 mod locks;
 mod playing;

@@ -3,8 +3,8 @@ ghost use Rattle.texts.specs.Growth.{Puts};
 ghost use Rattle.machine_lines.specs.RunTexts.{shown_lines, shown_text, run_text};
 ghost use Rattle.machine_lines.specs.HoldTexts.{hold_text};
 
-use crate::counting::play_to;
 use crate::holds::HoldLines;
+use crate::leading::play_to;
 use crate::lines::ShownLines;
 use crate::locks::put_locks;
 use crate::rows::Rows;

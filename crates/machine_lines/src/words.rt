@@ -5,7 +5,7 @@ ghost use Rattle.run_texts.specs.RunTexts.{word_or_star, words_of};
 ghost use Rattle.machine_lines.specs.RunTexts.{word_at, shown_line};
 ghost use Rattle.machine_lines.specs.Counting.{is_counting, Knows};
 
-use crate::counting::lead_output;
+use crate::leading::lead_output;
 use crate::lines::ShownLines;
 use edge_io::{TextSink, WriteFault};
 use machine_runner::Runner;

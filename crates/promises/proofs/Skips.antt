@@ -246,13 +246,13 @@ module _ {S Said : Type 0} (name : Part) (step : S → List ℕ → Next S Said 
   abbrev with_said : Plan → Said → Script → Layered Said
   with_said plan said script = record { plan = plan; said = said; script = script }
 
-  abbrev script_behind : Plan → Said → (number : ℕ) → List (List ℕ)
+  abbrev script_after_part : Plan → Said → (number : ℕ) → List (List ℕ)
       → Result (Layered Said) Refusal
-  script_behind plan said = read_script plan (shape_for plan said) (with_said plan said)
+  script_after_part plan said = read_script plan (shape_for plan said) (with_said plan said)
 
   abbrev part_for : Plan → (number : ℕ) → List (List ℕ) → Result (Layered Said) Refusal
   part_for plan =
-      then_next (in_part name) (script_behind plan) step rule.Form (begin plan)
+      then_next (in_part name) (script_after_part plan) step rule.Form (begin plan)
 
   said_by : (plan : Plan) (said : Said) (r : Result Script (At Rule))
       → layered.layered_with name part_of shape_for plan said r
@@ -262,7 +262,7 @@ module _ {S Said : Type 0} (name : Part) (step : S → List ℕ → Next S Said 
 
   part_is : (plan : Plan) (number : ℕ) (r : Result (Found Said) (At Rule))
       → layered.behind_part name part_of shape_for plan number r
-      ≡ behind (in_part name) (script_behind plan) number r
+      ≡ behind (in_part name) (script_after_part plan) number r
   part_is plan number (Err at) = refl
   part_is plan number (Ok found) =
       said_by plan found.value (script_part.script_of plan (shape_for plan found.value)
@@ -282,7 +282,7 @@ module _ {S Said : Type 0} (name : Part) (step : S → List ℕ → Next S Said 
       (λ input. layered_is (plan_part.plan_of input))
       (behind_plan_unseen part_for (λ line skipped short plan.
       part_is_blind line skipped short step rule.Form (in_part name) (in_part_moves name)
-      (script_behind plan)
+      (script_after_part plan)
       (λ said. script_is_blind plan (shape_for plan said) (with_said plan said) line skipped
       short)
       (begin plan)))

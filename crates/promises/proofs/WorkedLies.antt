@@ -15,4 +15,15 @@ pub lies_are_worked : LiesAreWorked
 unfolding
     width number_of registers_bits registers_from fitted_register key_in noise_state block_word
     double_rounds column_round diagonal_round quarter_round u32_at bits
-lies_are_worked = record { copy = refl; shift = refl; noise = refl; start = refl }
+lies_are_worked = record {
+  copy = refl;
+  said = refl;
+  shift = refl;
+  infinite = refl;
+  noise = refl;
+  keyed = refl;
+  later = refl;
+  start = refl;
+  zero = refl;
+  fits = refl;
+}

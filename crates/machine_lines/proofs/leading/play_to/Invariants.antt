@@ -1,5 +1,5 @@
 use Rattle.std.proofs.Common.{◌≡◌}
-use Rattle.machine_lines.proofs.counting.play_to.Given as goal
+use Rattle.machine_lines.proofs.leading.play_to.Given as goal
 
 abbrev pub invariant-loop : goal.invariant-loop
 invariant-loop g l = l.runner ≡ record l.fn.runner { at = l.counter }

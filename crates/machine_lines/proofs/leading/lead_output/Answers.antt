@@ -1,7 +1,7 @@
 use Rattle.std.proofs.Common.{sym, ◌∙◌, arith}
 use Rattle.std.proofs.lemmas.Bool.{true≢false}
 use Rattle.machine_lines.proofs.Counted.{faulty_more}
-use Rattle.machine_lines.proofs.counting.lead_output.Goals as goal
+use Rattle.machine_lines.proofs.leading.lead_output.Goals as goal
 
 pub returns-then-not-is_faulty-clause-shown : goal.returns-then-not-is_faulty-clause-shown
 returns-then-not-is_faulty-clause-shown g c = λ output v shows lt correct.

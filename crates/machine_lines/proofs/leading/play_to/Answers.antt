@@ -1,7 +1,7 @@
 use Rattle.std.proofs.Common.{inl, inr, sym, ap, ◌∙◌, arith}
 use Rattle.machine_runner.specs.Runners.{next}
 use Rattle.machine_lines.proofs.PlayedOn.{stands, has_round, at_is, own_number}
-use Rattle.machine_lines.proofs.counting.play_to.Goals as goal
+use Rattle.machine_lines.proofs.leading.play_to.Goals as goal
 
 pub loop-init : goal.loop-init
 loop-init g c = stands c.args.runner.now _ c.at-counter.ensures

@@ -3,7 +3,7 @@ use Rattle.std.specs.Prelude.{is_some}
 use Rattle.adversary_script.specs.Scripts.{Script}
 use Rattle.adversary_script.specs.Eras.{era_of}
 use Rattle.machine_lines.proofs.Counted.{counting_not, counting_so}
-use Rattle.machine_lines.proofs.counting.is_counting.Goals as goal
+use Rattle.machine_lines.proofs.leading.is_counting.Goals as goal
 
 pub returns-then-era_of-last : goal.returns-then-era_of-last
 returns-then-era_of-last g c =
