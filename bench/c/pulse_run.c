@@ -1,5 +1,5 @@
-/* Plays a script on a pulse plan, and writes what `pulselab run` writes. With two numbers it plays the
- * script with the keys of so many numbers from FIRST on, and writes when each era locks, as `sweep`
+/* Plays a script on a pulse plan, and writes what `pulselab run` writes. With two numbers it plays
+ * the script with the keys of COUNT numbers from FIRST on, and writes when each era locks, as `sweep`
  * does on a boosting plan.
  *
  *   gcc -O2 -o pulse_run bench/c/pulse_run.c
@@ -28,7 +28,7 @@ static void take_key(uint64_t number) {
     for (int i = 0; i < era_count; i++) eras[i].is_locked = 0;
 }
 
-/* For each era, when it locks, in how many runs, and the first number whose run does; `none` last. */
+/* For each era when it locks, in how many runs, and the first number that does; `none` last. */
 static void sweep(uint64_t first, uint64_t count) {
     struct found { uint64_t runs, seed; } *found = calloc((rounds + 2) * MOST_ERAS, sizeof *found);
     for (uint64_t number = first; number < first + count; number++) {
@@ -57,7 +57,7 @@ int main(int count, char **words) {
     read_input();
     read_plan();
     read_script();
-    put_text("bound "), put_number(bound), put_byte('\n');
+    begin_run();
     if (count == 3) sweep(strtoull(words[1], 0, 10), strtoull(words[2], 0, 10));
     else play_all(1), put_locks();
     return 0;

@@ -48,8 +48,8 @@ static void read_plan(void) {
     next_line(), want("end", 1);
 }
 
-/* A state as one of node u: numbers and finite values `by` larger, each below its modulus at u. That
- * of an instruction or an age is infinite if it is the most. */
+/* The state of a node as one of node u: numbers and finite values `by` larger, modulo what they have
+ * at u. An instruction or an age is infinite if it is the most. */
 static struct state fitted(int u, int from, uint64_t by) {
     struct state s;
     struct group g = whole, other = whole, half;
