@@ -80,9 +80,12 @@ pub fn answer(alloc: Global, plan: &Group, script: &Script) -> Result<String, Al
     let mut lines = String::new(alloc);
     let mut locks = Text::behind(&mut lines);
     let mut out = Text::behind(&mut text);
-    write_run(alloc, plan, script, &mut out, &mut locks)?;
-    out.end()?;
-    locks.end()?;
+    let played = write_run(alloc, plan, script, &mut out, &mut locks);
+    let rows = out.end();
+    let told = locks.end();
+    played?;
+    rows?;
+    told?;
     text.push_str(&lines)?;
     Ok(text)
 }
