@@ -48,24 +48,31 @@ static void read_plan(void) {
     next_line(), want("end", 1);
 }
 
-/* The state of a node as one of node u: numbers and finite values `by` larger, modulo what they have
- * at u. An instruction or an age is infinite if it is the most. */
+/* A number that is `by` larger modulo m, or `most` if it is not below m. */
+static uint64_t moved(uint64_t number, uint64_t by, uint64_t m, uint64_t most) {
+    return number < m ? (number + by) % m : most;
+}
+
+/* The state of a node as one of node u: its number and its finite values `by` larger, modulo what
+ * they have at u. A number that is too large there is 0, and a value infinite. An instruction or an
+ * age is infinite if it is the most. */
 static struct state fitted(int u, int from, uint64_t by) {
     struct state s;
     struct group g = whole, other = whole, half;
     int has_level = 1;
     memset(&s, 0, sizeof s);
-    s.x = (config[from].x + by) % base_of(u);
+    s.x = moved(config[from].x, by, base_of(u), 0);
     for (; g.faults > 0; g = half) {
         struct level_state *l = &s.levels[g.level];
         if (has_level) {
             *l = config[from].levels[g.level];
             int most = instructions_of(&other), oldest = left_period_of(&other);
-            if (l->value != INFINITE) l->value = (l->value + by) % g.modulus;
-            l->instruction = (uint16_t)(l->instruction == most ? (uint64_t)instructions_of(&g)
-                                        : (l->instruction + by) % (uint64_t)instructions_of(&g));
-            l->age = (uint16_t)(l->age == oldest ? (uint64_t)left_period_of(&g)
-                                : (l->age + by) % (uint64_t)left_period_of(&g));
+            uint64_t instructions = (uint64_t)instructions_of(&g);
+            uint64_t period = (uint64_t)left_period_of(&g);
+            if (l->value != INFINITE) l->value = moved(l->value, by, g.modulus, INFINITE);
+            l->instruction = (uint16_t)(l->instruction == most ? instructions
+                                        : moved(l->instruction, by, instructions, instructions));
+            l->age = (uint16_t)(l->age == oldest ? period : moved(l->age, by, period, period));
         }
         if (has_level) has_level = half_of(&other, from, &half), other = half;
         if (has_level && other.faults == 0) has_level = 0;

@@ -23,8 +23,13 @@ class PulseScript(Script):
             return plan.read(u, noise(self.key, 256 * u + v, t, plan.bytes(u)))
         if kind == "hex":
             return plan.read(u, bytes.fromhex(word))
-        state, later = (config[int(word)], 0) if kind == "copy" else (config[u], int(word))
         said = []
+        if kind == "copy":
+            state = config[int(word)]
+            for modulus, (value, mark) in zip(moduli, state.registers):
+                said.append((value if value is not None and value < modulus else None, mark))
+            return plan.filled(state.number if state.number < base else 0, said)
+        state, later = config[u], int(word)
         for modulus, (value, mark) in zip(moduli, state.registers):
             said.append((None if value is None else (value + later) % modulus, mark))
         return plan.filled((state.number + later) % base, said)

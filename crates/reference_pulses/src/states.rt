@@ -109,15 +109,22 @@ pub fn written(plan: &Group, node: u64, state: &State) -> Bits {
 }
 
 /// Of a state whose number and finite values are all raised by `by`, each in its modulus, what a
-/// node of a plan has.
+/// node of a plan has. A number that is too large for the node is 0, and a value that is too large
+/// is infinite, as they are read.
 pub fn shifted(plan: &Group, node: u64, state: &State, by: u64) -> State {
     let mut shifted = ZERO_STATE;
     let base = plan.base_of(node).unwrap_or(1);
-    shifted.x = remainder(state.x.wrapping_add(by), base);
+    if state.x < base {
+        shifted.x = remainder(state.x.wrapping_add(by), base);
+    }
     for (depth, level) in plan.levels_of(node).iter().enumerate() {
         if let Some(group) = level {
             let mut raised = state.level(depth);
             for (register, modulus) in raised.iter_mut().zip(&group.moduli()) {
+                register.value = match register.value {
+                    Some(value) => value_of(value, *modulus),
+                    None => None,
+                };
                 *register = register.raised(by, *modulus);
             }
             shifted.put(depth, raised);
