@@ -4,7 +4,7 @@ use Rattle.std.specs.Prelude.{◌≡◌, ℕ, List, [], ◌∷◌, ◌++◌, Opt
 use Rattle.std.specs.List.{concat}
 use Rattle.pulse_construction.specs.Halvings.{halving_bound}
 use Rattle.pulse_plan.specs.Plans.{PulseNumbers, IsAccepted, tree_of}
-use Rattle.pulse_sizes.specs.Sizes.{state_bytes, levels_of}
+use Rattle.pulse_plan.specs.Sizes.{state_bytes, levels_of}
 use Rattle.pulse_texts.specs.PulsesPart.{whole_pulses_of}
 use Rattle.pulse_texts.specs.PulsesTexts.{pulses_text}
 use Rattle.plan_certificate.specs.PlanTexts.{plan_text}

@@ -9,8 +9,7 @@ use crate::any_plans::AnyPlan;
 use crate::writing::put_line;
 use edge_io::{Gathered, Piece, Sink, WriteFault, put_all, put_pieces};
 use plan_certificate::write_plan;
-use pulse_plan::PulsePlan;
-use pulse_sizes::{levels, state_bytes};
+use pulse_plan::{PulsePlan, levels, state_bytes};
 use pulse_texts::write_pulses;
 
 /// The numbers of a pulse plan.

@@ -12,13 +12,13 @@ use Rattle.adversary_script.specs.Scripts.{Script, IsScript}
 use Rattle.adversary_script.specs.Eras.{era_of, first_of_era, end_of_era, faulty_of_era, faulty_at}
 use Rattle.machines.specs.Machines.{Machine, AllShow, IsLocked}
 use Rattle.machines.specs.Laws.{IsSound}
-use Rattle.script_runs.specs.Laws.{IsReadFor, EraCountsFrom}
-use Rattle.script_runs.specs.Locks.{is_locked, first_of, first_locked, era_locked, IsFirstLocked}
-use Rattle.script_runs.specs.Played.{played_at}
-use Rattle.script_runs.proofs.EraRuns.{eras_stay_locked}
-use Rattle.script_runs.proofs.FirstLocked.{firsts_are_locked}
-use Rattle.script_runs.proofs.Firsts.{in_era, era_from}
-use Rattle.script_runs.proofs.KnownLocks.{same_known}
+use Rattle.machine_runner.specs.Laws.{IsReadFor, EraCountsFrom}
+use Rattle.machine_runner.specs.Locks.{is_locked, first_of, first_locked, era_locked, IsFirstLocked}
+use Rattle.machine_runner.specs.Played.{played_at}
+use Rattle.machine_runner.proofs.EraRuns.{eras_stay_locked}
+use Rattle.machine_runner.proofs.FirstLocked.{firsts_are_locked}
+use Rattle.machine_runner.proofs.Firsts.{in_era, era_from}
+use Rattle.machine_runner.proofs.KnownLocks.{same_known}
 use Rattle.machine_runner.specs.Runners.{Running, lock_of}
 use Rattle.run_texts.specs.RunTexts.{word_or_star, words_of}
 use Rattle.machine_lines.specs.Counting.{is_counting, Knows}

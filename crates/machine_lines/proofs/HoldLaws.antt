@@ -2,8 +2,8 @@
 use Rattle.std.proofs.Common.{◌≡◌, ℕ, subst}
 use Rattle.std.specs.Prelude.{codes}
 use Rattle.adversary_script.specs.Eras.{era_of}
-use Rattle.script_runs.proofs.Firsts.{of_one_era}
-use Rattle.script_runs.proofs.EraRuns.{eras_count}
+use Rattle.machine_runner.proofs.Firsts.{of_one_era}
+use Rattle.machine_runner.proofs.EraRuns.{eras_count}
 use Rattle.slot_table.specs.HoldWords.{hold_word_at}
 use Rattle.slot_table.proofs.HoldWords.{one_holds}
 use Rattle.machine_lines.specs.Laws.{AtMostOneInALine}

@@ -5,7 +5,7 @@ use Rattle.adversary_script.specs.Scripts.{Script}
 use Rattle.adversary_script.specs.Eras.{era_of, first_of_era, faulty_at}
 use Rattle.machines.specs.Machines.{Machine}
 use Rattle.machines.specs.Laws.{IsSound}
-use Rattle.script_runs.specs.Laws.{IsReadFor}
+use Rattle.machine_runner.specs.Laws.{IsReadFor}
 use Rattle.slot_table.specs.declared.lines.SlotLine.{SlotLine}
 use Rattle.machine_lines.specs.HoldTexts.{hold_word}
 

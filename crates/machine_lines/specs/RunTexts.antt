@@ -6,8 +6,8 @@ use Rattle.construction.specs.Steps.{state_of}
 use Rattle.adversary_script.specs.Scripts.{Script}
 use Rattle.adversary_script.specs.Eras.{faulty_at}
 use Rattle.machines.specs.Machines.{Machine}
-use Rattle.script_runs.specs.Locks.{first_locked, era_locked}
-use Rattle.script_runs.specs.Played.{played_at}
+use Rattle.machine_runner.specs.Locks.{first_locked, era_locked}
+use Rattle.machine_runner.specs.Played.{played_at}
 use Rattle.run_texts.specs.RunTexts.{bound_line, number_word, words_of, lock_lines}
 
 -- the first locked configuration of era j of what is played

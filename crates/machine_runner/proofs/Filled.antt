@@ -5,7 +5,7 @@ use Rattle.std.proofs.lemmas.List.{length-set}
 use Rattle.std.proofs.lemmas.List.FromFn.{fill_by_all}
 use Rattle.sync_types.specs.States.{State, zero_state}
 use Rattle.construction.specs.Steps.{state_of}
-use Rattle.script_runs.proofs.Places.{set_has}
+use Rattle.machine_runner.proofs.Places.{set_has}
 
 -- the states of the places below v are these
 pub record FilledBelow (f : ℕ → State) (n v : ℕ) (new : List State) : Type 0 where

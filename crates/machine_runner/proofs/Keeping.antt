@@ -13,11 +13,11 @@ use Rattle.machines.specs.Machines.{Machine, IsState}
 use Rattle.adversary_script.specs.Scripts.{Script, IsScript}
 use Rattle.adversary_script.specs.Eras.{era_of, faulty_of_era, faulty_at}
 use Rattle.adversary_script.specs.Lies.{AreStates, start_of}
-use Rattle.script_runs.specs.Laws.{IsReadFor}
-use Rattle.script_runs.specs.Locks.{is_locked, first_of, first_locked, era_locked}
-use Rattle.script_runs.specs.Played.{state_after, after_round, played_at}
-use Rattle.script_runs.proofs.KnownLocks.{known_at, known_long, first_known, next_known}
-use Rattle.script_runs.proofs.ReadFor.{state_is}
+use Rattle.machine_runner.specs.Laws.{IsReadFor}
+use Rattle.machine_runner.specs.Locks.{is_locked, first_of, first_locked, era_locked}
+use Rattle.machine_runner.specs.Played.{state_after, after_round, played_at}
+use Rattle.machine_runner.proofs.KnownLocks.{known_at, known_long, first_known, next_known}
+use Rattle.machine_runner.proofs.ReadFor.{state_is}
 use Rattle.machine_runner.specs.Kept.{locks_at}
 
 -- a workspace that is as roomy is for as many nodes

@@ -4,7 +4,7 @@ use Rattle.std.proofs.lemmas.List.{ext_get_or, length-set}
 use Rattle.std.proofs.lemmas.List.Elements.{All-set}
 use Rattle.sync_types.specs.States.{State, zero_state}
 use Rattle.construction.specs.Steps.{state_of}
-use Rattle.script_runs.proofs.Places.{set_has}
+use Rattle.machine_runner.proofs.Places.{set_has}
 
 -- the states of the places below v stand there
 pub record LaidBelow (config : List State) (depth v : ℕ) (heard : List State) : Type 0 where

@@ -2,3 +2,15 @@ pub mod Filled
 pub mod Keeping
 pub mod Laid
 pub mod Told
+pub mod Correct
+pub mod EraRuns
+pub mod FirstLocked
+pub mod Firsts
+pub mod Heard
+pub mod HeardAt
+pub mod Hits
+pub mod KnownLocks
+pub mod Locked
+pub mod Places
+pub mod Plays
+pub mod ReadFor

@@ -15,9 +15,9 @@ use Rattle.adversary_script.specs.Scripts.{Script}
 use Rattle.adversary_script.specs.Eras.{faulty_at}
 use Rattle.adversary_script.specs.Lies.{lie_of}
 use Rattle.adversary_script.proofs.LiesInRange.{depth_of_node}
-use Rattle.script_runs.specs.Played.{heard_at}
-use Rattle.script_runs.proofs.Heard.{heard_is, is_among}
-use Rattle.script_runs.proofs.Places.{set_has}
+use Rattle.machine_runner.specs.Played.{heard_at}
+use Rattle.machine_runner.proofs.Heard.{heard_is, is_among}
+use Rattle.machine_runner.proofs.Places.{set_has}
 use Rattle.machine_runner.specs.Hearing.{HasRoom, AreHonest}
 
 module _ (script : Script) (t v : ℕ) (config : List State) where

@@ -7,9 +7,9 @@ use Rattle.machines.specs.Machines.{Machine}
 use Rattle.machines.specs.Laws.{IsSound}
 use Rattle.adversary_script.specs.Scripts.{Script}
 use Rattle.adversary_script.specs.Eras.{era_of}
-use Rattle.script_runs.specs.Laws.{IsReadFor}
-use Rattle.script_runs.specs.Locks.{first_locked, era_locked}
-use Rattle.script_runs.specs.Played.{played_at}
+use Rattle.machine_runner.specs.Laws.{IsReadFor}
+use Rattle.machine_runner.specs.Locks.{first_locked, era_locked}
+use Rattle.machine_runner.specs.Played.{played_at}
 use Rattle.machine_runner.specs.declared.stepping.Room.{Room}
 use Rattle.machine_runner.specs.Rooms.{IsReady}
 

@@ -2,3 +2,8 @@ pub mod Hearing
 pub mod Kept
 pub mod Rooms
 pub mod Runners
+pub mod Beginnings
+pub mod Laws
+pub mod Locks
+pub mod Played
+pub mod Plays

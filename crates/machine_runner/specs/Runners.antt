@@ -3,8 +3,8 @@ use Rattle.std.specs.Prelude.{ℕ, ◌+◌, List, Option}
 use Rattle.sync_types.specs.States.{State}
 use Rattle.machines.specs.Machines.{Machine}
 use Rattle.adversary_script.specs.Scripts.{Script}
-use Rattle.script_runs.specs.Locks.{first_locked, era_locked}
-use Rattle.script_runs.specs.Played.{played_at}
+use Rattle.machine_runner.specs.Locks.{first_locked, era_locked}
+use Rattle.machine_runner.specs.Played.{played_at}
 
 -- A runner: its machine and script, and at which configuration it is. So its states are those that
 -- are played.

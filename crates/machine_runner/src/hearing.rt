@@ -1,7 +1,7 @@
 ghost use Rattle.std.specs.Prelude.{◌≡◌, ◌<◌, length, All};
 ghost use Rattle.sync_types.specs.FaultSets.{FaultIds};
 ghost use Rattle.adversary_script.specs.Eras.{faulty_at};
-ghost use Rattle.script_runs.specs.Played.{heard_at};
+ghost use Rattle.machine_runner.specs.Played.{heard_at};
 ghost use Rattle.machine_runner.specs.Hearing.{HasRoom, AreHonest};
 
 use adversary_script::{Noise, Script};

@@ -2,8 +2,8 @@ ghost use Rattle.std.specs.Prelude.{◌≡◌, ◌<◌, None, length};
 ghost use Rattle.std.specs.List.{list_all};
 ghost use Rattle.sync_types.specs.States.{register_at};
 ghost use Rattle.construction.specs.Steps.{state_of};
-ghost use Rattle.script_runs.specs.Locks.{are_locked, correct_registers, first_value, first_of};
-ghost use Rattle.script_runs.specs.Locks.{is_locked, is_locked_at};
+ghost use Rattle.machine_runner.specs.Locks.{are_locked, correct_registers, first_value, first_of};
+ghost use Rattle.machine_runner.specs.Locks.{is_locked, is_locked_at};
 
 use machines::Machine;
 use state_codec::Packed;

@@ -1,5 +1,5 @@
 ghost use Rattle.std.specs.Prelude.{◌≡◌, ◌∷◌, None, length, replicate, IfOk};
-ghost use Rattle.script_runs.specs.Locks.{is_locked, first_of};
+ghost use Rattle.machine_runner.specs.Locks.{is_locked, first_of};
 ghost use Rattle.machine_runner.specs.Rooms.{IsReady};
 
 use crate::locks::{is_locked, locked_so_far};
@@ -100,7 +100,7 @@ impl<'a, M: Machine> Runner<'a, M> {
     ghost use Rattle.sync_types.specs.FaultSets.{is_in};
     ghost use Rattle.adversary_script.specs.Eras.{faulty_at};
     ghost use Rattle.machines.specs.Laws.{IsSound};
-    ghost use Rattle.script_runs.specs.Laws.{IsReadFor};
+    ghost use Rattle.machine_runner.specs.Laws.{IsReadFor};
     ghost use Rattle.machine_runner.specs.Runners.{begun, next, states_of, lock_of};
 
     /// A runner of a script at configuration 0. It takes all the memory that it ever needs.

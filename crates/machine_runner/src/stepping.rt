@@ -3,9 +3,9 @@ ghost use Rattle.state_codec.specs.Shapes.{fields_at};
 ghost use Rattle.state_codec.specs.Ranges.{InRange};
 ghost use Rattle.adversary_script.specs.Eras.{era_of, faulty_at};
 ghost use Rattle.adversary_script.specs.Lookup.{hit_at};
-ghost use Rattle.script_runs.specs.Beginnings.{BeginsAt, is_prop};
-ghost use Rattle.script_runs.specs.Laws.{IsReadFor};
-ghost use Rattle.script_runs.specs.Played.{starts, state_after, after_round};
+ghost use Rattle.machine_runner.specs.Beginnings.{BeginsAt, is_prop};
+ghost use Rattle.machine_runner.specs.Laws.{IsReadFor};
+ghost use Rattle.machine_runner.specs.Played.{starts, state_after, after_round};
 ghost use Rattle.machine_runner.specs.Hearing.{AreHonest};
 ghost use Rattle.machine_runner.specs.Rooms.{IsReady, IsConfiguration};
 

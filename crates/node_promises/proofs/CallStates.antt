@@ -10,7 +10,7 @@ use Rattle.state_codec.specs.Reading.{read}
 use Rattle.state_codec.specs.Writing.{written}
 use Rattle.machines.specs.Machines.{Machine, IsState}
 use Rattle.machines.specs.Laws.{IsSound}
-use Rattle.node_header.specs.HeaderParts.{HeaderOf}
+use Rattle.node_words.specs.HeaderParts.{HeaderOf}
 use Rattle.node_stepper.specs.Nodes.{node_text}
 use Rattle.node_runs.specs.Cells.{cell_number}
 use Rattle.node_runs.specs.NodeRuns.{Nodes, cell_given, IsCorrect, SomeIsCorrect, state_at}

@@ -10,12 +10,12 @@ use Rattle.sync_types.specs.declared.answers.Rule.TheVariants as rule
 use Rattle.state_codec.specs.Shapes.{Fields, IsShape}
 use Rattle.state_codec.specs.Ranges.{InRange}
 use Rattle.machines.specs.Laws.{IsSound}
-use Rattle.node_header.specs.declared.header_lines.NodeHeader.{NodeHeader}
-use Rattle.node_header.specs.NodePart.{header_step, nothing_read}
-use Rattle.node_header.specs.Fits.{IsFit}
-use Rattle.node_header.specs.HeaderParts.{behind_node, behind_plan, header_in}
-use Rattle.node_header.proofs.HeaderFits.{part_fits}
-use Rattle.node_header.proofs.Unlimited.{without_room, is_found, whole_text}
+use Rattle.node_words.specs.declared.header_lines.NodeHeader.{NodeHeader}
+use Rattle.node_words.specs.NodePart.{header_step, nothing_read}
+use Rattle.node_words.specs.Fits.{IsFit}
+use Rattle.node_words.specs.HeaderParts.{behind_node, behind_plan, header_in}
+use Rattle.node_words.proofs.HeaderFits.{part_fits}
+use Rattle.node_words.proofs.Unlimited.{without_room, is_found, whole_text}
 use Rattle.node_words.specs.Constructions.{Words, IsShaped}
 use Rattle.node_promises.specs.Headers.{IsOfMachine, HeadersAreOfMachines}
 

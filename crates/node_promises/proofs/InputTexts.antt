@@ -9,7 +9,7 @@ use Rattle.sync_types.specs.States.{State}
 use Rattle.state_codec.specs.Writing.{written}
 use Rattle.machines.specs.Machines.{Machine, IsState}
 use Rattle.machines.specs.Laws.{IsSound}
-use Rattle.node_header.specs.HeaderParts.{HeaderOf, header_in}
+use Rattle.node_words.specs.HeaderParts.{HeaderOf, header_in}
 use Rattle.node_stepper.specs.Packets.{Packets, packets_of, whole as all_whole}
 use Rattle.node_stepper.specs.Laws.{packet_text, AreFull}
 use Rattle.node_stepper.proofs.ReadBack.{packets_back}

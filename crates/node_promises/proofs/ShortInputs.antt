@@ -8,11 +8,11 @@ use Rattle.texts.specs.Limits.{Limited, by, beyond, with_rest, with_limit, room_
 use Rattle.edge_io.specs.FedParts.{limited_part}
 use Rattle.sync_types.specs.declared.answers.Rule.{Rule}
 use Rattle.sync_types.specs.declared.answers.Rule.TheVariants as rule
-use Rattle.node_header.specs.declared.header_lines.NodeHeader.{NodeHeader}
-use Rattle.node_header.specs.declared.headers.HeaderRefusal.{HeaderRefusal}
-use Rattle.node_header.specs.NodePart.{header_step, nothing_read}
-use Rattle.node_header.specs.HeaderParts.{PlanPart, HeaderOf, behind_node, behind_plan, header_in}
-use Rattle.node_header.specs.HeaderParts.{plan_refused, node_refused}
+use Rattle.node_words.specs.declared.header_lines.NodeHeader.{NodeHeader}
+use Rattle.node_words.specs.declared.headers.HeaderRefusal.{HeaderRefusal}
+use Rattle.node_words.specs.NodePart.{header_step, nothing_read}
+use Rattle.node_words.specs.HeaderParts.{PlanPart, HeaderOf, behind_node, behind_plan, header_in}
+use Rattle.node_words.specs.HeaderParts.{plan_refused, node_refused}
 use Rattle.node_words.specs.Constructions.{Words}
 use Rattle.node_promises.specs.Skips.{IsShort}
 

@@ -15,11 +15,11 @@ use Rattle.texts.proofs.LineByLine.{line_first, behind_line}
 use Rattle.edge_io.specs.FedParts.{limited_part}
 use Rattle.sync_types.specs.declared.answers.Rule.{Rule}
 use Rattle.sync_types.specs.declared.answers.Rule.TheVariants as rule
-use Rattle.node_header.specs.declared.header_lines.NodeHeader.{NodeHeader}
-use Rattle.node_header.specs.declared.headers.HeaderRefusal.TheVariants as refusal
-use Rattle.node_header.specs.NodePart.{header_step, nothing_read}
-use Rattle.node_header.specs.HeaderParts.{PlanPart, HeaderOf, behind_node, behind_plan, header_in}
-use Rattle.node_header.proofs.Unlimited.{without_room}
+use Rattle.node_words.specs.declared.header_lines.NodeHeader.{NodeHeader}
+use Rattle.node_words.specs.declared.headers.HeaderRefusal.TheVariants as refusal
+use Rattle.node_words.specs.NodePart.{header_step, nothing_read}
+use Rattle.node_words.specs.HeaderParts.{PlanPart, HeaderOf, behind_node, behind_plan, header_in}
+use Rattle.node_words.proofs.Unlimited.{without_room}
 use Rattle.node_words.specs.Constructions.{Words}
 use Rattle.node_words.specs.NodeAnswers.{packets_for, served_outcome, behind_header}
 use Rattle.node_words.specs.NodeAnswers.{node_outcome}

@@ -12,7 +12,7 @@ use Rattle.sync_types.specs.States.{State}
 use Rattle.state_codec.specs.Shapes.{Shape, Fields, fields_at, bytes_in}
 use Rattle.state_codec.specs.Texts.{is_lower_digit, written_text}
 use Rattle.state_codec.proofs.Digits.{text_is_taken}
-use Rattle.node_header.specs.WrittenHeaders.{digits_in, node_part_in}
+use Rattle.node_words.specs.WrittenHeaders.{digits_in, node_part_in}
 use Rattle.node_runs.specs.Bytes.{AreBytes}
 
 abbrev IsByte : ℕ → Type 0

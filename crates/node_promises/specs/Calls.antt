@@ -6,8 +6,8 @@ use Rattle.texts.specs.Growth.{Told, Wrote}
 use Rattle.texts.specs.Lines.{lines_of, whole_lines}
 use Rattle.texts.specs.Limits.{room_in, behind_lines}
 use Rattle.machines.specs.Machines.{Machine}
-use Rattle.node_header.specs.declared.headers.HeaderRefusal.{HeaderRefusal}
-use Rattle.node_header.specs.HeaderParts.{HeaderOf, header_in}
+use Rattle.node_words.specs.declared.headers.HeaderRefusal.{HeaderRefusal}
+use Rattle.node_words.specs.HeaderParts.{HeaderOf, header_in}
 use Rattle.node_words.specs.declared.errors.NodeError.{NodeError}
 use Rattle.node_words.specs.declared.errors.NodeError.TheVariants as error
 use Rattle.node_words.specs.Constructions.{Words}

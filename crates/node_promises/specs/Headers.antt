@@ -3,7 +3,7 @@ use Rattle.std.specs.Prelude.{◌<◌, List, ℕ, Option, None, IfOk}
 use Rattle.texts.specs.Lines.{lines_of, whole_lines}
 use Rattle.machines.specs.Machines.{IsState}
 use Rattle.machines.specs.Laws.{IsSound}
-use Rattle.node_header.specs.HeaderParts.{HeaderOf, header_in}
+use Rattle.node_words.specs.HeaderParts.{HeaderOf, header_in}
 use Rattle.node_words.specs.Constructions.{Words}
 
 -- of a construction that accepts some plans

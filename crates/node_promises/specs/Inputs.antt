@@ -3,7 +3,7 @@ use Rattle.std.specs.Prelude.{◌≡◌, ℕ, ◌+◌, ◌<◌, ◌≤◌, true,
 use Rattle.sync_types.specs.States.{State}
 use Rattle.construction.specs.Runs.{is_in}
 use Rattle.machines.specs.Machines.{Machine, IsState}
-use Rattle.node_header.specs.HeaderParts.{HeaderOf}
+use Rattle.node_words.specs.HeaderParts.{HeaderOf}
 use Rattle.node_runs.specs.Bytes.{AreBytes, AllFit}
 use Rattle.node_runs.specs.NodeRuns.{IsCorrect}
 use Rattle.node_words.specs.Constructions.{Words}

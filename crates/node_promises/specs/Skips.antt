@@ -4,9 +4,9 @@ use Rattle.std.specs.Prelude.{true, nat_le, if◌then◌else◌, Option, Some, N
 use Rattle.texts.specs.Lines.{is_one_line}
 use Rattle.texts.specs.Words.{text_of}
 use Rattle.texts.specs.Parts.{is_skipped}
-use Rattle.node_header.specs.declared.headers.HeaderRefusal.{HeaderRefusal}
-use Rattle.node_header.specs.declared.headers.HeaderRefusal.TheVariants as refusal
-use Rattle.node_header.specs.HeaderParts.{HeaderOf}
+use Rattle.node_words.specs.declared.headers.HeaderRefusal.{HeaderRefusal}
+use Rattle.node_words.specs.declared.headers.HeaderRefusal.TheVariants as refusal
+use Rattle.node_words.specs.HeaderParts.{HeaderOf}
 use Rattle.node_words.specs.Constructions.{Words}
 use Rattle.node_words.specs.NodeAnswers.{node_outcome}
 use Rattle.node_promises.specs.Calls.{whole, header_of}

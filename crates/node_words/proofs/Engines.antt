@@ -7,11 +7,11 @@ use Rattle.sync_types.specs.States.{State, zero_state}
 use Rattle.state_codec.specs.Shapes.{Fields, Shape, fields_at, shape_nodes}
 use Rattle.state_codec.specs.Ranges.{InRange}
 use Rattle.machines.specs.Machines.{Machine, IsState}
-use Rattle.node_header.specs.declared.header_lines.NodeHeader.{NodeHeader}
-use Rattle.node_header.specs.declared.headers.HeaderRead.{HeaderRead}
-use Rattle.node_header.specs.HeaderParts.{HeaderOf}
-use Rattle.node_header.specs.Fits.{IsFit}
-use Rattle.node_header.specs.FedHeaders.{HeaderWhole}
+use Rattle.node_words.specs.declared.header_lines.NodeHeader.{NodeHeader}
+use Rattle.node_words.specs.declared.headers.HeaderRead.{HeaderRead}
+use Rattle.node_words.specs.HeaderParts.{HeaderOf}
+use Rattle.node_words.specs.Fits.{IsFit}
+use Rattle.node_words.specs.FedHeaders.{HeaderWhole}
 use Rattle.node_stepper.specs.Nodes.{Standing, own, begun, node_text}
 use Rattle.node_stepper.specs.Packets.{packets_of}
 use Rattle.node_stepper.specs.Serving.{served, answer}

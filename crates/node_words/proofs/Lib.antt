@@ -1,4 +1,16 @@
 pub mod Returns
-pub mod Headers
+pub mod HeaderEnds
 pub mod Engines
 pub mod Service
+pub mod AcceptedHeaders
+pub mod BehindLines
+pub mod Chained
+pub mod HeaderFits
+pub mod HeadersRead
+pub mod NodeParts
+pub mod PendingHeaders
+pub mod PlanBits
+pub mod Rooms
+pub mod StateDigits
+pub mod Unlimited
+pub mod WrittenHeaders

@@ -11,8 +11,8 @@ use Rattle.texts.specs.Limits.{behind_lines}
 use Rattle.texts.specs.Growth.{Told, Wrote, Cut}
 use Rattle.edge_io.specs.FedParts.{MayFollow}
 use Rattle.machines.specs.Machines.{Machine}
-use Rattle.node_header.specs.declared.headers.HeaderRead.{HeaderRead}
-use Rattle.node_header.specs.FedHeaders.{HeaderWhole}
+use Rattle.node_words.specs.declared.headers.HeaderRead.{HeaderRead}
+use Rattle.node_words.specs.FedHeaders.{HeaderWhole}
 use Rattle.node_stepper.specs.declared.faults.NodeFault.{NodeFault}
 use Rattle.node_stepper.specs.declared.faults.NodeFault.TheVariants as fault
 use Rattle.node_stepper.specs.Packets.{Packets, IsWithin, whole, cut, beyond}

@@ -2,7 +2,7 @@
 use Rattle.std.specs.Prelude.{◌≡◌, ◌<◌, ℕ, List}
 use Rattle.state_codec.specs.Shapes.{fields_at, shape_nodes}
 use Rattle.machines.specs.Machines.{Machine}
-use Rattle.node_header.specs.HeaderParts.{PlanPart}
+use Rattle.node_words.specs.HeaderParts.{PlanPart}
 
 -- how the plan of a header is read, which machine a plan is, and the line that refuses a line of it
 pub record Words (Reader Plan Premise : Type 0) : Type 0 where

@@ -3,3 +3,11 @@ pub mod Rules
 pub mod NodeAnswers
 pub mod Engines
 pub mod Conduct
+pub mod FedHeaders
+pub mod Fits
+pub mod HeaderLaws
+pub mod HeaderParts
+pub mod HeaderTexts
+pub mod Headers
+pub mod NodePart
+pub mod WrittenHeaders

@@ -3,9 +3,9 @@ use Rattle.std.specs.Prelude.{ℕ, ◌+◌, ◌^◌, ◌≤◌, List, [], length
 use Rattle.std.specs.Prelude.{Err}
 use Rattle.texts.specs.Lines.{lines_of, whole_lines}
 use Rattle.texts.specs.Limits.{room_in, behind_lines}
-use Rattle.node_header.specs.declared.headers.HeaderRefusal.{HeaderRefusal}
-use Rattle.node_header.specs.HeaderParts.{HeaderOf, header_in}
-use Rattle.node_header.specs.FedHeaders.{HeaderPending}
+use Rattle.node_words.specs.declared.headers.HeaderRefusal.{HeaderRefusal}
+use Rattle.node_words.specs.HeaderParts.{HeaderOf, header_in}
+use Rattle.node_words.specs.FedHeaders.{HeaderPending}
 use Rattle.node_stepper.specs.declared.faults.NodeFault.{NodeFault}
 use Rattle.node_stepper.specs.declared.faults.NodeFault.TheVariants as fault
 use Rattle.node_stepper.specs.Nodes.{node_text}

@@ -3,8 +3,8 @@ use Rattle.std.specs.Prelude.{ℕ, List, [], ◌∷◌, codes, decimal}
 use Rattle.std.specs.List.{concat}
 use Rattle.sync_types.specs.declared.answers.Rule.{Rule}
 use Rattle.sync_types.specs.declared.answers.Rule.TheVariants as rule
-use Rattle.node_header.specs.declared.headers.HeaderRefusal.{HeaderRefusal}
-use Rattle.node_header.specs.declared.headers.HeaderRefusal.TheVariants as header
+use Rattle.node_words.specs.declared.headers.HeaderRefusal.{HeaderRefusal}
+use Rattle.node_words.specs.declared.headers.HeaderRefusal.TheVariants as header
 use Rattle.node_words.specs.Constructions.{Words}
 
 abbrev pub rule_word : Rule → List ℕ

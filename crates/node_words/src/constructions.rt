@@ -1,13 +1,13 @@
 ghost use Rattle.std.specs.Prelude.{◌≡◌, ◌||◌, IfOk};
 ghost use Rattle.texts.specs.Growth.{Puts};
 ghost use Rattle.edge_io.specs.Feeds.{feed_left, IsDry};
-ghost use Rattle.node_header.specs.Fits.{IsFit};
-ghost use Rattle.node_header.specs.FedHeaders.{HeaderFed, HasHeaderCause};
+ghost use Rattle.node_words.specs.Fits.{IsFit};
+ghost use Rattle.node_words.specs.FedHeaders.{HeaderFed, HasHeaderCause};
 ghost use Rattle.node_words.specs.Constructions.{IsShaped};
 
+use crate::{HeaderError, HeaderRead};
 use edge_io::{Feed, LineBuf, Sink, Source, WriteFault};
 use machines::Machine;
-use node_header::{HeaderError, HeaderRead};
 use state_codec::StateShape;
 use std::alloc::Global;
 use sync_types::NoMemory;

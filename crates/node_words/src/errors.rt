@@ -1,7 +1,7 @@
 ghost use Rattle.std.specs.Prelude.{◌≡◌};
 ghost use Rattle.node_words.specs.NodeAnswers.{ended_by};
 
-use node_header::HeaderRefusal;
+use crate::HeaderRefusal;
 use node_stepper::NodeFault;
 use std::alloc::AllocError;
 use std::error::Error;

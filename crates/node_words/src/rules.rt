@@ -2,9 +2,8 @@ ghost use Rattle.std.specs.Prelude.{◌≡◌};
 ghost use Rattle.texts.specs.Growth.{Puts};
 ghost use Rattle.node_words.specs.Rules.{rule_word, node_refusal, header_line};
 
-use crate::Construction;
+use crate::{Construction, HeaderRefusal};
 use edge_io::{Piece, Sink, WriteFault, put_pieces};
-use node_header::HeaderRefusal;
 use sync_types::Rule;
 
 /// The word of a rule that a node part can fail, or any other part.

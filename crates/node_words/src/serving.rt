@@ -1,13 +1,12 @@
 ghost use Rattle.std.specs.Prelude.{◌≡◌, IfOk};
-ghost use Rattle.node_header.specs.Fits.{IsFit};
+ghost use Rattle.node_words.specs.Fits.{IsFit};
 ghost use Rattle.node_words.specs.Engines.{StandsFor};
 ghost use Rattle.node_words.specs.Conduct.{NodeDoes, LeavesUnmet, LeavesUntouched};
 
-use crate::Construction;
 use crate::errors::{NodeError, ended_by};
 use crate::rules::put_header_refusal;
+use crate::{Construction, HeaderError, HeaderRead};
 use edge_io::{Feed, LineBuf, PlainSource, Sink, Source, WriteFault};
-use node_header::{HeaderError, HeaderRead};
 use node_stepper::NodeEngine;
 use std::alloc::Global;
 use sync_types::NoMemory;

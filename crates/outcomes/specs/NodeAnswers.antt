@@ -5,7 +5,7 @@ use Rattle.sync_types.specs.declared.answers.Part.TheVariants as part
 use Rattle.sync_types.specs.declared.answers.Premise.{Premise}
 use Rattle.sync_types.specs.declared.status.Status.{Status}
 use Rattle.sync_types.specs.declared.status.Status.TheVariants as status
-use Rattle.node_header.specs.declared.headers.HeaderRefusal.TheVariants as header
+use Rattle.node_words.specs.declared.headers.HeaderRefusal.TheVariants as header
 use Rattle.node_words.specs.declared.errors.NodeError.{NodeError}
 use Rattle.node_words.specs.declared.errors.NodeError.TheVariants as error
 use Rattle.node_words.specs.NodeAnswers as any

@@ -3,7 +3,7 @@ use Rattle.sync_types.specs.declared.answers.Premise.{Premise}
 use Rattle.construction.specs.Plans.{Plan}
 use Rattle.plan_reader.specs.declared.stages.PlanStage.{PlanStage}
 use Rattle.plan_machine.specs.PlanMachines.{machine_of_plan}
-use Rattle.node_header.specs.Headers.{plan_part}
+use Rattle.node_words.specs.Headers.{plan_part}
 use Rattle.node_words.specs.Constructions.{Words}
 use Rattle.outcomes.specs.declared.refusals.Refusal.TheVariants as refusal
 use Rattle.outcomes.specs.Refusals.{refusal_line}

@@ -1,3 +1,6 @@
 pub mod PlanMachines
 pub mod Sound
 pub mod Kept
+pub mod Plans
+pub mod Worked
+pub mod Missed

@@ -1,2 +1,6 @@
 pub mod PlanMachines
 pub mod Kept
+pub mod NodeRuns
+pub mod Laws
+pub mod PlanNodes
+pub mod Missed

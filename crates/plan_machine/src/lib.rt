@@ -1,8 +1,10 @@
 //! Boosting plans as machines: that the words of machines say of a plan what the construction's own
-//! words say, that the machine of an accepted plan is sound, and that machine in the program.
+//! words say, that the machine of an accepted plan is sound, that machine in the program, and that
+//! nodes of a plan over packets are a run of the plan, in the construction's words.
 #![tactic(auto)]
 
 pub mod laws;
+pub mod node_laws;
 mod plan_machines;
 
 pub use plan_machines::PlanMachine;

@@ -11,8 +11,8 @@ use Rattle.machines.specs.Machines.{Machine}
 use Rattle.plan_machine.specs.PlanMachines.{machine_of_plan, lock_of}
 use Rattle.round_runner.specs.Locks as plans
 use Rattle.round_runner.specs.Played as played_plans
-use Rattle.script_runs.specs.Locks as machines
-use Rattle.script_runs.specs.Played as played_machines
+use Rattle.machine_runner.specs.Locks as machines
+use Rattle.machine_runner.specs.Played as played_machines
 use Rattle.run_lines.specs.RowTexts as plan_rows
 use Rattle.run_lines.proofs.FirstListed.{first_listed}
 use Rattle.machine_lines.specs.RunTexts as machine_rows

@@ -19,12 +19,12 @@ use Rattle.state_codec.proofs.FullNumbers.{fields_short}
 use Rattle.plan_machine.specs.PlanMachines.{machine_of_plan}
 use Rattle.plan_machine.proofs.PlanMachines.{are_alike}
 use Rattle.plan_machine.proofs.Sound.{accepted_are_sound}
-use Rattle.node_header.specs.HeaderTexts.{header_text}
-use Rattle.node_header.specs.WrittenHeaders.{node_part_in}
-use Rattle.node_header.proofs.HeadersRead.{text_is_read_back}
+use Rattle.node_words.specs.HeaderTexts.{header_text}
+use Rattle.node_words.specs.WrittenHeaders.{node_part_in}
+use Rattle.node_words.proofs.HeadersRead.{text_is_read_back}
 use Rattle.node_runs.specs.Bytes.{AreBytes, StatesFit}
 use Rattle.node_runs.proofs.Restarts.{correct_too}
-use Rattle.plan_node_runs.specs.NodeRuns.{IsCorrect}
+use Rattle.plan_machine.specs.NodeRuns.{IsCorrect}
 use Rattle.node_promises.specs.Inputs.{header_stated, AreOneMachine}
 use Rattle.node_promises.specs.RestartInputs.{calls_of, restart_of, restart_with}
 use Rattle.node_promises.proofs.TextBytes.{word, count, bytes, pieces_bytes, one_each, either}

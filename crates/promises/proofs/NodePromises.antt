@@ -10,8 +10,8 @@ use Rattle.plan_laws.proofs.Versions.{versions_agree}
 use Rattle.plan_machine.specs.PlanMachines.{machine_of_plan}
 use Rattle.plan_machine.proofs.PlanMachines.{are_alike}
 use Rattle.node_runs.specs.Laws as any_nodes
-use Rattle.plan_node_runs.specs.NodeRuns.{SomeIsCorrect}
-use Rattle.plan_node_runs.specs.Laws.{RunThrough, CountThrough, StayLockedThrough}
+use Rattle.plan_machine.specs.NodeRuns.{SomeIsCorrect}
+use Rattle.plan_machine.specs.Laws.{RunThrough, CountThrough, StayLockedThrough}
 use Rattle.node_promises.specs.CallWindows as any
 use Rattle.node_promises.proofs.Connected as any_connected
 use Rattle.node_promises.proofs.Heard as any_heard

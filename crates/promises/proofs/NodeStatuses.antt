@@ -1,8 +1,8 @@
 -- Which status a call of `node` ends with, by how its node ended.
 use Rattle.std.proofs.Common.{◌≡◌, Err, refl}
 use Rattle.sync_types.specs.declared.answers.Premise.{Premise}
-use Rattle.node_header.specs.declared.headers.HeaderRefusal.{HeaderRefusal}
-use Rattle.node_header.specs.declared.headers.HeaderRefusal.TheVariants as header
+use Rattle.node_words.specs.declared.headers.HeaderRefusal.{HeaderRefusal}
+use Rattle.node_words.specs.declared.headers.HeaderRefusal.TheVariants as header
 use Rattle.node_words.specs.Rules.{header_line}
 use Rattle.node_words.specs.declared.errors.NodeError.TheVariants as error
 use Rattle.outcomes.specs.Refusals.{refusal_line, refusal_status}

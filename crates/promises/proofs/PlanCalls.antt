@@ -9,9 +9,9 @@ use Rattle.plan_laws.specs.VersionLaws.{in_version}
 use Rattle.plan_machine.specs.PlanMachines.{machine_of_plan}
 use Rattle.plan_machine.proofs.PlanMachines.{are_alike}
 use Rattle.plan_machine.proofs.Sound.{accepted_are_sound}
-use Rattle.node_header.specs.Headers.{Header, HeaderRefusal, header_in}
-use Rattle.node_header.specs.HeaderLaws.{IsOfPlan}
-use Rattle.node_header.proofs.AcceptedHeaders.{are_of_plans}
+use Rattle.node_words.specs.Headers.{Header, HeaderRefusal, header_in}
+use Rattle.node_words.specs.HeaderLaws.{IsOfPlan}
+use Rattle.node_words.proofs.AcceptedHeaders.{are_of_plans}
 use Rattle.node_promises.specs.Calls as any
 use Rattle.node_promises.specs.Headers.{IsOfMachine, HeadersAreOfMachines}
 use Rattle.node_promises.proofs.Processes.{are_processes}

@@ -18,7 +18,7 @@ use Rattle.slot_table.specs.SlotTexts.{SlotTextIsRead}
 use Rattle.consensus_layer.specs.AgreeTexts.{AgreeTextIsRead}
 use Rattle.firing.specs.RequestTexts.{RequestTextIsRead}
 use Rattle.replicated_log.specs.LogTexts.{LogTextIsRead}
-use Rattle.node_header.specs.HeaderTexts.{HeaderTextIsRead}
+use Rattle.node_words.specs.HeaderTexts.{HeaderTextIsRead}
 use Rattle.sync_types.specs.declared.answers.Part.TheVariants as part
 use Rattle.outcomes.specs.Inputs.{in_plan, in_part, in_table, or_refusal}
 use Rattle.outcomes.specs.Answers.{text_by}

@@ -26,7 +26,7 @@ use Rattle.adversary_script.specs.ScriptPart.{script_of}
 use Rattle.adversary_script.specs.ScriptTexts.{script_text}
 use Rattle.adversary_script.specs.Writable.{FitsLines, IsWritable}
 use Rattle.adversary_script.specs.ScriptLaws.{ScriptTextIsWhole, ReadIsWritable}
-use Rattle.node_header.proofs.PlanBits.{some_bits, few_bits}
+use Rattle.node_words.proofs.PlanBits.{some_bits, few_bits}
 use Rattle.slot_table.specs.SlotPart as slot_part
 use Rattle.slot_table.specs.SlotTexts.{slots_text, SlotTextIsRead}
 use Rattle.consensus_layer.specs.AgreePart as agree_part

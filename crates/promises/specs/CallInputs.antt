@@ -7,7 +7,7 @@ use Rattle.construction.specs.Runs.{IsState}
 use Rattle.plan_numbers.specs.Premises.{IsAccepted}
 use Rattle.plan_laws.specs.VersionLaws.{in_version}
 use Rattle.plan_machine.specs.PlanMachines.{machine_of_plan}
-use Rattle.plan_node_runs.specs.NodeRuns.{IsCorrect, AreMissed}
+use Rattle.plan_machine.specs.NodeRuns.{IsCorrect, AreMissed}
 use Rattle.node_promises.specs.Inputs as joined
 use Rattle.node_promises.specs.LossyInputs as lossy
 use Rattle.node_promises.specs.RestartInputs as restarted

@@ -4,8 +4,8 @@ use Rattle.sync_types.specs.States.{State}
 use Rattle.construction.specs.Plans.{Plan, plan_bound}
 use Rattle.construction.specs.Runs.{IsBorne, IsLocked}
 use Rattle.plan_machine.specs.PlanMachines.{machine_of_plan}
-use Rattle.plan_node_runs.specs.NodeRuns.{IsCorrect, SomeIsCorrect}
-use Rattle.plan_node_runs.specs.Laws.{RunThrough, CountThrough, StayLockedThrough}
+use Rattle.plan_machine.specs.NodeRuns.{IsCorrect, SomeIsCorrect}
+use Rattle.plan_machine.specs.Laws.{RunThrough, CountThrough, StayLockedThrough}
 use Rattle.node_promises.specs.CallWindows as any
 use Rattle.outcomes.specs.PlanWords.{plan_words}
 use Rattle.promises.specs.NodeCalls.{Call, IsOfNode}

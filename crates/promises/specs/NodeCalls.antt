@@ -6,7 +6,7 @@ use Rattle.sync_types.specs.declared.status.Status.{Status}
 use Rattle.sync_types.specs.declared.status.Status.TheVariants as status
 use Rattle.construction.specs.Plans.{Plan}
 use Rattle.plan_laws.specs.VersionLaws.{in_version}
-use Rattle.node_header.specs.Headers.{Header, HeaderRefusal}
+use Rattle.node_words.specs.Headers.{Header, HeaderRefusal}
 pub use Rattle.node_promises.specs.Calls.{Call, whole, failed}
 use Rattle.node_promises.specs.Calls as any
 use Rattle.outcomes.specs.declared.commands.Command.TheVariants as command

@@ -3,8 +3,8 @@ use Rattle.std.specs.Prelude.{ℕ}
 use Rattle.construction.specs.Plans.{Plan}
 use Rattle.plan_numbers.specs.Premises.{IsAccepted}
 use Rattle.plan_laws.specs.VersionLaws.{in_version}
-use Rattle.plan_node_runs.specs.Laws.{BorneLeavesSome}
-use Rattle.plan_node_runs.specs.Missed.{OthersAreMissed}
+use Rattle.plan_machine.specs.Laws.{BorneLeavesSome}
+use Rattle.plan_machine.specs.Missed.{OthersAreMissed}
 use Rattle.promises.specs.NodeCalls.{Call, IsOfNode, CallsWriteTexts}
 use Rattle.promises.specs.CallWindows.{ConnectedCallsCount, HeardCallsStayLocked}
 use Rattle.promises.specs.Restarts.{RestartedNodesCount}

@@ -3,8 +3,8 @@ use Rattle.std.specs.Prelude.{◌≡◌, ℕ, Ok, Err}
 use Rattle.sync_types.specs.declared.answers.Part.TheVariants as part
 use Rattle.sync_types.specs.declared.answers.Premise.{Premise}
 use Rattle.sync_types.specs.declared.status.Status.TheVariants as status
-use Rattle.node_header.specs.declared.headers.HeaderRefusal.{HeaderRefusal}
-use Rattle.node_header.specs.declared.headers.HeaderRefusal.TheVariants as header
+use Rattle.node_words.specs.declared.headers.HeaderRefusal.{HeaderRefusal}
+use Rattle.node_words.specs.declared.headers.HeaderRefusal.TheVariants as header
 use Rattle.node_words.specs.Rules.{header_line}
 use Rattle.node_words.specs.declared.errors.NodeError.TheVariants as error
 use Rattle.outcomes.specs.declared.refusals.Refusal.{Refusal}

@@ -13,7 +13,7 @@ use Rattle.slot_table.specs.SlotTexts.{SlotTextIsRead}
 use Rattle.consensus_layer.specs.AgreeTexts.{AgreeTextIsRead}
 use Rattle.firing.specs.RequestTexts.{RequestTextIsRead}
 use Rattle.replicated_log.specs.LogTexts.{LogTextIsRead}
-use Rattle.node_header.specs.HeaderTexts.{HeaderTextIsRead}
+use Rattle.node_words.specs.HeaderTexts.{HeaderTextIsRead}
 use Rattle.run_promises.specs.WrittenLines.{text_of_words}
 use Rattle.outcomes.specs.declared.refusals.Refusal.{Refusal}
 use Rattle.outcomes.specs.declared.commands.Batch.TheVariants as batch

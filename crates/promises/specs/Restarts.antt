@@ -3,8 +3,8 @@ use Rattle.std.specs.Prelude.{◌≡◌, ℕ, ◌+◌, ◌≤◌, List}
 use Rattle.construction.specs.Plans.{Plan}
 use Rattle.construction.specs.Steps.{state_of}
 use Rattle.construction.specs.Runs.{IsBorne, IsLocked}
-use Rattle.plan_node_runs.specs.NodeRuns.{IsCorrect, SomeIsCorrect}
-use Rattle.plan_node_runs.specs.Laws.{StayLockedThrough}
+use Rattle.plan_machine.specs.NodeRuns.{IsCorrect, SomeIsCorrect}
+use Rattle.plan_machine.specs.Laws.{StayLockedThrough}
 pub use Rattle.node_promises.specs.Restarts.{Restart, calls_after, begins_after}
 pub use Rattle.node_promises.specs.Restarts.{AreFaultyMeanwhile}
 use Rattle.promises.specs.NodeCalls.{Call}

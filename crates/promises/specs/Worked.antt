@@ -13,8 +13,8 @@ use Rattle.plan_certificate.specs.PlanTexts.{plan_text}
 use Rattle.plan_finder.specs.FindText.{find_text}
 use Rattle.plan_finder.specs.WantTexts.{want_text}
 use Rattle.state_codec.specs.Shapes.{Shape}
-use Rattle.node_header.specs.HeaderTexts.{header_text}
-use Rattle.node_header.specs.WrittenHeaders.{node_part_in, digits_in}
+use Rattle.node_words.specs.HeaderTexts.{header_text}
+use Rattle.node_words.specs.WrittenHeaders.{node_part_in, digits_in}
 use Rattle.adversary_script.specs.declared.lies.CommonStart.TheVariants as common
 use Rattle.adversary_script.specs.declared.lies.What.TheVariants as what
 use Rattle.adversary_script.specs.declared.lies.Who.TheVariants as who

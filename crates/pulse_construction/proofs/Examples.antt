@@ -6,7 +6,7 @@ use Rattle.sync_types.specs.declared.states.Reg.{Reg}
 use Rattle.sync_types.specs.States.{State}
 use Rattle.construction.specs.Widths.{width}
 use Rattle.construction.specs.Runs.{heard_by}
-use Rattle.pulse_laws.specs.Halves.{quiet, instructions, left_period, right_period}
+use Rattle.pulse_construction.specs.Halves.{quiet, instructions, left_period, right_period}
 use Rattle.pulse_construction.specs.Halvings.{Halving, One, Split, halving_faults, halving_nodes}
 use Rattle.pulse_construction.specs.Halvings.{halving_height, halving_bound, halving_of}
 use Rattle.pulse_construction.specs.Steps.{step_of}

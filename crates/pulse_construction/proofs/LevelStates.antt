@@ -7,8 +7,8 @@ use Rattle.std.proofs.lemmas.Bool.{cases_lt, lt-ltb, le-ltb, ltb-true}
 use Rattle.std.specs.Prelude.{nat_lt}
 use Rattle.sync_types.specs.declared.states.Reg.{Reg}
 use Rattle.sync_types.specs.States.{State, zero_register, register_at}
-use Rattle.pulse_laws.specs.Halves.{instructions, left_period}
-use Rattle.pulse_laws.specs.LevelStates.{LevelState}
+use Rattle.pulse_construction.specs.Halves.{instructions, left_period}
+use Rattle.pulse_construction.specs.LevelStates.{LevelState}
 use Rattle.pulse_construction.specs.Registers.{IsLevelState, HasLevelState}
 use Rattle.pulse_construction.specs.Registers.{value_of, number_of, level_state_of, inner}
 use Rattle.pulse_construction.specs.Registers.{with_level_state}

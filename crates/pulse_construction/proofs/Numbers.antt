@@ -3,7 +3,7 @@
 use Rattle.std.proofs.Common.{◌≡◌, ℕ, zero, suc, ◌+◌, ◌-◌, ◌*◌, ◌/◌, ◌<◌, ◌≤◌, max, refl, sym, ◌∙◌}
 use Rattle.std.proofs.Common.{subst, arith}
 use Rattle.std.proofs.Math.Nat.{max-le}
-use Rattle.pulse_laws.specs.Halves.{Halved, left_period, right_period}
+use Rattle.pulse_construction.specs.Halves.{Halved, left_period, right_period}
 use Rattle.pulse_construction.specs.Halvings.{Halving, One, Split, halving_nodes, halving_faults}
 use Rattle.pulse_construction.specs.Halvings.{halving_bound, halves_of, bound_over, halved_within}
 use Rattle.pulse_construction.specs.Halvings.{halving_of}

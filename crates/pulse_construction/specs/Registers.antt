@@ -4,8 +4,8 @@ use Rattle.std.specs.Prelude.{◌≡◌, ℕ, ◌<◌, ◌≤◌, nat_lt, if◌t
 use Rattle.std.specs.Prelude.{length, drop, Option, IfSome, Some, None, unwrap_or}
 use Rattle.sync_types.specs.declared.states.Reg.{Reg}
 use Rattle.sync_types.specs.States.{State, register_at}
-use Rattle.pulse_laws.specs.Halves.{instructions, left_period}
-use Rattle.pulse_laws.specs.LevelStates.{LevelState}
+use Rattle.pulse_construction.specs.Halves.{instructions, left_period}
+use Rattle.pulse_construction.specs.LevelStates.{LevelState}
 
 -- A number as a register's value, and back: infinity stands for the most.
 abbrev pub value_of : (most number : ℕ) → Option ℕ

@@ -3,7 +3,7 @@ use Rattle.std.specs.Prelude.{◌≡◌, ⊤, ℕ, ◌+◌, ◌-◌, ◌<◌, �
 use Rattle.std.specs.Prelude.{◌++◌, length, replicate, Option, Some, None, IfSome, slice_index}
 use Rattle.sync_types.specs.States.{State, zero_register, register_at}
 use Rattle.construction.specs.Runs.{AllLocked}
-use Rattle.pulse_laws.specs.Halves.{faults_of, instructions, left_period, right_period}
+use Rattle.pulse_construction.specs.Halves.{faults_of, instructions, left_period, right_period}
 use Rattle.pulse_construction.specs.Halvings.{Halving, One, Split, halving_nodes, halving_faults}
 use Rattle.pulse_construction.specs.Halvings.{halving_bound, halves_of}
 use Rattle.pulse_construction.specs.Steps.{shown_in, halving_depth, step_of}

@@ -4,8 +4,8 @@ use Rattle.std.specs.Prelude.{take, drop, replicate, unwrap_or}
 use Rattle.sync_types.specs.States.{State, zero_register, zero_state, register_at}
 use Rattle.construction.specs.PhaseKing.{up}
 use Rattle.construction.specs.Steps.{state_of}
-use Rattle.pulse_laws.specs.Halves.{faults_of, left_period, right_period}
-use Rattle.pulse_laws.specs.LevelStates.{LevelState, level_state_after}
+use Rattle.pulse_construction.specs.Halves.{faults_of, left_period, right_period}
+use Rattle.pulse_construction.specs.LevelStates.{LevelState, level_state_after}
 use Rattle.pulse_construction.specs.Halvings.{Halving, One, Split, halving_nodes, halving_height}
 use Rattle.pulse_construction.specs.Halvings.{halves_of}
 use Rattle.pulse_construction.specs.Registers.{level_state_of, inner, with_level_state}

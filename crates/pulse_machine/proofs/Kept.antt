@@ -12,11 +12,11 @@ use Rattle.pulse_construction.specs.Halvings.{halving_nodes, halving_of}
 use Rattle.pulse_construction.specs.Steps.{halving_depth}
 use Rattle.pulse_construction.specs.Runs.{fields_in, all_fields, lock_of}
 use Rattle.pulse_construction.proofs.Ranges.{positive_fields}
-use Rattle.pulse_plan_laws.proofs.States.{long, fields_most}
+use Rattle.pulse_construction.proofs.States.{long, fields_most}
 use Rattle.pulse_plan.specs.Plans.{PulseNumbers, IsAccepted, tree_of}
 use Rattle.pulse_plan.specs.Laws.{machine_in}
 use Rattle.pulse_plan.proofs.Sound.{nodes_are, accepted_are_sound}
-use Rattle.pulse_counter.specs.Groups.{CanHear, IsDeep}
+use Rattle.pulse_machine.specs.Groups.{CanHear, IsDeep}
 use Rattle.pulse_machine.specs.Kept.{IsKept}
 
 -- one node has no register that tells locks, and each other tree has the first one

@@ -2,3 +2,8 @@ pub mod Bits
 pub mod Kept
 pub mod Made
 pub mod Alike
+pub mod Lists
+pub mod Stretches
+pub mod Written
+pub mod Depths
+pub mod Heard

@@ -8,7 +8,7 @@ use Rattle.machines.specs.Laws as laws
 use Rattle.pulse_construction.specs.Halvings.{Halving, halving_bound}
 use Rattle.pulse_construction.specs.Runs as trees
 use Rattle.pulse_construction.specs.Runs.{machine_of}
-use Rattle.pulse_plan_laws.specs.Laws as tree_laws
+use Rattle.pulse_construction.specs.Laws as tree_laws
 
 -- The states of a node, the locked configurations, that each run is locked at the bound, and that
 -- it stays so and counts. Rounds, runs and what settles have no other words than those of machines.

@@ -5,9 +5,9 @@ ghost use Rattle.pulse_construction.specs.Runs.{all_fields};
 ghost use Rattle.pulse_plan.specs.Plans.{tree_of};
 
 use crate::making::all_nodes_fields;
+use crate::{advance, output};
 use counter_core::{Heard, Work};
 use machines::Machine;
-use pulse_counter::{advance, output};
 use pulse_plan::PulsePlan;
 use state_codec::Fields;
 use std::alloc::Global;

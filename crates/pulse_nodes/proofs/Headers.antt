@@ -7,7 +7,7 @@ use Rattle.node_promises.proofs.Headers.{IsServed, are_of_machines}
 use Rattle.pulse_plan.specs.Plans.{PulseNumbers, IsAccepted}
 use Rattle.pulse_plan.proofs.Sound.{accepted_are_sound, nodes_are}
 use Rattle.pulse_texts.proofs.Rewritten.{read_is_accepted}
-use Rattle.pulse_header.proofs.Shaped as shaped
+use Rattle.pulse_nodes.proofs.Shaped as shaped
 use Rattle.pulse_nodes.specs.PulseWords.{pulse_words}
 
 pub is_shaped : (plan : PulseNumbers) → IsAccepted plan → IsShaped pulse_words plan

@@ -6,14 +6,14 @@ use Rattle.sync_types.specs.States.{State}
 use Rattle.node_runs.specs.Bytes.{AreBytes}
 use Rattle.node_promises.proofs.InputTexts.{AreWritten}
 use Rattle.node_promises.proofs.TextBytes.{word, count, pieces_bytes, node_part}
-use Rattle.node_header.specs.WrittenHeaders.{node_part_in}
+use Rattle.node_words.specs.WrittenHeaders.{node_part_in}
 use Rattle.pulse_plan.specs.Plans.{PulseNumbers, IsAccepted}
 use Rattle.pulse_plan.specs.Laws.{AcceptedAreSound}
 use Rattle.pulse_plan.proofs.Sound.{nodes_are}
 use Rattle.pulse_machine.proofs.Bits.{few_bits}
 use Rattle.pulse_texts.specs.PulsesTexts.{pulses_text}
-use Rattle.pulse_header.specs.PulseShapes.{shape_of}
-use Rattle.pulse_header.specs.HeaderTexts.{header_text, PulseHeaderTextIsRead}
+use Rattle.pulse_nodes.specs.PulseShapes.{shape_of}
+use Rattle.pulse_nodes.specs.HeaderTexts.{header_text, PulseHeaderTextIsRead}
 use Rattle.pulse_nodes.specs.NodePromises.{header_lines}
 use Rattle.pulse_nodes.specs.PulseWords.{pulse_words}
 

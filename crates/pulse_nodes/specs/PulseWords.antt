@@ -7,7 +7,7 @@ use Rattle.pulse_plan.specs.Laws.{machine_in}
 use Rattle.pulse_texts.specs.declared.premises.LinePremise.{LinePremise}
 use Rattle.pulse_texts.specs.declared.stages.PulsesStage.{PulsesStage}
 use Rattle.pulse_texts.specs.PulsesRefusals.{premise_word}
-use Rattle.pulse_header.specs.PulseShapes.{pulses_part}
+use Rattle.pulse_nodes.specs.PulseShapes.{pulses_part}
 
 -- the line of a refusal
 abbrev pub refusal_line : (line : ℕ) (premise : LinePremise) → List ℕ

@@ -1,8 +1,7 @@
 use crate::refusals::put_refusal;
+use crate::{PulsesHeader, read_pulses_header};
 use edge_io::{Feed, LineBuf, Sink, Source, WriteFault};
-use node_header::{HeaderError, HeaderRead};
-use node_words::Construction;
-use pulse_header::{PulsesHeader, read_pulses_header};
+use node_words::{Construction, HeaderError, HeaderRead};
 use pulse_machine::PulseMachine;
 use pulse_plan::PulsePlan;
 use pulse_texts::{LinePremise, PulsesRefusal};

@@ -3,3 +3,7 @@ pub mod Halves
 pub mod Fitting
 pub mod GroupFields
 pub mod Sound
+pub mod GroupSizes
+pub mod Most
+pub mod Written
+pub mod Examples

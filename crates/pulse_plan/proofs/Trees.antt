@@ -2,7 +2,7 @@
 use Rattle.std.proofs.Common.{◌≡◌, ℕ, zero, suc, ◌+◌, ◌-◌, ◌*◌, ◌/◌, ◌<◌, ◌≤◌, max, refl, ap, ap₂}
 use Rattle.std.proofs.Common.{◌∙◌, arith}
 use Rattle.std.proofs.Math.Nat.{max-le}
-use Rattle.pulse_laws.specs.Halves.{left_period, right_period}
+use Rattle.pulse_construction.specs.Halves.{left_period, right_period}
 use Rattle.pulse_construction.specs.Halvings.{Split, halving_nodes, halving_faults}
 use Rattle.pulse_construction.specs.Halvings.{halving_height, halving_bound, bound_over}
 use Rattle.pulse_construction.specs.Halvings.{halved_within, halving_of}

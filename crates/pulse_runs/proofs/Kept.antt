@@ -2,11 +2,11 @@
 use Rattle.std.proofs.Common.{arith}
 use Rattle.machines.specs.Machines.{Machine}
 use Rattle.machines.specs.Laws.{IsSound}
-use Rattle.script_runs.specs.Laws.{ErasAreRuns, ErasCount, ErasLock, ErasStayLocked}
-use Rattle.script_runs.specs.Laws.{FirstsAreLocked}
-use Rattle.script_runs.specs.Played.{played_at}
-use Rattle.script_runs.specs.Plays.{ScriptsArePlayed}
-use Rattle.script_runs.proofs.ReadFor.{borne_in}
+use Rattle.machine_runner.specs.Laws.{ErasAreRuns, ErasCount, ErasLock, ErasStayLocked}
+use Rattle.machine_runner.specs.Laws.{FirstsAreLocked}
+use Rattle.machine_runner.specs.Played.{played_at}
+use Rattle.machine_runner.specs.Plays.{ScriptsArePlayed}
+use Rattle.machine_runner.proofs.ReadFor.{borne_in}
 use Rattle.pulse_plan.specs.Laws.{machine_in}
 use Rattle.pulse_plan.proofs.Sound.{accepted_are_sound}
 use Rattle.pulse_runs.specs.RunPromises.{RunsKeepPromise}

@@ -18,8 +18,8 @@ use Rattle.pulse_plan.specs.Plans.{PulseNumbers, IsAccepted}
 use Rattle.pulse_texts.specs.declared.premises.LinePremise.{LinePremise}
 use Rattle.pulse_texts.specs.PulsesPart.{pulses_of, found_in}
 use Rattle.pulse_texts.proofs.Rewritten.{read_is_accepted}
-use Rattle.pulse_header.specs.PulseShapes.{shape_of}
-use Rattle.pulse_header.proofs.Shaped as shaped
+use Rattle.pulse_nodes.specs.PulseShapes.{shape_of}
+use Rattle.pulse_nodes.proofs.Shaped as shaped
 use Rattle.pulse_runs.specs.RunInputs.{with_script, behind_plan, scripted_of}
 use Rattle.pulse_runs.specs.Readings.{script_error, IsReadAs, FailsToRead}
 use Rattle.pulse_runs.specs.declared.errors.PlayError.{PlayError}

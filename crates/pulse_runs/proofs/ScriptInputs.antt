@@ -11,15 +11,15 @@ use Rattle.adversary_script.specs.ScriptPart.{script_for}
 use Rattle.adversary_script.specs.ScriptTexts.{script_text}
 use Rattle.adversary_script.specs.Writable.{FitsLines, IsWritableFor}
 use Rattle.adversary_script.specs.ScriptLaws.{ScriptTextIsWhole, ReadIsWritable}
-use Rattle.node_header.proofs.StateDigits.{most_bits}
+use Rattle.node_words.proofs.StateDigits.{most_bits}
 use Rattle.pulse_plan.specs.Plans.{PulseNumbers, IsAccepted}
 use Rattle.pulse_texts.specs.declared.premises.LinePremise.{LinePremise}
 use Rattle.pulse_texts.specs.PulsesPart.{pulses_of}
 use Rattle.pulse_texts.specs.PulsesTexts.{pulses_text, PulsesTextIsRead}
 use Rattle.pulse_texts.proofs.Rewritten.{read_is_accepted}
-use Rattle.pulse_header.specs.PulseShapes.{shape_of}
-use Rattle.pulse_header.proofs.PlanBits.{some_bits_at, few_registers}
-use Rattle.pulse_header.proofs.Shaped as shaped
+use Rattle.pulse_nodes.specs.PulseShapes.{shape_of}
+use Rattle.pulse_nodes.proofs.PlanBits.{some_bits_at, few_registers}
+use Rattle.pulse_nodes.proofs.Shaped as shaped
 use Rattle.pulse_runs.specs.RunInputs.{Scripted, with_script, behind_plan, scripted_of}
 use Rattle.pulse_runs.specs.ScriptInputs.{scripted_text, ScriptInputsAreRead}
 

@@ -8,8 +8,8 @@ use Rattle.state_codec.specs.Shapes.{shape_nodes}
 use Rattle.adversary_script.specs.Scripts.{Script, IsScript}
 use Rattle.adversary_script.specs.ScriptPart.{script_for, IsScriptFor}
 use Rattle.adversary_script.proofs.ReadScripts.{script_fits, script_is_script}
-use Rattle.script_runs.specs.Laws.{IsShapeOf, IsReadFor}
-use Rattle.script_runs.proofs.ReadFor.{readers_fit}
+use Rattle.machine_runner.specs.Laws.{IsShapeOf, IsReadFor}
+use Rattle.machine_runner.proofs.ReadFor.{readers_fit}
 use Rattle.pulse_construction.specs.Halvings.{halving_faults}
 use Rattle.pulse_construction.proofs.Numbers.{faults_of_halving}
 use Rattle.pulse_plan.specs.Plans.{PulseNumbers, IsAccepted, tree_of}
@@ -18,8 +18,8 @@ use Rattle.pulse_plan.proofs.Sound.{nodes_are}
 use Rattle.pulse_texts.specs.declared.premises.LinePremise.{LinePremise}
 use Rattle.pulse_texts.specs.PulsesPart.{pulses_of}
 use Rattle.pulse_texts.proofs.Rewritten.{read_is_accepted}
-use Rattle.pulse_header.specs.PulseShapes.{shape_of}
-use Rattle.pulse_header.proofs.Shaped as shaped
+use Rattle.pulse_nodes.specs.PulseShapes.{shape_of}
+use Rattle.pulse_nodes.proofs.Shaped as shaped
 use Rattle.pulse_runs.specs.declared.errors.RunRefusal.{RunRefusal}
 use Rattle.pulse_runs.specs.RunInputs.{Scripted, with_script, behind_plan, scripted_of}
 

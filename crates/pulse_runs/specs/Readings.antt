@@ -4,7 +4,7 @@ use Rattle.state_codec.specs.Shapes.{Shape}
 use Rattle.adversary_script.specs.declared.refusals.ScriptError.{ScriptError}
 use Rattle.adversary_script.specs.declared.refusals.ScriptError.TheVariants as script
 use Rattle.adversary_script.specs.Scripts.{Script}
-use Rattle.script_runs.specs.Laws.{IsReadFor}
+use Rattle.machine_runner.specs.Laws.{IsReadFor}
 use Rattle.pulse_plan.specs.Plans.{PulseNumbers}
 use Rattle.pulse_plan.specs.Laws.{machine_in}
 use Rattle.pulse_texts.specs.declared.refusals.PulsesError.{PulsesError}

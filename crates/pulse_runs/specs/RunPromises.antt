@@ -4,10 +4,10 @@ use Rattle.adversary_script.specs.Scripts.{Script}
 use Rattle.adversary_script.specs.Eras.{first_of_era, end_of_era, faulty_of_era, faulty_at}
 use Rattle.machines.specs.Machines.{Machine, IsBorne, IsLocked}
 use Rattle.machine_lines.specs.RunTexts.{lock_played}
-use Rattle.script_runs.specs.Laws.{IsReadFor, IsUpTo, EraIsRun, EraCountsFrom, EraStaysLocked}
-use Rattle.script_runs.specs.Locks.{IsFirstLocked}
-use Rattle.script_runs.specs.Played.{played_at}
-use Rattle.script_runs.specs.Plays.{PlaysScript}
+use Rattle.machine_runner.specs.Laws.{IsReadFor, IsUpTo, EraIsRun, EraCountsFrom, EraStaysLocked}
+use Rattle.machine_runner.specs.Locks.{IsFirstLocked}
+use Rattle.machine_runner.specs.Played.{played_at}
+use Rattle.machine_runner.specs.Plays.{PlaysScript}
 use Rattle.pulse_plan.specs.Plans.{PulseNumbers, IsAccepted}
 use Rattle.pulse_plan.specs.Laws.{machine_in}
 use Rattle.pulse_runs.specs.RunInputs.{Scripted, scripted_of}

@@ -5,7 +5,7 @@ use Rattle.adversary_script.specs.ScriptTexts.{script_text}
 use Rattle.adversary_script.specs.Writable.{IsWritableFor}
 use Rattle.pulse_plan.specs.Plans.{PulseNumbers, IsAccepted}
 use Rattle.pulse_texts.specs.PulsesTexts.{pulses_text}
-use Rattle.pulse_header.specs.PulseShapes.{shape_of}
+use Rattle.pulse_nodes.specs.PulseShapes.{shape_of}
 use Rattle.pulse_runs.specs.RunInputs.{scripted_of}
 
 -- a plan and a script

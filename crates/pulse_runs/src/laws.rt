@@ -5,10 +5,10 @@ ghost use Rattle.pulse_runs.specs.RunPromises.{RunsKeepPromise};
 ghost use Rattle.pulse_runs.specs.ScriptInputs.{ScriptInputsAreRead};
 
 use adversary_script::laws::{read_scripts_have_texts, script_texts_read_back};
-use pulse_texts::pulses_texts_read_back;
-use script_runs::laws::{
+use machine_runner::laws::{
     eras_are_runs, eras_count, eras_lock, eras_stay_locked, firsts_are_locked, scripts_are_played,
 };
+use pulse_texts::pulses_texts_read_back;
 
 /// An input that is read as a plan and a script is an accepted plan, and a script for the plan's
 /// machine. What is played is the script's. Each of its eras is a run of the plan with few faulty

@@ -1,6 +1,6 @@
 ghost use Rattle.std.specs.Prelude.{◌≡◌, ◌≤◌, ◌^◌, length, MatchResult, IfErr};
 ghost use Rattle.pulse_plan.specs.Laws.{machine_in};
-ghost use Rattle.script_runs.specs.Laws.{IsReadFor};
+ghost use Rattle.machine_runner.specs.Laws.{IsReadFor};
 ghost use Rattle.machine_lines.specs.RunTexts.{run_text};
 ghost use Rattle.pulse_runs.specs.RunTexts.{IsPlayed, FailsToPlay, IsWritten, KeepsSink};
 

@@ -3,8 +3,8 @@ ghost use Rattle.pulse_runs.specs.Readings.{IsReadAs, FailsToRead};
 
 use crate::errors::PlayError;
 use adversary_script::{Script, read_script_for};
-use pulse_header::shape_of;
 use pulse_machine::PulseMachine;
+use pulse_nodes::shape_of;
 use pulse_texts::read_pulses;
 use state_codec::StateShape;
 use std::alloc::Global;

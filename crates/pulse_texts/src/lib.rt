@@ -1,17 +1,30 @@
-//! The text of a pulse plan: it is read at the front of an input, as the whole of an input, or line
-//! by line, as from a feed; and it is written.
+//! The texts of a pulse plan: its part of an input, and its table.
 //!
 //! A pulses part is the line `pulses 1`, the line `group N F C` with how many nodes there are, how
 //! many may be faulty, and the modulus that they count by, and the line `end`. Empty lines and
-//! lines that begin with `#` are skipped. The first line that fails is refused, with the first
-//! premise that it fails. No memory is taken.
+//! lines that begin with `#` are skipped. It is read at the front of an input, as the whole of an
+//! input, or line by line, as from a feed; and it is written. The first line that fails is refused,
+//! with the first premise that it fails. No memory is taken.
+//!
+//! A table has the plan's numbers, and those of each of its groups: the lines `table pulses 1`, `plan
+//! nodes N faults F modulus C`, and `bound T levels L bits W bytes Y`, where W and Y are those of the
+//! node whose states take most; then for each group, a group before its halves and the left half
+//! before the right one, the line `group V nodes N faults F modulus C left P right R spares S`, with
+//! its first node, what its halves count by and how many of its nodes are in none of them, or, for a
+//! node alone, `group V nodes 1 faults 0 modulus C`; then `end`. Each line ends with a newline. A
+//! table is read back, and refused at its first line that is not as it has to be.
 #![tactic(auto)]
 
+mod buffers;
+mod differences;
 mod laws;
 mod premises;
 mod reading;
 mod refusals;
 mod stages;
+mod table_laws;
+mod table_reading;
+mod table_writing;
 mod taking;
 mod writing;
 
@@ -20,4 +33,7 @@ pub use premises::LinePremise;
 pub use reading::{read_pulses, read_whole_pulses};
 pub use refusals::{PulsesError, PulsesRefusal};
 pub use stages::PulsesLines;
+pub use table_laws::tables_read_back;
+pub use table_reading::{TableError, read_table};
+pub use table_writing::write_table;
 pub use writing::write_pulses;

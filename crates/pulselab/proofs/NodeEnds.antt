@@ -1,6 +1,6 @@
 -- What the word `node` left as it was, by how its call ended.
 use Rattle.std.proofs.Common.{Bool, Some, Err}
-use Rattle.node_header.specs.declared.headers.HeaderRefusal.TheVariants as header
+use Rattle.node_words.specs.declared.headers.HeaderRefusal.TheVariants as header
 use Rattle.node_words.specs.declared.errors.NodeError.{NodeError}
 use Rattle.node_words.specs.declared.errors.NodeError.TheVariants as node
 use Rattle.node_words.specs.Conduct.{LeavesUnmet, LeavesUntouched}

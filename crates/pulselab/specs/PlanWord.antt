@@ -5,7 +5,7 @@ use Rattle.texts.specs.Parts.{At}
 use Rattle.pulse_plan.specs.Plans.{PulseNumbers}
 use Rattle.pulse_texts.specs.declared.premises.LinePremise.{LinePremise}
 use Rattle.pulse_texts.specs.PulsesPart.{whole_pulses_of}
-use Rattle.pulse_tables.specs.Tables.{table_text}
+use Rattle.pulse_texts.specs.Tables.{table_text}
 use Rattle.pulse_nodes.specs.PulseWords.{refusal_line}
 use Rattle.pulselab.specs.declared.faults.LabError.{LabError}
 use Rattle.pulselab.specs.declared.faults.LabError.TheVariants as error

@@ -2,12 +2,12 @@
 -- of the command line, letter by letter.
 use Rattle.std.specs.Prelude.{◌≡◌, ℕ, List, [], ◌∷◌, ◌++◌, map, Some, None, Ok, codes}
 use Rattle.sync_types.specs.declared.answers.Rule.TheVariants as rule
-use Rattle.node_header.specs.declared.headers.HeaderRefusal.TheVariants as header
+use Rattle.node_words.specs.declared.headers.HeaderRefusal.TheVariants as header
 use Rattle.node_words.specs.Rules.{header_line}
 use Rattle.pulse_plan.specs.Plans.{PulseNumbers}
 use Rattle.pulse_texts.specs.PulsesPart.{whole_pulses_of}
 use Rattle.pulse_texts.specs.PulsesTexts.{pulses_text}
-use Rattle.pulse_tables.specs.Tables.{table_text}
+use Rattle.pulse_texts.specs.Tables.{table_text}
 use Rattle.pulse_nodes.specs.PulseWords.{pulse_words}
 use Rattle.pulse_runs.specs.RunInputs.{scripted_of}
 use Rattle.pulse_runs.specs.RunTexts as run

@@ -3,8 +3,8 @@
 ghost use Rattle.std.specs.Prelude.{◌≡◌, map, string_bytes, MatchResult, IfErr};
 ghost use Rattle.pulse_plan.specs.Laws.{EveryPlanSettles};
 ghost use Rattle.pulse_texts.specs.PulsesTexts.{PulsesTextIsWhole};
-ghost use Rattle.pulse_tables.specs.TableLaws.{TablesAreRead, OnlyTablesAreRead};
-ghost use Rattle.pulse_header.specs.HeaderTexts.{PulseHeaderTextIsRead};
+ghost use Rattle.pulse_texts.specs.TableLaws.{TablesAreRead, OnlyTablesAreRead};
+ghost use Rattle.pulse_nodes.specs.HeaderTexts.{PulseHeaderTextIsRead};
 ghost use Rattle.pulse_nodes.specs.NodePromises.{PulseNodesKeepPromise, PulseCallsAreProcesses};
 ghost use Rattle.pulse_nodes.specs.NodePromises.{AnyPulseInputs};
 ghost use Rattle.pulse_runs.specs.RunPromises.{RunsKeepPromise};
@@ -22,12 +22,11 @@ use crate::requests::{Request, request_of};
 use crate::run_word::play_script;
 use crate::worked::worked_values;
 use edge_io::{Sink, Source};
-use pulse_header::laws::header_texts_read_back;
+use pulse_nodes::header_laws::header_texts_read_back;
 use pulse_nodes::laws::{any_inputs, calls_are_processes, pulse_nodes_keep_promise};
 use pulse_plan::laws::every_plan_settles;
 use pulse_runs::laws::{runs_keep_promise, script_inputs_read_back};
-use pulse_tables::tables_read_back;
-use pulse_texts::pulses_texts_read_back;
+use pulse_texts::{pulses_texts_read_back, tables_read_back};
 use std::alloc::Global;
 
 /// Does what the words ask for. `plan` reads all of the input as a pulse plan, which has at most

@@ -2,8 +2,7 @@ ghost use Rattle.std.specs.Prelude.{◌≡◌, ◌↔◌, IsTrue};
 ghost use Rattle.pulselab.specs.Faults.{code_of, IsAnswered};
 
 use edge_io::WriteFault;
-use node_header::HeaderRefusal;
-use node_words::{NodeError, rule_word};
+use node_words::{HeaderRefusal, NodeError, rule_word};
 use pulse_texts::{LinePremise, PulsesRefusal};
 use std::alloc::AllocError;
 use sync_types::Rule;

@@ -9,8 +9,7 @@ ghost use Rattle.pulselab.specs.PlanWord.{IsTabled, FailsOn, PlanDone, PlanFails
 use crate::faults::LabError;
 use edge_io::{InputFault, Sink, Source, WriteFault, read_all};
 use pulse_nodes::put_refusal;
-use pulse_tables::write_table;
-use pulse_texts::{PulsesError, read_whole_pulses};
+use pulse_texts::{PulsesError, read_whole_pulses, write_table};
 use std::alloc::Global;
 
 /// How many bytes an input may have.

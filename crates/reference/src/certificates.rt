@@ -2,11 +2,11 @@
 
 use crate::input_texts::write_levels;
 use crate::layers::Part;
+use crate::plans::Plan;
 use crate::runs::Run;
+use crate::scripts::Script;
+use crate::states::written;
 use crate::texts::Text;
-use reference_steps::plans::Plan;
-use reference_steps::scripts::Script;
-use reference_steps::states::written;
 use std::alloc::{AllocError, Global};
 
 /// Writes the first lines, down to that of the faulty nodes.

@@ -4,14 +4,14 @@
 use crate::layers::Part;
 use crate::lines::Lines;
 use crate::plan_texts::read_plan;
+use crate::plans::{Level, Plan, quotient, remainder};
 use crate::refusals::Stop;
 use crate::runs::Run;
 use crate::script_texts::read_script;
+use crate::scripts::Script;
 use crate::sizes::Sizes;
+use crate::steps::shown;
 use crate::texts::Text;
-use reference_steps::plans::{Level, Plan, quotient, remainder};
-use reference_steps::scripts::Script;
-use reference_steps::steps::shown;
 use std::alloc::{AllocError, Global};
 
 /// A plan with levels: how many nodes it has, how many a block of the top level has, and how many

@@ -1,8 +1,8 @@
 //! The texts of plans and scripts.
 
+use crate::plans::{Level, Plan};
+use crate::scripts::{Lie, Receivers, Rule, Script, Start};
 use crate::texts::Text;
-use reference_steps::plans::{Level, Plan};
-use reference_steps::scripts::{Lie, Receivers, Rule, Script, Start};
 use std::alloc::AllocError;
 
 /// The name of a group of that number.

@@ -2,14 +2,14 @@
 
 use crate::lines::Lines;
 use crate::plan_texts::{take_base, take_levels};
+use crate::plans::Plan;
 use crate::refusals::Stop;
 use crate::runs::is_locked;
 use crate::script_texts::want_faulty;
 use crate::sizes::Sizes;
+use crate::states::{State, ZERO_STATE, read, state_of};
+use crate::steps::{shown, stepped};
 use crate::texts::Text;
-use reference_steps::plans::Plan;
-use reference_steps::states::{State, ZERO_STATE, read, state_of};
-use reference_steps::steps::{shown, stepped};
 use std::alloc::{AllocError, Global};
 use std::mem;
 

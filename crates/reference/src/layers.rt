@@ -1,11 +1,11 @@
 //! Layers above the counter, whose nodes have registers behind those of the levels and keep
 //! something beside, and slot tables.
 
+use crate::plans::{Plan, quotient, remainder};
 use crate::spans::{Span, cover};
+use crate::states::{Register, State, state_of};
+use crate::steps::{agreed, register, shown};
 use crate::texts::Text;
-use reference_steps::plans::{Plan, quotient, remainder};
-use reference_steps::states::{Register, State, state_of};
-use reference_steps::steps::{agreed, register, shown};
 
 /// What is made of the outputs of the counter: nothing; who holds, by the slots; agreement on the
 /// inputs of the nodes; firing on requests; or a log of the commands of each node.

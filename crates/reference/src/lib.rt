@@ -1,7 +1,9 @@
-//! What the workbench answers, computed plainly and slowly from what plans, scripts and their other
-//! parts mean. It shares no code with the workbench, which is compared with it.
+//! What the programs answer, computed plainly and slowly from what plans of both constructions,
+//! states, scripts and their other parts mean. It shares no code with the programs, which are compared
+//! with it; and it has no contracts.
 #![tactic(auto)]
 
+pub mod bits;
 pub mod certificates;
 pub mod explanations;
 pub mod input_texts;
@@ -12,12 +14,22 @@ pub mod lines;
 pub mod nodes;
 pub mod parts;
 mod plan_texts;
+pub mod plans;
+pub mod premises;
 pub mod program;
+pub mod pulse_groups;
+pub mod pulse_runs;
+pub mod pulse_scripts;
+pub mod pulse_states;
+pub mod pulse_steps;
 pub mod refusals;
 pub mod runs;
 pub mod script_texts;
+pub mod scripts;
 pub mod sizes;
 pub mod spans;
+pub mod states;
+pub mod steps;
 mod table_texts;
 pub mod tables;
 pub mod texts;

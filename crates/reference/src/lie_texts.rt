@@ -1,8 +1,8 @@
 //! Lines of lies from texts.
 
 use crate::lines::Lines;
+use crate::scripts::{Lie, Receivers, Rule, Script};
 use crate::sizes::Sizes;
-use reference_steps::scripts::{Lie, Receivers, Rule, Script};
 use std::alloc::Global;
 
 /// The number of the group of that name, or how many groups there are where none has it.

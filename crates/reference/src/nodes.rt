@@ -1,12 +1,12 @@
 //! One node: the cells that it writes, from the packets that it hears.
 
+use crate::bits::number;
 use crate::lines::Lines;
 use crate::plan_texts::read_plan;
+use crate::plans::Plan;
 use crate::refusals::Stop;
-use reference_steps::bits::number;
-use reference_steps::plans::Plan;
-use reference_steps::states::{State, ZERO_STATE, read, written};
-use reference_steps::steps::stepped;
+use crate::states::{State, ZERO_STATE, read, written};
+use crate::steps::stepped;
 use std::alloc::{AllocError, Global};
 
 /// The name of the part.

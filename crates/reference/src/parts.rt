@@ -3,12 +3,12 @@
 use crate::layers::{Part, length_of_entry};
 use crate::lines::Lines;
 use crate::plan_texts::{read_plan, want_none_broken};
+use crate::plans::{Plan, remainder};
 use crate::refusals::Stop;
 use crate::runs::answer;
 use crate::script_texts::read_script;
 use crate::sizes::Sizes;
 use crate::spans::{Span, read_spans};
-use reference_steps::plans::{Plan, remainder};
 use std::alloc::Global;
 
 /// The most values that the registers of a layer may have.

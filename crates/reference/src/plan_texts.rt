@@ -1,9 +1,9 @@
 //! Plans from texts.
 
 use crate::lines::Lines;
+use crate::plans::{Level, Plan};
+use crate::premises::{broken_base, broken_level};
 use crate::refusals::Stop;
-use reference_steps::plans::{Level, Plan};
-use reference_steps::premises::{broken_base, broken_level};
 use std::alloc::Global;
 
 /// Refuses the line by a premise, where it breaks one.

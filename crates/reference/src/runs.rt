@@ -2,11 +2,11 @@
 //! written of them.
 
 use crate::layers::Part;
+use crate::plans::{Plan, remainder};
+use crate::scripts::Script;
+use crate::states::{State, ZERO_STATE, read, state_of};
+use crate::steps::{register, shown, stepped};
 use crate::texts::Text;
-use reference_steps::plans::{Plan, remainder};
-use reference_steps::scripts::Script;
-use reference_steps::states::{State, ZERO_STATE, read, state_of};
-use reference_steps::steps::{register, shown, stepped};
 use std::alloc::{AllocError, Global};
 use std::mem;
 

@@ -3,8 +3,8 @@
 use crate::lie_texts::{group_of, lie_of};
 use crate::lines::Lines;
 use crate::refusals::Stop;
+use crate::scripts::{Era, Script, Start};
 use crate::sizes::Sizes;
-use reference_steps::scripts::{Era, Script, Start};
 use std::alloc::Global;
 
 /// How many rounds may be played.

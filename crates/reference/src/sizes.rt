@@ -1,6 +1,6 @@
 //! What a script has to know of a plan.
 
-use reference_steps::plans::Plan;
+use crate::plans::Plan;
 
 /// How many nodes a plan has at most.
 const MOST_NODES: usize = 256;

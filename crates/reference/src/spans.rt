@@ -2,7 +2,7 @@
 
 use crate::lines::Lines;
 use crate::plan_texts::want_none_broken;
-use reference_steps::plans::Plan;
+use crate::plans::Plan;
 
 /// How many spans there may be.
 const MOST_SPANS: usize = 256;

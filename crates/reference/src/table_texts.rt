@@ -2,9 +2,9 @@
 
 use crate::lines::Lines;
 use crate::plan_texts::{put_level, take_base};
+use crate::plans::{Level, Plan};
 use crate::refusals::Stop;
 use crate::tables::{PLAN_WORDS, in_line, level_words, numbers_at, whole_of};
-use reference_steps::plans::{Level, Plan};
 use std::alloc::Global;
 
 /// The name of the part.

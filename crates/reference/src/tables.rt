@@ -3,9 +3,9 @@
 use crate::input_texts::write_plan;
 use crate::lines::Lines;
 use crate::plan_texts::read_plan;
+use crate::plans::{Level, Plan, width};
 use crate::refusals::Stop;
 use crate::texts::Text;
-use reference_steps::plans::{Level, Plan, width};
 use std::alloc::{AllocError, Global};
 
 /// What the numbers of the line of a level are called, behind its index.

@@ -3,10 +3,10 @@
 use crate::input_texts::write_levels;
 use crate::lines::Lines;
 use crate::plan_texts::want_none_broken;
+use crate::plans::{Level, quotient};
+use crate::premises::MOST;
 use crate::refusals::Stop;
 use crate::texts::Text;
-use reference_steps::plans::{Level, quotient};
-use reference_steps::premises::MOST;
 use std::alloc::{AllocError, Global};
 
 /// The name of the part.

@@ -33,8 +33,8 @@ use Rattle.round_runner.proofs.Hits.{hit_has, put_has}
 use Rattle.round_runner.proofs.Places.{placed}
 use Rattle.run_promises.proofs.Heard.{heard_long, heard_is}
 use Rattle.node_stepper.specs.Packets.{whole}
-use Rattle.plan_node_runs.specs.PlanNodes.{fields_of, heard_of, heard_in, state_after, state_cell}
-use Rattle.plan_node_runs.specs.PlanNodes.{states_of}
+use Rattle.plan_machine.specs.PlanNodes.{fields_of, heard_of, heard_in, state_after, state_cell}
+use Rattle.plan_machine.specs.PlanNodes.{states_of}
 use Rattle.node_stepper.specs.Laws.{AreFull, PacketsReadBack}
 use Rattle.run_promises.specs.Columns.{round_packet, era_packets, NodesMakeColumns}
 use Rattle.run_promises.specs.Columns.{EraPacketsAreRead}

@@ -10,7 +10,7 @@ use Rattle.adversary_script.specs.Eras.{first_of_era, end_of_era}
 use Rattle.round_runner.specs.Laws.{IsReadFor}
 use Rattle.round_runner.specs.Played.{played_at, heard_at}
 use Rattle.node_stepper.specs.Packets.{packets_of, whole}
-use Rattle.plan_node_runs.specs.PlanNodes.{fields_of, state_cell, node_text}
+use Rattle.plan_machine.specs.PlanNodes.{fields_of, state_cell, node_text}
 use Rattle.node_stepper.specs.Laws.{packet_text}
 
 module _ (plan : Plan) (script : Script) (v : ℕ) where

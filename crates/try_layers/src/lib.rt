@@ -1,5 +1,5 @@
 //! Tries the calls of nodes over packets and of the layers above a counter. There is nothing here
-//! but tests, as in `try_towers`, which tries counters, and `try_calls`, which tries the crates
+//! but tests, as in `try_counters`, which tries counters, and `try_calls`, which tries the crates
 //! below these.
 #![tactic(auto)]
 

@@ -1,7 +1,7 @@
 //! States of nodes that are drawn, as bench/tools/pulse_steps.py draws them.
 
 use counter_core::clear;
-use pulse_counter::LevelState;
+use pulse_machine::LevelState;
 use pulse_plan::{Group, PulsePlan};
 use std::process::Abort;
 use sync_types::{NodeState, Reg};

@@ -1,5 +1,6 @@
-//! Tries the calls of the pulse construction: of `pulse_plan`, `pulse_counter` and `pulse_machine`.
-//! There is nothing here but tests.
+//! Tries the calls of the pulse construction: of `pulse_plan` and `pulse_machine`, the calls of
+//! `pulse_texts` that read and write plans and tables, and nodes of `pulse_nodes` that are given
+//! packets. There is nothing here but tests.
 #![tactic(auto)]
 
 #[cfg(test)]
@@ -9,4 +10,10 @@ mod pulse_counter_calls;
 #[cfg(test)]
 mod pulse_machine_calls;
 #[cfg(test)]
+mod pulse_nodes_calls;
+#[cfg(test)]
 mod pulse_plan_calls;
+#[cfg(test)]
+mod pulse_tables_calls;
+#[cfg(test)]
+mod pulse_texts_calls;

@@ -4,7 +4,7 @@ use crate::drawn_states::{DENSITIES, Numbers, digested, draw_all};
 use crate::pulse_plan_calls::plan_of;
 use counter_core::Heard;
 use majority_votes::Tally;
-use pulse_counter::{advance, can_hear, output, zero};
+use pulse_machine::{advance, can_hear, output, zero};
 use pulse_plan::PulsePlan;
 use std::alloc::Global;
 use std::process::Abort;

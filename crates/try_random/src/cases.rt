@@ -1,7 +1,7 @@
 //! Cases: inputs, and what is to be answered to them.
 
+use reference::plans::Plan;
 use reference::refusals::Refusal;
-use reference_steps::plans::Plan;
 use std::alloc::{AllocError, Global};
 
 /// The refusal of a line behind so many others of a part, which stands behind a plan.

@@ -2,8 +2,8 @@
 //! explained.
 
 use crate::draws::Draws;
-use reference_steps::plans::Plan;
-use reference_steps::scripts::Script;
+use reference::plans::Plan;
+use reference::scripts::Script;
 
 impl Draws {
     /// Makes rules of a script mostly go on to its end.

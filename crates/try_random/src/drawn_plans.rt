@@ -1,7 +1,7 @@
 //! Plans that are drawn.
 
 use crate::draws::Draws;
-use reference_steps::plans::{Level, Plan, quotient};
+use reference::plans::{Level, Plan, quotient};
 
 /// How many nodes a drawn plan may have.
 const MOST_NODES: u64 = 24;

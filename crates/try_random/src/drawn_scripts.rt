@@ -1,9 +1,9 @@
 //! Scripts that are drawn.
 
 use crate::draws::Draws;
-use reference_steps::plans::{Plan, quotient};
-use reference_steps::scripts::{Era, Lie, Receivers, Rule, Script, Start};
-use reference_steps::states::State;
+use reference::plans::{Plan, quotient};
+use reference::scripts::{Era, Lie, Receivers, Rule, Script, Start};
+use reference::states::State;
 
 impl Draws {
     /// Faulty nodes: mostly as many as the plan stands.

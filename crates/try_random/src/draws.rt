@@ -2,9 +2,9 @@
 
 use rand_chacha::ChaCha8Rng;
 use rand_core::{Rng, SeedableRng};
-use reference_steps::plans::{Plan, remainder};
-use reference_steps::states::{Register, State, ZERO_STATE, written};
-use reference_steps::steps::register;
+use reference::plans::{Plan, remainder};
+use reference::states::{Register, State, ZERO_STATE, written};
+use reference::steps::register;
 use std::alloc::{AllocError, Global};
 
 /// What choices are drawn from, and whether there was memory for all that was drawn.

@@ -1,6 +1,6 @@
 //! Plans that are given.
 
-use reference_steps::plans::Plan;
+use reference::plans::Plan;
 use std::alloc::{AllocError, Global};
 
 /// The version of a plan, its base, and its levels, each of blocks, faults, a modulus and spares.

@@ -3,7 +3,7 @@
 use crate::cases::Case;
 use crate::draws::Draws;
 use crate::given_plans::{PLANS_WITH_SLOTS, Row, plan_of, slot_plan};
-use reference_steps::plans::Plan;
+use reference::plans::Plan;
 use std::alloc::AllocError;
 
 /// A kind of cases on a plan.

@@ -4,7 +4,7 @@ use crate::cases::Case;
 use crate::draws::Draws;
 use reference::certificates::certificate;
 use reference::judgements::judged;
-use reference_steps::plans::Plan;
+use reference::plans::Plan;
 use std::alloc::{AllocError, Global};
 
 /// The bytes that are put into a certificate.

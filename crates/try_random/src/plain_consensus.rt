@@ -3,8 +3,8 @@
 use crate::cases::{Case, refusal_or_script};
 use crate::draws::Draws;
 use reference::layers::Part;
+use reference::plans::{Plan, remainder};
 use reference::texts::Text;
-use reference_steps::plans::{Plan, remainder};
 use std::alloc::AllocError;
 
 /// Agreement on values below some number, and the input of each node.

@@ -2,10 +2,10 @@
 
 use crate::cases::Case;
 use crate::draws::Draws;
+use reference::premises::MOST;
 use reference::refusals::Refusal;
 use reference::texts::Text;
 use reference::wants::{Want, answer};
-use reference_steps::premises::MOST;
 use std::alloc::AllocError;
 
 /// Writes the lines of a want.

@@ -4,9 +4,9 @@
 use crate::cases::{Case, refusal_or_script};
 use crate::draws::Draws;
 use reference::layers::Part;
+use reference::plans::{Plan, remainder};
 use reference::spans::{Span, broken_request};
 use reference::texts::Text;
-use reference_steps::plans::{Plan, remainder};
 use std::alloc::AllocError;
 
 /// The first rule that a request fails, and on which line behind that of `fire 1`.

@@ -4,8 +4,8 @@ use crate::cases::{Case, refusal_or_script};
 use crate::draws::Draws;
 use reference::layers::{Part, length_of_entry};
 use reference::parts::broken_commands;
+use reference::plans::{Plan, remainder};
 use reference::texts::Text;
-use reference_steps::plans::{Plan, remainder};
 use std::alloc::AllocError;
 
 /// What the lines of a log say: below what values are, how many entries are kept, and the commands

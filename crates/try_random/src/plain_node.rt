@@ -3,9 +3,9 @@
 use crate::cases::{Case, refusal_of};
 use crate::draws::Draws;
 use reference::nodes::{MOST_PACKETS, Node, answer, put_cell};
+use reference::plans::{Plan, remainder};
+use reference::states::State;
 use reference::texts::Text;
-use reference_steps::plans::{Plan, remainder};
-use reference_steps::states::State;
 use std::alloc::AllocError;
 
 /// The lines of a node that hears only itself, and counts modulo 4.

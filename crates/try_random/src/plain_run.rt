@@ -7,9 +7,9 @@ use reference::certificates::certificate;
 use reference::explanations;
 use reference::input_texts::{write_plan, write_script};
 use reference::layers::Part;
+use reference::plans::Plan;
 use reference::runs::answer;
-use reference_steps::plans::Plan;
-use reference_steps::scripts::Script;
+use reference::scripts::Script;
 use std::alloc::AllocError;
 
 impl Draws {

@@ -4,9 +4,9 @@ use crate::cases::{Case, refusal_of};
 use crate::draws::Draws;
 use reference::input_texts::write_script;
 use reference::layers::Part;
+use reference::plans::Plan;
 use reference::spans::{Span, broken_slot};
 use reference::texts::Text;
-use reference_steps::plans::Plan;
 use std::alloc::AllocError;
 
 /// The first rule that a slot fails, and on which line behind that of `slots 1`.

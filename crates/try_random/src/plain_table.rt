@@ -3,10 +3,10 @@
 
 use crate::cases::Case;
 use crate::draws::Draws;
+use reference::plans::{Level, Plan};
+use reference::premises::{MOST, broken_base, broken_level};
 use reference::refusals::Refusal;
 use reference::tables::{Numbers, Whole, numbers_of, table_of, whole_of, write_table};
-use reference_steps::plans::{Level, Plan};
-use reference_steps::premises::{MOST, broken_base, broken_level};
 use std::alloc::AllocError;
 
 /// The first line of a plan that is refused.

@@ -10,7 +10,7 @@ use crate::given_plans::{
 use crate::kinds::{Kind, Source};
 use crate::plain_check::judged_case;
 use reference::nodes::MOST_PACKETS;
-use reference_steps::plans::Plan;
+use reference::plans::Plan;
 use std::alloc::{AllocError, Global};
 
 /// How many changes are tried of each certificate.

@@ -4,9 +4,9 @@ use edge_io::{MemSink, PlainSource};
 use node_words::serve_node;
 use pulse_nodes::PulseNodes;
 use reference::nodes::put_cell;
+use reference::pulse_groups::Group;
+use reference::pulse_states::{State, written};
 use reference::texts::Text;
-use reference_pulses::groups::Group;
-use reference_pulses::states::{State, written};
 use std::alloc::{AllocError, Global};
 
 /// The bytes of a state of a node of a plan.

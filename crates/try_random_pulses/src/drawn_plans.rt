@@ -1,8 +1,8 @@
 //! Plans that are drawn.
 
 use crate::draws::Draws;
-use reference_pulses::groups::Group;
-use reference_steps::premises::MOST;
+use reference::premises::MOST;
+use reference::pulse_groups::Group;
 
 /// Moduli at the limits, and beyond them.
 const MODULI: [u64; 8] = [0, 1, 2, 3, 10, MOST, MOST + 1, 1_000_000_000_000_000];

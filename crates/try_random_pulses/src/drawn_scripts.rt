@@ -2,9 +2,9 @@
 
 use crate::calling::bytes_of;
 use crate::draws::Draws;
-use reference_pulses::groups::Group;
-use reference_pulses::states::{State, state_of};
-use reference_steps::scripts::{Era, Lie, Receivers, Rule, Script, Start};
+use reference::pulse_groups::Group;
+use reference::pulse_states::{State, state_of};
+use reference::scripts::{Era, Lie, Receivers, Rule, Script, Start};
 use std::alloc::AllocError;
 
 /// A plan, and states of its nodes, which a script may be near to.

@@ -2,9 +2,9 @@
 
 use crate::calling::bytes_of;
 use crate::draws::Draws;
-use reference_pulses::groups::Group;
-use reference_pulses::states::{State, ZERO_STATE, shifted, state_of};
-use reference_steps::states::Register;
+use reference::pulse_groups::Group;
+use reference::pulse_states::{State, ZERO_STATE, shifted, state_of};
+use reference::states::Register;
 use std::alloc::AllocError;
 
 /// How the faulty nodes of a run lie.

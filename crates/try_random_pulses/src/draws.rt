@@ -2,7 +2,7 @@
 
 use rand_chacha::ChaCha8Rng;
 use rand_core::{Rng, SeedableRng};
-use reference_steps::plans::remainder;
+use reference::plans::remainder;
 use std::alloc::{AllocError, Global};
 
 /// What choices are drawn from.

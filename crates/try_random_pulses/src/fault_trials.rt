@@ -1,8 +1,7 @@
 //! A node whose reads and writes fail, each in turn.
 
 use edge_io::{MemSink, MemSource};
-use node_header::HeaderRefusal;
-use node_words::{NodeError, serve_node};
+use node_words::{HeaderRefusal, NodeError, serve_node};
 use pulse_nodes::PulseNodes;
 use pulse_plan::PulsePremise;
 use pulse_texts::LinePremise;

@@ -2,13 +2,13 @@
 
 use crate::plain_texts::read_plan;
 use reference::lines::Lines;
+use reference::pulse_groups::Group;
+use reference::pulse_runs::Run;
 use reference::refusals::Stop;
 use reference::script_texts::read_script;
+use reference::scripts::Script;
 use reference::sizes::Sizes;
 use reference::texts::Text;
-use reference_pulses::groups::Group;
-use reference_pulses::runs::Run;
-use reference_steps::scripts::Script;
 use std::alloc::{AllocError, Global};
 
 /// What a script has to know of a plan.

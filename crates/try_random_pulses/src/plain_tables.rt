@@ -1,7 +1,7 @@
 //! The tables of plans, written plainly.
 
+use reference::pulse_groups::Group;
 use reference::texts::Text;
-use reference_pulses::groups::Group;
 use std::alloc::{AllocError, Global};
 
 /// How many levels stand on a node of a plan at most, and how many bits and bytes its states have.

@@ -1,9 +1,9 @@
 //! The texts of plans, read and written plainly.
 
 use reference::lines::Lines;
+use reference::pulse_groups::Group;
 use reference::refusals::Stop;
 use reference::texts::Text;
-use reference_pulses::groups::Group;
 use std::alloc::{AllocError, Global};
 
 /// The name of the part.

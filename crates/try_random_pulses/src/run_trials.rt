@@ -3,8 +3,8 @@
 use crate::drawn_states::Lies;
 use crate::draws::Draws;
 use crate::rounds::Run;
-use reference_pulses::groups::Group;
-use reference_steps::plans::remainder;
+use reference::plans::remainder;
+use reference::pulse_groups::Group;
 use std::alloc::AllocError;
 
 /// How many nodes a drawn plan has at most.

@@ -7,8 +7,8 @@ use crate::plain_texts::text_of;
 use edge_io::MemSink;
 use pulse_runs::{PlayError, play};
 use reference::input_texts::write_script;
+use reference::pulse_groups::Group;
 use reference::refusals::Stop;
-use reference_pulses::groups::Group;
 use std::alloc::{AllocError, Global};
 
 /// How many faults plans tolerate whose scripts go on behind the bound, and how many scripts these

@@ -4,9 +4,9 @@ use crate::calling::{Node, bytes_of};
 use crate::draws::Draws;
 use crate::plain_texts::text_of;
 use reference::nodes::put_cell;
-use reference_pulses::groups::Group;
-use reference_pulses::states::{State, state_of};
-use reference_pulses::steps::{has_fired, stepped};
+use reference::pulse_groups::Group;
+use reference::pulse_states::{State, state_of};
+use reference::pulse_steps::{has_fired, stepped};
 use std::alloc::{AllocError, Global};
 
 /// How many steps are tried with a plan.

@@ -8,10 +8,9 @@ use edge_io::MemSink;
 use machines::Machine;
 use pulse_machine::PulseMachine;
 use pulse_plan::PulsePlan;
-use pulse_tables::{read_table, write_table};
-use pulse_texts::{PulsesError, read_whole_pulses};
+use pulse_texts::{PulsesError, read_table, read_whole_pulses, write_table};
+use reference::pulse_groups::Group;
 use reference::refusals::Stop;
-use reference_pulses::groups::Group;
 use std::alloc::{AllocError, Global};
 use sync_types::NoMemory;
 

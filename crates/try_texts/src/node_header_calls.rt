@@ -1,5 +1,5 @@
 use edge_io::{Feed, LineBuf, PlainSource};
-use node_header::{HeaderError, HeaderRefusal, read_header};
+use node_words::{HeaderError, HeaderRefusal, read_header};
 use std::alloc::Global;
 use std::test::Fail;
 use sync_types::{Premise, Rule};

@@ -6,8 +6,7 @@ ghost use Rattle.outcomes.specs.Conduct.{Does, LeavesUnmet, LeavesUntouched};
 
 use crate::plan_nodes::PlanNodes;
 use edge_io::{Sink, Source};
-use node_header::HeaderRefusal;
-use node_words::{NodeError, serve_node};
+use node_words::{HeaderRefusal, NodeError, serve_node};
 use outcomes::Command;
 use std::alloc::Global;
 use sync_types::{Part, Premise, Status};

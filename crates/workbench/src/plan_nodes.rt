@@ -1,6 +1,5 @@
 use edge_io::{Feed, LineBuf, Sink, Source, WriteFault};
-use node_header::{HeaderError, HeaderRead, read_header};
-use node_words::Construction;
+use node_words::{Construction, HeaderError, HeaderRead, read_header};
 use outcomes::{Refusal, put_refusal};
 use plan_machine::PlanMachine;
 use plan_numbers::Plan;

@@ -1,7 +1,7 @@
 use Rattle.std.proofs.Common.{ℕ, ◌∙◌, sym, Err, rules}
 use Rattle.node_words.specs.declared.errors.NodeError.TheVariants as error
 use Rattle.node_words.proofs.Returns.{does_end, unmet_end, none_held, dry_held}
-use Rattle.node_words.proofs.Headers.{header_lost, header_long, header_cut, header_refused}
+use Rattle.node_words.proofs.HeaderEnds.{header_lost, header_long, header_cut, header_refused}
 use Rattle.node_words.proofs.Engines.{is_node_of}
 use Rattle.node_words.proofs.Service.{service_touches, service_unmet, never_unmet, serves}
 use Rattle.node_words.proofs.Service.{serves_last, cause_of}

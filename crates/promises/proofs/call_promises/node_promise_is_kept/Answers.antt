@@ -1,5 +1,5 @@
-use Rattle.plan_node_runs.proofs.Missed.{others_are_missed}
-use Rattle.plan_node_runs.proofs.Plans.{borne_leaves_some}
+use Rattle.plan_machine.proofs.Missed.{others_are_missed}
+use Rattle.plan_machine.proofs.Plans.{borne_leaves_some}
 use Rattle.promises.proofs.NodeCalls.{calls_write}
 use Rattle.promises.proofs.PlanCalls.{are_accepted, calls_are_processes_from}
 use Rattle.promises.proofs.CallInputs.{any_call_inputs}

@@ -1,6 +1,6 @@
 use Rattle.node_promises.proofs.Inputs.{any_connect}
 use Rattle.pulse_plan.specs.Plans.{IsAccepted}
-use Rattle.pulse_header.specs.HeaderTexts.{header_text}
+use Rattle.pulse_nodes.specs.HeaderTexts.{header_text}
 use Rattle.pulse_nodes.specs.NodePromises.{header_lines}
 use Rattle.pulse_nodes.specs.PulseWords.{pulse_words}
 use Rattle.pulse_nodes.proofs.Inputs.{is_written}

@@ -3,7 +3,7 @@ use Rattle.std.specs.Prelude.{slice_index}
 use Rattle.sync_types.specs.FaultSets.{FaultIds, is_in}
 use Rattle.adversary_script.specs.Eras.{faulty_at}
 use Rattle.adversary_script.proofs.LiesInRange.{depth_of_node}
-use Rattle.script_runs.proofs.Heard.{is_among}
+use Rattle.machine_runner.proofs.Heard.{is_among}
 use Rattle.machine_runner.proofs.Told.{from_itself, from_other, one_told, all_told, read_deep}
 use Rattle.machine_runner.proofs.hearing.Receiver.hear.Goals.{then-u-self, else-u-self}
 use Rattle.machine_runner.proofs.hearing.Receiver.hear.Goals as goal

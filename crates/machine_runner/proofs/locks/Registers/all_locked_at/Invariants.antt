@@ -1,7 +1,7 @@
 use Rattle.std.proofs.Common.{◌≡◌}
 use Rattle.std.specs.List.{list_all}
-use Rattle.script_runs.specs.Locks.{is_locked_at}
-use Rattle.script_runs.proofs.Correct.{correct_from}
+use Rattle.machine_runner.specs.Locks.{is_locked_at}
+use Rattle.machine_runner.proofs.Correct.{correct_from}
 use Rattle.machine_runner.proofs.locks.Registers.all_locked_at.Given as goal
 
 abbrev pub invariant-loop-v : goal.invariant-loop-v

@@ -1,7 +1,7 @@
 use Rattle.std.proofs.Common.{◌<◌, List, sym, ap, ◌∙◌, arith}
 use Rattle.sync_types.specs.declared.states.Reg.{Reg}
-use Rattle.script_runs.specs.Locks.{first_value}
-use Rattle.script_runs.proofs.Correct.{from_faulty}
+use Rattle.machine_runner.specs.Locks.{first_value}
+use Rattle.machine_runner.proofs.Correct.{from_faulty}
 use Rattle.machine_runner.proofs.locks.Registers.first_value.Goals as goal
 
 pub loop-v-preserved : goal.loop-v-preserved

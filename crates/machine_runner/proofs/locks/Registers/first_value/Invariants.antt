@@ -1,6 +1,6 @@
 use Rattle.std.proofs.Common.{◌≡◌}
-use Rattle.script_runs.specs.Locks.{first_value}
-use Rattle.script_runs.proofs.Correct.{correct_from}
+use Rattle.machine_runner.specs.Locks.{first_value}
+use Rattle.machine_runner.proofs.Correct.{correct_from}
 use Rattle.machine_runner.proofs.locks.Registers.first_value.Given as goal
 
 abbrev pub invariant-loop-v : goal.invariant-loop-v

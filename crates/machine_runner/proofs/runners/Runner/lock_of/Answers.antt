@@ -1,6 +1,6 @@
 use Rattle.std.proofs.Common.{◌≡◌, ◌≤◌, ℕ, List, Option, length, get_or, sym, ap, ◌∙◌, subst, arith}
-use Rattle.script_runs.specs.Played.{played_at}
-use Rattle.script_runs.proofs.KnownLocks.{known_at}
+use Rattle.machine_runner.specs.Played.{played_at}
+use Rattle.machine_runner.proofs.KnownLocks.{known_at}
 use Rattle.machine_runner.specs.Runners.{Running, lock_of}
 use Rattle.machine_runner.proofs.runners.Runner.lock_of.Goals as goal
 

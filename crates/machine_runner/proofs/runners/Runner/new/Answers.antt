@@ -1,7 +1,7 @@
 use Rattle.std.proofs.Common.{List, length, refl, sym, ap, ◌∙◌, subst, arith}
 use Rattle.state_codec.specs.Packs.{Pack}
 use Rattle.counter_core.specs.Working.{IsFor}
-use Rattle.script_runs.proofs.Firsts.{begun_era}
+use Rattle.machine_runner.proofs.Firsts.{begun_era}
 use Rattle.machine_runner.specs.declared.stepping.Room.{Room}
 use Rattle.machine_runner.specs.Hearing.{HasRoom}
 use Rattle.machine_runner.proofs.Keeping.{locks_begin, locks_long, first_faulty}

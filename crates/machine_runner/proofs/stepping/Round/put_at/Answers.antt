@@ -1,8 +1,8 @@
 use Rattle.std.proofs.Common.{◌+◌, Option, unwrap_or, sym, ap, ◌∙◌, subst}
 use Rattle.sync_types.specs.States.{State}
 use Rattle.adversary_script.proofs.Hits.{hit_is}
-use Rattle.script_runs.specs.Beginnings.{BeginsAt}
-use Rattle.script_runs.proofs.Firsts.{none_hit}
+use Rattle.machine_runner.specs.Beginnings.{BeginsAt}
+use Rattle.machine_runner.proofs.Firsts.{none_hit}
 use Rattle.machine_runner.proofs.stepping.Round.put_at.Goals as goal
 
 pub returns-in-Some-clause-state : goal.returns-in-Some-clause-state

@@ -1,7 +1,7 @@
 use Rattle.std.proofs.Common.{sym, ◌∙◌, subst}
 use Rattle.std.proofs.lemmas.List.{with_items_is}
 use Rattle.machines.specs.Machines.{IsConfiguration}
-use Rattle.script_runs.proofs.HeardAt.{heard_is_one}
+use Rattle.machine_runner.proofs.HeardAt.{heard_is_one}
 use Rattle.machine_runner.specs.Hearing.{AreHonest}
 use Rattle.machine_runner.proofs.Keeping.{range_of}
 use Rattle.machine_runner.proofs.stepping.Round.step.Goals as goal

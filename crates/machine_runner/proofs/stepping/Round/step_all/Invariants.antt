@@ -1,5 +1,5 @@
 use Rattle.std.proofs.Common.{◌≡◌}
-use Rattle.script_runs.specs.Played.{state_after}
+use Rattle.machine_runner.specs.Played.{state_after}
 use Rattle.machine_runner.specs.Hearing.{AreHonest}
 use Rattle.machine_runner.specs.Rooms.{IsReady}
 use Rattle.machine_runner.proofs.Filled.{FilledBelow}

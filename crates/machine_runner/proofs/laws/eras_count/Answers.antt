@@ -1,0 +1,5 @@
+use Rattle.machine_runner.proofs.EraRuns as law
+use Rattle.machine_runner.proofs.laws.eras_count.Goals as goal
+
+pub returns : goal.returns
+returns c = law.eras_count

@@ -1,5 +1,0 @@
-use Rattle.node_header.proofs.HeadersRead.{text_is_read_back}
-use Rattle.node_header.proofs.laws.header_texts_read_back.Goals as goal
-
-pub returns : goal.returns
-returns c = text_is_read_back

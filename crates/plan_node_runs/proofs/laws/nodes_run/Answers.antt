@@ -1,5 +1,0 @@
-use Rattle.plan_node_runs.proofs.Plans as law
-use Rattle.plan_node_runs.proofs.laws.nodes_run.Goals as goal
-
-pub returns : goal.returns
-returns c = law.nodes_run

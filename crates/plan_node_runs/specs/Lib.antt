@@ -1,4 +1,0 @@
-pub mod NodeRuns
-pub mod Laws
-pub mod PlanNodes
-pub mod Missed

@@ -1,4 +1,0 @@
-pub mod Used
-pub mod Shaped
-pub mod PlanBits
-pub mod HeaderTexts

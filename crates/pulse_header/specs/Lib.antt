@@ -1,2 +1,0 @@
-pub mod PulseShapes
-pub mod HeaderTexts

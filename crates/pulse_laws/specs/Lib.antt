@@ -1,4 +1,0 @@
-pub mod Halves
-pub mod LevelStates
-pub mod Hearing
-pub mod Level

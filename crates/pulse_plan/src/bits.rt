@@ -1,0 +1,65 @@
+ghost use Rattle.std.specs.Prelude.{◌≡◌, ◌≤◌, ◌+◌, ◌*◌, ◌^◌};
+ghost use Rattle.pulse_plan.specs.Groups.{tree_in};
+ghost use Rattle.pulse_plan.specs.Sizes.{register_bits, level_bits, most_bits, state_bits};
+ghost use Rattle.pulse_plan.specs.Sizes.{state_bytes, levels_of};
+
+use crate::{Group, PulsePlan};
+use plan_numbers::width;
+
+/// How many bits a register takes whose finite values are below `modulus`.
+fn register_bits(modulus: u64) -> u32
+    requires { modulus ≤ 2 ^ 40 }
+    ensures value { result ≡ register_bits modulus }
+    ensures most { result ≤ 42 }
+{
+    width(modulus + 1) + 1
+}
+
+/// How many bits the registers of a group's own level take.
+fn level_bits(group: &Group) -> u32
+    ensures value { result ≡ level_bits group.now.faults group.now.modulus }
+    ensures most { result ≤ 168 }
+{
+    group.tell();
+    register_bits(group.modulus())
+        + register_bits(group.instructions())
+        + register_bits(group.left_period())
+        + register_bits(1)
+}
+
+/// How many bits the state of a node in a group takes, of a node that has most.
+fn bits_in(group: &Group) -> u32
+    ensures value { result ≡ most_bits (tree_in group.now) group.now.modulus }
+    ensures most { result ≤ 40 + 168 * group.now.faults }
+{
+    group.tell();
+    if group.faults() == 0 {
+        return width(group.modulus());
+    }
+    let left = bits_in(&group.left());
+    let right = bits_in(&group.right());
+    level_bits(group) + left.max(right)
+}
+
+/// How many bits the state of a node takes, of a node that has most.
+pub fn state_bits(plan: &PulsePlan) -> u32
+    ensures value { result ≡ state_bits plan.now }
+    ensures most { result ≤ 14320 }
+{
+    plan.tell();
+    bits_in(&plan.whole())
+}
+
+/// How many bytes hold the bits of such a state.
+pub fn state_bytes(plan: &PulsePlan) -> u64
+    ensures { result ≡ state_bytes plan.now }
+{
+    u64::from(state_bits(plan).div_ceil(8))
+}
+
+/// How many levels stand on the lowest node, in the half of the halves that has most.
+pub fn levels(plan: &PulsePlan) -> u64
+    ensures { result ≡ levels_of plan.now }
+{
+    (plan.depth() / 4) as u64
+}

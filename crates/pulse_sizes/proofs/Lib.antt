@@ -1,4 +1,0 @@
-pub mod Groups
-pub mod Most
-pub mod Written
-pub mod Examples

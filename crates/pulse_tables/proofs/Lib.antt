@@ -1,4 +1,0 @@
-pub mod GroupLines
-pub mod FirstDifference
-pub mod ReadTables
-pub mod Compared

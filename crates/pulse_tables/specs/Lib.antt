@@ -1,4 +1,0 @@
-pub mod Tables
-pub mod Buffers
-pub mod Reading
-pub mod TableLaws

@@ -1,0 +1,134 @@
+//! States of nodes, and how bytes are read as one.
+
+use crate::bits::{Bits, NO_BITS, number};
+use crate::plans::{remainder, width};
+use crate::pulse_groups::{Group, MOST_LEVELS};
+use crate::states::{Register, ZERO};
+
+/// The registers of a level: that of the king; the instruction that comes, infinite where the node
+/// waits, and whether the left half began these; the age of the left pulse, infinite from a period
+/// on, and whether it was seen; 0, and whether the right pulse was seen.
+pub type Level = [Register; 4];
+
+/// A number, and the registers of each level, from the whole down. What a node lacks is 0, with no
+/// mark.
+#[derive(Clone, Copy)]
+pub struct State {
+    pub x: u64,
+    pub levels: [Level; MOST_LEVELS],
+}
+
+/// A level that a node lacks, or that it starts with.
+pub const ZERO_LEVEL: Level = [ZERO; 4];
+
+/// The state of zeros.
+pub const ZERO_STATE: State = State {
+    x: 0,
+    levels: [ZERO_LEVEL; MOST_LEVELS],
+};
+
+impl State {
+    /// The registers of a level.
+    pub fn level(&self, depth: usize) -> Level {
+        self.levels.get(depth).copied().unwrap_or(ZERO_LEVEL)
+    }
+
+    /// Puts the registers of a level.
+    pub fn put(&mut self, depth: usize, level: Level) {
+        if let Some(old) = self.levels.get_mut(depth) {
+            *old = level;
+        }
+    }
+}
+
+/// The state of a node in a configuration.
+pub fn state_of(config: &[State], node: u64) -> State {
+    config.get(node as usize).copied().unwrap_or(ZERO_STATE)
+}
+
+/// The value that a number is read as, which is infinite where it is too large.
+fn value_of(number: u64, modulus: u64) -> Option<u64> {
+    if number < modulus { Some(number) } else { None }
+}
+
+/// The registers of a level of a group that stand in some bytes behind so many bits.
+fn read_level(group: &Group, bytes: &[u8], first: u64) -> Level {
+    let mut level = ZERO_LEVEL;
+    let mut at = first;
+    for (register, modulus) in level.iter_mut().zip(&group.moduli()) {
+        let bits = width(modulus.wrapping_add(1));
+        register.value = value_of(number(bytes, at, bits), *modulus);
+        at = at.wrapping_add(bits);
+        register.mark = number(bytes, at, 1) == 1;
+        at = at.wrapping_add(1);
+    }
+    level
+}
+
+/// The state of a node of a plan that some bytes are read as: a number that is too large is 0, and
+/// a value that is too large is infinite. Bytes of another length are the state of zeros.
+pub fn read(plan: &Group, node: u64, bytes: &[u8]) -> State {
+    let mut state = ZERO_STATE;
+    if bytes.len() as u64 != plan.bytes(node) {
+        return state;
+    }
+    let base = plan.base_of(node).unwrap_or(1);
+    let mut at = width(base);
+    state.x = value_of(number(bytes, 0, at), base).unwrap_or(0);
+    for (depth, level) in plan.levels_of(node).iter().enumerate() {
+        if let Some(group) = level {
+            state.put(depth, read_level(group, bytes, at));
+            at = at.wrapping_add(group.level_bits());
+        }
+    }
+    state
+}
+
+/// Puts the registers of a level of a group behind some bits: an infinite value stands as the first
+/// that is too large.
+fn write_level(bits: &mut Bits, group: &Group, level: &Level) {
+    for (register, modulus) in level.iter().zip(&group.moduli()) {
+        bits.put(
+            register.value.unwrap_or(*modulus),
+            width(modulus.wrapping_add(1)),
+        );
+        bits.put(u64::from(register.mark), 1);
+    }
+}
+
+/// The bits of a state of a node of a plan.
+pub fn written(plan: &Group, node: u64, state: &State) -> Bits {
+    let mut bits = NO_BITS;
+    bits.put(state.x, width(plan.base_of(node).unwrap_or(1)));
+    for (depth, level) in plan.levels_of(node).iter().enumerate() {
+        if let Some(group) = level {
+            write_level(&mut bits, group, &state.level(depth));
+        }
+    }
+    bits
+}
+
+/// Of a state whose number and finite values are all raised by `by`, each in its modulus, what a
+/// node of a plan has. A number that is too large for the node is 0, and a value that is too large
+/// is infinite, as they are read.
+pub fn shifted(plan: &Group, node: u64, state: &State, by: u64) -> State {
+    let mut shifted = ZERO_STATE;
+    let base = plan.base_of(node).unwrap_or(1);
+    if state.x < base {
+        shifted.x = remainder(state.x.wrapping_add(by), base);
+    }
+    for (depth, level) in plan.levels_of(node).iter().enumerate() {
+        if let Some(group) = level {
+            let mut raised = state.level(depth);
+            for (register, modulus) in raised.iter_mut().zip(&group.moduli()) {
+                register.value = match register.value {
+                    Some(value) => value_of(value, *modulus),
+                    None => None,
+                };
+                *register = register.raised(by, *modulus);
+            }
+            shifted.put(depth, raised);
+        }
+    }
+    shifted
+}

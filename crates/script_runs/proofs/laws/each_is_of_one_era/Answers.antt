@@ -1,5 +1,0 @@
-use Rattle.script_runs.proofs.Firsts as law
-use Rattle.script_runs.proofs.laws.each_is_of_one_era.Goals as goal
-
-pub returns : goal.returns
-returns c = law.of_one_era

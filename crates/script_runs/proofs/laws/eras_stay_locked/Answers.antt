@@ -1,5 +1,0 @@
-use Rattle.script_runs.proofs.EraRuns as law
-use Rattle.script_runs.proofs.laws.eras_stay_locked.Goals as goal
-
-pub returns : goal.returns
-returns c = law.eras_stay_locked

@@ -1,5 +1,0 @@
-pub mod Beginnings
-pub mod Laws
-pub mod Locks
-pub mod Played
-pub mod Plays
