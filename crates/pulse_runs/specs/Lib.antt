@@ -2,4 +2,5 @@ pub mod RunInputs
 pub mod Readings
 pub mod RunTexts
 pub mod RunPromises
+pub mod HoldPromises
 pub mod ScriptInputs

@@ -1,36 +1,72 @@
 -- What was read of an input, and what an error of reading says of it. Want of memory says nothing.
-use Rattle.std.specs.Prelude.{◌≡◌, ℕ, List, Ok, Err}
+use Rattle.std.specs.Prelude.{◌≡◌, ℕ, List, Result, Ok, Err}
 use Rattle.state_codec.specs.Shapes.{Shape}
 use Rattle.adversary_script.specs.declared.refusals.ScriptError.{ScriptError}
 use Rattle.adversary_script.specs.declared.refusals.ScriptError.TheVariants as script
 use Rattle.adversary_script.specs.Scripts.{Script}
 use Rattle.machine_runner.specs.Laws.{IsReadFor}
+use Rattle.slot_table.specs.declared.lines.SlotLine.{SlotLine}
+use Rattle.slot_table.specs.declared.refusals.SlotError.{SlotError}
+use Rattle.slot_table.specs.declared.refusals.SlotError.TheVariants as slot
 use Rattle.pulse_plan.specs.Plans.{PulseNumbers}
 use Rattle.pulse_plan.specs.Laws.{machine_in}
 use Rattle.pulse_texts.specs.declared.refusals.PulsesError.{PulsesError}
 use Rattle.pulse_texts.specs.declared.refusals.PulsesError.TheVariants as pulses
+use Rattle.pulse_runs.specs.declared.errors.RunRefusal.{RunRefusal}
+use Rattle.pulse_runs.specs.declared.errors.RunRefusal.TheVariants as refusal
 use Rattle.pulse_runs.specs.declared.errors.PlayError.{PlayError}
 use Rattle.pulse_runs.specs.declared.errors.PlayError.TheVariants as error
-use Rattle.pulse_runs.specs.declared.errors.RunRefusal.TheVariants as refusal
-use Rattle.pulse_runs.specs.RunInputs.{scripted_of}
+use Rattle.pulse_runs.specs.RunInputs.{in_script, then_read, script_behind, scripted_of, slotted_of}
 
--- the error of a plan, and that of a script
+-- ---- the errors of parts, as errors of an input
+
 abbrev pub plan_error : PulsesError → PlayError
 plan_error pulses.NoMemory = error.NoMemory
 plan_error (pulses.Refused refused) = error.Refused (refusal.Plan refused.line refused.premise)
+
+abbrev pub slots_error : SlotError → PlayError
+slots_error slot.NoMemory = error.NoMemory
+slots_error (slot.Refused refused) = error.Refused (refusal.Slots refused.line refused.rule)
 
 abbrev pub script_error : ScriptError → PlayError
 script_error script.NoMemory = error.NoMemory
 script_error (script.Refused refused) = error.Refused (refusal.Script refused.line refused.rule)
 
--- a plan, the shape of its states, and a script that was read for the plan's machine
-pub record IsReadAs (input : List ℕ) (read : PulseNumbers × Shape × Script) : Type 0 where
-  pub is : scripted_of input ≡ Ok (record { plan = read.0; script = read.2 })
+-- a refusal is exactly the one that is defined; no reading fails to write
+abbrev pub Refuses : {V : Type 0} → PlayError → Result V RunRefusal → Type 0
+Refuses (error.Refused refused) defined = defined ≡ Err refused
+Refuses error.NoMemory defined = Unit {0}
+Refuses error.WriteFault defined = ⊥
+
+-- ---- what was read: a plan, the shape of its states, and a script for the plan's machine
+
+pub record CanPlay (read : PulseNumbers × Shape × Script) : Type 0 where
   pub for : IsReadFor (machine_in read.0) read.2
   pub shape : read.2.shape ≡ read.1
 
--- a refusal is exactly the one that is defined
+-- the script is the one of these lines, the first of which has that number
+pub record IsReadBehind (plan : PulseNumbers) (number : ℕ) (lines : List (List ℕ))
+    (read : PulseNumbers × Shape × Script) : Type 0 where
+  pub same : read.0 ≡ plan
+  pub is : script_behind plan number lines ≡ Ok read.2
+  pub plays : CanPlay read
+
+abbrev pub FailsBehind : (plan : PulseNumbers) (number : ℕ) → List (List ℕ) → PlayError → Type 0
+FailsBehind plan number lines error =
+    Refuses error (then_read in_script (λ (s : Script). Ok s) (script_behind plan number lines))
+
+-- the plan and the script of an input
+pub record IsReadAs (input : List ℕ) (read : PulseNumbers × Shape × Script) : Type 0 where
+  pub is : scripted_of input ≡ Ok (record { plan = read.0; script = read.2 })
+  pub plays : CanPlay read
+
+-- an input is refused exactly as it is defined
 abbrev pub FailsToRead : (input : List ℕ) → PlayError → Type 0
-FailsToRead input (error.Refused refused) = scripted_of input ≡ Err refused
-FailsToRead input error.NoMemory = Unit {0}
-FailsToRead input error.WriteFault = ⊥
+FailsToRead input error = Refuses error (scripted_of input)
+
+-- the slot table, the plan and the script of an input
+pub record IsSlotted (input : List ℕ) (read : List SlotLine × (PulseNumbers × Shape × Script))
+    : Type 0 where
+  pub is : slotted_of input
+      ≡ Ok (record { plan = read.1.0; table = read.0; script = read.1.2 })
+  pub plays : CanPlay read.1

@@ -5,45 +5,72 @@ use Rattle.std.specs.List.{concat}
 use Rattle.texts.specs.Growth.{Told, Wrote, Cut}
 use Rattle.sync_types.specs.declared.answers.Rule.{Rule}
 use Rattle.machine_lines.specs.RunTexts.{run_text}
+use Rattle.machine_lines.specs.HoldTexts.{hold_text}
 use Rattle.node_words.specs.Rules.{rule_word}
 use Rattle.pulse_plan.specs.Laws.{machine_in}
 use Rattle.pulse_nodes.specs.PulseWords as pulses
+use Rattle.pulse_runs.specs.declared.shown.Shown.{Shown}
+use Rattle.pulse_runs.specs.declared.shown.Shown.TheVariants as shown
 use Rattle.pulse_runs.specs.declared.errors.RunRefusal.{RunRefusal}
 use Rattle.pulse_runs.specs.declared.errors.RunRefusal.TheVariants as refusal
 use Rattle.pulse_runs.specs.declared.errors.PlayError.{PlayError}
 use Rattle.pulse_runs.specs.declared.errors.PlayError.TheVariants as error
-use Rattle.pulse_runs.specs.RunInputs.{Scripted, scripted_of}
+use Rattle.pulse_runs.specs.RunInputs.{Scripted, scripted_of, Slotted, slotted_of}
 
--- the line of a refusal
-abbrev pub script_refusal : (line : ℕ) → Rule → List ℕ
-script_refusal line rule = concat (
-    codes "refused script line " ∷ decimal line
+-- ---- the line of a refusal
+
+-- of a line of the part with that name
+abbrev pub part_refusal : (name : List ℕ) → (line : ℕ) → Rule → List ℕ
+part_refusal name line rule = concat (
+    codes "refused " ∷ name
+    ∷ codes " line " ∷ decimal line
     ∷ codes " rule " ∷ rule_word rule
     ∷ codes "\n" ∷ [])
 
 abbrev pub refusal_line : RunRefusal → List ℕ
 refusal_line (refusal.Plan line premise) = pulses.refusal_line line premise
-refusal_line (refusal.Script line rule) = script_refusal line rule
+refusal_line (refusal.Slots line rule) = part_refusal (codes "slots") line rule
+refusal_line (refusal.Script line rule) = part_refusal (codes "script") line rule
 
--- the run of a script on its plan's machine
-abbrev pub played_text : Scripted → List ℕ
-played_text scripted = run_text (machine_in scripted.plan) scripted.script
+-- ---- the run of a script on its plan's machine
 
-abbrev pub text_of : Result Scripted RunRefusal → List ℕ
-text_of (Ok scripted) = played_text scripted
+-- a row of what the nodes show in each configuration that is shown
+abbrev pub rows_of : Scripted → List ℕ
+rows_of scripted = run_text (machine_in scripted.plan) scripted.script
+
+-- which nodes hold in each of them
+abbrev pub holds_of : Slotted → List ℕ
+holds_of slotted = hold_text slotted.table (machine_in slotted.plan) slotted.script
+
+-- what is written of that which was read
+abbrev pub told_by : {V : Type 0} → (V → List ℕ) → Result V RunRefusal
+    → Result (List ℕ) RunRefusal
+told_by text (Ok read) = Ok (text read)
+told_by text (Err refused) = Err refused
+
+-- the run of an input, with lines of that kind
+abbrev pub run_of : Shown → List ℕ → Result (List ℕ) RunRefusal
+run_of shown.Rows input = told_by rows_of (scripted_of input)
+run_of shown.Holds input = told_by holds_of (slotted_of input)
+
+-- ---- what is written, and what was
+
+abbrev pub text_of : Result (List ℕ) RunRefusal → List ℕ
+text_of (Ok text) = text
 text_of (Err refused) = refusal_line refused
 
--- the input is a plan and a script, and the run was written
-pub record IsPlayed (input : List ℕ) (old new : Told) : Type 0 where
-  pub scripted : Scripted
-  pub is : scripted_of input ≡ Ok scripted
-  pub wrote : Wrote (played_text scripted) old new
+-- a run is defined, and was written
+pub record IsPlayed (defined : Result (List ℕ) RunRefusal) (old new : Told) : Type 0 where
+  pub text : List ℕ
+  pub is : defined ≡ Ok text
+  pub wrote : Wrote text old new
 
-abbrev pub FailsToPlay : (input : List ℕ) (old new : Told) → PlayError → Type 0
-FailsToPlay input old new (error.Refused refused) =
-    (scripted_of input ≡ Err refused) × Wrote (refusal_line refused) old new
-FailsToPlay input old new error.NoMemory = new ≡ old
-FailsToPlay input old new error.WriteFault = Cut (text_of (scripted_of input)) old new
+abbrev pub FailsToPlay : (defined : Result (List ℕ) RunRefusal) (old new : Told) → PlayError
+    → Type 0
+FailsToPlay defined old new (error.Refused refused) =
+    (defined ≡ Err refused) × Wrote (refusal_line refused) old new
+FailsToPlay defined old new error.NoMemory = new ≡ old
+FailsToPlay defined old new error.WriteFault = Cut (text_of defined) old new
 
 -- a text was written, or memory was refused before it
 abbrev pub IsWritten : Result (Unit {0}) PlayError → (text : List ℕ) (old new : Told) → Type 0

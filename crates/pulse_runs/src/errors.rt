@@ -3,6 +3,7 @@ ghost use Rattle.std.specs.Prelude.{◌≡◌};
 use adversary_script::ScriptError;
 use edge_io::WriteFault;
 use pulse_texts::{LinePremise, PulsesError};
+use slot_table::SlotError;
 use sync_types::{NoMemory, Rule};
 use thiserror::Error;
 
@@ -15,6 +16,13 @@ pub enum RunRefusal {
         line: u64,
         /// The first premise that the line fails.
         premise: LinePremise,
+    },
+    /// A line of the slot table.
+    Slots {
+        /// The line's number, from 1 through the whole input.
+        line: u64,
+        /// The first rule that the line fails.
+        rule: Rule,
     },
     /// A line of the script.
     Script {
@@ -71,6 +79,22 @@ impl From<PulsesError> for PlayError {
                 premise: refused.premise,
             }),
             PulsesError::NoMemory => PlayError::NoMemory,
+        }
+    }
+}
+
+impl From<SlotError> for PlayError {
+    ghost use Rattle.pulse_runs.specs.Readings.{slots_error};
+
+    ghost from_gives = { λ error e. e ≡ slots_error error };
+
+    fn from(error: SlotError) -> Self {
+        match error {
+            SlotError::Refused(refused) => PlayError::Refused(RunRefusal::Slots {
+                line: refused.line,
+                rule: refused.rule,
+            }),
+            SlotError::NoMemory => PlayError::NoMemory,
         }
     }
 }

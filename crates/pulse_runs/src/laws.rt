@@ -2,13 +2,16 @@
 //! The functions do nothing: their clauses are the laws.
 
 ghost use Rattle.pulse_runs.specs.RunPromises.{RunsKeepPromise};
+ghost use Rattle.pulse_runs.specs.HoldPromises.{SlotsKeepPromise};
 ghost use Rattle.pulse_runs.specs.ScriptInputs.{ScriptInputsAreRead};
 
 use adversary_script::laws::{read_scripts_have_texts, script_texts_read_back};
+use machine_lines::laws::at_most_one_in_a_line;
 use machine_runner::laws::{
     eras_are_runs, eras_count, eras_lock, eras_stay_locked, firsts_are_locked, scripts_are_played,
 };
 use pulse_texts::pulses_texts_read_back;
+use slot_table::laws::{hold_words, one_holder, slot_texts_read_back};
 
 /// An input that is read as a plan and a script is an accepted plan, and a script for the plan's
 /// machine. What is played is the script's. Each of its eras is a run of the plan with few faulty
@@ -16,8 +19,14 @@ use pulse_texts::pulses_texts_read_back;
 /// one modulo C each round; and the first locked configuration that is written of an era is the
 /// first one, which is T rounds into it at most, where it has so many, and from each locked one on
 /// they stay locked and count.
+///
+/// So it is where a slot table stands between plan and script, which is one for the plan's nodes
+/// and outputs. In each line of it a node's word is 1 exactly where the table gives it the output
+/// that it shows; from T rounds into an era to its end that is one correct node at most, the holder
+/// of the output that all correct ones show.
 pub fn runs_keep_promise()
-    ensures { RunsKeepPromise }
+    ensures runs { RunsKeepPromise }
+    ensures slots { SlotsKeepPromise }
 {
     eras_are_runs();
     eras_count();
@@ -25,14 +34,19 @@ pub fn runs_keep_promise()
     eras_stay_locked();
     firsts_are_locked();
     scripts_are_played();
+    hold_words();
+    one_holder();
+    at_most_one_in_a_line();
 }
 
-/// The texts of an accepted plan and of a script for it, one behind the other, are read as these.
-/// What any input is read as has such texts.
+/// The texts of an accepted plan and of a script for it, one behind the other, are read as these,
+/// and so they are with the text of a slot table between them. What any input is read as has such
+/// texts.
 pub fn script_inputs_read_back()
     ensures { ScriptInputsAreRead }
 {
     pulses_texts_read_back();
     script_texts_read_back();
+    slot_texts_read_back();
     read_scripts_have_texts();
 }

@@ -1,6 +1,6 @@
-//! Plays a script on a pulse plan: an input is read as a plan and a script for it, the script is
-//! played on the plan's machine, and what its nodes show is written; and what holds of each such
-//! run.
+//! Plays a script on a pulse plan: an input is read as a plan and a script for it, also with a slot
+//! table between them, the script is played on the plan's machine, and what its nodes show, or
+//! which of them hold, is written; and what holds of each such run.
 #![tactic(auto)]
 
 mod errors;
@@ -8,6 +8,10 @@ pub mod laws;
 mod playing;
 mod reading;
 mod refusals;
+mod shown;
 
 pub use errors::{PlayError, RunRefusal};
 pub use playing::play;
+pub use reading::read_scripted;
+pub use refusals::put_refusal;
+pub use shown::Shown;

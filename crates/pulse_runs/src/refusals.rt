@@ -1,21 +1,30 @@
-ghost use Rattle.std.specs.Prelude.{◌≡◌};
+ghost use Rattle.std.specs.Prelude.{◌≡◌, ℕ, List, Result};
 ghost use Rattle.texts.specs.Growth.{Puts};
-ghost use Rattle.pulse_runs.specs.RunTexts.{script_refusal, refusal_line};
+ghost use Rattle.pulse_runs.specs.declared.errors.RunRefusal.{RunRefusal};
+ghost use Rattle.pulse_runs.specs.Readings.{Refuses};
+ghost use Rattle.pulse_runs.specs.RunTexts.{part_refusal, refusal_line, FailsToPlay, KeepsSink};
 
-use crate::errors::RunRefusal;
+use crate::errors::{PlayError, RunRefusal};
 use edge_io::{Piece, Sink, WriteFault, put_pieces};
 use node_words::rule_word;
 use pulse_texts::PulsesRefusal;
 use sync_types::Rule;
 
-/// Writes the line of a script that is refused.
-fn put_script_refusal<K: Sink>(sink: &mut K, line: u64, rule: Rule) -> Result<(), WriteFault>
-    ensures { Puts result (script_refusal line rule) (K.told sink.old) (K.told sink.new) }
+/// Writes the line of a part of this name that is refused.
+fn put_part_refusal<K: Sink>(
+    sink: &mut K,
+    name: &[u8],
+    line: u64,
+    rule: Rule,
+) -> Result<(), WriteFault>
+    ensures { Puts result (part_refusal name.now line rule) (K.told sink.old) (K.told sink.new) }
 {
     put_pieces(
         sink,
         &[
-            Piece::Text(b"refused script line "),
+            Piece::Text(b"refused "),
+            Piece::Text(name),
+            Piece::Text(b" line "),
             Piece::Number(line),
             Piece::Text(b" rule "),
             Piece::Text(rule_word(rule).as_bytes()),
@@ -25,13 +34,31 @@ fn put_script_refusal<K: Sink>(sink: &mut K, line: u64, rule: Rule) -> Result<()
 }
 
 /// Writes the line of a refusal.
-pub(crate) fn put_refusal<K: Sink>(sink: &mut K, refusal: RunRefusal) -> Result<(), WriteFault>
+pub fn put_refusal<K: Sink>(sink: &mut K, refusal: RunRefusal) -> Result<(), WriteFault>
     ensures { Puts result (refusal_line refusal) (K.told sink.old) (K.told sink.new) }
 {
     match refusal {
         RunRefusal::Plan { line, premise } => {
             pulse_nodes::put_refusal(sink, PulsesRefusal { line, premise })
         }
-        RunRefusal::Script { line, rule } => put_script_refusal(sink, line, rule),
+        RunRefusal::Slots { line, rule } => put_part_refusal(sink, b"slots", line, rule),
+        RunRefusal::Script { line, rule } => put_part_refusal(sink, b"script", line, rule),
+    }
+}
+
+/// Tells why an input was not read, where it is refused: it writes the line of the refusal. The
+/// answer is how that ends.
+pub(crate) fn tell<K: Sink>(sink: &mut K, error: PlayError) -> PlayError
+    ensures told { (defined : Result (List ℕ) RunRefusal) → Refuses error defined
+        → FailsToPlay defined (K.told sink.old) (K.told sink.new) result }
+    ensures untouched { KeepsSink sink.old sink.new result }
+{
+    match error {
+        PlayError::Refused(refusal) => match put_refusal(sink, refusal) {
+            Ok(()) => PlayError::Refused(refusal),
+            Err(WriteFault) => PlayError::WriteFault,
+        },
+        PlayError::NoMemory => PlayError::NoMemory,
+        PlayError::WriteFault => PlayError::WriteFault,
     }
 }

@@ -3,13 +3,14 @@ use Rattle.std.proofs.Common.{refl}
 use Rattle.std.specs.Fmt.{digits}
 use Rattle.hex.specs.Hex.{decode_pairs}
 use Rattle.construction.specs.Widths.{width}
-use Rattle.state_codec.specs.Bits.{bits, number_of}
+use Rattle.state_codec.specs.Bits.{bits, number_of, bytes_of_bits}
 use Rattle.state_codec.specs.Shapes.{registers_bits}
 use Rattle.state_codec.specs.Reading.{registers_from}
+use Rattle.state_codec.specs.Writing.{bits_of_registers}
 use Rattle.adversary_script.specs.Lies.{start_of, lie_of}
 use Rattle.adversary_script.specs.ScriptPart.{script_for}
 use Rattle.pulselab.specs.Worked.{PlansAreSpelled, RunsAreSpelled, LinesAreRefused, WordsAskFor}
-use Rattle.pulselab.specs.Worked.{WorkedValues}
+use Rattle.pulselab.specs.Worked.{SlotsAreSpelled, NodesAreServed, WorkedValues}
 
 plans_are_spelled : PlansAreSpelled
 unfolding digits width
@@ -31,6 +32,31 @@ runs_are_spelled = record {
   more = refl;
 }
 
+slots_are_spelled : SlotsAreSpelled
+unfolding
+    digits width script_for start_of lie_of number_of bits registers_from registers_bits
+    decode_pairs
+slots_are_spelled = record {
+  single = refl;
+  unlocked = refl;
+  locked = refl;
+  empty = refl;
+  form = refl;
+  node = refl;
+  range = refl;
+  overlap = refl;
+  script = refl;
+  plan = refl;
+  lacking = refl;
+}
+
+nodes_are_served : NodesAreServed
+unfolding
+    digits width number_of bits bytes_of_bits registers_from registers_bits bits_of_registers
+    decode_pairs
+nodes_are_served =
+    record { alone = refl; packet = refl; cut = refl; state = refl; plan = refl }
+
 lines_are_refused : LinesAreRefused
 unfolding digits width
 lines_are_refused = record {
@@ -49,6 +75,8 @@ pub worked_values : WorkedValues
 worked_values = record {
   plans = plans_are_spelled;
   runs = runs_are_spelled;
+  slots = slots_are_spelled;
+  nodes = nodes_are_served;
   refused = lines_are_refused;
   words = words_ask_for;
 }

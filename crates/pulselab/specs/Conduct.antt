@@ -6,8 +6,8 @@ use Rattle.pulselab.specs.declared.faults.LabError.TheVariants as error
 use Rattle.pulselab.specs.declared.requests.Request.{Request}
 use Rattle.pulselab.specs.declared.requests.Request.TheVariants as request
 use Rattle.pulselab.specs.HelpText.{help_text, version_text}
-use Rattle.pulselab.specs.PlanWord.{PlanDone, PlanFails}
-use Rattle.pulselab.specs.RunWord.{RunDone, RunFails}
+use Rattle.pulselab.specs.WholeWord.{WholeDone, WholeFails}
+use Rattle.pulselab.specs.WholeWords.{IsDone, FailsOn}
 use Rattle.pulselab.specs.NodeWord.{NodeDone, NodeFails}
 
 -- nothing was read
@@ -30,17 +30,14 @@ Answers (Some request.Help) left left' before now old new =
     IsUnread left left' before now × Wrote help_text old new
 Answers (Some request.Version) left left' before now old new =
     IsUnread left left' before now × Wrote version_text old new
-Answers (Some request.Plan) left left' before now old new =
-    PlanDone left left' before now old new
-Answers (Some request.Run) left left' before now old new =
-    RunDone left left' before now old new
+Answers (Some (request.Whole word)) left left' before now old new =
+    WholeDone (IsDone word) left left' before now old new
 Answers (Some request.Node) left left' before now old new =
     NodeDone left left' before now old new
 
 -- words that read nothing leave the source as it was, whatever it tells
 abbrev pub LeavesUnread : {S : Type 0} → Option Request → (old new : S) → Type 0
-LeavesUnread (Some request.Plan) old new = Unit {0}
-LeavesUnread (Some request.Run) old new = Unit {0}
+LeavesUnread (Some (request.Whole word)) old new = Unit {0}
 LeavesUnread (Some request.Node) old new = Unit {0}
 LeavesUnread other old new = new ≡ old
 
@@ -57,9 +54,7 @@ Fails (Some request.Help) left left' before now old new error =
     IsCut help_text left left' before now old new error
 Fails (Some request.Version) left left' before now old new error =
     IsCut version_text left left' before now old new error
-Fails (Some request.Plan) left left' before now old new error =
-    PlanFails left left' before now old new error
-Fails (Some request.Run) left left' before now old new error =
-    RunFails left left' before now old new error
+Fails (Some (request.Whole word)) left left' before now old new error =
+    WholeFails (FailsOn word) left left' before now old new error
 Fails (Some request.Node) left left' before now old new error =
     NodeFails left left' before now old new error

@@ -15,6 +15,7 @@ use Rattle.pulselab.specs.declared.requests.Request.TheVariants as request
 -- the exit code: 1 for a refused plan, and else that of `counterlab`'s status for the same cause
 abbrev pub code_of : LabError → ℕ
 code_of (error.Refused refusal) = 1
+code_of (error.SlotsRefused line rule) = codes.code_of (status.PartRefused part.Slots line rule)
 code_of (error.ScriptRefused line rule) = codes.code_of (status.PartRefused part.Script line rule)
 code_of (error.NodeRefused line rule) = codes.code_of (status.PartRefused part.Node line rule)
 code_of error.Usage = codes.code_of status.Usage
@@ -35,16 +36,19 @@ error_of node.TooLong = error.TooLong
 error_of (node.Cut packet sender) = error.Cut packet sender
 error_of node.NoMemory = error.NoMemory
 
--- Nothing is written where it ends so. A node that loses its input, or is given too much, has
--- written its cells before.
+-- Nothing is written where it ends so.
+abbrev pub KeepsSink : {K : Type 0} → (old new : K) → LabError → Type 0
+KeepsSink old new error.Usage = new ≡ old
+KeepsSink old new error.NoMemory = new ≡ old
+KeepsSink old new error.ReadFault = new ≡ old
+KeepsSink old new error.TooLong = new ≡ old
+KeepsSink old new other = Unit {0}
+
+-- A node that loses its input, or is given too much, has written its cells before.
 abbrev pub KeptAt : {K : Type 0} → Option Request → (old new : K) → LabError → Type 0
-KeptAt asked old new error.Usage = new ≡ old
-KeptAt asked old new error.NoMemory = new ≡ old
 KeptAt (Some request.Node) old new error.ReadFault = Unit {0}
 KeptAt (Some request.Node) old new error.TooLong = Unit {0}
-KeptAt asked old new error.ReadFault = new ≡ old
-KeptAt asked old new error.TooLong = new ≡ old
-KeptAt asked old new other = Unit {0}
+KeptAt asked old new error = KeepsSink old new error
 
 -- a read failed before the end was met
 abbrev pub UnmetAt : (before now : Bool) → LabError → Type 0
@@ -54,6 +58,7 @@ UnmetAt before now other = Unit {0}
 -- the answer says it
 abbrev pub IsAnswered : LabError → Type 0
 IsAnswered (error.Refused refusal) = Unit {0}
+IsAnswered (error.SlotsRefused line rule) = Unit {0}
 IsAnswered (error.ScriptRefused line rule) = Unit {0}
 IsAnswered (error.NodeRefused line rule) = Unit {0}
 IsAnswered error.Usage = ⊥

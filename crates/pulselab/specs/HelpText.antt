@@ -5,6 +5,7 @@ use Rattle.std.specs.List.{concat}
 abbrev pub help_text : List ℕ
 help_text = concat (
     codes "usage: pulselab plan < PLAN, pulselab run < PLAN_AND_SCRIPT,\n"
+    ∷ codes "pulselab slots < PLAN_SLOTS_AND_SCRIPT,\n"
     ∷ codes "or pulselab node < HEADER_AND_PACKETS\n"
     ∷ codes "plan: reads a pulse plan, the lines `pulses 1`, `group N F C` and\n"
     ∷ codes "`end`, and writes its table: its numbers and bound, what a state\n"
@@ -12,6 +13,8 @@ help_text = concat (
     ∷ codes "run: reads a pulse plan and a script for it, plays the script, and\n"
     ∷ codes "writes the bound, a row of what the nodes show in each configuration\n"
     ∷ codes "that is shown, and which configuration is the first locked one.\n"
+    ∷ codes "slots: the same with a slot table between plan and script, and with a\n"
+    ∷ codes "line of which nodes hold in place of a row.\n"
     ∷ codes "node: reads a pulse plan and the lines `node 1`, `id V`, `state H` and\n"
     ∷ codes "`end`, and then packets, and writes the state of node V at the start\n"
     ∷ codes "and behind each packet, as bytes.\n" ∷ [])

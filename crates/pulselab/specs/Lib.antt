@@ -4,6 +4,7 @@ pub mod Faults
 pub mod WholeWord
 pub mod PlanWord
 pub mod RunWord
+pub mod WholeWords
 pub mod NodeWord
 pub mod Conduct
 pub mod Worked

@@ -1,5 +1,5 @@
--- What the word `plan` does: it reads all of its input, and writes the table of the plan.
-use Rattle.std.specs.Prelude.{◌≡◌, ℕ, List, Option, Result, Ok, Err}
+-- What the word `plan` does with an input: it writes the table of the plan.
+use Rattle.std.specs.Prelude.{◌≡◌, ℕ, List, Result, Ok, Err}
 use Rattle.texts.specs.Growth.{Told, Wrote, Cut}
 use Rattle.texts.specs.Parts.{At}
 use Rattle.pulse_plan.specs.Plans.{PulseNumbers}
@@ -9,7 +9,6 @@ use Rattle.pulse_texts.specs.Tables.{table_text}
 use Rattle.pulse_nodes.specs.PulseWords.{refusal_line}
 use Rattle.pulselab.specs.declared.faults.LabError.{LabError}
 use Rattle.pulselab.specs.declared.faults.LabError.TheVariants as error
-use Rattle.pulselab.specs.WholeWord.{WholeDone, WholeFails}
 
 -- what is written of a plan, or of its refusal
 abbrev pub text_of : Result PulseNumbers (At LinePremise) → List ℕ
@@ -30,11 +29,3 @@ FailsOn input old new (error.Refused refusal) =
 FailsOn input old new error.WriteFault = Cut (text_of (whole_pulses_of input)) old new
 FailsOn input old new error.NoMemory = new ≡ old
 FailsOn input old new other = ⊥
-
--- what was read, and what was written
-abbrev pub PlanDone : (left left' : Option (List ℕ)) (before now : ℕ) (old new : Told) → Type 0
-PlanDone = WholeDone IsTabled
-
-abbrev pub PlanFails : (left left' : Option (List ℕ)) (before now : ℕ) (old new : Told)
-    → LabError → Type 0
-PlanFails = WholeFails FailsOn

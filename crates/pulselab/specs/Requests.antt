@@ -1,16 +1,18 @@
--- What the words ask for: `plan`, `run`, `node`, `--help` or `--version`.
+-- What the words ask for: `plan`, `run`, `slots`, `node`, `--help` or `--version`.
 use Rattle.std.specs.Prelude.{ℕ, List, [], ◌∷◌, Option, Some, None, codes, if◌then◌else◌}
 use Rattle.std.specs.Str.{bytes_eq}
 use Rattle.pulselab.specs.declared.requests.Request.{Request}
 use Rattle.pulselab.specs.declared.requests.Request.TheVariants as request
+use Rattle.pulselab.specs.declared.requests.Whole.TheVariants as whole
 
 -- what a single word asks for
 abbrev pub asked_alone : List ℕ → Option Request
 asked_alone word =
     if bytes_eq word (codes "--help") then Some request.Help
     else if bytes_eq word (codes "--version") then Some request.Version
-    else if bytes_eq word (codes "plan") then Some request.Plan
-    else if bytes_eq word (codes "run") then Some request.Run
+    else if bytes_eq word (codes "plan") then Some (request.Whole whole.Plan)
+    else if bytes_eq word (codes "run") then Some (request.Whole whole.Run)
+    else if bytes_eq word (codes "slots") then Some (request.Whole whole.Slots)
     else if bytes_eq word (codes "node") then Some request.Node
     else None
 

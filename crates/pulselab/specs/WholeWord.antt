@@ -46,5 +46,7 @@ WholeFails FailsOn left left' before now old new error.WriteFault =
     FailsAfter FailsOn left left' before now old new error.WriteFault
 WholeFails FailsOn left left' before now old new (error.Refused refusal) =
     FailsAfter FailsOn left left' before now old new (error.Refused refusal)
+WholeFails FailsOn left left' before now old new (error.SlotsRefused line rule) =
+    FailsAfter FailsOn left left' before now old new (error.SlotsRefused line rule)
 WholeFails FailsOn left left' before now old new (error.ScriptRefused line rule) =
     FailsAfter FailsOn left left' before now old new (error.ScriptRefused line rule)

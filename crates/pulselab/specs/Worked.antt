@@ -1,17 +1,25 @@
--- Worked values: plans with their texts and tables, a run, texts with their refusals, and the words
--- of the command line, letter by letter.
-use Rattle.std.specs.Prelude.{◌≡◌, ℕ, List, [], ◌∷◌, ◌++◌, map, Some, None, Ok, codes}
+-- Worked values: plans with their texts and tables, runs, lines of who holds, texts with their
+-- refusals, cells of nodes, and the words of the command line, letter by letter.
+use Rattle.std.specs.Prelude.{◌≡◌, ℕ, List, [], ◌∷◌, ◌++◌, map, Some, None, Result, Ok, Err}
+use Rattle.std.specs.Prelude.{codes}
 use Rattle.sync_types.specs.declared.answers.Rule.TheVariants as rule
 use Rattle.node_words.specs.declared.headers.HeaderRefusal.TheVariants as header
+use Rattle.node_words.specs.declared.errors.NodeError.{NodeError}
+use Rattle.node_words.specs.declared.errors.NodeError.TheVariants as node
+use Rattle.node_words.specs.NodeAnswers.{node_outcome}
 use Rattle.node_words.specs.Rules.{header_line}
+use Rattle.pulse_plan.specs.declared.premises.PulsePremise.TheVariants as premise
 use Rattle.pulse_plan.specs.Plans.{PulseNumbers}
+use Rattle.pulse_texts.specs.declared.premises.LinePremise.{LinePremise}
+use Rattle.pulse_texts.specs.declared.premises.LinePremise.TheVariants as line
 use Rattle.pulse_texts.specs.PulsesPart.{whole_pulses_of}
 use Rattle.pulse_texts.specs.PulsesTexts.{pulses_text}
 use Rattle.pulse_texts.specs.Tables.{table_text}
 use Rattle.pulse_nodes.specs.PulseWords.{pulse_words}
-use Rattle.pulse_runs.specs.RunInputs.{scripted_of}
+use Rattle.pulse_runs.specs.declared.shown.Shown.TheVariants as shown
 use Rattle.pulse_runs.specs.RunTexts as run
 use Rattle.pulselab.specs.declared.requests.Request.TheVariants as request
+use Rattle.pulselab.specs.declared.requests.Whole.TheVariants as whole
 use Rattle.pulselab.specs.PlanWord.{text_of}
 use Rattle.pulselab.specs.Requests.{request_of}
 
@@ -39,9 +47,12 @@ pub record PlansAreSpelled : Type 0 where
       ++ codes "group 0 nodes 1 faults 0 modulus 17\n"
       ++ codes "group 1 nodes 1 faults 0 modulus 6\nend\n"
 
--- what the word `run` writes of a text
+-- what the words `run` and `slots` write of a text
 abbrev pub IsRunAs : (text answer : List ℕ) → Type 0
-IsRunAs text answer = run.text_of (scripted_of text) ≡ answer
+IsRunAs text answer = run.text_of (run.run_of shown.Rows text) ≡ answer
+
+abbrev pub IsHeldAs : (text answer : List ℕ) → Type 0
+IsHeldAs text answer = run.text_of (run.run_of shown.Holds text) ≡ answer
 
 -- The runs of a node alone: also with eras, a comment, an empty line and starts; the first
 -- configurations of four nodes, one of them faulty, that are not locked, and that are; and a script
@@ -78,6 +89,45 @@ pub record RunsAreSpelled : Type 0 where
       ++ codes "rounds 0\nshow 0 0\nend\nmore\n")
       (codes "refused script line 10 rule form\n")
 
+-- The lines of who holds: of a node alone, whose table gives it two of its three outputs, with
+-- skipped lines; of four nodes of which one is faulty, where two hold that are not locked, and one
+-- where they are; of a table without a line; and a table that is refused by each of its rules, a
+-- script behind one, and no table.
+pub record SlotsAreSpelled : Type 0 where
+  pub single : IsHeldAs
+      (codes "pulses 1\ngroup 1 0 3\nend\n# who\nslots 1\nslot 0 1 2\n\nend\nscript 1\nfaulty\n"
+      ++ codes "start zero\nrounds 4\nshow 1 4\nend\n")
+      (codes "bound 0\nhold 1 1\nhold 2 1\nhold 3 .\nhold 4 1\nlocked 0\n")
+  pub unlocked : IsHeldAs
+      (codes "pulses 1\ngroup 4 1 10\nend\nslots 1\nslot 0 0 0\nslot 1 4 4\nend\nscript 1\n"
+      ++ codes "faulty 3\nstart zero\nstart node 1 090000\nrounds 0\nshow 0 0\nend\n")
+      (codes "bound 41\nhold 0 1 1 . *\nlocked none\n")
+  pub locked : IsHeldAs
+      (codes "pulses 1\ngroup 4 1 10\nend\nslots 1\nslot 3 0 3\nslot 1 4 9\nend\nscript 1\n"
+      ++ codes "faulty 3\nstart zero\nstart node 0 024000\nstart node 1 090000\n"
+      ++ codes "start node 2 480000\nrounds 0\nshow 0 0\nend\n")
+      (codes "bound 41\nhold 0 . 1 . *\nlocked 0\n")
+  pub empty : IsHeldAs
+      (codes "pulses 1\ngroup 1 0 3\nend\nslots 1\nend\nscript 1\nfaulty\nstart zero\n"
+      ++ codes "rounds 0\nshow 0 0\nend\n")
+      (codes "bound 0\nhold 0 .\nlocked 0\n")
+  pub form : IsHeldAs (codes "pulses 1\ngroup 4 1 10\nend\nslots 1\nslot 0 01 2\n")
+      (codes "refused slots line 5 rule form\n")
+  pub node : IsHeldAs (codes "pulses 1\ngroup 4 1 10\nend\nslots 1\nslot 4 1 2\n")
+      (codes "refused slots line 5 rule node\n")
+  pub range : IsHeldAs (codes "pulses 1\ngroup 4 1 10\nend\nslots 1\nslot 3 9 10\n")
+      (codes "refused slots line 5 rule range\n")
+  pub overlap : IsHeldAs
+      (codes "pulses 1\ngroup 4 1 10\nend\nslots 1\n#\nslot 3 5 9\nslot 1 2 5\nend\n")
+      (codes "refused slots line 7 rule overlap\n")
+  pub script : IsHeldAs
+      (codes "pulses 1\ngroup 1 0 3\nend\nslots 1\nslot 0 0 0\nend\nscript 1\nfaulty 0\n")
+      (codes "refused script line 8 rule faults\n")
+  pub plan : IsHeldAs (codes "pulses 1\ngroup 3 1 10\nend\nslots 1\n")
+      (codes "refused pulses line 2 premise quorum\n")
+  pub lacking : IsHeldAs (codes "pulses 1\ngroup 1 0 3\nend\nscript 1\n")
+      (codes "refused slots line 4 rule form\n")
+
 -- The first line of a plan that fails, by its number and its premise, each premise; and a line of
 -- the node part of a header.
 pub record LinesAreRefused : Type 0 where
@@ -94,12 +144,46 @@ pub record LinesAreRefused : Type 0 where
   pub node : header_line pulse_words (header.Node 6 rule.Limit)
       ≡ codes "refused node line 6 rule limit\n"
 
+-- The header of a node alone, in state 5 of 8, and that of node 1 of four, in the state of zeros.
+abbrev pub fifth : List ℕ
+fifth = codes "pulses 1\ngroup 1 0 8\nend\nnode 1\nid 0\nstate a0\nend\n"
+
+abbrev pub second : List ℕ
+second = codes "pulses 1\ngroup 4 1 10\nend\nnode 1\nid 1\nstate 000000\nend\n"
+
+-- a cell of three bytes of zeros
+abbrev pub zeros : List ℕ
+zeros = 0 ∷ 3 ∷ 0 ∷ 0 ∷ 0 ∷ []
+
+-- how a node ends on an input, and what it writes
+abbrev pub IsServedAs : (input : List ℕ) → Result ℕ (NodeError LinePremise) → (text : List ℕ)
+    → Type 0
+IsServedAs input ended text =
+    node_outcome pulse_words input ≡ record { ended = ended; text = text }
+
+-- The cells of a node: at its start and behind each packet, whatever it is told of itself; that
+-- behind one in which all nodes have the state of zeros; also where the input ends inside a packet;
+-- and lines of a header that fail.
+pub record NodesAreServed : Type 0 where
+  pub alone : IsServedAs (fifth ++ 0 ∷ 1 ∷ 255 ∷ 0 ∷ 0 ∷ []) (Ok 2)
+      (0 ∷ 1 ∷ 160 ∷ 0 ∷ 1 ∷ 192 ∷ 0 ∷ 1 ∷ 224 ∷ [])
+  pub packet : IsServedAs (second ++ (zeros ++ (zeros ++ (zeros ++ zeros)))) (Ok 1)
+      (zeros ++ 0 ∷ 3 ∷ 34 ∷ 32 ∷ 208 ∷ [])
+  pub cut : IsServedAs (second ++ (zeros ++ 0 ∷ 3 ∷ [])) (Err (node.Cut 0 1)) zeros
+  pub state : IsServedAs
+      (codes "pulses 1\ngroup 4 1 10\nend\nnode 1\nid 1\nstate 00000\nend\n")
+      (Err (node.Refused (header.Node 6 rule.Hex))) (codes "refused node line 6 rule hex\n")
+  pub plan : IsServedAs (codes "pulses 1\ngroup 3 1 10\n")
+      (Err (node.Refused (header.Plan 2 (line.Plan premise.Quorum))))
+      (codes "refused pulses line 2 premise quorum\n")
+
 -- Each word asks for what it says, and nothing else asks for anything.
 pub record WordsAskFor : Type 0 where
   pub single : map (λ w. request_of (w ∷ []))
-      (codes "plan" ∷ codes "run" ∷ codes "node" ∷ codes "--help" ∷ codes "--version"
-      ∷ codes "plan " ∷ [])
-      ≡ Some request.Plan ∷ Some request.Run ∷ Some request.Node ∷ Some request.Help
+      (codes "plan" ∷ codes "run" ∷ codes "slots" ∷ codes "node" ∷ codes "--help"
+      ∷ codes "--version" ∷ codes "plan " ∷ [])
+      ≡ Some (request.Whole whole.Plan) ∷ Some (request.Whole whole.Run)
+      ∷ Some (request.Whole whole.Slots) ∷ Some request.Node ∷ Some request.Help
       ∷ Some request.Version ∷ None ∷ []
   pub two : request_of (codes "plan" ∷ codes "node" ∷ []) ≡ None
   pub none : request_of [] ≡ None
@@ -108,5 +192,7 @@ pub record WordsAskFor : Type 0 where
 pub record WorkedValues : Type 0 where
   pub plans : PlansAreSpelled
   pub runs : RunsAreSpelled
+  pub slots : SlotsAreSpelled
+  pub nodes : NodesAreServed
   pub refused : LinesAreRefused
   pub words : WordsAskFor

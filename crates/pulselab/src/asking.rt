@@ -13,6 +13,7 @@ pub fn write_help<K: Sink>(sink: &mut K) -> Result<(), WriteFault>
         sink,
         &[
             Piece::Text(b"usage: pulselab plan < PLAN, pulselab run < PLAN_AND_SCRIPT,\n"),
+            Piece::Text(b"pulselab slots < PLAN_SLOTS_AND_SCRIPT,\n"),
             Piece::Text(b"or pulselab node < HEADER_AND_PACKETS\n"),
             Piece::Text(b"plan: reads a pulse plan, the lines `pulses 1`, `group N F C` and\n"),
             Piece::Text(b"`end`, and writes its table: its numbers and bound, what a state\n"),
@@ -20,6 +21,8 @@ pub fn write_help<K: Sink>(sink: &mut K) -> Result<(), WriteFault>
             Piece::Text(b"run: reads a pulse plan and a script for it, plays the script, and\n"),
             Piece::Text(b"writes the bound, a row of what the nodes show in each configuration\n"),
             Piece::Text(b"that is shown, and which configuration is the first locked one.\n"),
+            Piece::Text(b"slots: the same with a slot table between plan and script, and with a\n"),
+            Piece::Text(b"line of which nodes hold in place of a row.\n"),
             Piece::Text(
                 b"node: reads a pulse plan and the lines `node 1`, `id V`, `state H` and\n",
             ),

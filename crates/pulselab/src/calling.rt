@@ -8,6 +8,7 @@ ghost use Rattle.pulse_nodes.specs.HeaderTexts.{PulseHeaderTextIsRead};
 ghost use Rattle.pulse_nodes.specs.NodePromises.{PulseNodesKeepPromise, PulseCallsAreProcesses};
 ghost use Rattle.pulse_nodes.specs.NodePromises.{AnyPulseInputs};
 ghost use Rattle.pulse_runs.specs.RunPromises.{RunsKeepPromise};
+ghost use Rattle.pulse_runs.specs.HoldPromises.{SlotsKeepPromise};
 ghost use Rattle.pulse_runs.specs.ScriptInputs.{ScriptInputsAreRead};
 ghost use Rattle.pulselab.specs.Faults.{KeptAt, UnmetAt};
 ghost use Rattle.pulselab.specs.Requests.{request_of};
@@ -17,9 +18,8 @@ ghost use Rattle.pulselab.specs.Worked.{WorkedValues};
 use crate::asking::{write_help, write_version};
 use crate::faults::LabError;
 use crate::node_word::node;
-use crate::plan_word::table_plan;
 use crate::requests::{Request, request_of};
-use crate::run_word::play_script;
+use crate::whole_word::answer_all;
 use crate::worked::worked_values;
 use edge_io::{Sink, Source};
 use pulse_nodes::header_laws::header_texts_read_back;
@@ -32,19 +32,20 @@ use std::alloc::Global;
 /// Does what the words ask for. `plan` reads all of the input as a pulse plan, which has at most
 /// 2^20 bytes, and writes its table. `run` reads all of an input that is a pulse plan and a script
 /// for it, of at most 2^20 bytes together, plays the script, and writes the bound, a row of each
-/// configuration that is shown, and the first locked configuration of each era. `node` reads a
-/// header, which has at most 2^20 bytes, and then packets, and writes the node's cell when the
-/// header has been read, and one behind each packet before it reads on. `--help` and `--version`
-/// read nothing, and write what they say.
+/// configuration that is shown, and the first locked configuration of each era. `slots` does so
+/// with an input that has a slot table between them, and writes which nodes hold in place of what
+/// they show. `node` reads a header, which has at most 2^20 bytes, and then packets, and writes the
+/// node's cell when the header has been read, and one behind each packet before it reads on.
+/// `--help` and `--version` read nothing, and write what they say.
 ///
 /// `Usage` comes exactly where the words ask for nothing; nothing was read or written then.
-/// `Refused`, `ScriptRefused` and `NodeRefused` name the first line of the input that fails, and
-/// why; the line of the refusal was written. At `NoMemory` nothing was written; of `plan` and of
-/// `run`, nor at `ReadFault` and `TooLong`. Of `node`, at `ReadFault` the cells of the whole
-/// packets that were read were written; `TooLong` comes where the header is too long, and nothing
-/// was written, or at the first byte of packet 1,000,001, and all cells were. `Cut` comes of `node`
-/// alone, exactly where the input ends inside a packet. `WriteFault` comes only where the sink
-/// counted a fault; a prefix of the answer was then taken.
+/// `Refused`, `SlotsRefused`, `ScriptRefused` and `NodeRefused` name the first line of the input
+/// that fails, and why; the line of the refusal was written. At `NoMemory` nothing was written; of
+/// `plan`, `run` and `slots`, nor at `ReadFault` and `TooLong`. Of `node`, at `ReadFault` the cells
+/// of the whole packets that were read were written; `TooLong` comes where the header is too long,
+/// and nothing was written, or at the first byte of packet 1,000,001, and all cells were. `Cut`
+/// comes of `node` alone, exactly where the input ends inside a packet. `WriteFault` comes only
+/// where the sink counted a fault; a prefix of the answer was then taken.
 pub fn pulselab<S: Source, K: Sink>(
     alloc: Global,
     words: &[String],
@@ -76,8 +77,9 @@ pub fn pulselab<S: Source, K: Sink>(
     // Plans with their texts and tables, refusals, and what words ask for, letter by letter.
     ensures worked { WorkedValues }
 
-    // The texts of a plan that is accepted and of a script for it are read as these, and there are
-    // no other inputs of `run`: what any input is read as, such texts are read as.
+    // The texts of a plan that is accepted and of a script for it are read as these, and so they
+    // are with that of a slot table between them. There are no other inputs of `run` and `slots`:
+    // what any input is read as, such texts are read as.
     ensures scripts { ScriptInputsAreRead }
 
     // An input that is read as a plan and a script is an accepted plan, and a script for it. What
@@ -86,6 +88,12 @@ pub fn pulselab<S: Source, K: Sink>(
     // one modulo C. The first locked configuration that is written of it is the first one, which is
     // T rounds into it at most, where it has so many; from each locked one on they stay locked.
     ensures runs { RunsKeepPromise }
+
+    // So it is where a slot table is read with them, which is one for the plan's nodes and outputs.
+    // A node's word is 1 exactly where the table gives it the output that it shows: from T rounds
+    // into an era to its end that is one correct node at most, the holder of the output that all
+    // correct ones show.
+    ensures slots { SlotsKeepPromise }
 
     // N calls of `node`, over a window of rounds that begins in each at a packet of its own: where
     // each is given the cells that the correct ones write, and any bytes as those of few faulty
@@ -119,8 +127,7 @@ pub fn pulselab<S: Source, K: Sink>(
         None => Err(LabError::Usage),
         Some(Request::Help) => Ok(write_help(sink)?),
         Some(Request::Version) => Ok(write_version(sink)?),
-        Some(Request::Plan) => table_plan(alloc, source, sink),
-        Some(Request::Run) => play_script(alloc, source, sink),
+        Some(Request::Whole(word)) => answer_all(alloc, word, source, sink),
         Some(Request::Node) => node(alloc, source, sink),
     }
 }

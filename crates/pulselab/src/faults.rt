@@ -12,11 +12,19 @@ use thiserror::Error;
 #[derive(Clone, Copy, Debug, PartialEq, Eq, Error)]
 pub enum LabError {
     /// The words ask for nothing.
-    #[error("usage: pulselab plan, pulselab run, pulselab node, or pulselab --help")]
+    #[error("usage: pulselab plan, run, slots or node, or pulselab --help")]
     Usage,
     /// The plan is refused, and a line that says so was written.
     #[error("refused pulses line {} premise {}", .0.line, .0.premise.word())]
     Refused(PulsesRefusal),
+    /// The slot table after the plan is refused, and a line that says so was written.
+    #[error("refused slots line {line} rule {}", rule_word(*rule))]
+    SlotsRefused {
+        /// The line's number, from 1 through the whole input.
+        line: u64,
+        /// The first rule that the line fails.
+        rule: Rule,
+    },
     /// The script after the plan is refused, and a line that says so was written.
     #[error("refused script line {line} rule {}", rule_word(*rule))]
     ScriptRefused {
@@ -36,7 +44,7 @@ pub enum LabError {
     /// A read failed.
     #[error("the input could not be read")]
     ReadFault,
-    /// The plan, the plan and the script, or the header of a node is longer than 2^20 bytes, or
+    /// The plan, with what is behind it, or the header of a node is longer than 2^20 bytes, or
     /// there are more than 1,000,000 packets.
     #[error("the input is too long")]
     TooLong,
@@ -64,6 +72,7 @@ impl LabError {
         match self {
             LabError::Refused(_) => 1,
             LabError::Usage => 2,
+            LabError::SlotsRefused { .. } => 3,
             LabError::ScriptRefused { .. } | LabError::NodeRefused { .. } => 3,
             LabError::ReadFault => 6,
             LabError::WriteFault => 7,
@@ -78,8 +87,8 @@ impl LabError {
         ensures { IsTrue result ↔ IsAnswered self }
     {
         match self {
-            LabError::Refused(_) | LabError::ScriptRefused { .. } | LabError::NodeRefused { .. } =>
-                true,
+            LabError::Refused(_) | LabError::SlotsRefused { .. } => true,
+            LabError::ScriptRefused { .. } | LabError::NodeRefused { .. } => true,
             _ => false,
         }
     }

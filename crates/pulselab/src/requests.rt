@@ -3,6 +3,17 @@
 ghost use Rattle.std.specs.Prelude.{◌≡◌, map, string_bytes};
 ghost use Rattle.pulselab.specs.Requests.{asked_alone, request_of};
 
+/// A word that reads all of the input, and answers it.
+#[derive(Clone, Copy, Debug, PartialEq, Eq)]
+pub enum Whole {
+    /// The table of the plan that is read.
+    Plan,
+    /// What the nodes of the plan that is read show while the script after it is played.
+    Run,
+    /// Which nodes hold meanwhile, by the slot table between plan and script.
+    Slots,
+}
+
 /// What is asked for.
 #[derive(Clone, Copy, Debug, PartialEq, Eq)]
 pub enum Request {
@@ -10,10 +21,8 @@ pub enum Request {
     Help,
     /// Its name and version.
     Version,
-    /// The table of the plan that is read.
-    Plan,
-    /// What the nodes of the plan that is read show while the script after it is played.
-    Run,
+    /// The answer to all of the input.
+    Whole(Whole),
     /// One node that is given packets: its cell at the start and behind each packet.
     Node,
 }
@@ -27,9 +36,11 @@ fn asked_alone(word: &str) -> Option<Request>
     } else if word == "--version" {
         Some(Request::Version)
     } else if word == "plan" {
-        Some(Request::Plan)
+        Some(Request::Whole(Whole::Plan))
     } else if word == "run" {
-        Some(Request::Run)
+        Some(Request::Whole(Whole::Run))
+    } else if word == "slots" {
+        Some(Request::Whole(Whole::Slots))
     } else if word == "node" {
         Some(Request::Node)
     } else {

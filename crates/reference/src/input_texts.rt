@@ -2,6 +2,7 @@
 
 use crate::plans::{Level, Plan};
 use crate::scripts::{Lie, Receivers, Rule, Script, Start};
+use crate::spans::Span;
 use crate::texts::Text;
 use std::alloc::AllocError;
 
@@ -33,6 +34,17 @@ pub fn write_plan(text: &mut String, plan: &Plan) -> Result<(), AllocError> {
     out.line("base", &[plan.base]);
     write_levels(&mut out, plan.version, &plan.levels);
     out.word("end\n");
+    out.end()
+}
+
+/// Writes the lines of slots.
+pub fn write_slots(text: &mut String, slots: &[Span]) -> Result<(), AllocError> {
+    let mut out = Text::behind(text);
+    out.line("slots", &[1]);
+    for slot in slots {
+        out.line("slot", &[slot.node, slot.first, slot.last]);
+    }
+    out.line("end", &[]);
     out.end()
 }
 

@@ -1,6 +1,6 @@
 //! What the programs answer, computed plainly and slowly from what plans of both constructions,
-//! states, scripts and their other parts mean. It shares no code with the programs, which are compared
-//! with it; and it has no contracts.
+//! states, scripts and their other parts mean. It shares no code with the programs, which are
+//! compared with it; and it has no contracts.
 #![tactic(auto)]
 
 pub mod bits;

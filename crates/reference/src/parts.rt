@@ -8,7 +8,7 @@ use crate::refusals::Stop;
 use crate::runs::answer;
 use crate::script_texts::read_script;
 use crate::sizes::Sizes;
-use crate::spans::{Span, read_spans};
+use crate::spans::{Limits, Span, read_spans};
 use std::alloc::Global;
 
 /// The most values that the registers of a layer may have.
@@ -129,13 +129,13 @@ impl Parts {
         match word {
             "slots" => {
                 lines.take_first("slots");
-                read_spans(plan, lines, "slots", &mut self.spans);
+                read_spans(Limits::of(plan), lines, "slots", &mut self.spans);
                 Part::Slots(&self.spans)
             }
             "fire" => {
                 lines.take_first("fire");
                 want_slots(plan, lines, plan.slot());
-                read_spans(plan, lines, "fire", &mut self.spans);
+                read_spans(Limits::of(plan), lines, "fire", &mut self.spans);
                 plan.set_layer(1, 2);
                 Part::Firing(&self.spans)
             }

@@ -32,11 +32,33 @@ pub fn cover(spans: &[Span], node: u64, number: u64) -> bool {
     false
 }
 
+/// How many nodes there are, and below which number the outputs are that slots give them.
+#[derive(Clone, Copy)]
+pub struct Limits {
+    pub nodes: u64,
+    pub modulus: u64,
+}
+
+impl Limits {
+    /// Those of a plan.
+    pub fn of(plan: &Plan) -> Limits {
+        Limits {
+            nodes: plan.nodes(),
+            modulus: plan.modulus(),
+        }
+    }
+}
+
 /// The first rule that a request fails.
 pub fn broken_request(plan: &Plan, request: &Span) -> Option<&'static str> {
-    if request.node >= plan.nodes() {
+    broken_span(plan.nodes(), request)
+}
+
+/// The first rule that a span of one of so many nodes fails, whatever its numbers are of.
+fn broken_span(nodes: u64, span: &Span) -> Option<&'static str> {
+    if span.node >= nodes {
         Some("node")
-    } else if request.first > request.last {
+    } else if span.first > span.last {
         Some("range")
     } else {
         None
@@ -44,12 +66,12 @@ pub fn broken_request(plan: &Plan, request: &Span) -> Option<&'static str> {
 }
 
 /// The first rule that the line of a slot behind those of others fails.
-pub fn broken_slot(plan: &Plan, slot: &Span, others: &[Span]) -> Option<&'static str> {
-    let broken = broken_request(plan, slot);
+pub fn broken_slot(limits: Limits, slot: &Span, others: &[Span]) -> Option<&'static str> {
+    let broken = broken_span(limits.nodes, slot);
     if broken.is_some() {
         return broken;
     }
-    if slot.last >= plan.modulus() {
+    if slot.last >= limits.modulus {
         return Some("range");
     }
     for other in others {
@@ -61,7 +83,7 @@ pub fn broken_slot(plan: &Plan, slot: &Span, others: &[Span]) -> Option<&'static
 }
 
 /// Takes the lines of the spans of a part, which is one of slots or else of requests.
-pub fn read_spans(plan: &Plan, lines: &mut Lines, part: &'static str, spans: &mut Vec<Span>) {
+pub fn read_spans(limits: Limits, lines: &mut Lines, part: &'static str, spans: &mut Vec<Span>) {
     let are_slots = part == "slots";
     for _ in 0..=lines.most() {
         lines.take(part);
@@ -76,9 +98,9 @@ pub fn read_spans(plan: &Plan, lines: &mut Lines, part: &'static str, spans: &mu
         };
         lines.want(spans.len() < MOST_SPANS, "limit");
         let broken = if are_slots {
-            broken_slot(plan, &span, spans)
+            broken_slot(limits, &span, spans)
         } else {
-            broken_request(plan, &span)
+            broken_span(limits.nodes, &span)
         };
         want_none_broken(lines, broken);
         lines.put(spans, span);

@@ -2,33 +2,21 @@
 
 use crate::cases::{Case, refusal_of};
 use crate::draws::Draws;
-use reference::input_texts::write_script;
+use reference::input_texts::{write_script, write_slots};
 use reference::layers::Part;
 use reference::plans::Plan;
-use reference::spans::{Span, broken_slot};
-use reference::texts::Text;
+use reference::spans::{Limits, Span, broken_slot};
 use std::alloc::AllocError;
 
 /// The first rule that a slot fails, and on which line behind that of `slots 1`.
 fn broken(plan: &Plan, slots: &[Span]) -> Option<(u64, &'static str)> {
     for (place, slot) in slots.iter().enumerate() {
         let others = slots.get(..place).unwrap_or(&[]);
-        if let Some(rule) = broken_slot(plan, slot, others) {
+        if let Some(rule) = broken_slot(Limits::of(plan), slot, others) {
             return Some(((place as u64).wrapping_add(1), rule));
         }
     }
     None
-}
-
-/// Writes the lines of slots.
-fn write_slots(text: &mut String, slots: &[Span]) -> Result<(), AllocError> {
-    let mut out = Text::behind(text);
-    out.line("slots", &[1]);
-    for slot in slots {
-        out.line("slot", &[slot.node, slot.first, slot.last]);
-    }
-    out.line("end", &[]);
-    out.end()
 }
 
 impl Draws {

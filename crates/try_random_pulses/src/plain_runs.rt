@@ -1,4 +1,4 @@
-//! What is written of a plan and a script, plainly.
+//! What is written of a plan and a script, also with slots between them, plainly.
 
 use crate::plain_texts::read_plan;
 use reference::lines::Lines;
@@ -8,6 +8,7 @@ use reference::refusals::Stop;
 use reference::script_texts::read_script;
 use reference::scripts::Script;
 use reference::sizes::Sizes;
+use reference::spans::{Limits, Span, cover, read_spans};
 use reference::texts::Text;
 use std::alloc::{AllocError, Global};
 
@@ -20,16 +21,37 @@ pub fn sizes_of(plan: &Group) -> Sizes {
     sizes
 }
 
-/// Writes the row of the configuration that a run is at.
-fn write_row(out: &mut Text, nodes: u64, run: &Run) {
-    out.put("row", &[run.at()]);
-    for node in 0..nodes {
-        match run.output(node) {
-            Some(output) => out.put("", &[output]),
-            None => out.word(" *"),
+/// What is written of a configuration: what the nodes show, or which of them hold by these slots.
+#[derive(Clone, Copy)]
+enum Line<'a> {
+    Row,
+    Hold(&'a [Span]),
+}
+
+impl Line<'_> {
+    /// Writes the word of a correct node that shows an output.
+    fn write_word(self, out: &mut Text, node: u64, output: u64) {
+        match self {
+            Line::Row => out.put("", &[output]),
+            Line::Hold(slots) if cover(slots, node, output) => out.word(" 1"),
+            Line::Hold(_) => out.word(" ."),
         }
     }
-    out.word("\n");
+
+    /// Writes the line of the configuration that a run is at.
+    fn write(self, out: &mut Text, nodes: u64, run: &Run) {
+        match self {
+            Line::Row => out.put("row", &[run.at()]),
+            Line::Hold(_) => out.put("hold", &[run.at()]),
+        }
+        for node in 0..nodes {
+            match run.output(node) {
+                Some(output) => self.write_word(out, node, output),
+                None => out.word(" *"),
+            }
+        }
+        out.word("\n");
+    }
 }
 
 /// Writes which configuration is the first locked one of the era that begins with `first`.
@@ -49,6 +71,7 @@ fn write_run(
     alloc: Global,
     plan: &Group,
     script: &Script,
+    line: Line,
     out: &mut Text,
     locks: &mut Text,
 ) -> Result<(), AllocError> {
@@ -66,7 +89,7 @@ fn write_run(
             locked = Some(at);
         }
         if script.first <= at && at <= script.last {
-            write_row(out, plan.nodes, &run);
+            line.write(out, plan.nodes, &run);
         }
         run.round(alloc)?;
     }
@@ -75,12 +98,12 @@ fn write_run(
 }
 
 /// What is written of a plan and a script.
-pub fn answer(alloc: Global, plan: &Group, script: &Script) -> Result<String, AllocError> {
+fn answer(alloc: Global, plan: &Group, script: &Script, line: Line) -> Result<String, AllocError> {
     let mut text = String::new(alloc);
     let mut lines = String::new(alloc);
     let mut locks = Text::behind(&mut lines);
     let mut out = Text::behind(&mut text);
-    let played = write_run(alloc, plan, script, &mut out, &mut locks);
+    let played = write_run(alloc, plan, script, line, &mut out, &mut locks);
     let rows = out.end();
     let told = locks.end();
     played?;
@@ -95,5 +118,17 @@ pub fn answer_of(alloc: Global, input: &[u8]) -> Result<String, Stop> {
     let mut lines = Lines::of(input);
     let plan = read_plan(&mut lines)?;
     let script = read_script(alloc, &sizes_of(&plan), &mut lines)?;
-    Ok(answer(alloc, &plan, &script)?)
+    Ok(answer(alloc, &plan, &script, Line::Row)?)
+}
+
+/// What is written of an input of a plan, slots and a script, or why it is refused.
+pub fn slots_answer_of(alloc: Global, input: &[u8]) -> Result<String, Stop> {
+    let mut lines = Lines::of(input);
+    let plan = read_plan(&mut lines)?;
+    let Group { nodes, modulus, .. } = plan;
+    let mut slots = Vec::new(alloc);
+    lines.take_first("slots");
+    read_spans(Limits { nodes, modulus }, &mut lines, "slots", &mut slots);
+    let script = read_script(alloc, &sizes_of(&plan), &mut lines)?;
+    Ok(answer(alloc, &plan, &script, Line::Hold(&slots))?)
 }

@@ -1,19 +1,20 @@
-//! Scripts that are played over pulse plans, and inputs that are near to a plan and a script.
+//! Scripts that are played over pulse plans, also with slots, and inputs that are near to a plan
+//! and a script.
 
 use crate::drawn_scripts::Near;
 use crate::draws::Draws;
-use crate::plain_runs::answer_of;
+use crate::plain_runs::{answer_of, slots_answer_of};
 use crate::plain_texts::text_of;
 use edge_io::MemSink;
-use pulse_runs::{PlayError, play};
-use reference::input_texts::write_script;
+use pulse_runs::{PlayError, Shown, play};
+use reference::input_texts::{write_script, write_slots};
 use reference::pulse_groups::Group;
 use reference::refusals::Stop;
 use std::alloc::{AllocError, Global};
 
 /// How many faults plans tolerate whose scripts go on behind the bound, and how many scripts these
-/// are.
-const SCRIPTS: [(u64, u64); 4] = [(1, 40), (2, 10), (3, 5), (4, 3)];
+/// are, and how many with slots.
+const SCRIPTS: [(u64, u64, u64); 4] = [(1, 40, 20), (2, 10, 5), (3, 5, 3), (4, 3, 2)];
 
 /// How many bytes an input may have.
 const LONGEST_INPUT: usize = 1 << 20;
@@ -22,8 +23,12 @@ const LONGEST_INPUT: usize = 1 << 20;
 const INPUTS: u64 = 400;
 
 /// What should be written for an input, and whether it is refused.
-fn wanted_of(alloc: Global, input: &[u8]) -> Result<(String, bool), AllocError> {
-    match answer_of(alloc, input) {
+fn wanted_of(alloc: Global, shown: Shown, input: &[u8]) -> Result<(String, bool), AllocError> {
+    let answer = match shown {
+        Shown::Rows => answer_of(alloc, input),
+        Shown::Holds => slots_answer_of(alloc, input),
+    };
+    match answer {
         Ok(text) => Ok((text, false)),
         Err(Stop::Refused(refusal)) => Ok((refusal.text(alloc)?, true)),
         Err(Stop::NoMemory(error)) => Err(error),
@@ -33,6 +38,7 @@ fn wanted_of(alloc: Global, input: &[u8]) -> Result<(String, bool), AllocError> 
 /// Whether this is written for an input, and it is refused or not. There is room for one byte more.
 fn is_answered(
     alloc: Global,
+    shown: Shown,
     input: &[u8],
     wanted: &[u8],
     is_refused: bool,
@@ -42,7 +48,7 @@ fn is_answered(
     }
     let room = wanted.len().saturating_add(1);
     let mut sink = MemSink::new(alloc, room, Vec::new(alloc), Vec::new(alloc))?;
-    let is_ended_so = match play(alloc, input, &mut sink) {
+    let is_ended_so = match play(alloc, shown, input, &mut sink) {
         Ok(()) => !is_refused,
         Err(PlayError::Refused(_)) => is_refused,
         Err(PlayError::NoMemory | PlayError::WriteFault) => false,
@@ -68,11 +74,11 @@ const NO_INPUTS: Counts = Counts {
 
 impl Counts {
     /// Tries an input. One that is answered otherwise is printed.
-    fn try_input(&mut self, rt: &HostRuntime, input: &[u8]) -> anyhow::Result<()> {
+    fn try_input(&mut self, rt: &HostRuntime, shown: Shown, input: &[u8]) -> anyhow::Result<()> {
         self.tried = self.tried.wrapping_add(1);
-        let (wanted, is_refused) = wanted_of(rt.alloc(), input)?;
+        let (wanted, is_refused) = wanted_of(rt.alloc(), shown, input)?;
         self.refused = self.refused.wrapping_add(u64::from(is_refused));
-        if is_answered(rt.alloc(), input, wanted.as_bytes(), is_refused)? {
+        if is_answered(rt.alloc(), shown, input, wanted.as_bytes(), is_refused)? {
             self.right = self.right.wrapping_add(1);
         } else {
             println!(rt; "an input is answered otherwise: {input:?}")?;
@@ -81,9 +87,11 @@ impl Counts {
     }
 }
 
-/// An input of a plan and a drawn script of so many eras after the first, of so many rounds each.
+/// An input of a plan and a drawn script of so many eras after the first, of so many rounds each,
+/// with drawn slots between them where it is shown who holds.
 fn drawn_input(
     draws: &mut Draws,
+    shown: Shown,
     plan: &Group,
     eras: u64,
     length: u64,
@@ -95,6 +103,10 @@ fn drawn_input(
     };
     let script = draws.script(near, eras, length)?;
     let mut input = text_of(draws.alloc, plan)?;
+    if shown == Shown::Holds {
+        let slots = draws.slots(plan)?;
+        write_slots(&mut input, &slots)?;
+    }
     write_script(&mut input, &script)?;
     Ok(input)
 }
@@ -103,14 +115,15 @@ fn drawn_input(
 fn try_eras(
     rt: &HostRuntime,
     draws: &mut Draws,
+    shown: Shown,
     plan: &Group,
     eras: u64,
     scripts: u64,
 ) -> anyhow::Result<()> {
     let mut counts = NO_INPUTS;
     for _ in 0..scripts {
-        let input = drawn_input(draws, plan, eras, plan.bound().wrapping_add(3))?;
-        counts.try_input(rt, input.as_bytes())?;
+        let input = drawn_input(draws, shown, plan, eras, plan.bound().wrapping_add(3))?;
+        counts.try_input(rt, shown, input.as_bytes())?;
     }
     let nodes = plan.nodes;
     let Counts {
@@ -119,33 +132,42 @@ fn try_eras(
         refused: _,
     } = counts;
     let all = eras.wrapping_add(1);
-    println!(rt; "{nodes} nodes, scripts of {all} eras: {right} of {tried} runs agree")?;
+    print!(rt; "{nodes} nodes, ")?;
+    if shown == Shown::Holds {
+        print!(rt; "slots and ")?;
+    }
+    println!(rt; "scripts of {all} eras: {right} of {tried} runs agree")?;
     Ok(())
 }
 
-/// Tries inputs that are near to a plan and a script.
-fn try_near_inputs(rt: &HostRuntime, draws: &mut Draws) -> anyhow::Result<()> {
+/// Tries inputs that are near to a plan and a script, with slots between them where it is shown who
+/// holds.
+fn try_near_inputs(rt: &HostRuntime, draws: &mut Draws, shown: Shown) -> anyhow::Result<()> {
     let mut counts = NO_INPUTS;
     for _ in 0..INPUTS {
         let plan = draws.plan(10);
         let eras = draws.below(4);
         let length = draws.between(1, 12);
-        let input = drawn_input(draws, &plan, eras, length)?.into_bytes();
+        let input = drawn_input(draws, shown, &plan, eras, length)?.into_bytes();
         let input = if draws.once_in(2) {
             draws.changed(&input)?
         } else {
             input
         };
-        counts.try_input(rt, &input)?;
+        counts.try_input(rt, shown, &input)?;
     }
     let Counts {
         tried,
         right,
         refused,
     } = counts;
-    print!(rt; "plans and scripts: {right} of {tried} agree")?;
-    // Half of them are unchanged, and most of the others are refused.
-    if refused.wrapping_add(refused) < INPUTS && INPUTS < refused.wrapping_mul(8) {
+    match shown {
+        Shown::Rows => print!(rt; "plans and scripts: ")?,
+        Shown::Holds => print!(rt; "plans, slots and scripts: ")?,
+    }
+    print!(rt; "{right} of {tried} agree")?;
+    // Half of them are unchanged, and most of the others are refused; so are some slots.
+    if refused.wrapping_mul(4) < INPUTS.wrapping_mul(3) && INPUTS < refused.wrapping_mul(8) {
         println!(rt; ", many of them refused")?;
     } else {
         println!(rt; ", {refused} of them refused")?;
@@ -153,16 +175,26 @@ fn try_near_inputs(rt: &HostRuntime, draws: &mut Draws) -> anyhow::Result<()> {
     Ok(())
 }
 
-/// Tries scripts.
-pub fn try_scripts(rt: &HostRuntime, draws: &mut Draws) -> anyhow::Result<()> {
-    for (faults, scripts) in &SCRIPTS {
+/// Tries scripts with lines of this kind.
+fn try_shown(rt: &HostRuntime, draws: &mut Draws, shown: Shown) -> anyhow::Result<()> {
+    for (faults, scripts, with_slots) in &SCRIPTS {
         let plan = Group {
             first: 0,
             nodes: faults.wrapping_mul(3).wrapping_add(1),
             faults: *faults,
             modulus: 10,
         };
-        try_eras(rt, draws, &plan, 2, *scripts)?;
+        let count = match shown {
+            Shown::Rows => *scripts,
+            Shown::Holds => *with_slots,
+        };
+        try_eras(rt, draws, shown, &plan, 2, count)?;
     }
-    try_near_inputs(rt, draws)
+    try_near_inputs(rt, draws, shown)
+}
+
+/// Tries scripts, and scripts with slots.
+pub fn try_scripts(rt: &HostRuntime, draws: &mut Draws) -> anyhow::Result<()> {
+    try_shown(rt, draws, Shown::Rows)?;
+    try_shown(rt, draws, Shown::Holds)
 }
