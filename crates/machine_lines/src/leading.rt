@@ -21,8 +21,10 @@ pub(crate) fn is_counting<M: Machine>(runner: &Runner<'_, M>) -> bool
     runner.lock_of(last).is_some()
 }
 
-/// Plays on to configuration `end`, or until the correct nodes count.
-pub(crate) fn play_to<M: Machine>(runner: &mut Runner<'_, M>, end: u64)
+/// Plays on to configuration `end`, or until the runner is in the last era and knows a locked
+/// configuration of it. From there on the correct nodes count to the end, and the first locked
+/// configuration of each era is known.
+pub fn play_to<M: Machine>(runner: &mut Runner<'_, M>, end: u64)
     requires from { runner.old.at ≤ end }
     requires within { end ≤ runner.old.script.rounds }
     ensures same { runner.new ≡ record runner.old { at = runner.new.at } }

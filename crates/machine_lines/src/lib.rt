@@ -16,6 +16,7 @@ mod rows;
 mod words;
 
 pub use holds::HoldLines;
+pub use leading::play_to;
 pub use lines::ShownLines;
 pub use playing::{put_holds, put_run, put_shown};
 pub use rows::Rows;

@@ -14,7 +14,8 @@ use Rattle.adversary_script.specs.Eras.{first_of_era, end_of_era, faulty_of_era,
 use Rattle.adversary_script.specs.Lookup.{hit_at}
 use Rattle.adversary_script.specs.Lies.{AreStates, start_of, lie_of}
 use Rattle.adversary_script.proofs.LiesInRange.{starts_in_range, lies_in_range}
-use Rattle.machine_runner.specs.Laws.{IsReadFor, EraCountsFrom, EraStaysLocked, ErasAreRuns, ErasLock}
+use Rattle.machine_runner.specs.Laws.{IsReadFor, EraCountsFrom, EraStaysLocked, ErasAreRuns}
+use Rattle.machine_runner.specs.Laws.{ErasLock}
 use Rattle.machine_runner.specs.Laws.{ErasCount, ErasStayLocked}
 use Rattle.machine_runner.specs.Locks.{era_locked}
 use Rattle.machine_runner.specs.Played.{lies_at, heard_at, after_round, played_at, era_run}

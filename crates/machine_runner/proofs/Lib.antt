@@ -2,6 +2,7 @@ pub mod Filled
 pub mod Keeping
 pub mod Laid
 pub mod Told
+pub mod Rekeyed
 pub mod Correct
 pub mod EraRuns
 pub mod FirstLocked

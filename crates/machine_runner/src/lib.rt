@@ -1,13 +1,15 @@
 //! Plays a script on any machine, round by round.
 //!
 //! A [`Runner`] is always at the configuration that the script's run has there. A round takes no
-//! memory and cannot fail. [`laws`] has what holds of the configurations that are played, and when
-//! they are locked: each era is a run of the machine, so what holds of a sound machine holds of each.
+//! memory and cannot fail, and a script is begun anew with another key in the same memory. [`laws`]
+//! has what holds of the configurations that are played, and when they are locked: each era is a
+//! run of the machine, so what holds of a sound machine holds of each.
 #![tactic(auto)]
 
 mod hearing;
 pub mod laws;
 mod locks;
+mod restarting;
 mod runners;
 mod stepping;
 

@@ -2,6 +2,7 @@ ghost use Rattle.std.specs.Prelude.{◌≡◌, ◌∷◌, None, length, replicat
 ghost use Rattle.machine_runner.specs.Locks.{is_locked, first_of};
 ghost use Rattle.machine_runner.specs.Rooms.{IsReady};
 
+use crate::hearing::{Receiver, lay};
 use crate::locks::{is_locked, locked_so_far};
 use crate::stepping::{Room, Round, beginning_in, start_all};
 use adversary_script::{Noise, Script};
@@ -14,15 +15,15 @@ use sync_types::{FaultSet, NoMemory, NodeState};
 
 /// Plays a script round by round on a machine.
 pub struct Runner<'a, M: Machine> {
-    machine: &'a M,
-    script: Script,
-    room: Room,
-    states: Packed,
-    at: u64,
+    pub(crate) machine: &'a M,
+    pub(crate) script: Script,
+    pub(crate) room: Room,
+    pub(crate) states: Packed,
+    pub(crate) at: u64,
     // The era of `at`.
-    era: usize,
+    pub(crate) era: usize,
     // Of each era the first configuration so far that is locked.
-    locks: Vec<Option<u64>>,
+    pub(crate) locks: Vec<Option<u64>>,
 }
 
 // Written out, so that what lets go of one calls this, and no more.
@@ -101,6 +102,8 @@ impl<'a, M: Machine> Runner<'a, M> {
     ghost use Rattle.adversary_script.specs.Eras.{faulty_at};
     ghost use Rattle.machines.specs.Laws.{IsSound};
     ghost use Rattle.machine_runner.specs.Laws.{IsReadFor};
+    ghost use Rattle.machine_runner.specs.Played.{heard_at};
+    ghost use Rattle.machine_runner.specs.Hearing.{HasRoom};
     ghost use Rattle.machine_runner.specs.Runners.{begun, next, states_of, lock_of};
 
     /// A runner of a script at configuration 0. It takes all the memory that it ever needs.
@@ -209,6 +212,39 @@ impl<'a, M: Machine> Runner<'a, M> {
         ensures { result.now ≡ state_of (states_of M.machine self.now) v }
     {
         self.states.state(v)
+    }
+
+    /// Lays the states of all nodes into their places.
+    pub fn lay_states(&self, config: &mut [NodeState])
+        requires { HasRoom self.now.script config.old }
+        ensures states { config.new ≡ states_of M.machine self.now }
+        ensures room { HasRoom self.now.script config.new }
+    {
+        self.states.tell();
+        lay(&self.states, config);
+    }
+
+    /// Lays what node `v` hears in the round that follows into its places. There is a round left to
+    /// play. It takes no memory and cannot fail.
+    pub fn hear(&mut self, v: u32, heard: &mut [NodeState])
+        requires node { v < (M.machine self.old.machine).nodes }
+        requires left { self.old.at < self.old.script.rounds }
+        requires room { HasRoom self.old.script heard.old }
+        ensures heard { heard.new
+            ≡ heard_at self.old.script self.old.at (states_of M.machine self.old) v }
+        ensures room { HasRoom self.old.script heard.new }
+        ensures same { self.new ≡ self.old }
+    {
+        self.states.tell();
+        lay(&self.states, heard);
+        let receiver = Receiver {
+            script: &self.script,
+            faulty: self.script.era_faulty(self.era),
+            states: &self.states,
+            t: self.at,
+            v,
+        };
+        receiver.hear(&mut self.room.noise, heard);
     }
 
     /// What node `v` shows, below the machine's modulus.

@@ -41,8 +41,10 @@ LeavesUnread (Some (request.Sweep numbers)) old new = Unit {0}
 LeavesUnread other old new = new ≡ old
 
 -- What was said of how far a sweep is: nothing where none is asked for.
-abbrev pub SaysAsked : Option Request → (is_on : Bool) → (old new : Told) → Type 0
-SaysAsked None is_on old new = new ≡ old
-SaysAsked (Some request.Help) is_on old new = new ≡ old
-SaysAsked (Some request.Version) is_on old new = new ≡ old
-SaysAsked (Some (request.Sweep numbers)) is_on old new = Says is_on numbers.count old new
+abbrev pub SaysAsked : Option Request → (name : List ℕ) → (is_on : Bool) → (old new : Told)
+    → Type 0
+SaysAsked None name is_on old new = new ≡ old
+SaysAsked (Some request.Help) name is_on old new = new ≡ old
+SaysAsked (Some request.Version) name is_on old new = new ≡ old
+SaysAsked (Some (request.Sweep numbers)) name is_on old new =
+    Says name is_on numbers.count old new

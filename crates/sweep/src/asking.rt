@@ -5,13 +5,14 @@ ghost use Rattle.texts.specs.Growth.{Puts};
 ghost use Rattle.sweep.specs.Asked.{DoesAsked, LeavesUnread, SaysAsked};
 ghost use Rattle.sweep.specs.HelpText.{help_text};
 ghost use Rattle.sweep.specs.Requests.{request_of};
+ghost use Rattle.sweeps.specs.Keys.{KeysDiffer};
 
 use crate::calling::sweep_input;
 use crate::errors::SweepError;
 use crate::requests::{Request, request_of};
 use edge_io::{Piece, Sink, Source, WriteFault, put_all, put_pieces};
 use std::alloc::Global;
-use sweeps::Progress;
+use sweeps::{Progress, keys_differ};
 
 /// Writes how the program is used.
 fn write_help<K: Sink>(sink: &mut K) -> Result<(), WriteFault>
@@ -24,6 +25,7 @@ fn write_help<K: Sink>(sink: &mut K) -> Result<(), WriteFault>
             Piece::Text(
                 b"Reads a plan and a script from standard input, as counterlab run does,\n",
             ),
+            Piece::Text(b"or a pulse plan and a script, as pulselab run does,\n"),
             Piece::Text(b"plays the script with the keys of COUNT numbers from FIRST on,\n"),
             Piece::Text(
                 b"and writes the plan's bound, and for each era how many runs first lock\n",
@@ -49,19 +51,23 @@ pub fn answer<S: Source, K: Sink, E: Sink>(
     progress: &mut Progress<E>,
 ) -> Result<(), SweepError>
     // What was read and written, by how it ended: of a sweep, the text that is defined for the
-    // plan, the script and the numbers.
+    // plan or the pulse plan, the script and the numbers, or the refusal of the first line that
+    // fails.
     ensures asked { DoesAsked (request_of (map string_bytes words.now)) result
         (S.left source.old) (S.left source.new) (S.faults source.old) (S.faults source.new)
         (K.told sink.old) (K.told sink.new) }
 
     // What was said of how far a sweep is: nothing where progress is off, or no sweep is asked for.
-    ensures progress { SaysAsked (request_of (map string_bytes words.now)) progress.old.is_on
-        (E.told progress.old.sink) (E.told progress.new.sink) }
+    ensures progress { SaysAsked (request_of (map string_bytes words.now)) progress.old.name
+        progress.old.is_on (E.told progress.old.sink) (E.told progress.new.sink) }
     // Where nothing was read the source is as it was, whatever it tells.
     ensures unread { LeavesUnread (request_of (map string_bytes words.now)) source.old source.new }
     // At `ReadFault` the end of the source was not met.
     ensures unmet { IsErrOf result SweepError.ReadFault → S.met source.new ≡ S.met source.old }
+    // No two numbers have one key.
+    ensures keys { KeysDiffer }
 {
+    keys_differ();
     match request_of(words) {
         None => Err(SweepError::Usage),
         Some(Request::Help) => Ok(write_help(sink)?),

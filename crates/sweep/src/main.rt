@@ -1,21 +1,25 @@
 //! Writes how soon a script locks, over many keys of its noise. `sweep FIRST COUNT` reads a plan
-//! and a script from standard input, as `counterlab run` does, plays the script with COUNT keys,
-//! those of the numbers from FIRST on, and writes the plan's bound, and for each era a line for
-//! each first locked configuration that occurs, with how many runs have it and the least number of
-//! these. The key of a number is the number as 16 hex digits with 48 zeros behind.
+//! and a script from standard input, as `counterlab run` does, or a pulse plan and a script, as
+//! `pulselab run` does, plays the script with COUNT keys, those of the numbers from FIRST on, and
+//! writes the plan's bound, and for each era a line for each first locked configuration that
+//! occurs, with how many runs have it and the least number of these. The key of a number is the
+//! number as 16 hex digits with 48 zeros behind.
 //!
 //! `--help` and `--version` write what they say. Other words are answered by one line of usage on
-//! standard error, and what is refused by one line there. The exit codes are those of `counterlab`.
+//! standard error, and what is refused by one line there. The exit codes are those of `counterlab`
+//! and `pulselab`.
 //! Where standard error is a terminal, a line there says how many runs were played; it is wiped
 //! before the sweep is written.
 //!
-//! All that is proved, of [`asking::answer`] and [`errors::put_error`]; that the lines go to
-//! standard error, and whether that is a terminal, is not.
+//! What is read and written is proved, of [`asking::answer`] and [`errors::put_error`], and that the
+//! numbers of that line rise. Which they are and when it comes, that the lines go to standard error,
+//! and whether that is a terminal, is not.
 #![tactic(auto)]
 
 mod asking;
 mod calling;
 mod errors;
+mod inputs;
 mod requests;
 
 use crate::asking::answer;
@@ -35,7 +39,8 @@ fn run(rt: &HostRuntime) -> Result<(), SweepError> {
     let mut source = StdSource::new(rt.stdin());
     let mut sink = StdSink::new(io::writer(rt));
     let stderr = rt.stderr();
-    let mut progress = Progress::new(StdSink::new(io::writer(&stderr)), stderr.is_terminal());
+    let shown = StdSink::new(io::writer(&stderr));
+    let mut progress = Progress::new(b"sweep", shown, stderr.is_terminal());
     answer(
         rt.alloc(),
         words(&arguments),

@@ -1,5 +1,6 @@
--- What a runner knows of an era at its end is the first locked configuration of what is played.
-use Rattle.std.proofs.Common.{◌≡◌, ℕ, ◌<◌, ◌≤◌, List, [], Option, Some, None, sym, ap, ◌∙◌, subst}
+-- What a runner on a plan knows of an era at its end is the first locked configuration of what is
+-- played.
+use Rattle.std.proofs.Common.{◌≡◌, ℕ, List, [], Option, Some, None, sym, ap, ◌∙◌, subst}
 use Rattle.std.proofs.Common.{arith}
 use Rattle.std.specs.Prelude.{IfSome, max}
 use Rattle.std.proofs.Math.Path.{fun_ext}
@@ -8,7 +9,6 @@ use Rattle.construction.specs.Plans.{Plan}
 use Rattle.counter_core.specs.declared.overlays.NoOverlay.{NoOverlay}
 use Rattle.counter_core.specs.NoLayers.{no_layer}
 use Rattle.adversary_script.specs.Scripts.{Script}
-use Rattle.adversary_script.specs.Eras.{first_of_era, end_of_era}
 use Rattle.round_runner.specs.Known.{known_from}
 use Rattle.round_runner.specs.Locks.{first_locked, era_locked, IsFirstLocked}
 use Rattle.round_runner.specs.Played.{played_at}
@@ -16,11 +16,12 @@ use Rattle.round_runner.specs.Runners.{Running, configuration_of}
 use Rattle.round_runner.specs.Skipping.{IsSkipped}
 use Rattle.round_runner.proofs.Playing.{scene_played}
 use Rattle.sweeps.specs.Sweeps.{lock_of}
+use Rattle.sweeps.specs.Tallies.{IsOfEra}
 
 -- a first locked configuration is one of its era
 pub first_within : (plan : Plan) (script : Script) (config_at : ℕ → List State) (j at : ℕ)
     (found : Option ℕ) → IsFirstLocked plan script config_at j at found
-    → IfSome found (λ t. (first_of_era script j ≤ t) × (t < end_of_era script j))
+    → IfSome found (IsOfEra script j)
 first_within plan script config_at j at None h = tt
 first_within plan script config_at j at (Some t) h = (h.1.from, h.1.before)
 

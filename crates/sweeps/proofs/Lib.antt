@@ -6,3 +6,5 @@ pub mod Texts
 pub mod Tallied
 pub mod Exits
 pub mod SameRun
+pub mod OnMachines
+pub mod DifferentKeys

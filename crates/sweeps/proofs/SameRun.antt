@@ -20,6 +20,8 @@ use Rattle.adversary_script.specs.Lookup.{hit_at, start_for, speaks}
 use Rattle.adversary_script.specs.Lies.{common_start, own_or_common, start_of, lie_state}
 use Rattle.adversary_script.specs.Lies.{lie_or_puppet, lie_of}
 use Rattle.adversary_script.specs.NoiseSaid.{is_noise, says_noise, starts_with_noise}
+use Rattle.machines.specs.Machines.{Machine}
+use Rattle.machine_runner.specs.Played as machine_runs
 use Rattle.round_runner.specs.Played.{starts, lies_at, after_round, played_at}
 use Rattle.sweeps.specs.Keys.{keyed}
 
@@ -104,3 +106,21 @@ module _ (script : Script) (seed : ℕ) where
     same_run plan (suc t) =
         ap (after_round plan (keyed script seed) t) (same_run plan t)
         ∙ round_is plan t (played_at plan script t)
+
+    -- so it is on any machine
+
+    machine_round_is : (machine : Machine) (t : ℕ) (config : List State)
+        → machine_runs.after_round machine (keyed script seed) t config
+        ≡ machine_runs.after_round machine script t config
+    machine_round_is machine t config =
+        ap (λ (lies : List (List State)). map (λ v. unwrap_or (hit_at script (t + 1) v)
+        (machine.step v (heard_by script.nodes (faulty_at script t) config lies v)))
+        (range_with_len 0 script.nodes)) (lies_are t config)
+
+    pub same_machine_run : (machine : Machine) (t : ℕ)
+        → machine_runs.played_at machine (keyed script seed) t
+        ≡ machine_runs.played_at machine script t
+    same_machine_run machine zero = starts_are
+    same_machine_run machine (suc t) =
+        ap (machine_runs.after_round machine (keyed script seed) t) (same_machine_run machine t)
+        ∙ machine_round_is machine t (machine_runs.played_at machine script t)

@@ -8,12 +8,11 @@ use Rattle.std.proofs.lemmas.List.{map-id, length-set, length-replicate, get_or-
 use Rattle.std.proofs.lemmas.List.{get_or-set_same, get_or-set_other}
 use Rattle.std.proofs.lemmas.List.FromFn.{fill_by_all, map-range_with_len_more}
 use Rattle.std.proofs.lemmas.List.FromFn.{length-map-range_with_len, get_or-map-range_with_len}
-use Rattle.construction.specs.Plans.{Plan}
 use Rattle.adversary_script.specs.Scripts.{Script, IsScript}
 use Rattle.adversary_script.specs.Eras.{first_of_era, end_of_era}
 use Rattle.round_runner.proofs.Firsts.{era_some}
 use Rattle.sweeps.specs.Keys.{keyed}
-use Rattle.sweeps.specs.Sweeps.{lock_of, lock_with}
+use Rattle.sweeps.specs.Sweeps.{Locks, lock_with}
 use Rattle.sweeps.specs.Tallies.{EraRuns, AreRuns, AreOfEra, AreTallied, HasRoom, IsWithin, nothing}
 use Rattle.sweeps.specs.Tallies.{no_runs}
 
@@ -59,8 +58,8 @@ module _ (script : Script) where
       ∙ length-map-range_with_len (begun_runs script) 0 (length script.eras + 1)
 
   -- of no key there are no runs
-  none_tallied : (plan : Plan) (j : ℕ) → AreOfEra plan script [] j (begun_runs script j)
-  none_tallied plan j =
+  none_tallied : (locks : Locks) (j : ℕ) → AreOfEra locks script [] j (begun_runs script j)
+  none_tallied locks j =
       let size : ℕ = end_of_era script j - first_of_era script j in
       record {
         from = refl;
@@ -69,12 +68,12 @@ module _ (script : Script) where
         unlocked = refl;
       }
 
-  pub all_none : (tally : List EraRuns) → tally ≡ all_begun (length script.eras + 1) → (plan : Plan)
-      → AreTallied plan script [] tally
-  all_none tally is plan = record {
+  pub all_none : (tally : List EraRuns) → tally ≡ all_begun (length script.eras + 1)
+      → (locks : Locks) → AreTallied locks script [] tally
+  all_none tally is locks = record {
     size = begun_size tally is;
-    each = λ j among. subst (AreOfEra plan script [] j) (sym (begun_at tally is j among))
-        (none_tallied plan j);
+    each = λ j among. subst (AreOfEra locks script [] j) (sym (begun_at tally is j among))
+        (none_tallied locks j);
   }
 
   pub all_roomy : (tally : List EraRuns) → tally ≡ all_begun (length script.eras + 1)
@@ -139,13 +138,13 @@ room_unkeyed script seed tally room =
     record { size = room.size; first = room.first; end = room.end }
 
 -- the run with that key is counted in the eras before j, and not yet in the others
-pub record CountedBelow (plan : Plan) (script : Script) (seeds : List ℕ) (seed j : ℕ)
+pub record CountedBelow (locks : Locks) (script : Script) (seeds : List ℕ) (seed j : ℕ)
     (tally : List EraRuns) : Type 0 where
   pub size : length tally ≡ length script.eras + 1
   pub done : (k : ℕ) → k < j → k ≤ length script.eras
-      → AreOfEra plan script (seeds ++ seed ∷ []) k (get_or tally k no_runs)
+      → AreOfEra locks script (seeds ++ seed ∷ []) k (get_or tally k no_runs)
   pub rest : (k : ℕ) → j ≤ k → k ≤ length script.eras
-      → AreOfEra plan script seeds k (get_or tally k no_runs)
+      → AreOfEra locks script seeds k (get_or tally k no_runs)
 
 -- what a run with that key notes
 abbrev pub Notes : (old now : EraRuns) → (seed : ℕ) → (locked : Option ℕ) → Type 0
@@ -153,10 +152,10 @@ Notes old now seed locked = (lock : ℕ → Option ℕ) (first size : ℕ) (seed
     → length seeds + 1 < 2 ^ 64 → lock seed ≡ locked → AreRuns lock first size seeds old
     → AreRuns lock first size (seeds ++ seed ∷ []) now
 
-module _ (plan : Plan) (script : Script) (seeds : List ℕ) (seed : ℕ)
+module _ (locks : Locks) (script : Script) (seeds : List ℕ) (seed : ℕ)
     (few : length seeds + 1 < 2 ^ 64) where
-  pub none_counted : (tally : List EraRuns) → AreTallied plan script seeds tally
-      → CountedBelow plan script seeds seed 0 tally
+  pub none_counted : (tally : List EraRuns) → AreTallied locks script seeds tally
+      → CountedBelow locks script seeds seed 0 tally
   none_counted tally are = record {
     size = are.size;
     done = λ k lt among. absurd (omega (arith, lt));
@@ -164,8 +163,8 @@ module _ (plan : Plan) (script : Script) (seeds : List ℕ) (seed : ℕ)
   }
 
   pub all_counted : (j : ℕ) (tally : List EraRuns) → length script.eras < j
-      → CountedBelow plan script seeds seed j tally
-      → AreTallied plan script (seeds ++ seed ∷ []) tally
+      → CountedBelow locks script seeds seed j tally
+      → AreTallied locks script (seeds ++ seed ∷ []) tally
   all_counted j tally past are = record {
     size = are.size;
     each = λ k among. are.done k (omega (arith, among, past)) among;
@@ -173,30 +172,30 @@ module _ (plan : Plan) (script : Script) (seeds : List ℕ) (seed : ℕ)
 
   pub one_counted : (j : ℕ) (tally : List EraRuns) (old now : EraRuns) (locked : Option ℕ)
       → j < length tally → old ≡ get_or tally j no_runs → Notes old now seed locked
-      → lock_with plan script j seed ≡ locked
-      → CountedBelow plan script seeds seed j tally
-      → CountedBelow plan script seeds seed (j + 1) (set tally j now)
+      → lock_with locks script j seed ≡ locked
+      → CountedBelow locks script seeds seed j tally
+      → CountedBelow locks script seeds seed (j + 1) (set tally j now)
   one_counted j tally old now locked here is notes known are =
       let among : j ≤ length script.eras = let size = are.size in omega (arith, here, size) in
-      let counted : AreOfEra plan script (seeds ++ seed ∷ []) j now =
-      notes (lock_with plan script j) (first_of_era script j)
+      let counted : AreOfEra locks script (seeds ++ seed ∷ []) j now =
+      notes (lock_with locks script j) (first_of_era script j)
       (end_of_era script j - first_of_era script j) seeds few known
-      (subst (AreOfEra plan script seeds j) (sym is) (are.rest j (omega arith) among)) in
+      (subst (AreOfEra locks script seeds j) (sym is) (are.rest j (omega arith) among)) in
       record {
         size = length-set tally j now ∙ are.size;
         done = λ k lt in_k. placed script tally j old now here is k
-            (AreOfEra plan script (seeds ++ seed ∷ []) k)
-            (λ e. subst (λ (i : ℕ). AreOfEra plan script (seeds ++ seed ∷ []) i now) (sym e)
+            (AreOfEra locks script (seeds ++ seed ∷ []) k)
+            (λ e. subst (λ (i : ℕ). AreOfEra locks script (seeds ++ seed ∷ []) i now) (sym e)
             counted)
             (λ e. are.done k (omega (arith, lt, e)) in_k);
-        rest = λ k le in_k. placed script tally j old now here is k (AreOfEra plan script seeds k)
+        rest = λ k le in_k. placed script tally j old now here is k (AreOfEra locks script seeds k)
             (λ e. absurd (omega (arith, le, e)))
             (λ e. are.rest k (omega (arith, le)) in_k);
       }
 
 -- the first locked configuration of a run is that of its key
-pub known_with : (plan : Plan) (script other : Script) (j seed : ℕ) (locked : Option ℕ)
-    → locked ≡ lock_of plan other j → other ≡ keyed script seed
-    → lock_with plan script j seed ≡ locked
-known_with plan script other j seed locked is same =
-    sym (is ∙ ap (λ (s : Script). lock_of plan s j) same)
+pub known_with : (locks : Locks) (script other : Script) (j seed : ℕ) (locked : Option ℕ)
+    → locked ≡ locks other j → other ≡ keyed script seed
+    → lock_with locks script j seed ≡ locked
+known_with locks script other j seed locked is same =
+    sym (is ∙ ap (λ (s : Script). locks s j) same)

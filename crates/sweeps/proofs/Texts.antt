@@ -5,10 +5,9 @@ use Rattle.std.specs.List.{flat_map, range_with_len}
 use Rattle.std.proofs.lemmas.List.Folds.{flat_map-map}
 use Rattle.std.proofs.lemmas.List.FromFn.{fill_by_all, length-range_with_len, get_or-range_with_len}
 use Rattle.std.proofs.lemmas.List.FromFn.{length-map-range_with_len, get_or-map-range_with_len}
-use Rattle.construction.specs.Plans.{Plan}
 use Rattle.adversary_script.specs.Scripts.{Script}
 use Rattle.adversary_script.specs.Eras.{first_of_era, end_of_era}
-use Rattle.sweeps.specs.Sweeps.{lock_with, found_at}
+use Rattle.sweeps.specs.Sweeps.{Locks, lock_with, found_at}
 use Rattle.sweeps.specs.SweepTexts.{line_of, lock_line, era_lines, lines_of_eras}
 use Rattle.sweeps.specs.Tallies.{EraRuns, AreOfEra, AreTallied, nothing, no_runs, place_line}
 use Rattle.sweeps.specs.Tallies.{locked_text, runs_text}
@@ -35,15 +34,15 @@ place_written runs k first t found at here is =
     ap₂ (λ (a u : ℕ). line_of a (Some u) found) at here
     ∙ ap (λ (f : Found). line_of runs.first (Some (runs.first + k)) f) is
 
-module _ (plan : Plan) (script : Script) (seeds : List ℕ) where
+module _ (locks : Locks) (script : Script) (seeds : List ℕ) where
   -- the lines of an era
-  era_text : (j : ℕ) (runs : EraRuns) → AreOfEra plan script seeds j runs
-      → runs_text runs ≡ era_lines plan script seeds j
+  era_text : (j : ℕ) (runs : EraRuns) → AreOfEra locks script seeds j runs
+      → runs_text runs ≡ era_lines locks script seeds j
   era_text j runs are =
       let first : ℕ = first_of_era script j in
       let size : ℕ = end_of_era script j - first in
-      let found : ℕ → Found = λ k. found_at (lock_with plan script j) seeds (Some (first + k)) in
-      let line : ℕ → List ℕ = λ t. lock_line plan script seeds j (Some t) in
+      let found : ℕ → Found = λ k. found_at (lock_with locks script j) seeds (Some (first + k)) in
+      let line : ℕ → List ℕ = λ t. lock_line locks script seeds j (Some t) in
       let long : length runs.locked ≡ size =
       ap (λ (xs : List Found). length xs) are.locked ∙ length-map-range_with_len found 0 size in
       let one : (k : ℕ) → 0 ≤ k → k < 0 + size → place_line runs k ≡ line (first + k) = λ k le lt.
@@ -60,13 +59,13 @@ module _ (plan : Plan) (script : Script) (seeds : List ℕ) where
       (ap₂ (λ (a : ℕ) (f : Found). line_of a None f) are.from are.unlocked)
 
   -- the lines of all eras
-  pub tally_text : (tally : List EraRuns) → AreTallied plan script seeds tally
-      → flat_map runs_text tally ≡ lines_of_eras plan script seeds
+  pub tally_text : (tally : List EraRuns) → AreTallied locks script seeds tally
+      → flat_map runs_text tally ≡ lines_of_eras locks script seeds
   tally_text tally are =
       let n : ℕ = length script.eras + 1 in
       let at : ℕ → EraRuns = λ j. get_or tally j no_runs in
       let listed : tally ≡ map at (range_with_len 0 n) =
       fill_by_all at tally n no_runs are.size (λ k lt. refl) in
       ap (flat_map runs_text) listed ∙ flat_map-map runs_text at (range_with_len 0 n)
-      ∙ same_texts (λ j. runs_text (at j)) (era_lines plan script seeds) 0 n
+      ∙ same_texts (λ j. runs_text (at j)) (era_lines locks script seeds) 0 n
       (λ k le lt. era_text k (at k) (are.each k (omega (arith, lt))))

@@ -1,15 +1,14 @@
--- What is written of a sweep: the plan's bound, and for each era a line for each first locked
+-- What is written of a sweep: the counter's bound, and for each era a line for each first locked
 -- configuration that occurs, rising, and at last one for the runs that have none.
 use Rattle.std.specs.Prelude.{ℕ, ◌+◌, ◌-◌, List, [], ◌∷◌, ◌++◌, length, Option, Some, None, codes}
 use Rattle.std.specs.Prelude.{decimal}
 use Rattle.std.specs.List.{concat, flat_map, range_with_len}
-use Rattle.construction.specs.Plans.{Plan, plan_bound}
 use Rattle.adversary_script.specs.Scripts.{Script}
 use Rattle.adversary_script.specs.Eras.{first_of_era, end_of_era}
-use Rattle.sweeps.specs.Sweeps.{lock_with, found_at}
+use Rattle.sweeps.specs.Sweeps.{Locks, Swept, lock_with, found_at}
 use Rattle.sweeps.specs.declared.tallies.Found.{Found}
 
--- the line of the plan's bound, as `run` has it
+-- the line of the bound, as `run` has it
 abbrev pub bound_line : (bound : ℕ) → List ℕ
 bound_line bound = concat (codes "bound " ∷ decimal bound ∷ codes "\n" ∷ [])
 
@@ -36,11 +35,11 @@ line_if first locked runs (Some seed) = found_line first locked runs seed
 abbrev pub line_of : (first : ℕ) → Option ℕ → Found → List ℕ
 line_of first locked found = line_if first locked found.runs found.seed
 
-module _ (plan : Plan) (script : Script) (seeds : List ℕ) where
+module _ (locks : Locks) (script : Script) (seeds : List ℕ) where
   -- the line of era j and of one first locked configuration
   abbrev pub lock_line : (j : ℕ) → Option ℕ → List ℕ
   lock_line j locked =
-      line_of (first_of_era script j) locked (found_at (lock_with plan script j) seeds locked)
+      line_of (first_of_era script j) locked (found_at (lock_with locks script j) seeds locked)
 
   -- the lines of era j: one for each of its configurations, and that of none
   abbrev pub era_lines : (j : ℕ) → List ℕ
@@ -53,6 +52,7 @@ module _ (plan : Plan) (script : Script) (seeds : List ℕ) where
   abbrev pub lines_of_eras : List ℕ
   lines_of_eras = flat_map era_lines (range_with_len 0 (length script.eras + 1))
 
-  -- behind that of the plan's bound
-  abbrev pub sweep_text : List ℕ
-  sweep_text = bound_line (plan_bound plan) ++ lines_of_eras
+-- behind that of the bound
+abbrev pub sweep_text : Swept → (seeds : List ℕ) → List ℕ
+sweep_text swept seeds =
+    bound_line swept.bound ++ lines_of_eras swept.locks swept.script seeds

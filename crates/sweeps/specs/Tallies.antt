@@ -3,10 +3,9 @@ use Rattle.std.specs.Prelude.{◌≡◌, ℕ, ◌+◌, ◌-◌, ◌<◌, ◌≤�
 use Rattle.std.specs.Prelude.{slice_set, slice_index_or, Option, Some, None, IfSome}
 use Rattle.std.specs.List.{flat_map, range_with_len}
 use Rattle.std.specs.Option.{option_or}
-use Rattle.construction.specs.Plans.{Plan}
 use Rattle.adversary_script.specs.Scripts.{Script}
 use Rattle.adversary_script.specs.Eras.{first_of_era, end_of_era}
-use Rattle.sweeps.specs.Sweeps.{found_at, lock_with}
+use Rattle.sweeps.specs.Sweeps.{Locks, found_at, lock_with}
 use Rattle.sweeps.specs.SweepTexts.{line_of}
 use Rattle.sweeps.specs.declared.tallies.Found.{Found}
 
@@ -54,6 +53,10 @@ pub record AreRuns (lock : ℕ → Option ℕ) (first size : ℕ) (seeds : List 
 abbrev pub no_runs : EraRuns
 no_runs = record { first = 0; locked = []; unlocked = nothing }
 
+-- configuration t is of era j
+abbrev pub IsOfEra : Script → (j t : ℕ) → Type 0
+IsOfEra script j t = (first_of_era script j ≤ t) × (t < end_of_era script j)
+
 -- there is room for the runs of each era of a script
 pub record HasRoom (script : Script) (tally : List EraRuns) : Type 0 where
   pub size : length tally ≡ length script.eras + 1
@@ -64,17 +67,17 @@ pub record HasRoom (script : Script) (tally : List EraRuns) : Type 0 where
       ≡ end_of_era script j
 
 -- the runs of era j of a script
-abbrev pub AreOfEra : Plan → Script → (seeds : List ℕ) → (j : ℕ) → EraRuns → Type 0
-AreOfEra plan script seeds j runs =
-    AreRuns (lock_with plan script j) (first_of_era script j)
+abbrev pub AreOfEra : Locks → Script → (seeds : List ℕ) → (j : ℕ) → EraRuns → Type 0
+AreOfEra locks script seeds j runs =
+    AreRuns (lock_with locks script j) (first_of_era script j)
     (end_of_era script j - first_of_era script j) seeds runs
 
 -- the runs of each era of a script
-pub record AreTallied (plan : Plan) (script : Script) (seeds : List ℕ) (tally : List EraRuns)
+pub record AreTallied (locks : Locks) (script : Script) (seeds : List ℕ) (tally : List EraRuns)
     : Type 0 where
   pub size : length tally ≡ length script.eras + 1
   pub each : (j : ℕ) → j ≤ length script.eras
-      → AreOfEra plan script seeds j (slice_index_or tally j no_runs)
+      → AreOfEra locks script seeds j (slice_index_or tally j no_runs)
 
 -- the line of place k
 abbrev pub place_line : EraRuns → (k : ℕ) → List ℕ

@@ -5,11 +5,10 @@ ghost use Rattle.sweeps.specs.Progress.{Says};
 ghost use Rattle.sweeps.specs.SweepTexts.{sweep_text};
 
 use crate::progress::Progress;
+use crate::sweepable::Sweepable;
 use crate::tallying::count_runs;
 use crate::writing::write_tally;
-use counter_core::NoOverlay;
 use edge_io::{Sink, WriteFault};
-use round_runner::Runner;
 use std::alloc::Global;
 use sync_types::NoMemory;
 use thiserror::Error;
@@ -48,7 +47,7 @@ impl From<WriteFault> for SweepFault {
 }
 
 /// Plays a runner's script with the key of each of `count` numbers from `first` on, and writes the
-/// plan's bound, and how soon the script's eras lock: for each era a line for each first locked
+/// counter's bound, and how soon the script's eras lock: for each era a line for each first locked
 /// configuration that occurs, rising, and `none` last, with how many runs have it and the least
 /// number of these.
 ///
@@ -58,9 +57,9 @@ impl From<WriteFault> for SweepFault {
 /// How many runs were played is said while they are, where `progress` is on, and wiped before the
 /// first line is written. What becomes of that changes nothing else, and a fault of it is not
 /// answered.
-pub fn sweep<K: Sink, E: Sink>(
+pub fn sweep<R: Sweepable, K: Sink, E: Sink>(
     alloc: Global,
-    runner: &mut Runner<NoOverlay>,
+    runner: &mut R,
     first: u64,
     count: u64,
     sink: &mut K,
@@ -68,9 +67,9 @@ pub fn sweep<K: Sink, E: Sink>(
 ) -> Result<(), SweepFault>
     requires { first + count < 2 ^ 64 }
     ensures text { Sweeps result
-        (sweep_text runner.old.plan runner.old.script (range_with_len first count))
+        (sweep_text (R.swept runner.old) (range_with_len first count))
         (K.told sink.old) (K.told sink.new) }
-    ensures progress { Says progress.old.is_on count (E.told progress.old.sink)
+    ensures progress { Says progress.old.name progress.old.is_on count (E.told progress.old.sink)
         (E.told progress.new.sink) }
 {
     let bound = runner.bound();

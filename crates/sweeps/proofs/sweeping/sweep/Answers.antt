@@ -9,11 +9,11 @@ use Rattle.sweeps.proofs.sweeping.sweep.Goals as goal
 
 pub returns-in_err-write_tally-clause-text : goal.returns-in_err-write_tally-clause-text
 returns-in_err-write_tally-clause-text g c =
-    let runner = c.args.runner.now in
+    let swept = g.R.Sweepable.swept c.args.runner.now in
     let seeds = range_with_len c.args.first c.args.count in
     let text = ap₂ (λ (x y : List ℕ). x ++ y) (ap bound_line c.bound-bound.ensures)
     (ap (λ (tally : List EraRuns). flat_map runs_text tally) c.deref.ensures.value
-    ∙ tally_text runner.plan runner.script seeds c.in_ok-tally.tally.items
+    ∙ tally_text swept.locks swept.script seeds c.in_ok-tally.tally.items
     c.in_ok-tally.ensures.tally) in
     cut_exit _ _ _ _ c.from_residual-in_err-write_tally.ensures.1
     (subst (λ (text : List ℕ). Cut text (g.K.Sink.told c.args.sink.now)
@@ -21,11 +21,11 @@ returns-in_err-write_tally-clause-text g c =
 
 pub returns-clause-text : goal.returns-clause-text
 returns-clause-text g c =
-    let runner = c.args.runner.now in
+    let swept = g.R.Sweepable.swept c.args.runner.now in
     let seeds = range_with_len c.args.first c.args.count in
     let text = ap₂ (λ (x y : List ℕ). x ++ y) (ap bound_line c.bound-bound.ensures)
     (ap (λ (tally : List EraRuns). flat_map runs_text tally) c.deref.ensures.value
-    ∙ tally_text runner.plan runner.script seeds c.in_ok-tally.tally.items
+    ∙ tally_text swept.locks swept.script seeds c.in_ok-tally.tally.items
     c.in_ok-tally.ensures.tally) in
     subst (λ (text : List ℕ). Wrote text (g.K.Sink.told c.args.sink.now)
     (g.K.Sink.told c.write_tally.new.sink)) text c.in_ok-write_tally.ensures
