@@ -65,7 +65,7 @@ marks_right group heard =
     (λ s. ap (λ (q : Reg). q.d) (register_below group.register 3 s)) all)
 
 -- the values are those of the level states
-values_are : (group : PulseGroup) (heard : List State)
+pub values_are : (group : PulseGroup) (heard : List State)
     → values_in group heard ≡ values_of (level_states_in group heard)
 values_are group heard =
     let all = section group.first group.nodes heard in

@@ -76,7 +76,7 @@ pub(crate) fn count<T: Test>(test: &T, heard: &Heard<'_>, first: u32, nodes: u32
 
 /// What is counted of the registers of a group.
 #[derive(Clone, Copy, Debug)]
-pub(crate) struct Counts {
+pub struct Counts {
     /// How many nodes say that they saw the left half's pulse.
     pub saw_left: usize,
     /// How many say that they saw the right half's pulse.
@@ -94,7 +94,7 @@ fn one_if(is_so: bool) -> usize
 
 /// Goes once over a group, and counts those who say that they saw a pulse, and those that have a
 /// value of the phase king; None is infinity.
-pub(crate) fn count_group(group: &Group, value: Option<u64>, heard: &Heard<'_>) -> Counts
+pub fn count_group(group: &Group, value: Option<u64>, heard: &Heard<'_>) -> Counts
     requires within { group.now.first + group.now.nodes ≤ length heard.now }
     requires deep { All (λ s. group.now.register + 4 ≤ length s.registers) heard.now }
     ensures saw_left { result.saw_left ≡ count_by (λ s. (register_at (group.now.register + 2) s).d)

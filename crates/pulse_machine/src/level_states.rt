@@ -148,7 +148,7 @@ impl LevelState {
     }
 
     /// Whether another instruction of the phases that the left half began comes next.
-    fn is_busy(&self, group: &Group) -> bool
+    pub fn is_busy(&self, group: &Group) -> bool
         ensures { result ≡ busy group.now.faults self.now }
     {
         group.tell();

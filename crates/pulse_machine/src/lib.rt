@@ -17,6 +17,7 @@ mod pulse_machines;
 mod steps;
 
 pub use counters::{advance, can_hear, output, zero};
+pub use counts::{Counts, count_group};
 pub use level_states::LevelState;
 pub use making::all_nodes_fields;
 pub use pulse_machines::PulseMachine;

@@ -1,2 +1,3 @@
 mod NamedNodes
+mod PulsesTraced
 mod Traced

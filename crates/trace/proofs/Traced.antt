@@ -17,13 +17,13 @@ use Rattle.answers.specs.declared.errors.Unanswered.TheVariants as end
 use Rattle.answers.specs.Readings.{Refuses}
 use Rattle.answers.specs.ScriptedRuns.{IsScriptedRun}
 use Rattle.traces.specs.declared.desks.Desk.{Desk}
-use Rattle.traces.specs.declared.wants.Want.{Want}
+use Rattle.trace_words.specs.declared.wants.Want.{Want}
 use Rattle.traces.specs.Desks.{IsFitFor, IsMade}
 use Rattle.traces.specs.TraceTexts.{trace_text}
 use Rattle.traces.specs.Wants.{IsToTrace}
 use Rattle.trace.specs.declared.errors.TraceError.{TraceError}
 use Rattle.trace.specs.declared.errors.TraceError.TheVariants as error
-use Rattle.trace.specs.Answers.{trace_or, trace_of}
+use Rattle.trace.specs.Answers.{levels_trace_or}
 use Rattle.trace.specs.Conduct.{Answers}
 use Rattle.trace.specs.Errors.{scripted_error}
 use Rattle.trace.specs.Names.{are_nodes, named_nodes}
@@ -33,15 +33,15 @@ use Rattle.trace.specs.Names.{are_nodes, named_nodes}
 module _ {T : Type 0} (want : Want) (words : List (List ℕ)) (input : List ℕ) where
   by_error : (result : Result T TraceError) (e : Unanswered) (s : Told)
       → Refuses e (scripted_of input) → result ≡ Err (scripted_error e)
-      → Answers result (trace_of want words input) s s
+      → Answers result (levels_trace_or want words (scripted_of input)) s s
   by_error result end.NoMemory s h is = rw is refl
-  by_error result (end.Refused refusal) s h is = rw is (ap (trace_or want words) h, refl)
+  by_error result (end.Refused refusal) s h is = rw is (ap (levels_trace_or want words) h, refl)
   by_error result end.WriteFault s h is = absurd h
 
   -- behind a reading that failed
   pub unread : (result : Result T TraceError) (e : Unanswered) (s : Told)
       → Refuses e (scripted_of input) → IsErrAnd result (λ given. given ≡ scripted_error e)
-      → Answers result (trace_of want words input) s s
+      → Answers result (levels_trace_or want words (scripted_of input)) s s
   unread result e s h given =
       let p = err_from_is_err_and result given in
       by_error result e s h (p.1 ∙ ap (λ (x : TraceError). Err x) p.2)
@@ -60,26 +60,27 @@ module _ (want : Want) (words : List (List ℕ)) (input : List ℕ) (plan : Plan
     (r : Running NoOverlay) (is : IsScriptedRun input (plan, r)) where
   by_tests : (late all : Bool) → nat_lt r.script.rounds want.last ≡ late
       → are_nodes words (plan_nodes plan) ≡ all
-      → trace_of want words input ≡ (if late then Err error.NotPlayed
+      → levels_trace_or want words (scripted_of input) ≡ (if late then Err error.NotPlayed
       else if not all then Err error.NoNode
       else Ok (trace_text plan r.script (named_nodes words (plan_nodes plan)) want.first want.last))
   by_tests late all e e' =
-      ap (trace_or want words) is.read
+      ap (levels_trace_or want words) is.read
       ∙ ap₂ (λ (late all : Bool). if late then Err error.NotPlayed
       else if not all then Err error.NoNode
       else Ok (trace_text plan r.script (named_nodes words (plan_nodes plan)) want.first want.last))
       e e'
 
-  pub not_played : r.script.rounds < want.last → trace_of want words input ≡ Err error.NotPlayed
+  pub not_played : r.script.rounds < want.last
+      → levels_trace_or want words (scripted_of input) ≡ Err error.NotPlayed
   not_played lt = by_tests true (are_nodes words (plan_nodes plan)) (lt-ltb _ _ lt) refl
 
   pub no_node : want.last ≤ r.script.rounds → are_nodes words (plan_nodes plan) ≡ false
-      → trace_of want words input ≡ Err error.NoNode
+      → levels_trace_or want words (scripted_of input) ≡ Err error.NoNode
   no_node le none = by_tests false false (le-ltb _ _ le) none
 
   pub traced : want.last ≤ r.script.rounds → (ids : List ℕ)
       → (are_nodes words (plan_nodes plan) ≡ true) × (ids ≡ named_nodes words (plan_nodes plan))
-      → trace_of want words input
+      → levels_trace_or want words (scripted_of input)
       ≡ Ok (trace_text r.plan r.script ids want.first want.last)
   traced le ids named =
       by_tests false true (le-ltb _ _ le) named.0

@@ -4,7 +4,7 @@ use Rattle.std.specs.Io.KnownBytes.{Consumes, IsAtEnd}
 use Rattle.texts.specs.Causes.{Counted}
 use Rattle.texts.specs.Growth.{Told, Wrote, Cut}
 use Rattle.edge_io.specs.Reading.{LosesWithin, LosesMore}
-use Rattle.traces.specs.declared.wants.Want.{Want}
+use Rattle.trace_words.specs.declared.wants.Want.{Want}
 use Rattle.trace.specs.Answers.{trace_of}
 use Rattle.trace.specs.declared.errors.TraceError.{TraceError}
 use Rattle.trace.specs.declared.errors.TraceError.TheVariants as error

@@ -1,18 +1,42 @@
 //! Answers an input: the script behind its plan is played, and its trace is written.
 
-ghost use Rattle.std.specs.Prelude.{◌≤◌, ◌^◌, length, map, string_bytes};
-ghost use Rattle.trace.specs.Answers.{trace_of};
+ghost use Rattle.std.specs.Prelude.{◌≡◌, ◌≤◌, ◌^◌, length, map, string_bytes};
+ghost use Rattle.trace.specs.Answers.{is_first, fails_at_first, trace_of};
 ghost use Rattle.trace.specs.Conduct.{Answers};
 
 use crate::errors::TraceError;
-use crate::naming::named_nodes;
-use answers::read_scripted;
+use crate::of_levels::write_levels_trace;
+use crate::of_pulses::write_pulses_trace;
 use edge_io::Sink;
+use machine_runner::Runner;
+use plan_reader::first_unskipped;
+use pulse_runs::{PlayError, RunRefusal, read_scripted};
 use std::alloc::Global;
-use traces::{Desk, Want, put_trace};
+use trace_words::Want;
 
-/// Writes the trace of an input of at most 2^20 bytes, a plan and a script: that of the wanted
-/// configurations and of the nodes that the words name, or of all where there is no word.
+/// Whether the line is the first one that counts, or no line does.
+fn is_first(first: Option<u64>, line: u64) -> bool
+    ensures { result ≡ is_first first line }
+{
+    match first {
+        Some(first) => first == line,
+        None => true,
+    }
+}
+
+/// Whether an input is refused as a pulse plan for its first line that counts.
+fn fails_at_first(first: Option<u64>, refusal: RunRefusal) -> bool
+    ensures { result ≡ fails_at_first first refusal }
+{
+    match refusal {
+        RunRefusal::Plan { line, premise: _ } => is_first(first, line),
+        RunRefusal::Slots { line: _, rule: _ } | RunRefusal::Script { line: _, rule: _ } => false,
+    }
+}
+
+/// Writes the trace of an input of at most 2^20 bytes, a plan of either construction and a script:
+/// that of the wanted configurations and of the nodes that the words name, or of all where there is
+/// no word.
 pub fn write_trace<K: Sink>(
     alloc: Global,
     want: Want,
@@ -25,15 +49,19 @@ pub fn write_trace<K: Sink>(
     ensures { Answers result (trace_of want (map string_bytes words.now) input.now)
         (K.told sink.old) (K.told sink.new) }
 {
-    let (plan, mut runner) = read_scripted(alloc, input)?;
-    if want.last > runner.script().rounds() {
-        return Err(TraceError::NotPlayed);
+    match read_scripted(alloc, input) {
+        Ok((machine, shape, script)) => {
+            let mut runner = Runner::new(alloc, &machine, shape, script)?;
+            write_pulses_trace(alloc, want, words, &mut runner, sink)
+        }
+        Err(PlayError::Refused(refusal)) => {
+            if fails_at_first(first_unskipped(input, 1), refusal) {
+                write_levels_trace(alloc, want, words, input, sink)
+            } else {
+                Err(TraceError::PulsesRefused(refusal))
+            }
+        }
+        Err(PlayError::NoMemory) => Err(TraceError::NoMemory),
+        Err(PlayError::WriteFault) => Err(TraceError::WriteFault),
     }
-    let Some(nodes) = named_nodes(alloc, words, plan.nodes())? else {
-        return Err(TraceError::NoNode);
-    };
-    let depth = runner.shape().depth();
-    let mut desk = Desk::new(alloc, &plan, depth)?;
-    put_trace(sink, &mut runner, want, &nodes, &mut desk)?;
-    Ok(())
 }

@@ -21,10 +21,13 @@ fn write_help<K: Sink>(sink: &mut K) -> Result<(), WriteFault>
         &[
             Piece::Text(b"usage: trace FROM TO [NODE ..] < PLAN_AND_SCRIPT\n"),
             Piece::Text(
-                b"Plays a script on the counter of its plan, as counterlab run does, and\n",
+                b"Plays a script on the counter of its plan, as counterlab run does, or of\n",
             ),
-            Piece::Text(b"writes of each configuration from FROM to TO what the nodes hold, and\n"),
-            Piece::Text(b"what they make of what they hear: of all nodes, or of these.\n"),
+            Piece::Text(
+                b"its pulse plan, as pulselab run does, and writes of each configuration\n",
+            ),
+            Piece::Text(b"from FROM to TO what the nodes hold, and what they make of what they\n"),
+            Piece::Text(b"hear: of all nodes, or of these.\n"),
         ],
     )
 }

@@ -7,22 +7,23 @@ use crate::answering::write_trace;
 use crate::errors::TraceError;
 use edge_io::{Sink, Source, read_all};
 use std::alloc::Global;
-use traces::Want;
+use trace_words::Want;
 
 /// How many bytes an input may have.
 const LONGEST_INPUT: usize = 1 << 20;
 
 /// Reads a plan and a script, plays the script, and writes of each wanted configuration what the
 /// nodes hold that the words name, or all where there is no word, and what they make of what they
-/// hear.
+/// hear. The plan is a pulse plan where the first line that counts is that of one, and else a plan
+/// of levels over blocks.
 ///
-/// The whole source is read first, at most 2^20 bytes. `Refused` comes exactly where `run` refuses
-/// the input; `NotPlayed` where it is a plan and a script of fewer rounds than the last wanted
-/// configuration; `NoNode` where that one is played, and a word names no node of the plan.
-/// `TooLong` comes only where the byte behind the limit was there, `ReadFault` and `WriteFault`
-/// only where the source, before its end, or the sink counted a fault, and `NoMemory` where memory
-/// was refused. Nothing was written then, but at `WriteFault` a front of the text. `Usage` never
-/// comes.
+/// The whole source is read first, at most 2^20 bytes. `Refused` and `PulsesRefused` come exactly
+/// where `run` of `counterlab`, or of `pulselab`, refuses the input; `NotPlayed` where it is a plan
+/// and a script of fewer rounds than the last wanted configuration; `NoNode` where that one is
+/// played, and a word names no node of the plan. `TooLong` comes only where the byte behind the
+/// limit was there, `ReadFault` and `WriteFault` only where the source, before its end, or the sink
+/// counted a fault, and `NoMemory` where memory was refused. Nothing was written then, but at
+/// `WriteFault` a front of the text. `Usage` never comes.
 pub fn trace_input<S: Source, K: Sink>(
     alloc: Global,
     want: Want,

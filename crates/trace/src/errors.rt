@@ -1,13 +1,14 @@
 ghost use Rattle.std.specs.Prelude.{◌≡◌};
 ghost use Rattle.std.specs.Process.{exit_status};
 ghost use Rattle.texts.specs.Growth.{Puts};
-ghost use Rattle.trace.specs.Errors.{error_code, error_line};
+ghost use Rattle.trace.specs.Errors.{error_code, error_line, pulses_code};
 
 use answers::Unanswered;
 use edge_io::{InputFault, Sink, WriteFault, put_all};
 use outcomes::{Refusal, put_refusal};
+use pulse_runs::RunRefusal;
 use std::process::ExitCode;
-use sync_types::{NoMemory, Status};
+use sync_types::{NoMemory, Part, Status};
 
 /// Why a trace was not written, or not all of it.
 #[derive(Clone, Copy, Debug, PartialEq, Eq)]
@@ -16,6 +17,8 @@ pub enum TraceError {
     Usage,
     /// The input is refused, as `run` refuses it.
     Refused(Refusal),
+    /// The input, which is one of a pulse plan, is refused, as `pulselab run` refuses it.
+    PulsesRefused(RunRefusal),
     /// The script does not play the last wanted configuration.
     NotPlayed,
     /// A word names no node of the plan.
@@ -30,6 +33,31 @@ pub enum TraceError {
     NoMemory,
 }
 
+/// The exit code of an input of a pulse plan that is refused: 1 where its plan is, and else that of
+/// the part that is refused.
+fn pulses_code(refusal: RunRefusal) -> u8
+    ensures { result ≡ pulses_code refusal }
+{
+    match refusal {
+        RunRefusal::Plan {
+            line: _,
+            premise: _,
+        } => 1,
+        RunRefusal::Slots { line, rule } => Status::PartRefused {
+            part: Part::Slots,
+            line,
+            rule,
+        }
+        .code(),
+        RunRefusal::Script { line, rule } => Status::PartRefused {
+            part: Part::Script,
+            line,
+            rule,
+        }
+        .code(),
+    }
+}
+
 impl TraceError {
     /// The exit code, 1 to 10: that of `counterlab` for the same cause, and of words that the input
     /// refuses that of words which ask for nothing.
@@ -39,6 +67,7 @@ impl TraceError {
         match self {
             TraceError::Usage | TraceError::NotPlayed | TraceError::NoNode => Status::Usage.code(),
             TraceError::Refused(refusal) => refusal.status().code(),
+            TraceError::PulsesRefused(refusal) => pulses_code(refusal),
             TraceError::ReadFault => Status::ReadFault.code(),
             TraceError::WriteFault => Status::WriteFault.code(),
             TraceError::TooLong => Status::TooLong.code(),
@@ -54,7 +83,8 @@ impl TraceError {
     }
 }
 
-/// Writes the line of an error: of an input that is refused, that which `run` writes.
+/// Writes the line of an error: of an input that is refused, that which `run` writes, of
+/// `counterlab` or of `pulselab`.
 pub fn put_error<K: Sink>(sink: &mut K, error: TraceError) -> Result<(), WriteFault>
     ensures { Puts result (error_line error) (K.told sink.old) (K.told sink.new) }
 {
@@ -64,6 +94,7 @@ pub fn put_error<K: Sink>(sink: &mut K, error: TraceError) -> Result<(), WriteFa
             b"usage: trace FROM TO [NODE ..] < PLAN_AND_SCRIPT, or trace --help\n",
         ),
         TraceError::Refused(refusal) => put_refusal(sink, refusal),
+        TraceError::PulsesRefused(refusal) => pulse_runs::put_refusal(sink, refusal),
         TraceError::NotPlayed => put_all(sink, b"refused words: TO is above the script's rounds\n"),
         TraceError::NoNode => put_all(sink, b"refused words: the plan has no such node\n"),
         TraceError::ReadFault => put_all(sink, b"the input could not be read\n"),

@@ -1,10 +1,12 @@
 //! Writes what the nodes of a script's run hold and hear. `trace FROM TO [NODE ..]` reads a plan
-//! and a script from standard input, as `counterlab run` does, and writes of each configuration
-//! from FROM to TO, and of each node that is named, or of all, a line of its state and one of each
-//! level in which it takes part.
+//! and a script from standard input, as `counterlab run` does, or a pulse plan and a script, as
+//! `pulselab run` does. It writes of each configuration from FROM to TO, and of each node that is
+//! named, or of all, a line of its state and one of each level, or of each group with halves, in
+//! which it is.
 //!
 //! `--help` and `--version` write what they say. Other words are answered by one line of usage on
-//! standard error, and what is refused by one line there. The exit codes are those of `counterlab`.
+//! standard error, and what is refused by one line there. The exit codes are those of `counterlab`
+//! and `pulselab`.
 //!
 //! All that is proved, of [`asking::answer`] and [`errors::put_error`]; that the line goes to
 //! standard error is not.
@@ -15,7 +17,11 @@ mod asking;
 mod calling;
 mod errors;
 mod naming;
+mod of_levels;
+mod of_pulses;
 mod requests;
+#[cfg(test)]
+mod tests;
 
 use crate::asking::answer;
 use crate::errors::{TraceError, put_error};

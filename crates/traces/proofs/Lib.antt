@@ -1,7 +1,3 @@
-pub mod GroupRegisters
-pub mod LevelDescent
-pub mod LineParts
 pub mod Hearing
-pub mod Reading
+pub mod LevelDescent
 pub mod Traced
-pub mod WordsSoFar

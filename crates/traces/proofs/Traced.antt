@@ -14,8 +14,8 @@ use Rattle.traces.specs.declared.desks.Desk.{Desk}
 use Rattle.traces.specs.Desks.{IsMade, IsFitFor}
 use Rattle.traces.specs.TraceTexts.{moment_text, trace_text}
 use Rattle.traces.specs.Wants.{IsToTrace, IsAt}
-use Rattle.traces.proofs.LineParts.{wrote_as, cut_as}
-use Rattle.traces.proofs.WordsSoFar.{words_before, words_more, words_cut, words_all}
+use Rattle.trace_words.proofs.LineParts.{wrote_as, cut_as}
+use Rattle.trace_words.proofs.WordsSoFar.{words_before, words_more, words_cut, words_all}
 
 module _ (start : Running NoOverlay) where
   pub at_start : IsToTrace start → IsAt start 0 start

@@ -1,43 +1,18 @@
 -- The line of a level in which a node takes part: its register there, and what it hears of its
 -- group.
-use Rattle.std.specs.Prelude.{ℕ, zero, suc, ◌+◌, ◌-◌, ◌*◌, ◌/◌, ◌%◌, nat_lt, List, [], ◌∷◌, ◌++◌}
-use Rattle.std.specs.Prelude.{length, map, take, Bool, true, false, ◌||◌, Option, Some, None}
+use Rattle.std.specs.Prelude.{ℕ, ◌+◌, ◌-◌, ◌*◌, ◌/◌, ◌%◌, nat_lt, List, [], ◌∷◌, ◌++◌}
+use Rattle.std.specs.Prelude.{length, map, take, Bool, true, false, Option}
 use Rattle.std.specs.Prelude.{if◌then◌else◌, codes, decimal}
-use Rattle.std.specs.List.{concat, flat_map, list_all, range_with_len}
+use Rattle.std.specs.List.{concat, flat_map, range_with_len}
 use Rattle.counting.specs.Values.{count_of, least_above}
-use Rattle.sync_types.specs.FaultSets.{is_in}
 use Rattle.sync_types.specs.States.{State, register_at}
 use Rattle.sync_types.specs.declared.states.Reg.{Reg}
 use Rattle.construction.specs.Plans.{Level, group_size, nodes_of}
 use Rattle.construction.specs.Shown.{shown}
 use Rattle.construction.specs.Steps.{state_of}
 use Rattle.construction.specs.Votes.{block, vote, lead, beat_heard}
-use Rattle.round_runner.specs.Locks.{is_locked_at}
-use Rattle.traces.specs.declared.headings.Heading.{Heading}
-
--- a number, or that there is none
-abbrev pub number_or_none : Option ℕ → List ℕ
-number_or_none (Some n) = decimal n
-number_or_none None = codes "none"
-
--- what stands behind the id of a faulty node
-abbrev pub faulty_word : Bool → List ℕ
-faulty_word true = codes " faulty"
-faulty_word false = []
-
--- ---- the register
-
--- Whether each correct one of so many nodes has this finite value at a level, marked.
-abbrev pub all_have : (l first many : ℕ) → (faulty : List ℕ) → List State → Option ℕ → Bool
-all_have l first many faulty config None = false
-all_have l first many faulty config (Some a) =
-    list_all (λ u. is_in faulty u || is_locked_at a (register_at l (state_of config u)))
-    (range_with_len first many)
-
-abbrev pub mark_word : (marked all : Bool) → List ℕ
-mark_word false all = codes " unmarked"
-mark_word true false = codes " marked"
-mark_word true true = codes " locked"
+use Rattle.trace_words.specs.declared.headings.Heading.{Heading}
+use Rattle.trace_words.specs.Words.{number_or_none, faulty_word, turn_word, all_have, mark_word}
 
 -- ---- what the node hears of a group, where the blocks have n nodes and stand above l levels
 
@@ -49,12 +24,6 @@ vote_word n level outputs i = codes " " ++ decimal (vote level n outputs i)
 abbrev pub votes_part : (n : ℕ) → Level → (outputs : List ℕ) → List ℕ
 votes_part n level outputs =
     codes " votes" ++ flat_map (vote_word n level outputs) (range_with_len 0 level.blocks)
-
--- the turn at a position of the beat
-abbrev pub turn_word : (kind : ℕ) → List ℕ
-turn_word zero = codes " keep"
-turn_word (suc zero) = codes " mark"
-turn_word (suc (suc _)) = codes " king"
 
 -- whose position is heard, and whose turn that is; the group begins with node `first`
 abbrev pub turn_part : (n : ℕ) → Level → (first : ℕ) → (outputs : List ℕ) → List ℕ

@@ -1,8 +1,6 @@
 -- What a trace writes of a node in a configuration of a script's run.
-use Rattle.std.specs.Prelude.{ℕ, nat_lt, ◌==◌, List, [], ◌∷◌, ◌++◌, length, Bool, Option, Some}
-use Rattle.std.specs.Prelude.{None, if◌then◌else◌, codes, decimal}
-use Rattle.std.specs.List.{concat}
-use Rattle.sync_types.specs.FaultSets.{is_in}
+use Rattle.std.specs.Prelude.{ℕ, nat_lt, ◌==◌, List, ◌++◌, length, Bool, Option, Some, None}
+use Rattle.std.specs.Prelude.{if◌then◌else◌}
 use Rattle.sync_types.specs.States.{State}
 use Rattle.construction.specs.Plans.{Level, Plan, low_of}
 use Rattle.construction.specs.Shown.{shown}
@@ -10,8 +8,10 @@ use Rattle.construction.specs.Steps.{state_of}
 use Rattle.adversary_script.specs.Scripts.{Script}
 use Rattle.adversary_script.specs.Eras.{faulty_at}
 use Rattle.round_runner.specs.Played.{heard_at}
-use Rattle.traces.specs.declared.headings.Heading.{Heading}
-use Rattle.traces.specs.LevelTexts.{faulty_word, number_or_none, level_lines}
+use Rattle.trace_words.specs.declared.headings.Heading.{Heading}
+use Rattle.trace_words.specs.Headings.{heading_of}
+use Rattle.trace_words.specs.Words.{shown_line}
+use Rattle.traces.specs.LevelTexts.{level_lines}
 
 -- the number of a node; a spare has none
 abbrev pub number_of_node : List Level → (v : ℕ) → State → Option ℕ
@@ -20,9 +20,7 @@ number_of_node levels v state = if low_of levels v == 0 then Some state.x else N
 -- the line of a node's state
 abbrev pub state_line : Heading → List Level → State → List ℕ
 state_line h levels state =
-    concat (codes "at " ∷ decimal h.at ∷ codes " node " ∷ decimal h.node ∷ faulty_word h.faulty
-    ∷ codes " number " ∷ number_or_none (number_of_node levels h.node state)
-    ∷ codes " output " ∷ decimal (shown (length levels) state) ∷ codes "\n" ∷ [])
+    shown_line h (number_of_node levels h.node state) (shown (length levels) state)
 
 -- The line of its state, and those of its levels, from what it hears of all nodes, where a round
 -- follows.
@@ -31,10 +29,6 @@ abbrev pub view_text : Heading → (faulty : List ℕ) → (config : List State)
 view_text h faulty config hears levels heard =
     state_line h levels (state_of config h.node)
     ++ level_lines h faulty config hears levels h.node heard
-
--- configuration t, node v, and whether it is faulty there
-abbrev pub heading_of : Script → (t v : ℕ) → Heading
-heading_of script t v = record { at = t; node = v; faulty = is_in (faulty_at script t) v }
 
 -- The lines of node v in configuration t, with what it hears in round t; behind the last
 -- configuration no round follows.

@@ -6,61 +6,22 @@ ghost use Rattle.texts.specs.Growth.{Puts};
 ghost use Rattle.plan_numbers.specs.Numbers.{levels_in};
 ghost use Rattle.plan_numbers.specs.Stacked.{AreSomeLevels};
 ghost use Rattle.counter_core.specs.Working.{IsFor, IsAsRoomy};
-ghost use Rattle.round_runner.specs.Locks.{is_locked_at};
-ghost use Rattle.traces.specs.LevelTexts.{mark_word, level_lines};
+ghost use Rattle.traces.specs.LevelTexts.{level_lines};
 ghost use Rattle.traces.specs.Views.{StandsIn};
 
-use crate::level_parts::number_piece;
 use crate::places::Place;
-use crate::views::View;
 use counter_core::{Heard, Work};
 use edge_io::{Piece, TextSink, WriteFault, put_pieces};
 use plan_numbers::LevelNums;
 use sync_types::Reg;
-
-/// Whether a register is marked and has this value.
-fn is_locked_at(value: u64, register: Reg) -> bool
-    ensures { result ≡ is_locked_at value register }
-{
-    register.a == Some(value) && register.d
-}
-
-/// The word of a mark.
-fn mark_word(marked: bool, all: bool) -> &'static str
-    ensures { result.now ≡ mark_word marked all }
-{
-    if !marked {
-        " unmarked"
-    } else if all {
-        " locked"
-    } else {
-        " marked"
-    }
-}
+use trace_words::{View, mark_word, number_piece};
 
 impl Place<'_> {
     ghost use Rattle.sync_types.specs.States.{register_at};
     ghost use Rattle.construction.specs.Steps.{state_of};
     ghost use Rattle.plan_numbers.specs.Numbers.{level_of};
     ghost use Rattle.plan_numbers.specs.Sizes.{block_nodes};
-    ghost use Rattle.traces.specs.LevelTexts.{all_have, level_front, heard_if, level_line};
-
-    /// Whether each correct node of the group has this finite value there, marked.
-    fn all_have(&self, value: Option<u64>) -> bool
-        ensures { result ≡ all_have self.now.below self.now.first self.now.nums.nodes
-            self.now.view.faulty.now.ids self.now.view.config.now value }
-    {
-        let Some(a) = value else {
-            return false;
-        };
-        for u in self.first..self.first + self.nums.nodes {
-            let register = self.view.config[u as usize].reg(self.below);
-            if !self.view.faulty.contains(u) && !is_locked_at(a, register) {
-                return false;
-            }
-        }
-        true
-    }
+    ghost use Rattle.traces.specs.LevelTexts.{level_front, heard_if, level_line};
 
     /// Writes the front of the level's line, up to the node's own register there.
     fn put_level_front<K: TextSink>(&self, sink: &mut K, own: Reg) -> Result<(), WriteFault>
@@ -69,7 +30,9 @@ impl Place<'_> {
             (K.Sink.told sink.old) (K.Sink.told sink.new) }
     {
         let heading = &self.view.heading;
-        let all = self.all_have(own.a);
+        let all = self
+            .view
+            .all_have(self.below, self.first, self.nums.nodes, own.a);
         put_pieces(
             sink,
             &[

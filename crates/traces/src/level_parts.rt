@@ -1,39 +1,15 @@
 //! What a node hears of its group at a level, as words.
 
-ghost use Rattle.std.specs.Prelude.{◌≡◌};
-ghost use Rattle.edge_io.specs.Pieces.{piece_text};
-ghost use Rattle.traces.specs.LevelTexts.{number_or_none, turn_word};
-
 use crate::places::Place;
 use boost_step::{beat, lead, vote};
 use counter_core::Work;
 use edge_io::{Piece, TextSink, WriteFault, put_pieces};
 use majority_votes::Tally;
 use tower::set_outputs;
-
-/// A number as a piece of a text, or that there is none.
-pub fn number_piece(number: Option<u64>) -> Piece<'static>
-    ensures { piece_text result ≡ number_or_none number }
-{
-    match number {
-        Some(number) => Piece::Number(number),
-        None => Piece::Text(b"none"),
-    }
-}
-
-/// The word of a kind of turn.
-fn turn_word(kind: u64) -> &'static str
-    ensures { result.now ≡ turn_word kind }
-{
-    match kind {
-        0 => " keep",
-        1 => " mark",
-        _ => " king",
-    }
-}
+use trace_words::{number_piece, turn_word};
 
 impl Place<'_> {
-    ghost use Rattle.std.specs.Prelude.{◌≤◌, take, map, length};
+    ghost use Rattle.std.specs.Prelude.{◌≡◌, ◌≤◌, take, map, length};
     ghost use Rattle.std.specs.List.{flat_map, range_with_len};
     ghost use Rattle.sync_types.specs.States.{register_at};
     ghost use Rattle.texts.specs.Growth.{Puts};

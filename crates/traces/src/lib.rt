@@ -6,17 +6,11 @@
 #![tactic(auto)]
 
 mod desks;
-mod headings;
 mod level_lines;
 mod level_parts;
 mod node_lines;
 mod places;
 mod tracing;
-mod views;
-mod wants;
 
 pub use desks::Desk;
-pub use headings::Heading;
 pub use tracing::put_trace;
-pub use views::View;
-pub use wants::Want;

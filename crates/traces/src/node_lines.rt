@@ -12,12 +12,11 @@ ghost use Rattle.traces.specs.NodeTexts.{number_of_node, state_line, view_text};
 ghost use Rattle.traces.specs.Views.{StandsIn};
 
 use crate::level_lines::put_levels;
-use crate::level_parts::number_piece;
-use crate::views::View;
 use counter_core::{Heard, Work};
-use edge_io::{Piece, TextSink, WriteFault, put_pieces};
+use edge_io::{TextSink, WriteFault};
 use plan_numbers::{LevelNums, low_in};
 use sync_types::NodeState;
+use trace_words::View;
 
 /// The number of a node, which a spare has not.
 fn number_of_node(levels: &[LevelNums], v: u32, state: &NodeState) -> Option<u64>
@@ -57,21 +56,7 @@ fn put_state<K: TextSink>(
     let state = &view.config[view.heading.node as usize];
     let number = number_of_node(levels, view.heading.node, state);
     let output = shown(levels.len(), state);
-    put_pieces(
-        sink,
-        &[
-            Piece::Text(b"at "),
-            Piece::Number(view.heading.at),
-            Piece::Text(b" node "),
-            Piece::Number(u64::from(view.heading.node)),
-            Piece::Text(view.heading.faulty_word().as_bytes()),
-            Piece::Text(b" number "),
-            number_piece(number),
-            Piece::Text(b" output "),
-            Piece::Number(output),
-            Piece::Text(b"\n"),
-        ],
-    )
+    view.heading.put_shown(sink, number, output)
 }
 
 /// Writes the lines of a node, by what it hears of all nodes: that of its state, and those of the

@@ -10,14 +10,12 @@ ghost use Rattle.traces.specs.TraceTexts.{moment_text, trace_text};
 ghost use Rattle.traces.specs.Wants.{IsAt, IsToTrace, IsWithin};
 
 use crate::desks::Desk;
-use crate::headings::Heading;
 use crate::node_lines::put_node;
-use crate::views::View;
-use crate::wants::Want;
 use counter_core::NoOverlay;
 use edge_io::{Gathered, Sink, TextSink, WriteFault};
 use round_runner::Runner;
 use sync_types::NodeState;
+use trace_words::{Heading, View, Want};
 
 /// Lays what node `v` hears into its places, and answers whether a round follows, in which it hears
 /// that.

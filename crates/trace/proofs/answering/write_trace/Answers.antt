@@ -1,52 +1,35 @@
-use Rattle.std.proofs.Common.{◌≡◌, ◌<◌, ◌≤◌, All, map, ap, sym, ◌∙◌, subst, arith}
+use Rattle.std.proofs.Common.{map, sym, ◌∙◌, ap, refl}
 use Rattle.std.specs.Prelude.{string_bytes}
-use Rattle.construction.specs.Plans.{plan_nodes}
-use Rattle.trace.specs.Names.{named_nodes}
-use Rattle.trace.proofs.NamedNodes.{named_below}
-use Rattle.trace.proofs.Traced.{unwritten, traced}
+use Rattle.trace.specs.Answers.{fails_at_first}
+use Rattle.trace.proofs.PulsesTraced.{answers_as, of_read, of_levels, refused}
 use Rattle.trace.proofs.answering.write_trace.Goals as goal
 
-pub put_trace-requires-clause-nodes : goal.put_trace-requires-clause-nodes
-put_trace-requires-clause-nodes g c =
-    let words = map string_bytes c.args.words.now in
-    let n = c.nodes.result in
-    let same : n ≡ plan_nodes c.in_ok-plan.runner.plan =
-    c.nodes.ensures ∙ sym (ap plan_nodes c.in_ok-plan.ensures.plan_is) in
-    let naming = rw c.in-Some.is at c.in_ok-nodes.ensures in
-    let all = subst (λ m. All (λ v. v < m) (named_nodes words n)) same (named_below words n) in
-    subst (All (λ v. v < plan_nodes c.in_ok-plan.runner.plan))
-    (sym (c.deref.ensures.value ∙ naming.1)) all
+pub returns-in_ok-runner-in-Ok : goal.returns-in_ok-runner-in-Ok
+returns-in_ok-runner-in-Ok g c =
+    answers_as _ _ _ _ _
+    (of_read c.args.want (map string_bytes c.args.words.now) c.args.input.now _ c.in-Ok.ensures
+    c.in_ok-runner-in-Ok.runner c.in_ok-runner-in-Ok.ensures)
+    c.write_pulses_trace.ensures
 
-pub returns-in_err-put_trace : goal.returns-in_err-put_trace
-returns-in_err-put_trace g c =
-    let naming = rw c.nodes.ensures at (rw c.in-Some.is at c.in_ok-nodes.ensures) in
-    let le : c.args.want.last ≤ c.in_ok-plan.runner.script.rounds =
-    omega (
-      arith,
-      c.if-want-rounds.false,
-      c.rounds.ensures.value,
-      ap (λ s. s.rounds) c.script.ensures,
-    ) in
-    unwritten _ _ _ _ _
-    (traced c.args.want (map string_bytes c.args.words.now) c.args.input.now c.in_ok-plan.plan
-    c.in_ok-plan.runner c.in_ok-plan.ensures le c.deref.result.now
-    (naming.0, c.deref.ensures.value ∙ naming.1))
-    c.from_residual-in_err-put_trace.ensures.1 c.in_err-put_trace.ensures
+pub returns-then-fails_at_first : goal.returns-then-fails_at_first
+returns-then-fails_at_first g c =
+    let refusal = c.in-Err-Refused.refusal in
+    let fails = rw c.in-Err-Refused.field-0-is at c.in-Err-Refused.ensures in
+    answers_as _ _ _ _ _
+    (of_levels c.args.want (map string_bytes c.args.words.now) c.args.input.now refusal fails
+    (ap (λ first. fails_at_first first refusal) (sym c.first_unskipped.ensures)
+    ∙ (sym c.fails_at_first.ensures ∙ c.if-fails_at_first.true)))
+    c.write_levels_trace.ensures
 
-pub returns : goal.returns
-returns g c =
-    let naming = rw c.nodes.ensures at (rw c.in-Some.is at c.in_ok-nodes.ensures) in
-    let le : c.args.want.last ≤ c.in_ok-plan.runner.script.rounds =
-    omega (
-      arith,
-      c.if-want-rounds.false,
-      c.rounds.ensures.value,
-      ap (λ s. s.rounds) c.script.ensures,
-    ) in
-    record {
-      text = _;
-      traced = traced c.args.want (map string_bytes c.args.words.now) c.args.input.now
-          c.in_ok-plan.plan c.in_ok-plan.runner c.in_ok-plan.ensures le c.deref.result.now
-          (naming.0, c.deref.ensures.value ∙ naming.1);
-      has = c.in_ok-put_trace.ensures;
-    }
+pub returns-else-fails_at_first : goal.returns-else-fails_at_first
+returns-else-fails_at_first g c =
+    let refusal = c.in-Err-Refused.refusal in
+    let fails = rw c.in-Err-Refused.field-0-is at c.in-Err-Refused.ensures in
+    let is = refused c.args.want (map string_bytes c.args.words.now) c.args.input.now refusal fails
+    (ap (λ first. fails_at_first first refusal) (sym c.first_unskipped.ensures)
+    ∙ (sym c.fails_at_first.ensures ∙ c.if-fails_at_first.false)) in
+    (is, refl)
+
+pub returns-in-Err-WriteFault : goal.returns-in-Err-WriteFault
+returns-in-Err-WriteFault g c =
+    absurd (rw c.in-Err-WriteFault.field-0-is at c.in-Err-WriteFault.ensures)

@@ -11,7 +11,7 @@ use Rattle.counter_core.specs.Working.{IsFor}
 use Rattle.tower.proofs.Descent.{below_levels, top_numbers, top_sized, group_nodes, place_below}
 use Rattle.tower.proofs.Descent.{block_size}
 use Rattle.traces.specs.Views.{StandsIn}
-use Rattle.traces.proofs.LineParts.{wrote_as, cut_as, puts_as}
+use Rattle.trace_words.proofs.LineParts.{wrote_as, cut_as, puts_as}
 use Rattle.traces.proofs.LevelDescent.{no_lines, lines_below, lines_by, lower_in, lower_out}
 use Rattle.traces.proofs.LevelDescent.{block_within, place_before}
 use Rattle.traces.proofs.level_lines.+put_levels.Goals as goal

@@ -3,7 +3,7 @@ use Rattle.sync_types.specs.States.{State}
 use Rattle.texts.proofs.Growth.{puts_exit, puts_then, cut_more}
 use Rattle.plan_numbers.specs.Numbers.{levels_in}
 use Rattle.traces.specs.LevelTexts.{level_lines}
-use Rattle.traces.proofs.LineParts.{puts_as}
+use Rattle.trace_words.proofs.LineParts.{puts_as}
 use Rattle.traces.proofs.node_lines.put_node.Goals as goal
 
 pub returns-in_err-put_state-clause-lines : goal.returns-in_err-put_state-clause-lines

@@ -6,7 +6,7 @@ use Rattle.adversary_script.specs.Scripts.{Script}
 use Rattle.adversary_script.specs.Eras.{faulty_at}
 use Rattle.round_runner.specs.Runners.{Running}
 use Rattle.traces.proofs.Hearing.{view_is}
-use Rattle.traces.proofs.LineParts.{puts_as}
+use Rattle.trace_words.proofs.LineParts.{puts_as}
 use Rattle.traces.proofs.tracing.put_node_lines.Goals as goal
 
 pub returns-clause-lines : goal.returns-clause-lines

@@ -8,7 +8,7 @@ use Rattle.plan_numbers.specs.Sizes.{block_nodes}
 use Rattle.boost_step.specs.Numbers.{in_blocks}
 use Rattle.traces.specs.LevelTexts.{vote_word}
 use Rattle.traces.specs.Places.{Placed}
-use Rattle.traces.proofs.WordsSoFar.{words_more, words_cut, words_all}
+use Rattle.trace_words.proofs.WordsSoFar.{words_more, words_cut, words_all}
 use Rattle.traces.proofs.places.Place.put_each_vote.Goals as goal
 
 word_wrote : (v w : ℕ) (s t : Told) → v ≡ w → Wrote (codes " " ++ decimal v) s t

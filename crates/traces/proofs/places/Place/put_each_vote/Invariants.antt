@@ -5,7 +5,7 @@ use Rattle.plan_numbers.specs.Sizes.{block_nodes}
 use Rattle.boost_step.specs.Kept.{KeepsOutputs}
 use Rattle.boost_step.specs.Numbers.{in_blocks}
 use Rattle.traces.specs.LevelTexts.{vote_word}
-use Rattle.traces.proofs.WordsSoFar.{words_before}
+use Rattle.trace_words.proofs.WordsSoFar.{words_before}
 use Rattle.traces.proofs.places.Place.put_each_vote.Given as goal
 
 abbrev pub invariant-loop-i : goal.invariant-loop-i

@@ -8,7 +8,7 @@ use Rattle.boost_step.specs.Numbers.{in_blocks}
 use Rattle.boost_step.proofs.Numbers.{related}
 use Rattle.traces.specs.LevelTexts.{votes_part, turn_part}
 use Rattle.traces.specs.Places.{Placed}
-use Rattle.traces.proofs.LineParts.{wrote_as, cut_as}
+use Rattle.trace_words.proofs.LineParts.{wrote_as, cut_as}
 use Rattle.traces.proofs.places.Place.put_heard.Goals as goal
 
 -- what is laid out is what the nodes of the blocks show

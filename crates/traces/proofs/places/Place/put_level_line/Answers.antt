@@ -9,8 +9,8 @@ use Rattle.plan_numbers.specs.Sizes.{block_nodes}
 use Rattle.boost_step.proofs.Numbers.{related}
 use Rattle.traces.specs.LevelTexts.{level_front, heard_if}
 use Rattle.traces.specs.Places.{Placed}
-use Rattle.traces.proofs.LineParts.{wrote_as, cut_as}
-use Rattle.traces.proofs.Reading.{within}
+use Rattle.trace_words.proofs.LineParts.{wrote_as, cut_as}
+use Rattle.trace_words.proofs.Reading.{within}
 use Rattle.traces.proofs.places.Place.put_level_line.Goals as goal
 
 pub returns-in_err-put_level_front-clause-line : goal.returns-in_err-put_level_front-clause-line
