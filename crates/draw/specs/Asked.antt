@@ -12,10 +12,10 @@ help_text = concat (
     codes "usage: draw < TEXT > PICTURE.svg\n       draw --page < TEXT > PAGE.html\n"
     ∷ codes "Draws what `counterlab run`, `trace`, `sweep` or `choose` writes, in SVG. Of a run\n"
     ∷ codes "or a trace: a column for each configuration and a line of cells for each node; of\n"
-    ∷ codes "a trace each level too, with the kings' turns. Of a sweep: bars of how many runs\n"
-    ∷ codes "lock when. Of a choice: a point for each plan, by its nodes and its bound. With\n"
-    ∷ codes "--page it writes a page for a browser, which says of what is under the pointer\n"
-    ∷ codes "what the text says of it.\n" ∷ [])
+    ∷ codes "a trace each level or group, with the kings' turns. Of a sweep: bars of how many\n"
+    ∷ codes "runs lock when. Of a choice: a point for each plan, by its nodes and its bound.\n"
+    ∷ codes "With --page it writes a page for a browser, which says of what is under the\n"
+    ∷ codes "pointer what the text says of it.\n" ∷ [])
 
 abbrev pub version_text : List ℕ
 version_text = codes "draw 1.0\n"

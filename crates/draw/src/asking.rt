@@ -17,10 +17,10 @@ fn put_help<K: Sink>(sink: &mut K) -> Result<(), WriteFault>
         b"usage: draw < TEXT > PICTURE.svg\n       draw --page < TEXT > PAGE.html\n\
         Draws what `counterlab run`, `trace`, `sweep` or `choose` writes, in SVG. Of a run\n\
         or a trace: a column for each configuration and a line of cells for each node; of\n\
-        a trace each level too, with the kings' turns. Of a sweep: bars of how many runs\n\
-        lock when. Of a choice: a point for each plan, by its nodes and its bound. With\n\
-        --page it writes a page for a browser, which says of what is under the pointer\n\
-        what the text says of it.\n",
+        a trace each level or group, with the kings' turns. Of a sweep: bars of how many\n\
+        runs lock when. Of a choice: a point for each plan, by its nodes and its bound.\n\
+        With --page it writes a page for a browser, which says of what is under the\n\
+        pointer what the text says of it.\n",
     )
 }
 

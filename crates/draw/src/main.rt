@@ -1,10 +1,10 @@
 //! Draws what `counterlab run`, `trace`, `sweep` or `choose` writes: of a run and of a trace a
 //! picture in SVG with a column for each configuration and a line of cells for each node; of a
-//! trace also a strip for each level, with the kings' turns above it; of a sweep bars, and of a
-//! choice a point for each plan. It reads standard input and writes standard output. Where it reads
-//! anything else it writes one line to standard error, and ends with 1. With `--help` or
-//! `--version`, alone, it reads nothing and writes what these ask for; other words count for
-//! nothing.
+//! trace also a strip for each level, or each group of a pulse plan, with the kings' turns above
+//! it; of a sweep bars, and of a choice a point for each plan. It reads standard input and writes
+//! standard output. Where it reads anything else it writes one line to standard error, and ends
+//! with 1. With `--help` or `--version`, alone, it reads nothing and writes what these ask for;
+//! other words count for nothing.
 //!
 //! What it draws is said in [`run_pictures`], and what is written for words in [`asking::tell`].
 #![tactic(auto)]

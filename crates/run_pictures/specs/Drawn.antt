@@ -19,6 +19,10 @@ use Rattle.survey_pictures.specs.SweepPictures.{sweep_picture}
 use Rattle.trace_pictures.specs.Traces.{trace_text}
 use Rattle.trace_pictures.specs.TraceLaid.{IsTraceLaid}
 use Rattle.trace_pictures.specs.TracePictures.{trace_picture}
+use Rattle.pulse_pictures.specs.declared.pulse_notes.PulseTrace.{PulseTrace}
+use Rattle.pulse_pictures.specs.PulseTexts.{pulse_text}
+use Rattle.pulse_pictures.specs.PulseLaid.{IsPulseTraceLaid}
+use Rattle.pulse_pictures.specs.PulsePictures.{pulse_picture}
 
 -- the text is that of a chart, and the picture of that chart has this
 pub record DrawsRows (text : List ℕ) (holds : List ℕ → Type 0) : Type 0 where
@@ -33,6 +37,13 @@ pub record DrawsTrace (text : List ℕ) (holds : List ℕ → Type 0) : Type 0 w
   pub is : trace_text trace.frame.first trace.notes.items ≡ text
   pub laid : IsTraceLaid trace
   pub drawn : holds (trace_picture trace)
+
+-- the text is that of a trace of a pulse plan, and the picture of that trace has this
+pub record DrawsPulses (text : List ℕ) (holds : List ℕ → Type 0) : Type 0 where
+  pub trace : PulseTrace
+  pub is : pulse_text trace.frame.first trace.notes.items ≡ text
+  pub laid : IsPulseTraceLaid trace
+  pub drawn : holds (pulse_picture trace)
 
 -- the text is that of a sweep, and the picture of that sweep has this
 pub record DrawsSweep (text : List ℕ) (holds : List ℕ → Type 0) : Type 0 where
@@ -53,7 +64,8 @@ pub record DrawsChoice (text : List ℕ) (holds : List ℕ → Type 0) : Type 0 
 abbrev pub Draws : (text : List ℕ) → (holds : List ℕ → Type 0) → Type 0
 Draws text holds =
     DrawsRows text holds
-    ⊎ (DrawsTrace text holds ⊎ (DrawsSweep text holds ⊎ DrawsChoice text holds))
+    ⊎ (DrawsTrace text holds
+    ⊎ (DrawsPulses text holds ⊎ (DrawsSweep text holds ⊎ DrawsChoice text holds)))
 
 -- the text is drawn, and the picture, or its page, has this
 abbrev pub DrawsAs : Form → (text : List ℕ) → (holds : List ℕ → Type 0) → Type 0
@@ -64,6 +76,9 @@ RowsAs form text holds = DrawsRows text (λ picture. holds (formed form text pic
 
 abbrev pub TraceAs : Form → (text : List ℕ) → (holds : List ℕ → Type 0) → Type 0
 TraceAs form text holds = DrawsTrace text (λ picture. holds (formed form text picture))
+
+abbrev pub PulsesAs : Form → (text : List ℕ) → (holds : List ℕ → Type 0) → Type 0
+PulsesAs form text holds = DrawsPulses text (λ picture. holds (formed form text picture))
 
 abbrev pub SweepAs : Form → (text : List ℕ) → (holds : List ℕ → Type 0) → Type 0
 SweepAs form text holds = DrawsSweep text (λ picture. holds (formed form text picture))

@@ -3,17 +3,25 @@
 ghost use Rattle.std.specs.Prelude.{◌≡◌, true, IfOk};
 ghost use Rattle.run_pictures.specs.Charts.{chart_text};
 ghost use Rattle.trace_pictures.specs.Traces.{trace_text};
-ghost use Rattle.run_pictures.specs.Drawn.{ChoiceAs, Does, DrawsAs, RowsAs, SweepAs, TraceAs};
+ghost use Rattle.run_pictures.specs.Drawn.{ChoiceAs, Does, DrawsAs, PulsesAs, RowsAs, SweepAs};
+ghost use Rattle.run_pictures.specs.Drawn.{TraceAs};
+ghost use Rattle.pulse_pictures.specs.PulseTexts.{pulse_text};
 ghost use Rattle.survey_pictures.specs.Choices.{choice_text};
 ghost use Rattle.survey_pictures.specs.Sweeps.{sweep_text};
 
 use crate::charts::Chart;
 use crate::laid::is_laid;
-use crate::pages::{Form, put_formed_chart, put_formed_choice, put_formed_sweep, put_formed_trace};
+use crate::pages::{
+    Form, put_formed_chart, put_formed_choice, put_formed_pulses, put_formed_sweep,
+    put_formed_trace,
+};
 use crate::printing::put_chart;
 use crate::reading::read_chart;
 use edge_io::{MemSink, NoMemory, Sink, WriteFault};
 use picture_parts::ChartError;
+use pulse_pictures::{
+    PulseTrace, is_pulse_trace, is_pulse_trace_laid, pulse_trace_of, put_pulse_trace,
+};
 use std::alloc::Global;
 use survey_pictures::{
     Point, Sweep, are_plotted, is_choice, is_sweep, is_sweep_laid, put_choice, put_sweep,
@@ -76,6 +84,18 @@ fn is_text_of_trace(alloc: Global, trace: &Trace, text: &[u8]) -> Result<bool, N
 {
     let mut sink = MemSink::new(alloc, text.len(), Vec::new(alloc), Vec::new(alloc))?;
     match put_trace(&mut sink, trace.frame.first, trace.lines()) {
+        Ok(()) => Ok(sink.taken() == text),
+        Err(WriteFault) => Ok(false),
+    }
+}
+
+/// Whether the text of a trace of a pulse plan is this one.
+fn is_text_of_pulses(alloc: Global, trace: &PulseTrace, text: &[u8]) -> Result<bool, NoMemory>
+    ensures { IfOk result (λ same. same ≡ true
+        → pulse_text trace.now.frame.first trace.now.notes.items ≡ text.now) }
+{
+    let mut sink = MemSink::new(alloc, text.len(), Vec::new(alloc), Vec::new(alloc))?;
+    match put_pulse_trace(&mut sink, trace.frame.first, trace.lines()) {
         Ok(()) => Ok(sink.taken() == text),
         Err(WriteFault) => Ok(false),
     }
@@ -163,6 +183,38 @@ fn draw_trace<K: Sink>(
     draw_lines(alloc, &trace, text, form, sink)
 }
 
+/// Draws a trace of a pulse plan, if its text is this one.
+fn draw_groups<K: Sink>(
+    alloc: Global,
+    trace: &PulseTrace,
+    text: &[u8],
+    form: Form,
+    sink: &mut K,
+) -> Result<(), DrawError>
+    ensures { Does result (PulsesAs form text.now) (K.told sink.old) (K.told sink.new) }
+{
+    if !is_text_of_pulses(alloc, trace, text)? || !is_pulse_trace_laid(trace) {
+        return Err(DrawError::Open);
+    }
+    match put_formed_pulses(sink, form, text, trace) {
+        Ok(()) => Ok(()),
+        Err(WriteFault) => Err(DrawError::Write),
+    }
+}
+
+/// Draws a text that `trace` wrote of a pulse plan.
+fn draw_pulses<K: Sink>(
+    alloc: Global,
+    text: &[u8],
+    form: Form,
+    sink: &mut K,
+) -> Result<(), DrawError>
+    ensures { Does result (PulsesAs form text.now) (K.told sink.old) (K.told sink.new) }
+{
+    let trace = pulse_trace_of(alloc, text)?;
+    draw_groups(alloc, &trace, text, form, sink)
+}
+
 /// Draws a sweep, if its text is this one.
 fn draw_bars<K: Sink>(
     alloc: Global,
@@ -228,8 +280,8 @@ fn draw_choice<K: Sink>(
 }
 
 /// Draws a text that `run`, `trace`, `sweep` or `choose` wrote. Where it answers Ok, the text is
-/// that of a chart, of a trace, of a sweep or of a choice, letter for letter, and the picture of
-/// this was written, or the page of it.
+/// that of a chart, of a trace of either kind, of a sweep or of a choice, letter for letter, and
+/// the picture of this was written, or the page of it.
 ///
 /// `Chart` comes where a line is not what should stand there, `Open` where the last newline is
 /// missing, `NoMemory` where memory ran out; then nothing was written. `Write` comes where the sink
@@ -237,7 +289,9 @@ fn draw_choice<K: Sink>(
 pub fn draw<K: Sink>(alloc: Global, text: &[u8], form: Form, sink: &mut K) -> Result<(), DrawError>
     ensures { Does result (DrawsAs form text.now) (K.told sink.old) (K.told sink.new) }
 {
-    if is_trace(alloc, text)? {
+    if is_pulse_trace(text) {
+        draw_pulses(alloc, text, form, sink)
+    } else if is_trace(alloc, text)? {
         draw_trace(alloc, text, form, sink)
     } else if is_sweep(text) {
         draw_sweep(alloc, text, form, sink)

@@ -1,6 +1,6 @@
 //! Pictures, in SVG, of what `run`, `trace`, `sweep` or `choose` writes: of a run a column for each
-//! configuration and a line of cells for each node; the others are those of `trace_pictures` and
-//! `survey_pictures`.
+//! configuration and a line of cells for each node; the others are those of `trace_pictures`,
+//! `pulse_pictures` and `survey_pictures`.
 //!
 //! That each picture is the defined one of a chart, a trace, a sweep or a choice, whose own text is
 //! just what was read, is proved ([`draw`]), and that what is drawn stands where it belongs: of a

@@ -2,6 +2,7 @@
 //! what the rows say of the cell under the pointer; arrow keys choose the cell beside it.
 
 ghost use Rattle.texts.specs.Growth.{Puts};
+ghost use Rattle.pulse_pictures.specs.PulsePictures.{pulse_picture};
 ghost use Rattle.survey_pictures.specs.ChoicePictures.{choice_picture};
 ghost use Rattle.run_pictures.specs.Pages.{formed, page_behind, page_choose, page_front};
 ghost use Rattle.run_pictures.specs.Pages.{page_keys, page_middle, page_script, page_text};
@@ -12,6 +13,7 @@ ghost use Rattle.trace_pictures.specs.TracePictures.{trace_picture};
 use crate::charts::Chart;
 use crate::pictures::put_picture;
 use edge_io::{Sink, WriteFault, put_all};
+use pulse_pictures::{PulseTrace, put_pulse_picture};
 use survey_pictures::{Point, Sweep, put_choice_picture, put_sweep_picture};
 use trace_pictures::{Trace, put_trace_picture};
 
@@ -112,8 +114,9 @@ fn put_page_choose<K: Sink>(sink: &mut K) -> Result<(), WriteFault>
         group.classList.remove('chosen');\n\
         groups.forEach((group) => group.classList.add('chosen'));\n\
         now = [t, node];\n\
-        const hears = newline + '    hears votes';\n\
-        const told = lines.get(key).map((words) => words.replace(' votes', hears));\n\
+        const hears = newline + '    hears ';\n\
+        const told = lines.get(key).map((words) =>\n\
+        words.replace(' votes', hears + 'votes').replace(' left said', hears + 'left said'));\n\
         const head = 'configuration ' + t + ', node ' + node;\n\
         said.textContent = [head].concat(told).join(newline);\n\
         if (go && groups.length)\n\
@@ -180,6 +183,16 @@ fn put_trace_page<K: Sink>(sink: &mut K, rows: &[u8], trace: &Trace) -> Result<(
     put_page_behind(sink, rows)
 }
 
+/// Writes the page of a trace of a pulse plan and its lines.
+fn put_pulse_page<K: Sink>(sink: &mut K, rows: &[u8], trace: &PulseTrace) -> Result<(), WriteFault>
+    ensures { Puts result (page_text rows.now (pulse_picture trace.now))
+        (K.told sink.old) (K.told sink.new) }
+{
+    written!(put_page_front(sink));
+    written!(put_pulse_picture(sink, trace));
+    put_page_behind(sink, rows)
+}
+
 /// Writes the page of a sweep and its lines.
 fn put_sweep_page<K: Sink>(sink: &mut K, rows: &[u8], sweep: &Sweep) -> Result<(), WriteFault>
     ensures { Puts result (page_text rows.now (sweep_picture sweep.now))
@@ -233,6 +246,22 @@ pub fn put_formed_trace<K: Sink>(
     match form {
         Form::Picture => put_trace_picture(sink, trace),
         Form::Page => put_trace_page(sink, rows, trace),
+    }
+}
+
+/// Writes what is wanted of a trace of a pulse plan.
+pub fn put_formed_pulses<K: Sink>(
+    sink: &mut K,
+    form: Form,
+    rows: &[u8],
+    trace: &PulseTrace,
+) -> Result<(), WriteFault>
+    ensures { Puts result (formed form rows.now (pulse_picture trace.now))
+        (K.told sink.old) (K.told sink.new) }
+{
+    match form {
+        Form::Picture => put_pulse_picture(sink, trace),
+        Form::Page => put_pulse_page(sink, rows, trace),
     }
 }
 

@@ -45,7 +45,7 @@ fn compare(note: &mut Note, past: Past, most: u64) -> bool {
 }
 
 /// Adds a column where an era must begin, once.
-fn add_era(eras: &mut Vec<u32>, column: u32) -> Result<(), AllocFailed<u32>> {
+pub fn add_era(eras: &mut Vec<u32>, column: u32) -> Result<(), AllocFailed<u32>> {
     if eras.last() == Some(&column) {
         return Ok(());
     }

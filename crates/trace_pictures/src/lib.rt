@@ -31,9 +31,17 @@ mod traces;
 mod turns;
 mod turns_said;
 
+// What the picture of a trace of another construction has in common with this one.
 pub use drawn::trace_of;
-pub use trace_laid::is_trace_laid;
-pub use trace_pictures::put_trace_picture;
-pub use trace_printing::put_trace;
-pub use trace_reading::is_trace;
-pub use traces::Trace;
+pub use hits::add_era;
+pub use strips::{face_in, put_cover, put_register_ground, put_value};
+pub use trace_laid::{has_id, ids_rise, is_trace_laid};
+pub use trace_lines::{Front, Reader, TraceFault};
+pub use trace_pictures::{put_dots, put_starts, put_trace_picture};
+pub use trace_printing::{
+    faulty_word, held_word, put_number_or_none, put_output, put_trace, turn_word,
+};
+pub use trace_reading::{MOST_NODES, is_trace, length_of};
+pub use traces::{Held, Output, Trace, Turn};
+pub use turns::{edge, put_gold_part, put_king, share};
+pub use turns_said::is_same_turn;

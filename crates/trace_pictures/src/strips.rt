@@ -17,7 +17,7 @@ use picture_parts::{
 };
 
 /// Writes the ground of a register.
-fn put_register_ground<K: Sink>(
+pub fn put_register_ground<K: Sink>(
     sink: &mut K,
     value: Option<u64>,
     held: Held,
@@ -35,7 +35,7 @@ fn put_register_ground<K: Sink>(
 }
 
 /// Draws what lies on it: nothing, dots, or a frame.
-fn put_cover<K: Sink>(sink: &mut K, spot: Spot, held: Held) -> Result<(), WriteFault>
+pub fn put_cover<K: Sink>(sink: &mut K, spot: Spot, held: Held) -> Result<(), WriteFault>
     ensures { Puts result (cover spot held) (K.told sink.old) (K.told sink.new) }
 {
     let x = left(spot);
@@ -75,7 +75,7 @@ fn put_cover<K: Sink>(sink: &mut K, spot: Spot, held: Held) -> Result<(), WriteF
 }
 
 /// Writes a value, or a cross.
-fn put_value<K: Sink>(sink: &mut K, spot: Spot, value: Option<u64>) -> Result<(), WriteFault>
+pub fn put_value<K: Sink>(sink: &mut K, spot: Spot, value: Option<u64>) -> Result<(), WriteFault>
     ensures { Puts result (value_text spot value) (K.told sink.old) (K.told sink.new) }
 {
     match value {
@@ -149,7 +149,7 @@ fn put_register_in<K: Sink>(sink: &mut K, spot: Spot, register: &Register) -> Re
 
 /// What is drawn of an output: that of a faulty node counts for nothing, and where a node has no
 /// value it shows none.
-fn face_in(is_faulty: bool, is_lost: bool, output: u64) -> Face
+pub fn face_in(is_faulty: bool, is_lost: bool, output: u64) -> Face
     ensures { result ≡ face_in is_faulty is_lost output }
 {
     match (is_faulty, is_lost) {

@@ -53,7 +53,7 @@ fn is_at_height(levels: &[Level], place: u64, note: &Note) -> bool
 }
 
 /// Whether ids rise.
-fn ids_rise(ids: &[u64]) -> bool
+pub fn ids_rise(ids: &[u64]) -> bool
     ensures { result ≡ true → IsStrictlyIncreasing ids.now }
 {
     for k in 1..ids.len() {
@@ -65,7 +65,7 @@ fn ids_rise(ids: &[u64]) -> bool
 }
 
 /// Whether the id at a place is that of a node.
-fn has_id(ids: &[u64], place: u64, node: u64) -> bool
+pub fn has_id(ids: &[u64], place: u64, node: u64) -> bool
     ensures { result ≡ true → (d : ℕ) → slice_index_or ids.now place d ≡ node }
 {
     let place = place as usize;

@@ -64,23 +64,46 @@ impl TraceLine {
 /// The words of a line that are still to be read, whether one so far was not wanted, and whether
 /// memory ran out.
 #[derive(Drop)]
-struct Reader<'a> {
+pub struct Reader<'a> {
     words: Words<'a>,
     is_unwanted: bool,
     lacks_memory: bool,
 }
 
+/// The configuration and the node with which a line begins, and the word behind these.
+#[derive(Clone, Copy)]
+pub struct Front<'a> {
+    pub t: u32,
+    pub node: u64,
+    pub is_faulty: bool,
+    pub word: &'a [u8],
+}
+
 impl<'a> Reader<'a> {
+    /// A reader of a line, of which no word is read yet.
+    pub fn new(line: &'a [u8]) -> Reader<'a> {
+        Reader {
+            words: Words::new(line),
+            is_unwanted: false,
+            lacks_memory: false,
+        }
+    }
+
     /// Remembers that a word is not wanted, unless something holds.
-    fn want(&mut self, holds: bool) {
+    pub fn want(&mut self, holds: bool) {
         if !holds {
             self.is_unwanted = true;
         }
     }
 
+    /// The next word, if there is one.
+    pub fn next_word(&mut self) -> Option<&'a [u8]> {
+        self.words.next()
+    }
+
     /// The next word, which must be there.
-    fn word(&mut self) -> &'a [u8] {
-        match self.words.next() {
+    pub fn word(&mut self) -> &'a [u8] {
+        match self.next_word() {
             Some(word) => word,
             None => {
                 self.want(false);
@@ -101,13 +124,13 @@ impl<'a> Reader<'a> {
     }
 
     /// The next word as a number.
-    fn number(&mut self) -> u64 {
+    pub fn number(&mut self) -> u64 {
         let word = self.word();
         self.number_of(word)
     }
 
     /// The next word as a number of 32 bits.
-    fn small_number(&mut self) -> u32 {
+    pub fn small_number(&mut self) -> u32 {
         match next_number(&mut self.words) {
             Some(n) => n,
             None => {
@@ -118,7 +141,7 @@ impl<'a> Reader<'a> {
     }
 
     /// The next word as a number, or None for `none`.
-    fn number_or_none(&mut self) -> Option<u64> {
+    pub fn number_or_none(&mut self) -> Option<u64> {
         let word = self.word();
         if word == b"none".as_slice() {
             None
@@ -128,25 +151,25 @@ impl<'a> Reader<'a> {
     }
 
     /// Goes past a word that must stand there.
-    fn pass(&mut self, key: &[u8]) {
+    pub fn pass(&mut self, key: &[u8]) {
         let is_there = next_is(&mut self.words, key);
         self.want(is_there);
     }
 
     /// The number behind a word that must stand there.
-    fn number_after(&mut self, key: &[u8]) -> u64 {
+    pub fn number_after(&mut self, key: &[u8]) -> u64 {
         self.pass(key);
         self.number()
     }
 
     /// The number, or `none`, behind a word that must stand there.
-    fn number_or_none_after(&mut self, key: &[u8]) -> Option<u64> {
+    pub fn number_or_none_after(&mut self, key: &[u8]) -> Option<u64> {
         self.pass(key);
         self.number_or_none()
     }
 
     /// How a register holds its value.
-    fn held(&mut self) -> Held {
+    pub fn held(&mut self) -> Held {
         let word = self.word();
         if word == b"marked".as_slice() {
             return Held::Marked;
@@ -159,7 +182,7 @@ impl<'a> Reader<'a> {
     }
 
     /// What a king's turn has come to.
-    fn turn(&mut self) -> Turn {
+    pub fn turn(&mut self) -> Turn {
         let word = self.word();
         if word == b"mark".as_slice() {
             return Turn::Mark;
@@ -227,7 +250,7 @@ impl<'a> Reader<'a> {
     }
 
     /// What a node shows, behind the word `number`.
-    fn output(&mut self) -> Output {
+    pub fn output(&mut self) -> Output {
         Output {
             number: self.number_or_none(),
             output: self.number_after(b"output"),
@@ -243,8 +266,24 @@ impl<'a> Reader<'a> {
         Seen::Shows(self.output())
     }
 
+    /// The front of a line: `at`, a configuration, `node`, an id, `faulty` if it stands there, and
+    /// the word behind these.
+    pub fn front(&mut self) -> Front<'a> {
+        self.pass(b"at");
+        let t = self.small_number();
+        let node = self.number_after(b"node");
+        let word = self.word();
+        let is_faulty = word == b"faulty".as_slice();
+        Front {
+            t,
+            node,
+            is_faulty,
+            word: if is_faulty { self.word() } else { word },
+        }
+    }
+
     /// Ends the line: each word was wanted, and there are no more.
-    fn end(&mut self) -> Result<(), TraceFault> {
+    pub fn end(&mut self) -> Result<(), TraceFault> {
         if self.lacks_memory {
             return Err(TraceFault::NoMemory);
         }
@@ -260,25 +299,14 @@ const MOST_BLOCKS: usize = 257;
 
 /// Reads a line of a trace.
 pub fn trace_line(alloc: Global, line: &[u8]) -> Result<TraceLine, TraceFault> {
-    let mut reader = Reader {
-        words: Words::new(line),
-        is_unwanted: false,
-        lacks_memory: false,
-    };
-    reader.pass(b"at");
-    let t = reader.small_number();
-    let node = reader.number_after(b"node");
-    let mut word = reader.word();
-    let is_faulty = word == b"faulty".as_slice();
-    if is_faulty {
-        word = reader.word();
-    }
-    let seen = reader.seen(alloc, word);
+    let mut reader = Reader::new(line);
+    let front = reader.front();
+    let seen = reader.seen(alloc, front.word);
     reader.end()?;
     Ok(TraceLine {
-        t,
-        node,
-        is_faulty,
+        t: front.t,
+        node: front.node,
+        is_faulty: front.is_faulty,
         seen,
     })
 }

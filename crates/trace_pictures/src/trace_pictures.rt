@@ -18,7 +18,7 @@ use picture_parts::{
 };
 
 /// Writes the dots on what is marked.
-fn put_dots<K: Sink>(sink: &mut K) -> Result<(), WriteFault>
+pub fn put_dots<K: Sink>(sink: &mut K) -> Result<(), WriteFault>
     ensures { Puts result dots (K.told sink.old) (K.told sink.new) }
 {
     put_all(
@@ -36,7 +36,7 @@ fn put_start<K: Sink>(sink: &mut K, frame: Frame, cells: u32, column: u32) -> Re
 }
 
 /// Draws where eras must begin.
-fn put_starts<K: Sink>(
+pub fn put_starts<K: Sink>(
     sink: &mut K,
     frame: Frame,
     cells: u32,

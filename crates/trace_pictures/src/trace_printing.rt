@@ -13,7 +13,7 @@ use crate::traces::{Heard, Held, Note, Output, Register, Seen, Turn};
 use edge_io::{Piece, Sink, WriteFault, put_all, put_number, put_pieces};
 
 /// What stands behind the id of a faulty node.
-fn faulty_word(is_faulty: bool) -> &'static [u8]
+pub fn faulty_word(is_faulty: bool) -> &'static [u8]
     ensures { result.now ≡ faulty_word is_faulty }
 {
     match is_faulty {
@@ -119,7 +119,7 @@ fn put_output_word<K: Sink>(sink: &mut K, output: u64) -> Result<(), WriteFault>
 }
 
 /// Writes what a node shows.
-fn put_output<K: Sink>(sink: &mut K, shown: Output) -> Result<(), WriteFault>
+pub fn put_output<K: Sink>(sink: &mut K, shown: Output) -> Result<(), WriteFault>
     ensures { Puts result (output_words shown) (K.told sink.old) (K.told sink.new) }
 {
     written!(put_all(sink, b" number "));

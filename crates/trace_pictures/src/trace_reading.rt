@@ -7,7 +7,7 @@ use picture_parts::{ChartError, Frame, Wanted, digits_of};
 use std::alloc::Global;
 
 /// How many nodes a trace has at most.
-const MOST_NODES: usize = 256;
+pub const MOST_NODES: usize = 256;
 
 /// The highest number of a level, with the lowest level as 1.
 pub const MOST_LEVELS: u64 = 16;
@@ -25,7 +25,7 @@ struct Draft {
 }
 
 /// How many digits a number has.
-fn length_of(n: u64) -> u16 {
+pub fn length_of(n: u64) -> u16 {
     let mut digits: u16 = 1;
     let mut rest = n / 10;
     for _ in 0..20 {

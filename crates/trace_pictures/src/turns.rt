@@ -13,7 +13,7 @@ use edge_io::{Piece, Sink, WriteFault, put_pieces};
 use picture_parts::{Frame, Spot, configuration, left, middle, spot_top, width};
 
 /// How far a turn has come, as a part of its cell.
-fn share(spot: Spot, turn: Turn) -> u64
+pub fn share(spot: Spot, turn: Turn) -> u64
     ensures { result ≡ share (width spot) turn }
 {
     match turn {
@@ -24,7 +24,7 @@ fn share(spot: Spot, turn: Turn) -> u64
 }
 
 /// A frame, broken where not all hear a turn.
-fn edge(is_common: bool) -> &'static [u8]
+pub fn edge(is_common: bool) -> &'static [u8]
     ensures { result.now ≡ edge is_common }
 {
     match is_common {
@@ -34,7 +34,7 @@ fn edge(is_common: bool) -> &'static [u8]
 }
 
 /// Draws a part of a cell in gold, and a frame about the cell.
-fn put_gold_part<'a, K: Sink>(
+pub fn put_gold_part<'a, K: Sink>(
     sink: &mut K,
     spot: Spot,
     part: u64,
@@ -95,7 +95,7 @@ fn put_reign_hover<K: Sink>(sink: &mut K, spot: Spot, reign: Reign) -> Result<()
 }
 
 /// Writes the king, and ends a group.
-fn put_king<K: Sink>(sink: &mut K, spot: Spot, king: u64) -> Result<(), WriteFault>
+pub fn put_king<K: Sink>(sink: &mut K, spot: Spot, king: u64) -> Result<(), WriteFault>
     ensures { Puts result (king_text spot king) (K.told sink.old) (K.told sink.new) }
 {
     put_pieces(

@@ -23,7 +23,7 @@ pub fn columns_rise(notes: &[Note]) -> bool
 }
 
 /// Whether two turns have come to the same instruction.
-fn is_same_turn(turn: Turn, other: Turn) -> bool
+pub fn is_same_turn(turn: Turn, other: Turn) -> bool
     ensures { result ≡ is_same_turn turn other }
 {
     match (turn, other) {

@@ -1,0 +1,5 @@
+pub mod PulseTexts
+pub mod Members
+pub mod PulsePictures
+pub mod PulseSaid
+pub mod PulseLaid

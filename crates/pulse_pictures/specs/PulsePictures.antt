@@ -1,0 +1,92 @@
+-- The picture of a trace of a pulse plan, in SVG.
+use Rattle.std.specs.Prelude.{ℕ, ◌+◌, length, List, [], ◌∷◌, ◌++◌, codes, decimal}
+use Rattle.std.specs.List.{concat, flat_map}
+use Rattle.picture_parts.specs.declared.frames.Frame.{Frame}
+use Rattle.picture_parts.specs.Frames.{bottom}
+use Rattle.picture_parts.specs.Captions.{colour_legend, number_caption, span_caption}
+use Rattle.picture_parts.specs.Fronts.{picture_front, picture_ground, picture_width}
+use Rattle.trace_pictures.specs.TracePictures.{dots, start_mark}
+use Rattle.pulse_pictures.specs.declared.pulse_notes.PulseTrace.{PulseTrace}
+use Rattle.pulse_pictures.specs.Members.{heading_picture, pulse_note_picture, stand_picture}
+
+-- ---- below the bands
+
+-- what the registers and the kings' turns mean, from that height on
+abbrev pub register_legend : (y : ℕ) → List ℕ
+register_legend y = concat (
+    codes "<g text-anchor='start' transform='translate(4," ∷ decimal y
+    ∷ codes ")'>\n<rect width='18' height='18' fill='whitesmoke'/>"
+    ∷ codes "<path d='M6 6l6 6m0 -6l-6 6' stroke='dimgray'/><text x='24' y='13'>no value</text>\n"
+    ∷ codes "<rect x='110' width='18' height='18' fill='#fde9b0'/>"
+    ∷ codes "<text x='134' y='13'>unmarked</text>\n"
+    ∷ codes "<rect y='22' width='18' height='18' fill='#b5d3f2'/>"
+    ∷ codes "<rect y='22' width='18' height='18' fill='url(#marked)'/>"
+    ∷ codes "<text x='24' y='35'>marked</text>\n"
+    ∷ codes "<rect x='110' y='22' width='18' height='18' fill='#a6dba0'/>"
+    ∷ codes "<path d='M112 24h14v14H112z' fill='none' stroke='darkgreen' stroke-width='2'/>"
+    ∷ codes "<text x='134' y='35'>locked</text>\n"
+    ∷ codes "<rect y='44' width='18' height='18' fill='url(#faulty)'/>"
+    ∷ codes "<text x='24' y='57'>faulty</text>\n"
+    ∷ codes "<rect x='110' y='44' width='18' height='18' fill='silver'/>"
+    ∷ codes "<path d='M110 44h8l-8 8z'/>"
+    ∷ codes "<text x='134' y='57'>hit by an era's start</text>\n"
+    ∷ codes "<path d='M0 68h6v14H0zM18 68h12v14H18zM36 68h18v14H36z' fill='gold'/>"
+    ∷ codes "<path d='M0 68h18v14H0zM18 68h18v14H18zM36 68h18v14H36z'"
+    ∷ codes " fill='none' stroke='black'/>"
+    ∷ codes "<text x='60' y='79'>a king's turn: keep, mark, king</text>\n"
+    ∷ codes "<path d='M0 88h18v14H0z' fill='none' stroke='black' stroke-dasharray='2'/>"
+    ∷ codes "<text x='24' y='99'>a turn that not all have</text>\n</g>\n" ∷ [])
+
+-- what the bars of the pulses mean
+abbrev pub pulse_legend : (y : ℕ) → List ℕ
+pulse_legend y = concat (
+    codes "<g text-anchor='start' transform='translate(4," ∷ decimal y
+    ∷ codes ")'>\n<path d='M0 0h18v8H0z' fill='#c6dbef'/><path d='M18 0h18v8H18z' fill='#fdd0a2'/>"
+    ∷ codes "<text x='42' y='8'>echoed: of the left, of the right half</text>\n"
+    ∷ codes "<path d='M0 14h18v8H0z' fill='#4292c6'/><path d='M18 14h18v8H18z' fill='#f16913'/>"
+    ∷ codes "<text x='42' y='22'>backed: a pulse of these</text>\n"
+    ∷ codes "<path d='M0 28h18v8H0zM18 28h18v8H18z' fill='whitesmoke'/>"
+    ∷ codes "<circle cx='9' cy='32' r='2' stroke='white'/>"
+    ∷ codes "<circle cx='27' cy='32' r='2' stroke='white'/>"
+    ∷ codes "<text x='42' y='36'>seen by the node itself</text>\n"
+    ∷ codes "<path d='M0 42h18v8H0z' fill='#4292c6' stroke='black'/>"
+    ∷ codes "<path d='M18 42h18v8H18z' fill='#f16913' stroke='black'/>"
+    ∷ codes "<text x='42' y='50'>the node fires for this half</text>\n</g>\n" ∷ [])
+
+-- what the picture is of: configurations, nodes and groups
+abbrev pub pulse_facts_in : Frame → (nodes groups : ℕ) → List ℕ
+pulse_facts_in frame nodes groups =
+    span_caption frame
+    ++ (number_caption (bottom frame + 28) (codes "nodes") nodes
+    ++ number_caption (bottom frame + 44) (codes "groups") groups)
+
+abbrev pub pulse_facts : PulseTrace → List ℕ
+pulse_facts trace = pulse_facts_in trace.frame trace.nodes (length trace.strips.items)
+
+-- what the colours and the cells mean
+abbrev pub legends : Frame → List ℕ
+legends frame =
+    colour_legend (bottom frame + 56)
+    ++ (register_legend (bottom frame + 78) ++ pulse_legend (bottom frame + 190))
+
+-- ---- the picture
+
+abbrev pub pulse_picture_front : Frame → List ℕ
+pulse_picture_front frame = picture_front (picture_width frame) (bottom frame + 250)
+
+-- all that is within the bands
+abbrev pub pulse_bands : PulseTrace → List ℕ
+pulse_bands trace =
+    flat_map (pulse_note_picture trace.frame) trace.notes.items
+    ++ (flat_map (stand_picture trace.frame) trace.stands.items
+    ++ (flat_map (heading_picture trace.frame) trace.headings.items
+    ++ flat_map (start_mark trace.frame trace.cells) trace.eras.items))
+
+abbrev pub pulse_picture : PulseTrace → List ℕ
+pulse_picture trace =
+    pulse_picture_front trace.frame
+    ++ (picture_ground
+    ++ (dots
+    ++ (pulse_bands trace
+    ++ (pulse_facts trace
+    ++ (legends trace.frame ++ codes "</svg>\n")))))
