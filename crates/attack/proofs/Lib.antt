@@ -1,0 +1,3 @@
+pub mod PlanShapes
+pub mod WrittenTexts
+pub mod WrittenAttacks

@@ -1,0 +1,11 @@
+pub mod Asked
+pub mod Conduct
+pub mod Errors
+pub mod ErrorLines
+pub mod Found
+pub mod HelpText
+pub mod Notes
+pub mod PlanInputs
+pub mod PlanTexts
+pub mod ReadBack
+pub mod Requests

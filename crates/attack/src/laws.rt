@@ -1,0 +1,15 @@
+//! The law of what is written. The function does nothing: its clause is the law.
+
+ghost use Rattle.attack.specs.ReadBack.{WrittenIsRead};
+
+use plan_certificate::plan_texts_read_back;
+use pulse_texts::pulses_texts_read_back;
+
+/// The text of an accepted plan, with a text behind it that is read as a script for the plan's
+/// machine, is read as this plan and this script.
+pub fn written_is_read()
+    ensures { WrittenIsRead }
+{
+    plan_texts_read_back();
+    pulses_texts_read_back();
+}

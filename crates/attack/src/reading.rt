@@ -1,0 +1,57 @@
+//! Reads a plan of either construction.
+
+ghost use Rattle.std.specs.Prelude.{◌≡◌, IfOk};
+ghost use Rattle.attack.specs.PlanInputs.{is_first, boosting_answer, plan_answer};
+ghost use Rattle.attack.specs.Errors.{Answers};
+ghost use Rattle.attack.specs.PlanTexts.{IsAcceptedPlan};
+
+use crate::errors::AttackError;
+use crate::plans::AnyPlan;
+use plan_reader::{first_unskipped, read_whole_plan};
+use pulse_texts::{PulsesError, read_whole_pulses};
+use std::alloc::Global;
+
+/// Whether the line is the first one that counts, or no line does.
+fn is_first(first: Option<u64>, line: u64) -> bool
+    ensures { result ≡ is_first first line }
+{
+    match first {
+        Some(first) => first == line,
+        None => true,
+    }
+}
+
+/// The plan of levels over blocks that a text is.
+fn read_boosting(alloc: Global, text: &[u8]) -> Result<AnyPlan, AttackError>
+    ensures exact { Answers result (boosting_answer text.now) }
+    ensures accepted { IfOk result IsAcceptedPlan }
+{
+    let plan = read_whole_plan(alloc, text)?;
+    plan.tell();
+    Ok(AnyPlan::Boosting(plan))
+}
+
+/// The plan that a text is, after which only skipped lines stand: a pulse plan, or one of levels
+/// over blocks.
+///
+/// `PulsesRefused` is the first line that fails of a text whose first line that counts is that of a
+/// pulse plan, and `PlanRefused` that of any other text, each with its first premise.
+pub fn read_any_plan(alloc: Global, text: &[u8]) -> Result<AnyPlan, AttackError>
+    ensures exact { Answers result (plan_answer text.now) }
+    ensures accepted { IfOk result IsAcceptedPlan }
+{
+    match read_whole_pulses(text) {
+        Ok(plan) => {
+            plan.tell();
+            Ok(AnyPlan::Pulses(plan))
+        }
+        Err(PulsesError::NoMemory) => Err(AttackError::NoMemory),
+        Err(PulsesError::Refused(refusal)) => {
+            if is_first(first_unskipped(text, 1), refusal.line) {
+                read_boosting(alloc, text)
+            } else {
+                Err(AttackError::PulsesRefused(refusal))
+            }
+        }
+    }
+}

@@ -1,0 +1,33 @@
+//! The shapes of the states of plans.
+
+ghost use Rattle.std.specs.Prelude.{◌≡◌, IfOk};
+ghost use Rattle.state_codec.specs.Shapes as boosting;
+ghost use Rattle.plan_machine.specs.PlanMachines.{machine_of_plan};
+ghost use Rattle.pulse_nodes.specs.PulseShapes as pulses;
+ghost use Rattle.pulse_plan.specs.Laws.{machine_in};
+ghost use Rattle.machine_runner.specs.Laws.{IsShapeOf};
+
+use plan_numbers::Plan;
+use pulse_plan::PulsePlan;
+use state_codec::StateShape;
+use std::alloc::Global;
+use sync_types::NoMemory;
+
+/// The shape of the states of a plan of levels over blocks.
+pub fn boosting_shape(alloc: Global, plan: &Plan) -> Result<StateShape, NoMemory>
+    ensures value { IfOk result (λ shape. shape ≡ boosting.shape_of plan.now) }
+    ensures fits { IfOk result (λ shape. IsShapeOf (machine_of_plan plan.now) shape) }
+{
+    let shape = StateShape::of(alloc, plan)?;
+    shape.tell();
+    Ok(shape)
+}
+
+/// The shape of the states of a pulse plan.
+pub fn pulses_shape(alloc: Global, plan: &PulsePlan) -> Result<StateShape, NoMemory>
+    ensures value { IfOk result (λ shape. shape ≡ pulses.shape_of plan.now) }
+    ensures fits { IfOk result (λ shape. IsShapeOf (machine_in plan.now) shape) }
+{
+    plan.tell();
+    pulse_nodes::shape_of(alloc, plan)
+}
