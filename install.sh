@@ -25,7 +25,7 @@ build() { # a program, by its crate
     (cd "crates/$1" && rt run -- --version > /dev/null) || [ -x "crates/$1/out/$1" ]
 }
 
-for program in counterlab pulselab choose draw states sweep trace; do
+for program in counterlab pulselab attack choose draw states sweep trace; do
     [ -d "crates/$program" ] || continue
     build "$program"
     case $program in

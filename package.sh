@@ -69,8 +69,8 @@ enter() { # runs a program of the package in that root
 }
 
 if enter counterlab-choose --version > /dev/null 2>&1; then
-    for program in pulselab counterlab-choose counterlab-draw counterlab-states counterlab-sweep \
-        counterlab-trace; do
+    for program in pulselab counterlab-attack counterlab-choose counterlab-draw counterlab-states \
+        counterlab-sweep counterlab-trace; do
         [ "$(enter $program --version | cut -d ' ' -f 2)" = "$(cat VERSION)" ] ||
             { echo "$program says another version than VERSION" >&2; exit 1; }
     done

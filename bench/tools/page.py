@@ -47,6 +47,7 @@ def lines_of(rows):
                 said.setdefault((int(words[1]), node), []).append(word)
         if words[0] == "at":
             rest = " ".join(words[4:]).replace(" votes", "\n    hears votes", 1)
+            rest = rest.replace(" left said", "\n    hears left said", 1)
             said.setdefault((int(words[1]), int(words[3])), []).append(rest)
     return said
 

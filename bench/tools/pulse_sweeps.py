@@ -1,11 +1,11 @@
 #!/usr/bin/env python3
 """How late a pulse plan locks under noise: the starts are noise, and what the faulty nodes say.
 
-    gcc -O2 -o pulse_run bench/c/pulse_run.c
-    python3 bench/tools/pulse_sweeps.py ./pulse_run NODES FAULTS KEYS
+    python3 bench/tools/pulse_sweeps.py crates/sweep/out/sweep NODES FAULTS KEYS
 
-Each set of FAULTS nodes is faulty in turn, and each time the script is played up to T with the keys
-of the numbers 0 to KEYS - 1. Printed are how many runs that were, the latest first locked
+The program may also be that of bench/c/pulse_run.c, which is not proved, and writes the same. Each
+set of FAULTS nodes is faulty in turn, and each time the script is played up to T with the keys of
+the numbers 0 to KEYS - 1. Printed are how many runs that were, the latest first locked
 configuration of all, the least set that has it, and the least number of its keys.
 """
 

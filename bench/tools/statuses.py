@@ -3,9 +3,9 @@
 
     python3 bench/tools/statuses.py [PROGRAM ..]
 
-PROGRAM is the path of a built `counterlab`, `pulselab`, `choose`, `draw`, `states`, `sweep` or
-`trace`; if none is named these are crates/NAME/out/NAME, as `rt ci` and `rt run` leave them. One
-that is not there is told in a line, and not tried. It is what the contracts of these programs leave
+PROGRAM is the path of a built `counterlab`, `pulselab`, `attack`, `choose`, `draw`, `states`,
+`sweep` or `trace`; if none is named these are crates/NAME/out/NAME, as `rt ci` and `rt run` leave
+them. One that is not there is told in a line, and not tried. It is what the contracts of these programs leave
 to `main`: that all arguments are the words, that standard input, output and error are the source
 and the sinks, and that the status is the exit code. A case is an exit code, words, an input, the
 bytes that must come out, and how the line on standard error must begin, or that there is none. It
@@ -32,7 +32,13 @@ SAY_VERSION = {
     "bindings/rust/Cargo.toml": f'version = "{VERSION}.0"',
 }
 DRAWN = CRATES / "try_pictures" / "data" / "pictures"
-NAMES = ["counterlab", "pulselab", "choose", "draw", "states", "sweep", "trace"]
+# the kinds of `attack`, and for each word `run` a plan that it plays
+KINDS = ["noise", "frozen", "split", "king", "shadow", "half"]
+PLANS = {
+    "counterlab": b"plan 2\nbase 576\nlevel 3 1 10 spare 1\nend\n",
+    "pulselab": b"pulses 1\ngroup 7 2 10\nend\n",
+}
+NAMES = ["counterlab", "pulselab", "attack", "choose", "draw", "states", "sweep", "trace"]
 # How many bytes an input of `run` may have.
 LIMIT = 2**20
 TOO_LONG = b"#\n" * (LIMIT // 2) + b"#"
@@ -55,7 +61,8 @@ def own_run(name):
     """The case that lies beside a program's sources."""
     crate = CRATES / name
     words = (crate / "args").read_text().split() if (crate / "args").exists() else []
-    return 0, words, (crate / "stdin").read_bytes(), (crate / "stdout").read_bytes(), b""
+    text = (crate / "stdin").read_bytes() if (crate / "stdin").exists() else b""
+    return 0, words, text, (crate / "stdout").read_bytes(), b""
 
 
 def told(code, words, text, begin):
@@ -97,6 +104,12 @@ NODE_OF_FOUR = FOUR_PULSES + b"node 1\nid 1\nstate 000000\nend\n"
 ZERO_CELL, CELL_BEHIND_ZEROS = b"\x00\x03\x00\x00\x00", b"\x00\x03\x22\x20\xd0"
 
 
+SLOTS_OF_FOUR = FOUR_PULSES + b"slots 1\nslot 1 8 9\nend\n"
+HELD_BY_ONE = (
+    b"pulses 1\ngroup 1 0 3\nend\nslots 1\nslot 0 1 2\nend\n"
+    b"script 1\nfaulty\nstart zero\nrounds 4\nshow 1 4\nend\n"
+)
+HOLDS_OF_ONE = b"bound 0\nhold 1 1\nhold 2 1\nhold 3 .\nhold 4 1\nlocked 0\n"
 TABLE_OF_ONE = (
     b"table pulses 1\nplan nodes 1 faults 0 modulus 10\nbound 0 levels 0 bits 4 bytes 1\n"
     b"group 0 nodes 1 faults 0 modulus 10\nend\n"
@@ -107,7 +120,10 @@ def pulselab_cases():
     refused = b"refused pulses line 2 premise quorum\n"
     too_few = b"pulses 1\ngroup 3 1 10\nend\n"
     two_liars = b"refused script line 5 rule faults\n"
+    late_liars = b"refused script line 8 rule faults\n"
     no_such = FOUR_PULSES + b"node 1\nid 4\n"
+    beyond = FOUR_PULSES + b"slots 1\nslot 1 8 10\nend\n"
+    no_range = b"refused slots line 5 rule range\n"
     cut = b"the input ends in packet 0, in the cell of node 1"
     return [
         own_run("pulselab"),
@@ -118,9 +134,14 @@ def pulselab_cases():
         (1, ["node"], too_few, refused, b""),
         told(2, [], b"", b"usage: pulselab "),
         (3, ["run"], FOUR_PULSES + b"script 1\nfaulty 0 1\n", two_liars, b""),
+        (0, ["slots"], HELD_BY_ONE, HOLDS_OF_ONE, b""),
+        (1, ["slots"], too_few, refused, b""),
+        (3, ["slots"], beyond, no_range, b""),
+        (3, ["slots"], SLOTS_OF_FOUR + b"script 1\nfaulty 0 1\n", late_liars, b""),
         (3, ["node"], no_such, b"refused node line 5 rule node\n", b""),
         told(8, ["plan"], TOO_LONG, b"the input is too long"),
         told(8, ["run"], TOO_LONG, b"the input is too long"),
+        told(8, ["slots"], TOO_LONG, b"the input is too long"),
         told(8, ["node"], TOO_LONG, b"the input is too long"),
         (9, ["node"], NODE_OF_FOUR + ZERO_CELL, ZERO_CELL, cut),
     ]
@@ -174,7 +195,33 @@ def trace_cases():
 
 def sweep_cases():
     quiet = example("runs/two_faced_liar")
-    return [*script_cases("sweep", ["0", "3"]), told(3, ["0", "3"], quiet, b"refused script: ")]
+    data = CRATES / "sweep" / "data"
+    pulses = (data / "pulses.txt").read_bytes()
+    plan = b"pulses 1\ngroup 4 1 10\nend\n"
+    return [
+        *script_cases("sweep", ["0", "3"]),
+        told(3, ["0", "3"], quiet, b"refused script: "),
+        (0, ["0", "40"], pulses, (data / "pulses.out").read_bytes(), b""),
+        told(1, ["0", "3"], pulses.replace(b"group 4 1 10", b"group 3 1 10"),
+             b"refused pulses line 4 premise "),
+        told(3, ["0", "3"], pulses.replace(b"faulty 1\n", b"faulty 4\n"),
+             b"refused script line 7 rule "),
+        told(3, ["0", "3"], plan + b"script 1\nfaulty\nstart zero\nrounds 5\nshow 0 5\nend\n",
+             b"refused script: "),
+    ]
+
+
+def attack_cases():
+    search = ["1", "3"]
+    return [
+        (*own_run("attack")[:4], b"locked "),
+        told(1, search, example("refused_plans/blocks"), b"refused plan line "),
+        told(1, search, b"pulses 1\ngroup 3 1 10\nend\n", b"refused pulses line 2 premise quorum"),
+        told(2, [], b"", b"usage: attack "),
+        told(2, ["1", "0"], b"", b"usage: attack "),
+        told(2, ["1", "3", "nose"], b"", b"usage: attack "),
+        told(8, search, TOO_LONG, b"the input has more than "),
+    ]
 
 
 def draw_cases():
@@ -199,6 +246,7 @@ def states_cases():
 CASES = {
     "counterlab": counterlab_cases,
     "pulselab": pulselab_cases,
+    "attack": attack_cases,
     "choose": choose_cases,
     "draw": draw_cases,
     "states": states_cases,
@@ -276,6 +324,14 @@ class Looks:
         return found[:2] == wanted[:2] and begins
 
 
+def attack_played(program, kind, player):
+    """How a search of one attack of a kind ends, and 1 if `run` tells another lock of it."""
+    code, text, said = ended(program, ["1", "1", kind], input=PLANS[player])
+    _, rows, _ = ended(CRATES / player / "out" / player, ["run"], input=text)
+    same = said.split()[1:2] == rows.split()[-1:]
+    return (code if code or same else 1), text, said
+
+
 def look_at(name, program, looks):
     for code, words, text, answer, begin in CASES[name]():
         what = " ".join([name, *words])
@@ -293,6 +349,9 @@ def look_at(name, program, looks):
     looks.look(f"{name}, output that is full", full, full_written, program, words, text)
     if name == "choose":  # it reads nothing, and takes little memory
         return
+    for kind in KINDS if name == "attack" else []:
+        for player in PLANS:
+            looks.look(f"attack {kind}, {player} run", 0, attack_played, program, kind, player)
     looks.look(f"{name}, a folder as input", (6, b"", unread), folder_read, program, words)
     looks.look(f"{name}, no memory", (10, b"", b"out of memory"), memory_refused, program, words)
 

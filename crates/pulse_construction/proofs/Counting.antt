@@ -12,7 +12,8 @@ use Rattle.construction.specs.PhaseKing.{up}
 use Rattle.construction.specs.Steps.{state_of}
 use Rattle.phase_king.specs.Hearing.{AllLocked}
 use Rattle.pulse_construction.specs.Halves.{faults_of, instructions, left_period, right_period}
-use Rattle.pulse_construction.specs.Level.{faults_in, HalfCounts, StaysLocked, OneHalfIsSound, PulsesSettle}
+use Rattle.pulse_construction.specs.Level.{faults_in, HalfCounts, StaysLocked, OneHalfIsSound}
+use Rattle.pulse_construction.specs.Level.{PulsesSettle}
 use Rattle.pulse_construction.specs.Level.{LockedStaysLocked}
 use Rattle.pulse_construction.specs.Halvings.{Halving, One, Split, halving_nodes, halving_faults}
 use Rattle.pulse_construction.specs.Halvings.{halving_bound, halves_of, bound_over}

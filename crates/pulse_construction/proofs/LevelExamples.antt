@@ -5,7 +5,8 @@ use Rattle.sync_types.specs.declared.states.Reg.{Reg}
 use Rattle.construction.specs.PhaseKing.{up}
 use Rattle.pulse_construction.specs.Halves.{Halves, faults_of, quiet, instructions, left_period}
 use Rattle.pulse_construction.specs.Halves.{right_period}
-use Rattle.pulse_construction.specs.LevelStates.{LevelState, level_state_after, fires_left, fires_right}
+use Rattle.pulse_construction.specs.LevelStates.{LevelState, level_state_after, fires_left}
+use Rattle.pulse_construction.specs.LevelStates.{fires_right}
 
 abbrev four : Halves
 four = record { left_nodes = 1; left_faults = 0; right_nodes = 1; right_faults = 0; nodes = 4 }

@@ -12,8 +12,10 @@ use Rattle.sync_types.specs.declared.states.Reg.{Reg}
 use Rattle.sync_types.specs.States.{State, zero_state, zero_register, register_at}
 use Rattle.construction.specs.PhaseKing.{up}
 use Rattle.construction.specs.Steps.{state_of}
-use Rattle.pulse_construction.specs.Halves.{Halves, faults_of, instructions, left_period, right_period}
-use Rattle.pulse_construction.specs.LevelStates.{LevelState, next_instruction, older, level_state_after}
+use Rattle.pulse_construction.specs.Halves.{Halves, faults_of, instructions, left_period}
+use Rattle.pulse_construction.specs.Halves.{right_period}
+use Rattle.pulse_construction.specs.LevelStates.{LevelState, next_instruction, older}
+use Rattle.pulse_construction.specs.LevelStates.{level_state_after}
 use Rattle.pulse_construction.specs.Halvings.{Halving, One, Split, halving_nodes, halving_height}
 use Rattle.pulse_construction.specs.Halvings.{halves_of}
 use Rattle.pulse_construction.specs.Registers.{IsLevelState, inner, with_level_state}

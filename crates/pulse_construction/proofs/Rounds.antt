@@ -10,7 +10,8 @@ use Rattle.std.proofs.lemmas.List.{length-map, get_or-map}
 use Rattle.counting.specs.Places.{places}
 use Rattle.phase_king.specs.Hearing.{Obeys}
 use Rattle.pulse_construction.specs.Halves.{Halves, faults_of, left_period, right_period}
-use Rattle.pulse_construction.specs.LevelStates.{LevelState, zero_level_state, level_state_after, says_left}
+use Rattle.pulse_construction.specs.LevelStates.{LevelState, zero_level_state, level_state_after}
+use Rattle.pulse_construction.specs.LevelStates.{says_left}
 use Rattle.pulse_construction.specs.LevelStates.{says_right, echoed}
 use Rattle.pulse_construction.specs.LevelStates.{backed, fires_left, fires_right, busy, begun}
 use Rattle.pulse_construction.specs.LevelStates.{next_instruction, values_of}

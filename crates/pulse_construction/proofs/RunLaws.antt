@@ -18,7 +18,8 @@ use Rattle.pulse_construction.proofs.Numbers.{three_faults, faults_of_halving, n
 use Rattle.pulse_construction.proofs.Numbers.{bound_of_halving}
 use Rattle.pulse_construction.proofs.LevelStates.{level_state_back, state_back}
 use Rattle.pulse_construction.proofs.Ranges.{zero_is_state, step_is_state}
-use Rattle.pulse_construction.specs.Laws.{HasQuorum, AreFast, LevelStatesAreRegisters, ZeroIsInRange}
+use Rattle.pulse_construction.specs.Laws.{HasQuorum, AreFast, LevelStatesAreRegisters}
+use Rattle.pulse_construction.specs.Laws.{ZeroIsInRange}
 use Rattle.pulse_construction.specs.Laws.{NextIsInRange, EveryHalvingSettles}
 use Rattle.pulse_construction.specs.Laws.{LocksAtBound, StaysLockedFrom, LockedRunsCount}
 use Rattle.pulse_construction.proofs.Places.{CountsIn}

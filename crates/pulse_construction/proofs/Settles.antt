@@ -9,13 +9,16 @@ use Rattle.sync_types.specs.declared.states.Reg.{Reg}
 use Rattle.counting.specs.Places.{places}
 use Rattle.counting.proofs.Places.{stretches, shorter}
 use Rattle.phase_king.specs.Hearing.{AllLocked}
-use Rattle.pulse_construction.specs.Halves.{Halves, Halved, faults_of, quiet, instructions, left_period}
+use Rattle.pulse_construction.specs.Halves.{Halves, Halved, faults_of, quiet, instructions}
+use Rattle.pulse_construction.specs.Halves.{left_period}
 use Rattle.pulse_construction.specs.Halves.{right_period}
 use Rattle.pulse_construction.specs.LevelStates.{LevelState, busy, next_instruction, begun}
 use Rattle.pulse_construction.specs.Hearing.{LevelStatesStep}
-use Rattle.pulse_construction.specs.Level.{faults_in, LeftCounts, RightCounts, StaysLocked, PulsesSettle}
+use Rattle.pulse_construction.specs.Level.{faults_in, LeftCounts, RightCounts, StaysLocked}
+use Rattle.pulse_construction.specs.Level.{PulsesSettle}
 use Rattle.pulse_construction.specs.Level.{OneHalfIsSound, LockedStaysLocked}
-use Rattle.pulse_construction.proofs.Apart.{IsCorrect, Grades, Ages, apart, later_grades, later_ages}
+use Rattle.pulse_construction.proofs.Apart.{IsCorrect, Grades, Ages, apart, later_grades}
+use Rattle.pulse_construction.proofs.Apart.{later_ages}
 use Rattle.pulse_construction.proofs.Windows.{IsQuiet}
 use Rattle.pulse_construction.proofs.Origins.{idle, none_right}
 use Rattle.pulse_construction.proofs.Harms.{Calm, not_all, harmed_or_calm}

@@ -1,7 +1,8 @@
 -- A group halved again and again, and its numbers. There is no premise: each such tree is a
 -- counter.
 use Rattle.std.specs.Prelude.{ℕ, zero, suc, ◌+◌, ◌-◌, ◌*◌, ◌/◌, max}
-use Rattle.pulse_construction.specs.Halves.{Halves, faults_of, instructions, left_period, right_period}
+use Rattle.pulse_construction.specs.Halves.{Halves, faults_of, instructions, left_period}
+use Rattle.pulse_construction.specs.Halves.{right_period}
 
 -- One node, or a left and a right half and after them two spare nodes, and so many more.
 pub data Halving : Type 0 where

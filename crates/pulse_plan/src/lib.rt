@@ -1,6 +1,6 @@
-//! Plans of the pulse construction: which numbers are accepted, and what follows from them; and what
-//! the states of a plan's nodes take: bits and bytes of the node that has most, and how many levels
-//! the tree of halves has.
+//! Plans of the pulse construction: which numbers are accepted, and what follows from them; and
+//! what the states of a plan's nodes take: bits and bytes of the node that has most, and how many
+//! levels the tree of halves has.
 //!
 //! A [`PulsePlan`] is three numbers. They stand for a tree of halves, which is nowhere kept: a
 //! [`Group`] of it is made from the one above.

@@ -1,6 +1,6 @@
-//! Tries the calls of counters: of `counter_core` and `boost_step`, and of the counters of plans, in
-//! `group_votes` and `tower`. There is nothing here but tests, as in `try_states`, which tries how
-//! states are read and written.
+//! Tries the calls of counters: of `counter_core` and `boost_step`, and of the counters of plans,
+//! in `group_votes` and `tower`. There is nothing here but tests, as in `try_states`, which tries
+//! how states are read and written.
 #![tactic(auto)]
 
 #[cfg(test)]
