@@ -11,9 +11,9 @@ use Rattle.sync_types.specs.declared.answers.Part.TheVariants as part
 use Rattle.plan_reader.specs.declared.refusals.PlanError.{PlanError}
 use Rattle.plan_reader.specs.declared.refusals.PlanError.TheVariants as plan
 use Rattle.plan_reader.specs.PlanRefusals as plans
-use Rattle.plan_certificate.specs.declared.table_refusals.TableError.{TableError}
-use Rattle.plan_certificate.specs.declared.table_refusals.TableError.TheVariants as table
-use Rattle.plan_certificate.specs.TableRefusals as tables
+use Rattle.plan_reader.specs.declared.table_refusals.TableError.{TableError}
+use Rattle.plan_reader.specs.declared.table_refusals.TableError.TheVariants as table
+use Rattle.plan_reader.specs.TableRefusals as tables
 use Rattle.plan_finder.specs.declared.refusals.FindError.{FindError}
 use Rattle.plan_finder.specs.declared.refusals.FindError.TheVariants as find
 use Rattle.plan_finder.specs.FindRefusals as finds

@@ -5,8 +5,8 @@ use Rattle.sync_types.specs.declared.answers.Part.{Part}
 use Rattle.sync_types.specs.declared.answers.Part.TheVariants as part
 use Rattle.plan_reader.specs.declared.refusals.PlanError.{PlanError}
 use Rattle.plan_reader.specs.declared.refusals.PlanError.TheVariants as plan
-use Rattle.plan_certificate.specs.declared.table_refusals.TableError.{TableError}
-use Rattle.plan_certificate.specs.declared.table_refusals.TableError.TheVariants as table
+use Rattle.plan_reader.specs.declared.table_refusals.TableError.{TableError}
+use Rattle.plan_reader.specs.declared.table_refusals.TableError.TheVariants as table
 use Rattle.adversary_script.specs.declared.refusals.ScriptError.{ScriptError}
 use Rattle.adversary_script.specs.declared.refusals.ScriptError.TheVariants as script
 use Rattle.slot_table.specs.declared.refusals.SlotError.{SlotError}

@@ -6,12 +6,12 @@ use Rattle.construction.specs.Plans.{Plan, plan_nodes, plan_faults, plan_depth}
 use Rattle.state_codec.specs.Shapes as boosting
 use Rattle.state_codec.specs.Shapes.{shape_nodes}
 use Rattle.plan_numbers.specs.Premises.{IsAccepted}
-use Rattle.plan_certificate.specs.PlanTexts.{in_version, PlanTextIsRead}
+use Rattle.plan_reader.specs.PlanTexts.{in_version, PlanTextIsRead}
 use Rattle.plan_machine.specs.PlanMachines.{machine_of_plan}
 use Rattle.adversary_script.specs.Scripts.{Script}
 use Rattle.adversary_script.specs.ScriptPart.{script_for}
-use Rattle.pulse_construction.specs.Halvings.{halving_faults}
-use Rattle.pulse_construction.proofs.Numbers.{faults_of_halving}
+use Rattle.pulse_plan.specs.Halvings.{halving_faults}
+use Rattle.pulse_plan.proofs.Numbers.{faults_of_halving}
 use Rattle.pulse_plan.specs.Plans.{PulseNumbers, tree_of, IsAccepted as IsAcceptedPulses}
 use Rattle.pulse_plan.specs.Laws.{machine_in}
 use Rattle.pulse_nodes.specs.PulseShapes as pulses

@@ -4,14 +4,14 @@ use Rattle.construction.specs.Plans.{plan_depth}
 use Rattle.state_codec.specs.Shapes as boosting
 use Rattle.state_codec.specs.Shapes.{Shape}
 use Rattle.machines.specs.Machines.{Machine}
-use Rattle.plan_certificate.specs.PlanTexts.{plan_text}
+use Rattle.plan_reader.specs.PlanTexts.{plan_text}
 use Rattle.plan_numbers.specs.Premises as boosting_premises
 use Rattle.pulse_plan.specs.Plans as pulses_premises
 use Rattle.pulse_nodes.specs.PulseShapes as pulses
 use Rattle.pulse_texts.specs.PulsesTexts.{pulses_text}
-use Rattle.any_machine.specs.Machines.{machine_of}
-use Rattle.any_machine.specs.declared.any_machines.AnyMachine.{AnyMachine}
-use Rattle.any_machine.specs.declared.any_machines.AnyMachine.TheVariants as counter
+use Rattle.node_calls.specs.Machines.{machine_of}
+use Rattle.node_calls.specs.declared.any_machines.AnyMachine.{AnyMachine}
+use Rattle.node_calls.specs.declared.any_machines.AnyMachine.TheVariants as counter
 use Rattle.attack.specs.declared.plans.AnyPlan.{AnyPlan}
 use Rattle.attack.specs.declared.plans.AnyPlan.TheVariants as plan
 

@@ -2,7 +2,7 @@
 
 ghost use Rattle.attack.specs.ReadBack.{WrittenIsRead};
 
-use plan_certificate::plan_texts_read_back;
+use plan_reader::plan_texts_read_back;
 use pulse_texts::pulses_texts_read_back;
 
 /// The text of an accepted plan, with a text behind it that is read as a script for the plan's

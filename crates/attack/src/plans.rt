@@ -7,11 +7,11 @@ ghost use Rattle.attacks.specs.Targets.{IsFirstLine};
 ghost use Rattle.attack.specs.PlanTexts.{counter_of, machine_in, shape_in, text_of, first_line_of};
 
 use crate::shapes::{boosting_shape, pulses_shape};
-use any_machine::AnyMachine;
 use edge_io::{Sink, WriteFault};
-use plan_certificate::write_plan;
+use node_calls::AnyMachine;
 use plan_machine::PlanMachine;
 use plan_numbers::Plan;
+use plan_reader::write_plan;
 use pulse_machine::PulseMachine;
 use pulse_plan::PulsePlan;
 use pulse_texts::write_pulses;

@@ -4,12 +4,12 @@ ghost use Rattle.plan_numbers.specs.Numbers.{line, level_of};
 ghost use Rattle.plan_numbers.specs.Premises.{first_premise, unless};
 ghost use Rattle.counter_core.specs.Meanings.{written};
 ghost use Rattle.counter_core.specs.Working.{IsFor, IsAsRoomy};
-ghost use Rattle.level_laws.specs.Boosted.{inner_state, level_register, boosted, BoostedRange};
-ghost use Rattle.level_laws.specs.Boosted.{StandsOn};
-ghost use Rattle.level_laws.proofs.BoostLaws.{boosted_sizes, boosted_stays_in_range};
-ghost use Rattle.level_laws.proofs.BoostLaws.{boosted_zero_in_range};
-ghost use Rattle.level_laws.proofs.FurtherRegisters.{boosted_ignores_further};
-ghost use Rattle.level_laws.proofs.BoostSettles.{boosted_settles};
+ghost use Rattle.plan_laws.specs.Boosted.{inner_state, level_register, boosted, BoostedRange};
+ghost use Rattle.plan_laws.specs.Boosted.{StandsOn};
+ghost use Rattle.plan_laws.proofs.BoostLaws.{boosted_sizes, boosted_stays_in_range};
+ghost use Rattle.plan_laws.proofs.BoostLaws.{boosted_zero_in_range};
+ghost use Rattle.plan_laws.proofs.FurtherRegisters.{boosted_ignores_further};
+ghost use Rattle.plan_laws.proofs.BoostSettles.{boosted_settles};
 ghost use Rattle.boost_step.specs.Numbers.{AreNumbersOver};
 ghost use Rattle.boost_step.specs.Groups.{Group, counter_below, outputs_of};
 

@@ -8,13 +8,13 @@ ghost use Rattle.counter_core.specs.Working.{IsFor};
 ghost use Rattle.boost_step.specs.Numbers.{AreNumbers, block_nodes, in_blocks};
 ghost use Rattle.boost_step.specs.Kept.{KeepsOutputs};
 
+use crate::divisors::Divisor;
 use crate::most::most_below;
 use crate::obeying::obey;
 use crate::readings::Itself;
 use crate::votes::{block_beat, block_vote};
 use counter_core::{Heard, HeardRegister, Work};
 use plan_numbers::LevelNums;
-use quick_division::Divisor;
 use sync_types::Reg;
 
 /// The interval of the block behind one with this interval.

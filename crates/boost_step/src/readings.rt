@@ -1,6 +1,6 @@
 ghost use Rattle.std.specs.Prelude.{◌≡◌, ℕ};
 
-use quick_division::Divisor;
+use crate::divisors::Divisor;
 
 /// What is read of a number.
 pub(crate) trait Reading {

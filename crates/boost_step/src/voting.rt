@@ -5,10 +5,10 @@ ghost use Rattle.counter_core.specs.Working.{IsFor};
 ghost use Rattle.boost_step.specs.Numbers.{AreNumbers, block_nodes, in_blocks};
 ghost use Rattle.boost_step.specs.Kept.{KeepsOutputs};
 
+use crate::divisors::Divisor;
 use crate::votes::block_vote;
 use counter_core::Work;
 use plan_numbers::LevelNums;
-use quick_division::Divisor;
 
 /// The vote of block `i`: the leader to which most of its nodes point, by the inner outputs in
 /// `work`.

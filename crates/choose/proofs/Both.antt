@@ -9,8 +9,8 @@ use Rattle.construction.specs.Plans.{Level, Plan, bound_of}
 use Rattle.plan_numbers.specs.Numbers.{below_of}
 use Rattle.plan_numbers.proofs.Accepted.{meets, accepted_sized}
 use Rattle.plan_finder.specs.Steps.{cost_of}
-use Rattle.pulse_construction.specs.Halvings.{halving_bound}
-use Rattle.pulse_construction.proofs.Numbers.{bound_of_halving}
+use Rattle.pulse_plan.specs.Halvings.{halving_bound}
+use Rattle.pulse_plan.proofs.Numbers.{bound_of_halving}
 use Rattle.pulse_plan.specs.Plans.{PulseNumbers, tree_of}
 use Rattle.pulse_plan.specs.Plans as pulses
 use Rattle.pulse_plan.proofs.Trees.{bounds_rise}

@@ -1,7 +1,7 @@
 -- The pulse plan of fewest nodes with the most faults within the limits is a plan of most faults.
 use Rattle.std.proofs.Common.{◌≡◌, ℕ, zero, suc, ◌+◌, ◌-◌, ◌*◌, ◌<◌, ◌≤◌, ◌^◌, [], refl, arith}
 use Rattle.std.specs.Int.{div_ceil}
-use Rattle.pulse_construction.specs.Halvings.{halving_of, halving_bound}
+use Rattle.pulse_plan.specs.Halvings.{halving_of, halving_bound}
 use Rattle.pulse_plan.specs.Plans.{tree_of}
 use Rattle.pulse_plan.proofs.Trees.{bounds_rise}
 use Rattle.choose.specs.declared.any_plans.AnyPlan.{AnyPlan}

@@ -8,7 +8,7 @@ use Rattle.std.specs.List.{concat, flat_map, slice_get}
 use Rattle.construction.specs.Plans.{Level, Plan, plan_nodes, plan_bound, plan_bits, plan_depth}
 use Rattle.plan_numbers.specs.Premises.{IsAccepted}
 use Rattle.plan_reader.specs.PlanPart.{whole_plan_of}
-use Rattle.plan_certificate.specs.PlanTexts.{plan_text}
+use Rattle.plan_reader.specs.PlanTexts.{plan_text}
 
 -- the bytes are those that a state's bits fill, the last one perhaps in part
 abbrev pub numbers_part : Plan → List ℕ

@@ -3,7 +3,7 @@ use Rattle.std.specs.Prelude.{◌≡◌, ℕ, ◌<◌, ◌≤◌, List, [], ◌�
 use Rattle.std.specs.List.{All, Any, AllPairs}
 use Rattle.construction.specs.Plans.{plan_nodes, plan_faults, plan_modulus, plan_bound}
 use Rattle.plan_numbers.specs.Premises as boosting
-use Rattle.pulse_construction.specs.Halvings.{halving_bound}
+use Rattle.pulse_plan.specs.Halvings.{halving_bound}
 use Rattle.pulse_plan.specs.Plans as pulses
 use Rattle.choose.specs.declared.any_plans.AnyPlan.{AnyPlan}
 use Rattle.choose.specs.declared.any_plans.AnyPlan.TheVariants.{Boosting, Pulses}

@@ -2,12 +2,12 @@
 -- its text, or the text of that plan.
 use Rattle.std.specs.Prelude.{◌≡◌, ℕ, List, [], ◌∷◌, ◌++◌, Option, Some, None, Ok, codes, decimal}
 use Rattle.std.specs.List.{concat}
-use Rattle.pulse_construction.specs.Halvings.{halving_bound}
+use Rattle.pulse_plan.specs.Halvings.{halving_bound}
 use Rattle.pulse_plan.specs.Plans.{PulseNumbers, IsAccepted, tree_of}
 use Rattle.pulse_plan.specs.Sizes.{state_bytes, levels_of}
 use Rattle.pulse_texts.specs.PulsesPart.{whole_pulses_of}
 use Rattle.pulse_texts.specs.PulsesTexts.{pulses_text}
-use Rattle.plan_certificate.specs.PlanTexts.{plan_text}
+use Rattle.plan_reader.specs.PlanTexts.{plan_text}
 use Rattle.choose.specs.declared.any_plans.AnyPlan.{AnyPlan}
 use Rattle.choose.specs.declared.any_plans.AnyPlan.TheVariants.{Boosting, Pulses}
 use Rattle.choose.specs.FrontText.{front_line, none_line, in_lines}

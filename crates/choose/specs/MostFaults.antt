@@ -1,6 +1,6 @@
 -- The plan of most faults within so many nodes and rounds, of both constructions.
 use Rattle.std.specs.Prelude.{ℕ, ◌*◌, ◌<◌, ◌≤◌, Some}
-use Rattle.pulse_construction.specs.Halvings.{halving_of, halving_bound}
+use Rattle.pulse_plan.specs.Halvings.{halving_of, halving_bound}
 use Rattle.choose.specs.declared.any_plans.AnyPlan.{AnyPlan}
 use Rattle.choose.specs.FrontsOfBoth.{nodes_of, faults_of, bound_of, IsAccepted, IsFrontOfBoth}
 

@@ -9,8 +9,8 @@ ghost use Rattle.choose.specs.FrontText.{front_line, front_text, last_plan_text}
 ghost use Rattle.choose.specs.HelpText.{help_text, version_text};
 
 use edge_io::{Gathered, Piece, Sink, WriteFault, put_all, put_pieces};
-use plan_certificate::write_plan;
 use plan_numbers::{LevelNums, Plan};
+use plan_reader::write_plan;
 
 /// The numbers of a plan.
 fn put_numbers<K: Sink>(sink: &mut K, plan: &Plan) -> Result<(), WriteFault>

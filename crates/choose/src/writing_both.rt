@@ -8,7 +8,7 @@ ghost use Rattle.choose.specs.FrontsOfBothText.{both_front_text, both_plan_text}
 use crate::any_plans::AnyPlan;
 use crate::writing::put_line;
 use edge_io::{Gathered, Piece, Sink, WriteFault, put_all, put_pieces};
-use plan_certificate::write_plan;
+use plan_reader::write_plan;
 use pulse_plan::{PulsePlan, levels, state_bytes};
 use pulse_texts::write_pulses;
 

@@ -5,8 +5,8 @@ use Rattle.sync_types.specs.declared.answers.Premise.TheVariants as premise
 use Rattle.pulse_plan.specs.declared.premises.PulsePremise.TheVariants as pulse
 use Rattle.pulse_texts.specs.declared.premises.LinePremise.{LinePremise}
 use Rattle.pulse_texts.specs.declared.premises.LinePremise.TheVariants as line
-use Rattle.any_machine.specs.declared.any_machines.AnyMachine.{AnyMachine}
-use Rattle.any_machine.specs.Machines.{machine_of}
+use Rattle.node_calls.specs.declared.any_machines.AnyMachine.{AnyMachine}
+use Rattle.node_calls.specs.Machines.{machine_of}
 use Rattle.node_calls.specs.declared.errors.CallError.{CallError}
 use Rattle.node_calls.specs.declared.errors.CallError.TheVariants as error
 use Rattle.counterlab_c.specs.declared.answers.Answer.{Answer}

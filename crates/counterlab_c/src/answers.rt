@@ -2,9 +2,8 @@ ghost use Rattle.std.specs.Prelude.{◌≡◌};
 ghost use Rattle.counterlab_c.specs.Codes.{premise_number, pulses_premise_number, answer_of};
 ghost use Rattle.counterlab_c.specs.Codes.{numbers_of};
 
-use any_machine::AnyMachine;
 use machines::Machine;
-use node_calls::CallError;
+use node_calls::{AnyMachine, CallError};
 use pulse_plan::PulsePremise;
 use pulse_texts::LinePremise;
 use sync_types::Premise;

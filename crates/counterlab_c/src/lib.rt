@@ -12,7 +12,7 @@ ghost use Rattle.node_calls.specs.Counting.{NodesCount, LossyNodesCount};
 ghost use Rattle.node_calls.specs.Lossy.{AnyLossesAreTold};
 ghost use Rattle.node_calls.specs.Members.{AnyMembersConnect, AnyMembersAreHeard};
 ghost use Rattle.node_calls.specs.MixedNodes.{MixedNodesCount, MixedNodesStayLocked};
-ghost use Rattle.node_runs.specs.Missed.{OthersAreMissed};
+ghost use Rattle.node_stepper.specs.Missed.{OthersAreMissed};
 ghost use Rattle.counterlab_c.specs.Codes.{numbers_of};
 ghost use Rattle.counterlab_c.specs.Exports.{Gives, GivesNumber};
 
@@ -26,7 +26,7 @@ use node_calls::laws::{
     mixed_nodes_count, mixed_nodes_stay_locked, nodes_count, texts_have_counters,
 };
 use node_calls::{counter_in, output, state_bytes, step};
-use node_runs::laws::others_are_missed;
+use node_stepper::run_laws::others_are_missed;
 use std::alloc::Global;
 
 /// Reads a plan, and puts its numbers into `numbers`; the value is 0. An error leaves `numbers` as

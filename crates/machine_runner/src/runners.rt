@@ -62,7 +62,7 @@ impl<'a, M: Machine> Model for Runner<'a, M> {
 }
 
 /// What rounds need beside two configurations, whose states have that shape.
-fn room_for(alloc: Global, script: &Script, shape: &StateShape) -> Result<Room, NoMemory>
+pub fn room_for(alloc: Global, script: &Script, shape: &StateShape) -> Result<Room, NoMemory>
     requires { shape.now ≡ script.now.shape }
     ensures { IfOk result (IsReady script.now) }
 {
@@ -77,7 +77,7 @@ fn room_for(alloc: Global, script: &Script, shape: &StateShape) -> Result<Room, 
 }
 
 /// Of each era the first locked configuration so far, where configuration 0 is that one.
-fn first_locks<M: Machine>(
+pub fn first_locks<M: Machine>(
     alloc: Global,
     machine: &M,
     script: &Script,

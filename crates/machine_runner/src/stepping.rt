@@ -81,7 +81,7 @@ pub fn start_all(script: &Script, room: &mut Room, states: &mut Packed)
 
 impl Round<'_> {
     /// Puts node `v` into the state that it is put into where an era begins behind the round.
-    fn put_at(&self, v: u32, out: &mut NodeState)
+    pub fn put_at(&self, v: u32, out: &mut NodeState)
         requires { length out.old.registers ≡ self.now.script.now.shape.depth }
         ensures state { out.new
             ≡ unwrap_or (hit_at self.now.script.now (self.now.t + 1) v) out.old }

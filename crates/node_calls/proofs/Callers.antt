@@ -14,9 +14,9 @@ use Rattle.node_stepper.proofs.NodeTexts.{state_push}
 use Rattle.node_stepper.proofs.ReadBack.{packets_back}
 use Rattle.machines.specs.Machines.{Machine, IsState}
 use Rattle.machines.specs.Laws.{IsSound}
-use Rattle.any_machine.specs.declared.any_machines.AnyMachine.{AnyMachine}
-use Rattle.any_machine.specs.Machines.{machine_of}
-use Rattle.node_runs.proofs.States.{reads_back, behind_is_state}
+use Rattle.node_calls.specs.declared.any_machines.AnyMachine.{AnyMachine}
+use Rattle.node_calls.specs.Machines.{machine_of}
+use Rattle.node_stepper.proofs.States.{reads_back, behind_is_state}
 use Rattle.node_calls.specs.declared.errors.CallError.{CallError}
 use Rattle.node_calls.specs.Counters.{counter_answer}
 use Rattle.node_calls.specs.Answers.{packets_for, bytes_behind, steps_over, step_in}

@@ -22,9 +22,9 @@ use Rattle.pulse_machine.proofs.Bits.{few_bits as pulses_few_bits}
 use Rattle.pulse_texts.specs.declared.premises.LinePremise.{LinePremise}
 use Rattle.pulse_texts.proofs.Rewritten.{texts_are_rewritten}
 use Rattle.pulse_texts.specs.PulsesPart.{pulses_of, whole_pulses_of, alone, unless_followed}
-use Rattle.any_machine.specs.declared.any_machines.AnyMachine.{AnyMachine}
-use Rattle.any_machine.specs.declared.any_machines.AnyMachine.TheVariants.{Boosting, Pulses}
-use Rattle.any_machine.specs.Machines.{machine_of}
+use Rattle.node_calls.specs.declared.any_machines.AnyMachine.{AnyMachine}
+use Rattle.node_calls.specs.declared.any_machines.AnyMachine.TheVariants.{Boosting, Pulses}
+use Rattle.node_calls.specs.Machines.{machine_of}
 use Rattle.node_calls.specs.declared.errors.CallError.{CallError}
 use Rattle.node_calls.specs.Errors.{pulses_refused_at}
 use Rattle.node_calls.specs.Counters.{and_then, plan_or_refused, plan_answer, plan_counter}

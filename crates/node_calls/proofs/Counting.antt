@@ -11,16 +11,16 @@ use Rattle.state_codec.specs.Reading.{read}
 use Rattle.state_codec.specs.Writing.{written}
 use Rattle.node_stepper.specs.Packets.{Ending, whole, cut, beyond, Packets}
 use Rattle.machines.specs.Machines.{Machine, IsBorne}
-use Rattle.any_machine.specs.declared.any_machines.AnyMachine.{AnyMachine}
-use Rattle.any_machine.specs.Machines.{machine_of}
+use Rattle.node_calls.specs.declared.any_machines.AnyMachine.{AnyMachine}
+use Rattle.node_calls.specs.Machines.{machine_of}
 use Rattle.node_stepper.specs.Nodes.{state_after}
 use Rattle.node_stepper.proofs.CellByCell.{written_size}
-use Rattle.node_runs.specs.NodeRuns.{IsCorrect}
-use Rattle.node_runs.specs.Laws.{CountThrough, StayLockedThrough}
-use Rattle.node_runs.specs.Rounds.{packet_given, state_said, states_said, StepInRounds, SayRun}
-use Rattle.node_runs.proofs.Rounds.{given_same, nodes_in_rounds_run}
-use Rattle.node_runs.proofs.Rounds.{nodes_in_rounds_stay_locked}
-use Rattle.node_runs.proofs.States.{read_is_state, reads_back, behind_is_state}
+use Rattle.node_stepper.specs.NodeRuns.{IsCorrect}
+use Rattle.node_stepper.specs.RunLaws.{CountThrough, StayLockedThrough}
+use Rattle.node_stepper.specs.Rounds.{packet_given, state_said, states_said, StepInRounds, SayRun}
+use Rattle.node_stepper.proofs.Rounds.{given_same, nodes_in_rounds_run}
+use Rattle.node_stepper.proofs.Rounds.{nodes_in_rounds_stay_locked}
+use Rattle.node_stepper.proofs.States.{read_is_state, reads_back, behind_is_state}
 use Rattle.node_calls.specs.declared.errors.CallError.{CallError}
 use Rattle.node_calls.specs.declared.errors.CallError.TheVariants as error
 use Rattle.node_calls.specs.Counters.{counter_answer}

@@ -23,8 +23,8 @@ use Rattle.pulse_texts.specs.declared.premises.LinePremise.TheVariants as line_p
 use Rattle.pulse_texts.specs.declared.stages.PulsesStage.{PulsesStage}
 use Rattle.pulse_texts.specs.declared.stages.PulsesStage.TheVariants as pulses_stage
 use Rattle.pulse_texts.specs.PulsesPart.{pulses_step, pulses_of, alone}
-use Rattle.any_machine.specs.declared.any_machines.AnyMachine.{AnyMachine}
-use Rattle.any_machine.specs.declared.any_machines.AnyMachine.TheVariants.{Boosting}
+use Rattle.node_calls.specs.declared.any_machines.AnyMachine.{AnyMachine}
+use Rattle.node_calls.specs.declared.any_machines.AnyMachine.TheVariants.{Boosting}
 use Rattle.node_calls.specs.declared.errors.CallError.{CallError}
 use Rattle.node_calls.specs.Counters.{and_then, plan_or_refused, plan_counter, counter_by}
 use Rattle.node_calls.specs.Counters.{counter_answer, TextsHaveCounters}

@@ -9,14 +9,14 @@ use Rattle.node_stepper.specs.Laws.{packet_text}
 use Rattle.node_stepper.specs.Nodes.{state_behind}
 use Rattle.node_stepper.proofs.CellByCell.{written_size}
 use Rattle.machines.specs.Machines.{Machine, IsState}
-use Rattle.any_machine.specs.declared.any_machines.AnyMachine.{AnyMachine}
-use Rattle.any_machine.specs.Machines.{machine_of}
-use Rattle.node_runs.specs.Bytes.{AreBytes, FitsCell}
-use Rattle.node_runs.specs.NodeRuns.{cell_given, IsCorrect, state_at, state_in}
-use Rattle.node_runs.specs.Losses.{AreMissed}
-use Rattle.node_runs.specs.Lossy.{ConnectsMost}
-use Rattle.node_runs.proofs.Bytes.{packet_bytes, written_fits}
-use Rattle.node_runs.proofs.Connected.{any_losses_connect}
+use Rattle.node_calls.specs.declared.any_machines.AnyMachine.{AnyMachine}
+use Rattle.node_calls.specs.Machines.{machine_of}
+use Rattle.node_stepper.specs.Bytes.{AreBytes, FitsCell}
+use Rattle.node_stepper.specs.NodeRuns.{cell_given, IsCorrect, state_at, state_in}
+use Rattle.node_stepper.specs.Losses.{AreMissed}
+use Rattle.node_stepper.specs.Lossy.{ConnectsMost}
+use Rattle.node_stepper.proofs.Bytes.{packet_bytes, written_fits}
+use Rattle.node_stepper.proofs.Connected.{any_losses_connect}
 use Rattle.node_calls.specs.Counters.{counter_answer}
 use Rattle.node_calls.specs.Answers.{step_answer}
 use Rattle.node_calls.specs.Counting.{cell_in}

@@ -12,16 +12,16 @@ use Rattle.node_stepper.specs.Laws.{packet_text, AreFull}
 use Rattle.node_stepper.proofs.CellByCell.{written_size}
 use Rattle.machines.specs.Machines.{Machine, IsState}
 use Rattle.machines.specs.Laws.{IsSound}
-use Rattle.any_machine.specs.declared.any_machines.AnyMachine.{AnyMachine}
-use Rattle.any_machine.specs.Machines.{machine_of}
-use Rattle.node_runs.specs.Bytes.{FitsCell}
-use Rattle.node_runs.specs.Laws.{Connects}
-use Rattle.node_runs.specs.Lossy.{ConnectsMost}
-use Rattle.node_runs.specs.Losses.{AreMissed}
-use Rattle.node_runs.specs.NodeRuns.{Nodes, cell_given, IsCorrect, state_at, state_in}
-use Rattle.node_runs.proofs.Bytes.{packet_bytes, written_fits, none_fit}
-use Rattle.node_runs.proofs.Connected.{any_lies_connect, any_losses_connect}
-use Rattle.node_runs.proofs.Written.{node_writes_states}
+use Rattle.node_calls.specs.declared.any_machines.AnyMachine.{AnyMachine}
+use Rattle.node_calls.specs.Machines.{machine_of}
+use Rattle.node_stepper.specs.Bytes.{FitsCell}
+use Rattle.node_stepper.specs.RunLaws.{Connects}
+use Rattle.node_stepper.specs.Lossy.{ConnectsMost}
+use Rattle.node_stepper.specs.Losses.{AreMissed}
+use Rattle.node_stepper.specs.NodeRuns.{Nodes, cell_given, IsCorrect, state_at, state_in}
+use Rattle.node_stepper.proofs.Bytes.{packet_bytes, written_fits, none_fit}
+use Rattle.node_stepper.proofs.Connected.{any_lies_connect, any_losses_connect}
+use Rattle.node_stepper.proofs.Written.{node_writes_states}
 use Rattle.node_calls.specs.Counters.{counter_answer}
 use Rattle.node_calls.specs.MixedNodes.{Member, process, caller, says, hears, IsMember}
 use Rattle.node_calls.specs.Members.{Begins, IsGivenBytes, ConnectedMembers, HeardMembers}

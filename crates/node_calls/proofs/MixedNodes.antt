@@ -4,13 +4,13 @@ use Rattle.state_codec.specs.Shapes.{bytes_in}
 use Rattle.state_codec.specs.Reading.{read}
 use Rattle.machines.specs.Machines.{Machine}
 use Rattle.machines.specs.Laws.{IsSound}
-use Rattle.any_machine.specs.declared.any_machines.AnyMachine.{AnyMachine}
-use Rattle.any_machine.specs.Machines.{machine_of}
+use Rattle.node_calls.specs.declared.any_machines.AnyMachine.{AnyMachine}
+use Rattle.node_calls.specs.Machines.{machine_of}
 use Rattle.node_stepper.specs.Nodes.{state_after}
-use Rattle.node_runs.specs.NodeRuns.{IsCorrect}
-use Rattle.node_runs.specs.Rounds.{packet_given, StepInRounds}
-use Rattle.node_runs.proofs.Rounds.{process_steps, nodes_in_rounds_run}
-use Rattle.node_runs.proofs.Rounds.{nodes_in_rounds_stay_locked}
+use Rattle.node_stepper.specs.NodeRuns.{IsCorrect}
+use Rattle.node_stepper.specs.Rounds.{packet_given, StepInRounds}
+use Rattle.node_stepper.proofs.Rounds.{process_steps, nodes_in_rounds_run}
+use Rattle.node_stepper.proofs.Rounds.{nodes_in_rounds_stay_locked}
 use Rattle.node_calls.specs.Counters.{counter_answer}
 use Rattle.node_calls.specs.Answers.{output_answer, step_answer}
 use Rattle.node_calls.specs.Counting.{cell_in}

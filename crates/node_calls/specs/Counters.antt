@@ -11,9 +11,9 @@ use Rattle.pulse_plan.specs.Plans.{PulseNumbers}
 use Rattle.pulse_texts.specs.declared.premises.LinePremise.{LinePremise}
 use Rattle.pulse_texts.specs.PulsesPart.{whole_pulses_of}
 use Rattle.machines.specs.Laws.{IsSound}
-use Rattle.any_machine.specs.Machines.{machine_of}
-use Rattle.any_machine.specs.declared.any_machines.AnyMachine.{AnyMachine}
-use Rattle.any_machine.specs.declared.any_machines.AnyMachine.TheVariants.{Boosting, Pulses}
+use Rattle.node_calls.specs.Machines.{machine_of}
+use Rattle.node_calls.specs.declared.any_machines.AnyMachine.{AnyMachine}
+use Rattle.node_calls.specs.declared.any_machines.AnyMachine.TheVariants.{Boosting, Pulses}
 use Rattle.node_calls.specs.declared.errors.CallError.{CallError}
 use Rattle.node_calls.specs.Errors.{refused_at, pulses_refused_at}
 

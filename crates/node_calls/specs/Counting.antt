@@ -4,11 +4,11 @@ use Rattle.std.specs.Prelude.{false}
 use Rattle.construction.specs.Runs.{is_in}
 use Rattle.state_codec.specs.Shapes.{bytes_in}
 use Rattle.machines.specs.Machines.{Machine, IsBorne, IsLocked}
-use Rattle.any_machine.specs.declared.any_machines.AnyMachine.{AnyMachine}
-use Rattle.any_machine.specs.Machines.{machine_of}
-use Rattle.node_runs.specs.NodeRuns.{IsCorrect}
-use Rattle.node_runs.specs.Losses.{AreMissed}
-use Rattle.node_runs.specs.Rounds.{states_said}
+use Rattle.node_calls.specs.declared.any_machines.AnyMachine.{AnyMachine}
+use Rattle.node_calls.specs.Machines.{machine_of}
+use Rattle.node_stepper.specs.NodeRuns.{IsCorrect}
+use Rattle.node_stepper.specs.Losses.{AreMissed}
+use Rattle.node_stepper.specs.Rounds.{states_said}
 use Rattle.node_calls.specs.Counters.{counter_answer}
 use Rattle.node_calls.specs.Answers.{packets_for, output_answer, step_answer}
 

@@ -1,3 +1,4 @@
+pub mod Machines
 pub mod Errors
 pub mod Answers
 pub mod Hearing

@@ -4,11 +4,11 @@ use Rattle.sync_types.specs.States.{State}
 use Rattle.construction.specs.Runs.{is_in}
 use Rattle.state_codec.specs.Writing.{written}
 use Rattle.machines.specs.Machines.{Machine, IsState}
-use Rattle.any_machine.specs.declared.any_machines.AnyMachine.{AnyMachine}
-use Rattle.any_machine.specs.Machines.{machine_of}
-use Rattle.node_runs.specs.Bytes.{AreBytes, FitsCell}
-use Rattle.node_runs.specs.NodeRuns.{IsCorrect}
-use Rattle.node_runs.specs.Losses.{AreMissed}
+use Rattle.node_calls.specs.declared.any_machines.AnyMachine.{AnyMachine}
+use Rattle.node_calls.specs.Machines.{machine_of}
+use Rattle.node_stepper.specs.Bytes.{AreBytes, FitsCell}
+use Rattle.node_stepper.specs.NodeRuns.{IsCorrect}
+use Rattle.node_stepper.specs.Losses.{AreMissed}
 use Rattle.node_calls.specs.Counters.{counter_answer}
 use Rattle.node_calls.specs.Counting.{cell_in, InLossyRounds}
 

@@ -7,13 +7,13 @@ use Rattle.state_codec.specs.Shapes.{bytes_in}
 use Rattle.machines.specs.Machines.{Machine, IsState, IsBorne, IsLocked}
 use Rattle.machines.specs.Laws.{IsSound}
 use Rattle.node_stepper.specs.Nodes.{node_text}
-use Rattle.any_machine.specs.declared.any_machines.AnyMachine.{AnyMachine}
-use Rattle.any_machine.specs.Machines.{machine_of}
-use Rattle.node_runs.specs.Cells.{cell_number}
-use Rattle.node_runs.specs.NodeRuns.{IsCorrect}
-use Rattle.node_runs.specs.Losses.{AreMissed}
-use Rattle.node_runs.specs.Laws.{StayLockedThrough}
-use Rattle.node_runs.specs.Rounds.{state_said, states_said, SayRun}
+use Rattle.node_calls.specs.declared.any_machines.AnyMachine.{AnyMachine}
+use Rattle.node_calls.specs.Machines.{machine_of}
+use Rattle.node_stepper.specs.Cells.{cell_number}
+use Rattle.node_stepper.specs.NodeRuns.{IsCorrect}
+use Rattle.node_stepper.specs.Losses.{AreMissed}
+use Rattle.node_stepper.specs.RunLaws.{StayLockedThrough}
+use Rattle.node_stepper.specs.Rounds.{state_said, states_said, SayRun}
 use Rattle.node_calls.specs.Counters.{counter_answer}
 use Rattle.node_calls.specs.Answers.{output_answer, step_answer}
 use Rattle.node_calls.specs.Counting.{cell_in}

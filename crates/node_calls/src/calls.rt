@@ -1,12 +1,11 @@
 ghost use Rattle.std.specs.Prelude.{◌≡◌, ◌<◌, ◌≤◌, IfOk};
 ghost use Rattle.state_codec.specs.Reading.{read};
-ghost use Rattle.any_machine.specs.Machines.{machine_of};
+ghost use Rattle.node_calls.specs.Machines.{machine_of};
 ghost use Rattle.node_calls.specs.Errors.{Answers};
 ghost use Rattle.node_calls.specs.Counters.{plan_answer, plan_counter, is_first, counter_answer};
 ghost use Rattle.node_calls.specs.Answers.{node_answer, bytes_answer, output_answer};
 
-use crate::CallError;
-use any_machine::AnyMachine;
+use crate::{AnyMachine, CallError};
 use machines::Machine;
 use plan_machine::PlanMachine;
 use plan_numbers::Plan;

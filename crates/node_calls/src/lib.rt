@@ -6,12 +6,14 @@
 //! wrong is answered by a [`CallError`].
 #![tactic(auto)]
 
+mod any_machines;
 mod calls;
 mod errors;
 mod hearing;
 pub mod laws;
 mod steps;
 
+pub use any_machines::AnyMachine;
 pub use calls::{counter_in, output, state_bytes};
 pub use errors::CallError;
 pub use steps::step;

@@ -1,3 +1,12 @@
+pub mod NodeRuns
+pub mod Cells
+pub mod Losses
+pub mod RunLaws
+pub mod Rounds
+pub mod Lossy
+pub mod Restarts
+pub mod Missed
+pub mod Bytes
 pub mod Laws
 pub mod Packets
 pub mod Nodes

@@ -9,6 +9,7 @@ mod engine;
 mod faults;
 mod hearing;
 pub mod laws;
+pub mod run_laws;
 mod serving;
 
 pub use engine::NodeEngine;

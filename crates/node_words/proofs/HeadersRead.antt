@@ -4,9 +4,9 @@ use Rattle.std.specs.Prelude.{codes}
 use Rattle.construction.specs.Plans.{Plan, plan_nodes, plan_depth}
 use Rattle.plan_numbers.specs.Premises.{IsAccepted}
 use Rattle.plan_numbers.proofs.Accepted.{accepted_depth, accepted_sized}
-use Rattle.plan_certificate.specs.Tables.{version_line, base_line}
-use Rattle.plan_certificate.specs.PlanTexts.{level_texts}
-use Rattle.plan_certificate.proofs.ReadBack.{text_is_read}
+use Rattle.plan_reader.specs.Tables.{version_line, base_line}
+use Rattle.plan_reader.specs.PlanTexts.{level_texts}
+use Rattle.plan_reader.proofs.ReadBack.{text_is_read}
 use Rattle.state_codec.specs.Shapes.{moduli_of}
 use Rattle.state_codec.proofs.Plans.{shape_of_accepted, nodes_of_shape, depth_of_shape}
 use Rattle.state_codec.proofs.PlanStates.{in_range_of_node}

@@ -6,7 +6,7 @@ use Rattle.sync_types.specs.States.{State}
 use Rattle.construction.specs.Plans.{Plan, plan_nodes, plan_depth}
 use Rattle.construction.specs.Runs.{IsState}
 use Rattle.plan_numbers.specs.Premises.{IsAccepted}
-use Rattle.plan_certificate.specs.PlanTexts.{plan_text}
+use Rattle.plan_reader.specs.PlanTexts.{plan_text}
 use Rattle.node_words.specs.Headers.{Header, header_in, plan_part}
 use Rattle.node_words.specs.WrittenHeaders.{PlanText, text_of_header, stated_header}
 

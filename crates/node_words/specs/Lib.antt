@@ -1,3 +1,13 @@
+pub mod Calls
+pub mod Processes
+pub mod HeaderPromises
+pub mod CallWindows
+pub mod Restarts
+pub mod Inputs
+pub mod RestartInputs
+pub mod ResumedInputs
+pub mod LossyInputs
+pub mod Skips
 pub mod Constructions
 pub mod Rules
 pub mod NodeAnswers

@@ -11,7 +11,7 @@ use Rattle.texts.proofs.Printed.{joined, IsPlain, ArePlain, spaced_length, count
 use Rattle.texts.proofs.Printed.{goes_behind, ends_there}
 use Rattle.sync_types.specs.declared.answers.Rule.{Rule}
 use Rattle.sync_types.specs.declared.answers.Rule.TheVariants.{Form}
-use Rattle.plan_certificate.proofs.StatedLines.{small_plain, small_short, small_read}
+use Rattle.plan_reader.proofs.StatedLines.{small_plain, small_short, small_read}
 use Rattle.plan_finder.specs.declared.wants.Want.{Want}
 use Rattle.plan_finder.specs.declared.want_lines.FindStage.{FindStage}
 use Rattle.plan_finder.specs.declared.want_lines.FindStage.TheVariants.{Unread, Begun, Wanted}

@@ -2,7 +2,7 @@
 use Rattle.std.specs.Prelude.{ℕ, List, [], ◌∷◌, ◌++◌, Option, Some, None, codes, decimal}
 use Rattle.std.specs.List.{concat, flat_map}
 use Rattle.construction.specs.Plans.{Plan}
-use Rattle.plan_certificate.specs.PlanTexts.{plan_text}
+use Rattle.plan_reader.specs.PlanTexts.{plan_text}
 use Rattle.plan_finder.specs.declared.pots.Pot.{Pot}
 
 abbrev pub plan_or_none : Option Plan → List ℕ

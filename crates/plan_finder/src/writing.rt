@@ -5,8 +5,8 @@ ghost use Rattle.plan_finder.specs.FindText.{plan_or_none, pot_line, find_text};
 use crate::finding::Found;
 use crate::pots::Pot;
 use edge_io::{Gathered, Piece, Sink, WriteFault, put_all, put_pieces};
-use plan_certificate::write_plan;
 use plan_numbers::Plan;
+use plan_reader::write_plan;
 
 fn put_plan<K: Sink>(sink: &mut K, plan: &Option<Plan>) -> Result<(), WriteFault>
     ensures { Puts result (plan_or_none plan.now) (K.told sink.old) (K.told sink.new) }

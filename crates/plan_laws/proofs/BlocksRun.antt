@@ -24,7 +24,7 @@ use Rattle.construction.proofs.Ranges.{length-step_in}
 use Rattle.construction.proofs.Blocks.{block_room, length-block, get_or-block, All-block}
 use Rattle.plan_numbers.specs.Numbers.{with_level}
 use Rattle.counter_core.specs.Meanings.{cut}
-use Rattle.level_laws.proofs.BoostLaws.{cut_with}
+use Rattle.plan_laws.proofs.BoostLaws.{cut_with}
 use Rattle.plan_laws.specs.BlocksOfRuns.{ids_in_block, block_of_configuration, block_of_run}
 use Rattle.plan_laws.specs.Laws.{BlocksRun}
 use Rattle.plan_laws.proofs.Ranges.{registers_of_cut, step_of-cut}

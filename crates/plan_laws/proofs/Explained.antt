@@ -16,7 +16,7 @@ use Rattle.construction.specs.Votes.{block}
 use Rattle.construction.specs.Steps.{state_of, register_after, new_register, with_register, step_in}
 use Rattle.construction.proofs.Blocks.{length-block, block_some}
 use Rattle.counter_core.specs.Meanings.{Meaning}
-use Rattle.level_laws.specs.Boosted.{outputs_heard, level_register, inner_state, boosted}
+use Rattle.plan_laws.specs.Boosted.{outputs_heard, level_register, inner_state, boosted}
 use Rattle.construction.proofs.Choices.{same_choice}
 use Rattle.plan_laws.specs.Nested.{meaning_of}
 

@@ -8,8 +8,8 @@ use Rattle.construction.specs.Steps.{state_of}
 use Rattle.construction.specs.Runs.{is_in, configuration}
 use Rattle.phase_king.specs.Hearing.{AllLocked}
 use Rattle.plan_numbers.specs.Numbers.{with_level}
-use Rattle.level_laws.specs.Explained.{Explains, IsExplained}
-use Rattle.level_laws.proofs.BoostSettles.{top_explained_locks, top_is_explained}
+use Rattle.plan_laws.specs.Explained.{Explains, IsExplained}
+use Rattle.plan_laws.proofs.BoostSettles.{top_explained_locks, top_is_explained}
 use Rattle.plan_laws.specs.Nested.{meaning_of, NestedRange}
 use Rattle.plan_laws.specs.ExplainedRuns.{inner_in, ExplainedRunsLock, BoundIsExplained}
 use Rattle.plan_laws.proofs.Explained.{explains}

@@ -11,10 +11,10 @@ use Rattle.counter_core.specs.Laws.{Sizes}
 use Rattle.counter_core.specs.Trivial.{one_node, IsBelow}
 use Rattle.counter_core.specs.TrivialLaws.{one_node_sizes, one_node_settles}
 use Rattle.counter_core.proofs.ListsAndPlaces.{settles_by_place}
-use Rattle.level_laws.specs.Level.{StandsOver}
-use Rattle.level_laws.specs.Boosted.{StandsOn}
-use Rattle.level_laws.proofs.BoostLaws.{boosted_sizes}
-use Rattle.level_laws.proofs.BoostSettles.{boosted_settles_by_place}
+use Rattle.plan_laws.specs.Level.{StandsOver}
+use Rattle.plan_laws.specs.Boosted.{StandsOn}
+use Rattle.plan_laws.proofs.BoostLaws.{boosted_sizes}
+use Rattle.plan_laws.proofs.BoostSettles.{boosted_settles_by_place}
 use Rattle.plan_laws.specs.PlanMeaning.{InRange}
 use Rattle.plan_laws.specs.Nested.{meaning_of, NestedRange}
 use Rattle.plan_laws.proofs.Explained.{Explains, explains}

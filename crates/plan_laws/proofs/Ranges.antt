@@ -17,7 +17,7 @@ use Rattle.construction.specs.Runs.{IsNumber, IsRegister, HasRegisters, IsState}
 use Rattle.construction.proofs.Ranges.{ArePositive}
 use Rattle.construction.proofs.Blocks.{block-map}
 use Rattle.counter_core.specs.Meanings.{cut}
-use Rattle.level_laws.proofs.BoostLaws.{register_cut, map_over}
+use Rattle.plan_laws.proofs.BoostLaws.{register_cut, map_over}
 use Rattle.plan_laws.specs.PlanMeaning.{InRange, IsInRange}
 
 -- what is shown below the cut

@@ -15,8 +15,8 @@ use Rattle.counter_core.specs.Meanings.{Meaning}
 use Rattle.counter_core.specs.Runs.{Settles}
 use Rattle.counter_core.specs.RunsByPlace.{CountsByPlace}
 use Rattle.counter_core.proofs.ListsAndPlaces.{places_of_ids}
-use Rattle.level_laws.specs.Level.{StaysLocked}
-use Rattle.level_laws.proofs.BoostSettles.{top_settles, top_stays_locked}
+use Rattle.plan_laws.specs.Level.{StaysLocked}
+use Rattle.plan_laws.proofs.BoostSettles.{top_settles, top_stays_locked}
 use Rattle.plan_laws.specs.PlanMeaning.{plan_meaning, IsInRange}
 use Rattle.plan_laws.specs.Nested.{meaning_of, NestedRange}
 use Rattle.plan_laws.specs.Laws.{EveryPlanSettles, LocksAtBound, StaysLockedFrom, LockedRunsCount}

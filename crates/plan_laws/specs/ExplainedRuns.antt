@@ -8,7 +8,7 @@ use Rattle.construction.specs.Steps.{state_of}
 use Rattle.construction.specs.Runs.{is_in, configuration, Run, IsBorne, IsLocked}
 use Rattle.plan_numbers.specs.Numbers.{with_level}
 use Rattle.plan_numbers.specs.Premises.{IsAccepted}
-use Rattle.level_laws.specs.Explained.{Explains, IsExplained}
+use Rattle.plan_laws.specs.Explained.{Explains, IsExplained}
 
 -- the inner output of node v in configuration r: what it shows to the level on top
 abbrev pub inner_in : (below : Plan) (run : List (List State)) (r v : ℕ) → ℕ

@@ -1,3 +1,8 @@
+pub mod Hearing
+pub mod Level
+pub mod Boosted
+pub mod BlockLaw
+pub mod Explained
 pub mod PlanMeaning
 pub mod Nested
 pub mod BlocksOfRuns

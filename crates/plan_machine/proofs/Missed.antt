@@ -1,6 +1,6 @@
 -- A node of a plan that hears N - F correct nodes, itself among them, may miss all others.
 use Rattle.plan_machine.specs.PlanMachines.{machine_of_plan}
-use Rattle.node_runs.proofs.Missed as any
+use Rattle.node_stepper.proofs.Missed as any
 use Rattle.plan_machine.specs.Missed.{OthersAreMissed}
 
 pub others_are_missed : OthersAreMissed

@@ -13,14 +13,14 @@ use Rattle.machines.specs.Machines as machines
 use Rattle.plan_machine.specs.PlanMachines.{machine_of_plan}
 use Rattle.plan_machine.proofs.PlanMachines.{are_alike}
 use Rattle.plan_machine.proofs.Sound.{accepted_are_sound}
-use Rattle.node_runs.specs.Laws as any
-use Rattle.node_runs.proofs.Connected as connected
-use Rattle.node_runs.proofs.Correct as correct
-use Rattle.node_runs.proofs.Follows as follows
-use Rattle.node_runs.proofs.Heard as heard
-use Rattle.node_runs.proofs.Runs as runs
-use Rattle.node_runs.proofs.Settled as settled
-use Rattle.node_runs.proofs.States as states
+use Rattle.node_stepper.specs.RunLaws as any
+use Rattle.node_stepper.proofs.Connected as connected
+use Rattle.node_stepper.proofs.Correct as correct
+use Rattle.node_stepper.proofs.Follows as follows
+use Rattle.node_stepper.proofs.Heard as heard
+use Rattle.node_stepper.proofs.Runs as runs
+use Rattle.node_stepper.proofs.Settled as settled
+use Rattle.node_stepper.proofs.States as states
 use Rattle.plan_machine.specs.PlanNodes.{fields_of, state_behind}
 use Rattle.plan_machine.specs.NodeRuns.{IsCorrect, states_in}
 use Rattle.plan_machine.specs.Laws.{AnyLiesConnect, BorneLeavesSome, NodesRun, NodesSettle}

@@ -11,7 +11,7 @@ use Rattle.state_codec.specs.Writing.{bits_of_registers}
 use Rattle.plan_machine.specs.PlanMachines.{machine_of_plan}
 use Rattle.node_stepper.specs.Nodes.{node_text}
 use Rattle.plan_machine.specs.NodeRuns.{Nodes, cell_given, fields_of, state_at}
-use Rattle.node_runs.specs.Cells.{cell_number}
+use Rattle.node_stepper.specs.Cells.{cell_number}
 
 abbrev four : Plan
 four = record { version = 1; base = 2304; levels = line 4 1 10 0 ∷ [] }

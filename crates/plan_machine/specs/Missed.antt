@@ -4,7 +4,7 @@ use Rattle.std.specs.Prelude.{ℕ, List}
 use Rattle.construction.specs.Plans.{Plan}
 use Rattle.construction.specs.Runs.{IsBorne}
 use Rattle.plan_machine.specs.PlanMachines.{machine_of_plan}
-use Rattle.node_runs.specs.Missed as any
+use Rattle.node_stepper.specs.Missed as any
 use Rattle.plan_machine.specs.NodeRuns.{AreMissed}
 
 -- these are correct nodes that node v hears, N - F of them at least, itself among them

@@ -3,9 +3,9 @@ use Rattle.std.specs.Prelude.{ℕ, List}
 use Rattle.sync_types.specs.States.{State}
 use Rattle.construction.specs.Plans.{Plan}
 use Rattle.plan_machine.specs.PlanMachines.{machine_of_plan}
-use Rattle.node_runs.specs.NodeRuns as any
-use Rattle.node_runs.specs.Losses as losses
-pub use Rattle.node_runs.specs.NodeRuns.{Nodes, cell_given}
+use Rattle.node_stepper.specs.NodeRuns as any
+use Rattle.node_stepper.specs.Losses as losses
+pub use Rattle.node_stepper.specs.NodeRuns.{Nodes, cell_given}
 pub use Rattle.plan_machine.specs.PlanNodes.{fields_of}
 
 -- a node of the plan that is not faulty

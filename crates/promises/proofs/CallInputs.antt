@@ -11,8 +11,8 @@ use Rattle.construction.specs.Runs.{IsState}
 use Rattle.machines.specs.Machines as machines
 use Rattle.plan_numbers.specs.Premises.{IsAccepted}
 use Rattle.plan_numbers.proofs.Accepted.{accepted_depth}
-use Rattle.plan_certificate.specs.Tables.{version_line, base_line, spares_end}
-use Rattle.plan_certificate.specs.PlanTexts.{level_words, level_text, level_texts, plan_text}
+use Rattle.plan_reader.specs.Tables.{version_line, base_line, spares_end}
+use Rattle.plan_reader.specs.PlanTexts.{level_words, level_text, level_texts, plan_text}
 use Rattle.plan_laws.specs.VersionLaws.{in_version}
 use Rattle.state_codec.specs.Shapes.{shape_of}
 use Rattle.state_codec.proofs.FullNumbers.{fields_short}
@@ -22,18 +22,18 @@ use Rattle.plan_machine.proofs.Sound.{accepted_are_sound}
 use Rattle.node_words.specs.HeaderTexts.{header_text}
 use Rattle.node_words.specs.WrittenHeaders.{node_part_in}
 use Rattle.node_words.proofs.HeadersRead.{text_is_read_back}
-use Rattle.node_runs.specs.Bytes.{AreBytes, StatesFit}
-use Rattle.node_runs.proofs.Restarts.{correct_too}
+use Rattle.node_stepper.specs.Bytes.{AreBytes, StatesFit}
+use Rattle.node_stepper.proofs.Restarts.{correct_too}
 use Rattle.plan_machine.specs.NodeRuns.{IsCorrect}
-use Rattle.node_promises.specs.Inputs.{header_stated, AreOneMachine}
-use Rattle.node_promises.specs.RestartInputs.{calls_of, restart_of, restart_with}
-use Rattle.node_promises.proofs.TextBytes.{word, count, bytes, pieces_bytes, one_each, either}
-use Rattle.node_promises.proofs.TextBytes.{node_part}
-use Rattle.node_promises.proofs.InputTexts.{AreWritten}
-use Rattle.node_promises.proofs.Inputs as joined
-use Rattle.node_promises.proofs.LossyInputs as lossy
-use Rattle.node_promises.proofs.RestartInputs as restarted
-use Rattle.node_promises.proofs.ResumedInputs as resumed
+use Rattle.node_words.specs.Inputs.{header_stated, AreOneMachine}
+use Rattle.node_words.specs.RestartInputs.{calls_of, restart_of, restart_with}
+use Rattle.node_words.proofs.TextBytes.{word, count, bytes, pieces_bytes, one_each, either}
+use Rattle.node_words.proofs.TextBytes.{node_part}
+use Rattle.node_words.proofs.InputTexts.{AreWritten}
+use Rattle.node_words.proofs.Inputs as joined
+use Rattle.node_words.proofs.LossyInputs as lossy
+use Rattle.node_words.proofs.RestartInputs as restarted
+use Rattle.node_words.proofs.ResumedInputs as resumed
 use Rattle.outcomes.specs.NodeAnswers.{node_status}
 use Rattle.outcomes.specs.PlanWords.{plan_words}
 use Rattle.promises.specs.NodeCalls.{whole, header_of, IsOfNode}

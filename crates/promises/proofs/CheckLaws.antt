@@ -1,10 +1,10 @@
 -- The answers of the word `check` are exact.
 use Rattle.std.proofs.Common.{ℕ, ◌^◌, List, Result, Ok, Err, sym, ap}
-use Rattle.run_certificates.specs.declared.Verdict.{Verdict}
-use Rattle.run_certificates.specs.declared.Verdict.TheVariants as verdict
-use Rattle.run_certificates.specs.Checking.{checked}
-use Rattle.run_certificates.specs.Laws.{IsAnswer, TextsAreChecked, StretchesAreRuns, TrueRowsCount}
-use Rattle.run_certificates.specs.Laws.{TrueLocksAreFirst}
+use Rattle.run_checker.specs.declared.Verdict.{Verdict}
+use Rattle.run_checker.specs.declared.Verdict.TheVariants as verdict
+use Rattle.run_checker.specs.Checking.{checked}
+use Rattle.run_checker.specs.Laws.{IsAnswer, TextsAreChecked, StretchesAreRuns, TrueRowsCount}
+use Rattle.run_checker.specs.Laws.{TrueLocksAreFirst}
 use Rattle.run_checker.specs.Checks.{LimitsMatterBeyond}
 use Rattle.run_checker.specs.TrueTexts.{ShortTextsAreChecked}
 use Rattle.outcomes.specs.CheckAnswers.{checked_outcome}

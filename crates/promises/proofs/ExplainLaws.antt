@@ -17,8 +17,8 @@ use Rattle.run_explanations.specs.Explanations.{ExplainsIn, ExplainsEra, IsFirst
 use Rattle.run_explanations.specs.Explanations.{explanation_of}
 use Rattle.run_explanations.specs.Laws.{ExplainedErasLock, IsExplainedByBound, LongErasAreExplained}
 use Rattle.run_explanations.specs.Laws.{FoundIsFirst}
-use Rattle.run_promises.specs.WrittenLines.{text_of_words, around}
-use Rattle.run_promises.proofs.WrittenLines.{all_lines}
+use Rattle.promises.specs.WrittenLines.{text_of_words, around}
+use Rattle.promises.proofs.WrittenLines.{all_lines}
 use Rattle.outcomes.specs.ExplainText.{explanation_lines, lines_over, why_lines, explain_text}
 use Rattle.promises.specs.ExplainLaws.{explanation_words, LocksByPhase, IsSaidBefore, WhyIsTrue}
 use Rattle.promises.specs.ExplainLaws.{BaseIsSaid}

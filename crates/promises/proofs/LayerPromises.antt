@@ -23,12 +23,12 @@ use Rattle.replicated_log.specs.Logs.{log_layer}
 use Rattle.replicated_log.specs.LogPart as log
 use Rattle.replicated_log.specs.LogLaws.{log_keeps}
 use Rattle.run_lines.specs.LayerLaws.{AtMostOneInALine, HoldWordsAreExact}
-use Rattle.run_promises.specs.LayeredEras.{IsReadFor, ScriptsArePlayed}
-use Rattle.run_promises.specs.PlainRuns.{PlainScriptsArePlayed}
-use Rattle.run_promises.specs.Promises.{LinesDecide, LinesFireTogether, LinesPutOne}
-use Rattle.run_promises.specs.CountedSlots.{SlotsCount}
-use Rattle.run_promises.specs.WrittenLines.{TextsAreWritten}
-use Rattle.run_promises.proofs.Lines.{kept_for}
+use Rattle.promises.specs.LayeredEras.{IsReadFor, ScriptsArePlayed}
+use Rattle.promises.specs.PlainRuns.{PlainScriptsArePlayed}
+use Rattle.promises.specs.Promises.{LinesDecide, LinesFireTogether, LinesPutOne}
+use Rattle.promises.specs.CountedSlots.{SlotsCount}
+use Rattle.promises.specs.WrittenLines.{TextsAreWritten}
+use Rattle.promises.proofs.Lines.{kept_for}
 use Rattle.outcomes.specs.Layered.{Layered, slots_shape}
 use Rattle.outcomes.proofs.LayeredRead.{IsRead, IsToPlay, so, agreed_layer, slots_read}
 use Rattle.outcomes.proofs.LayeredRead.{decisions_to_play, fires_to_play, entries_to_play}

@@ -1,3 +1,16 @@
+pub mod Counted
+pub mod Lines
+pub mod LockLaws
+pub mod Told
+pub mod Heard
+pub mod States
+pub mod EraRuns
+pub mod Columns
+pub mod PlainRuns
+pub mod SaidLines
+pub mod WrittenLines
+pub mod CountedSlots
+pub mod ChangingRuns
 pub mod Settled
 pub mod ExplainLaws
 pub mod Promise

@@ -10,7 +10,7 @@ use Rattle.replicated_log.specs.LogSaid.{LogSaid}
 use Rattle.replicated_log.specs.Logs.{log_layer}
 use Rattle.replicated_log.specs.declared.entries.Entry.{Entry}
 use Rattle.counter_core.specs.Overlays.{Layer}
-use Rattle.run_promises.specs.Locks.{PlainErasLock, LayeredErasLock}
+use Rattle.promises.specs.Locks.{PlainErasLock, LayeredErasLock}
 use Rattle.outcomes.proofs.LayeredRead.{so, agreed_layer, slots_read, decisions_to_play}
 use Rattle.outcomes.proofs.LayeredRead.{fires_to_play, entries_to_play}
 use Rattle.promises.specs.LockPromises.{LocksAreKept}

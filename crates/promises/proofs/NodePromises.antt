@@ -9,13 +9,13 @@ use Rattle.plan_laws.specs.VersionLaws.{in_version}
 use Rattle.plan_laws.proofs.Versions.{versions_agree}
 use Rattle.plan_machine.specs.PlanMachines.{machine_of_plan}
 use Rattle.plan_machine.proofs.PlanMachines.{are_alike}
-use Rattle.node_runs.specs.Laws as any_nodes
+use Rattle.node_stepper.specs.RunLaws as any_nodes
 use Rattle.plan_machine.specs.NodeRuns.{SomeIsCorrect}
 use Rattle.plan_machine.specs.Laws.{RunThrough, CountThrough, StayLockedThrough}
-use Rattle.node_promises.specs.CallWindows as any
-use Rattle.node_promises.proofs.Connected as any_connected
-use Rattle.node_promises.proofs.Heard as any_heard
-use Rattle.node_promises.proofs.Restarts as any_restarts
+use Rattle.node_words.specs.CallWindows as any
+use Rattle.node_words.proofs.Connected as any_connected
+use Rattle.node_words.proofs.Heard as any_heard
+use Rattle.node_words.proofs.Restarts as any_restarts
 use Rattle.outcomes.specs.PlanWords.{plan_words}
 use Rattle.promises.specs.NodeCalls.{Call}
 use Rattle.promises.specs.CallWindows.{states_written, NameThePlan, NodesKeepPromise}

@@ -12,10 +12,10 @@ use Rattle.plan_machine.proofs.Sound.{accepted_are_sound}
 use Rattle.node_words.specs.Headers.{Header, HeaderRefusal, header_in}
 use Rattle.node_words.specs.HeaderLaws.{IsOfPlan}
 use Rattle.node_words.proofs.AcceptedHeaders.{are_of_plans}
-use Rattle.node_promises.specs.Calls as any
-use Rattle.node_promises.specs.Headers.{IsOfMachine, HeadersAreOfMachines}
-use Rattle.node_promises.proofs.Processes.{are_processes}
-use Rattle.node_promises.proofs.CallStates.{start_by, header_is, node_text_is, start_is_state}
+use Rattle.node_words.specs.Calls as any
+use Rattle.node_words.specs.HeaderPromises.{IsOfMachine, HeadersAreOfMachines}
+use Rattle.node_words.proofs.Processes.{are_processes}
+use Rattle.node_words.proofs.CallStates.{start_by, header_is, node_text_is, start_is_state}
 use Rattle.outcomes.specs.PlanWords.{plan_words}
 use Rattle.promises.specs.NodeCalls.{Call, header_of, IsOfNode}
 use Rattle.promises.specs.Processes.{IsProcess, CallsAreProcesses, CallsAreProcessesFrom}

@@ -8,17 +8,17 @@ use Rattle.sync_types.specs.declared.status.Status.TheVariants as status
 use Rattle.texts.specs.Parts.{At}
 use Rattle.texts.specs.Growth.{Told}
 use Rattle.construction.specs.Plans.{Plan}
-use Rattle.plan_certificate.specs.Tables.{table_text}
-use Rattle.plan_certificate.specs.PlanTexts.{plan_text}
+use Rattle.plan_reader.specs.Tables.{table_text}
+use Rattle.plan_reader.specs.PlanTexts.{plan_text}
 use Rattle.plan_finder.specs.declared.wants.Want.{Want}
 use Rattle.plan_numbers.specs.Premises.{IsAccepted}
 use Rattle.plan_reader.specs.PlanPart.{whole_plan_of}
 use Rattle.plan_reader.proofs.AcceptedPlans.{whole_plan_accepted}
-use Rattle.run_certificates.specs.declared.Verdict.{Verdict}
-use Rattle.run_certificates.specs.declared.Verdict.TheVariants as verdict
+use Rattle.run_checker.specs.declared.Verdict.{Verdict}
+use Rattle.run_checker.specs.declared.Verdict.TheVariants as verdict
 use Rattle.run_checker.specs.Checks.{unlimited}
-use Rattle.run_certificates.specs.Certificates.{certificate_text}
-use Rattle.run_certificates.specs.Recorded.{certificate_of}
+use Rattle.run_checker.specs.Certificates.{certificate_text}
+use Rattle.run_checker.specs.Recorded.{certificate_of}
 use Rattle.run_lines.specs.HoldTexts.{hold_text}
 use Rattle.run_lines.specs.DecisionTexts.{decision_text}
 use Rattle.run_lines.specs.FireTexts.{fire_text}

@@ -15,8 +15,8 @@ use Rattle.round_runner.specs.Laws.{EachIsOfOneEra, ErasAreRuns, ErasLock, ErasC
 use Rattle.round_runner.specs.Laws.{ErasStayLocked}
 use Rattle.round_runner.proofs.FirstLocked.{first_is_locked}
 use Rattle.run_explanations.specs.Laws.{ExplainedErasLock, LongErasAreExplained, FoundIsFirst}
-use Rattle.run_promises.specs.PlainRuns.{PlainScriptsArePlayed}
-use Rattle.run_promises.specs.WrittenLines.{TextsAreWritten}
+use Rattle.promises.specs.PlainRuns.{PlainScriptsArePlayed}
+use Rattle.promises.specs.WrittenLines.{TextsAreWritten}
 use Rattle.run_lines.specs.RunTexts.{number_word}
 use Rattle.run_lines.proofs.FirstListed.{first_listed}
 use Rattle.promises.proofs.ExplainLaws.{why_is_true, base_is_said}

@@ -3,8 +3,8 @@ use Rattle.std.proofs.Common.{◌+◌, length, Result, Ok, Err, ap, ◌∙◌}
 use Rattle.std.specs.Prelude.{IfOk}
 use Rattle.round_runner.specs.Locks.{era_locked}
 use Rattle.round_runner.specs.Played.{played_at}
-use Rattle.run_certificates.specs.declared.Verdict.TheVariants as verdict
-use Rattle.run_certificates.specs.Recorded.{certificate_of, RecordsAreTrue, RecordsAreOfRuns}
+use Rattle.run_checker.specs.declared.Verdict.TheVariants as verdict
+use Rattle.run_checker.specs.Recorded.{certificate_of, RecordsAreTrue, RecordsAreOfRuns}
 use Rattle.run_lines.proofs.FirstListed.{first_listed}
 use Rattle.outcomes.specs.declared.refusals.Refusal.{Refusal}
 use Rattle.outcomes.specs.Inputs.{Scripted, scripted_of}

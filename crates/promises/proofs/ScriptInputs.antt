@@ -16,7 +16,7 @@ use Rattle.plan_numbers.specs.Premises.{IsAccepted}
 use Rattle.plan_numbers.proofs.Accepted.{accepted_sized, accepted_depth}
 use Rattle.plan_reader.specs.PlanPart.{plan_of}
 use Rattle.plan_reader.proofs.AcceptedPlans.{plan_accepted}
-use Rattle.plan_certificate.specs.PlanTexts.{plan_text, PlanTextIsRead}
+use Rattle.plan_reader.specs.PlanTexts.{plan_text, PlanTextIsRead}
 use Rattle.state_codec.specs.Shapes.{Fields, Shape, IsShape, AreAll, all_over, moduli_of}
 use Rattle.state_codec.specs.Shapes.{shape_of, shape_over, shape_with, bits_in}
 use Rattle.state_codec.proofs.Lows.{fields_of_node}

@@ -31,7 +31,7 @@ use Rattle.slot_table.specs.SlotPart as slot_part
 use Rattle.consensus_layer.specs.AgreePart as agree_part
 use Rattle.firing.specs.FirePart as fire_part
 use Rattle.replicated_log.specs.LogPart as log_part
-use Rattle.node_promises.proofs.Skips.{header_skips}
+use Rattle.node_words.proofs.Skips.{header_skips}
 use Rattle.outcomes.specs.declared.refusals.Refusal.{Refusal}
 use Rattle.outcomes.specs.Inputs.{in_plan, in_part, or_refusal, Scripted, with_script}
 use Rattle.outcomes.specs.Inputs as inputs

@@ -8,11 +8,11 @@ use Rattle.plan_numbers.specs.Premises.{IsAccepted}
 use Rattle.plan_laws.specs.VersionLaws.{in_version}
 use Rattle.plan_machine.specs.PlanMachines.{machine_of_plan}
 use Rattle.plan_machine.specs.NodeRuns.{IsCorrect, AreMissed}
-use Rattle.node_promises.specs.Inputs as joined
-use Rattle.node_promises.specs.LossyInputs as lossy
-use Rattle.node_promises.specs.RestartInputs as restarted
-use Rattle.node_promises.specs.ResumedInputs as resumed
-use Rattle.node_promises.specs.RestartInputs.{calls_of, restart_of, restart_with}
+use Rattle.node_words.specs.Inputs as joined
+use Rattle.node_words.specs.LossyInputs as lossy
+use Rattle.node_words.specs.RestartInputs as restarted
+use Rattle.node_words.specs.ResumedInputs as resumed
+use Rattle.node_words.specs.RestartInputs.{calls_of, restart_of, restart_with}
 use Rattle.outcomes.specs.NodeAnswers.{node_outcome}
 use Rattle.outcomes.specs.PlanWords.{plan_words}
 use Rattle.promises.specs.CallWindows.{NameThePlan, CallsConnect}

@@ -6,7 +6,7 @@ use Rattle.construction.specs.Runs.{IsBorne, IsLocked}
 use Rattle.plan_machine.specs.PlanMachines.{machine_of_plan}
 use Rattle.plan_machine.specs.NodeRuns.{IsCorrect, SomeIsCorrect}
 use Rattle.plan_machine.specs.Laws.{RunThrough, CountThrough, StayLockedThrough}
-use Rattle.node_promises.specs.CallWindows as any
+use Rattle.node_words.specs.CallWindows as any
 use Rattle.outcomes.specs.PlanWords.{plan_words}
 use Rattle.promises.specs.NodeCalls.{Call, IsOfNode}
 

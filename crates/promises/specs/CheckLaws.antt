@@ -2,13 +2,13 @@
 use Rattle.std.specs.Prelude.{◌≡◌, ℕ, ◌^◌, ◌≤◌, List, ◌∷◌, ◌++◌, length, map, Option, Some, Result}
 use Rattle.std.specs.Prelude.{Ok, Err}
 use Rattle.construction.specs.Runs.{Run}
-use Rattle.run_certificates.specs.declared.Verdict.{Verdict}
-use Rattle.run_certificates.specs.declared.Verdict.TheVariants as verdict
-use Rattle.run_certificates.specs.Certificates.{Turn, Certificate, certificate_text}
-use Rattle.run_certificates.specs.Grammar.{IsCertificate}
-use Rattle.run_certificates.specs.Stated.{first_stand, stands_behind, verdict_of}
-use Rattle.run_certificates.specs.Laws.{IsOf, IsRefusedAt, AreQuiet, stand_after, StretchCounts}
-use Rattle.run_certificates.specs.Laws.{LastEraLocks}
+use Rattle.run_checker.specs.declared.Verdict.{Verdict}
+use Rattle.run_checker.specs.declared.Verdict.TheVariants as verdict
+use Rattle.run_checker.specs.Certificates.{Turn, Certificate, certificate_text}
+use Rattle.run_checker.specs.Grammar.{IsCertificate}
+use Rattle.run_checker.specs.Stated.{first_stand, stands_behind, verdict_of}
+use Rattle.run_checker.specs.Laws.{IsOf, IsRefusedAt, AreQuiet, stand_after, StretchCounts}
+use Rattle.run_checker.specs.Laws.{LastEraLocks}
 use Rattle.run_checker.specs.Checks.{unlimited}
 use Rattle.outcomes.specs.declared.commands.Command.TheVariants as command
 use Rattle.outcomes.specs.CheckAnswers.{verdict_outcome, checked_outcome}

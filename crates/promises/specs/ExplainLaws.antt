@@ -9,7 +9,7 @@ use Rattle.run_explanations.specs.Explanations.{IsFirstOrNone, era_begin}
 use Rattle.run_explanations.specs.Tops.{top_of}
 use Rattle.round_runner.specs.Played.{played_at}
 use Rattle.run_lines.specs.RowTexts.{lock_played}
-use Rattle.run_promises.specs.WrittenLines.{text_of_words, around}
+use Rattle.promises.specs.WrittenLines.{text_of_words, around}
 use Rattle.outcomes.specs.ExplainText.{explain_text}
 
 -- From the end of the phase on the last era is locked, and counts. The W of the era's line

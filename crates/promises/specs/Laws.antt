@@ -13,8 +13,8 @@ use Rattle.adversary_script.specs.Eras.{first_of_era, end_of_era, faulty_of_era,
 use Rattle.round_runner.specs.Laws.{IsUpTo, IsOfOneEra, EraIsRun}
 use Rattle.round_runner.specs.Locks.{IsFirstLocked}
 use Rattle.round_runner.specs.Played.{played_at}
-use Rattle.run_promises.specs.PlainRuns.{PlaysPlain}
-use Rattle.run_promises.specs.WrittenLines.{RowsAreWritten}
+use Rattle.promises.specs.PlainRuns.{PlaysPlain}
+use Rattle.promises.specs.WrittenLines.{RowsAreWritten}
 use Rattle.run_lines.specs.RunTexts.{number_word}
 use Rattle.run_lines.specs.RowTexts.{node_word, lock_played}
 use Rattle.outcomes.specs.Inputs.{scripted_of}

@@ -20,12 +20,12 @@ use Rattle.run_lines.specs.LayerLaws.{HoldWordIs}
 use Rattle.run_lines.specs.DecisionTexts.{slot_of, agree_scene}
 use Rattle.run_lines.specs.FireTexts.{fire_scene}
 use Rattle.run_lines.specs.EntryTexts.{log_scene}
-use Rattle.run_promises.specs.CountedSlots.{SlotsAreExact}
-use Rattle.run_promises.specs.LayeredEras.{PlaysScript}
-use Rattle.run_promises.specs.PlainRuns.{PlaysPlain}
-use Rattle.run_promises.specs.Promises.{LineDecides, LineFires, LinePuts}
-use Rattle.run_promises.specs.WrittenLines.{HoldsAreWritten, DecisionsAreWritten, FiresAreWritten}
-use Rattle.run_promises.specs.WrittenLines.{EntriesAreWritten}
+use Rattle.promises.specs.CountedSlots.{SlotsAreExact}
+use Rattle.promises.specs.LayeredEras.{PlaysScript}
+use Rattle.promises.specs.PlainRuns.{PlaysPlain}
+use Rattle.promises.specs.Promises.{LineDecides, LineFires, LinePuts}
+use Rattle.promises.specs.WrittenLines.{HoldsAreWritten, DecisionsAreWritten, FiresAreWritten}
+use Rattle.promises.specs.WrittenLines.{EntriesAreWritten}
 use Rattle.outcomes.specs.Layered.{slotted_of, agreed_of, firing_of, logging_of}
 use Rattle.promises.specs.LayerParts.{GivesOutputs, RequestsAreSaid, TakesTurns}
 

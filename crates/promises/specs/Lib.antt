@@ -1,3 +1,12 @@
+pub mod Promises
+pub mod Locks
+pub mod LayeredEras
+pub mod Columns
+pub mod PlainRuns
+pub mod SaidLines
+pub mod WrittenLines
+pub mod CountedSlots
+pub mod ChangingRuns
 pub mod CheckLaws
 pub mod RecordLaws
 pub mod Completeness

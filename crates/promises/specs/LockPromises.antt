@@ -4,7 +4,7 @@ use Rattle.round_runner.specs.Played.{played_at}
 use Rattle.run_lines.specs.DecisionTexts.{agree_scene}
 use Rattle.run_lines.specs.FireTexts.{fire_scene}
 use Rattle.run_lines.specs.EntryTexts.{log_scene}
-use Rattle.run_promises.specs.Locks.{LocksAreFirst}
+use Rattle.promises.specs.Locks.{LocksAreFirst}
 use Rattle.outcomes.specs.Layered.{slotted_of, agreed_of, firing_of, logging_of}
 
 -- Where an input is a plan, such a part and a script, the W of the line of each era is the era's

@@ -7,8 +7,8 @@ use Rattle.sync_types.specs.declared.status.Status.TheVariants as status
 use Rattle.construction.specs.Plans.{Plan}
 use Rattle.plan_laws.specs.VersionLaws.{in_version}
 use Rattle.node_words.specs.Headers.{Header, HeaderRefusal}
-pub use Rattle.node_promises.specs.Calls.{Call, whole, failed}
-use Rattle.node_promises.specs.Calls as any
+pub use Rattle.node_words.specs.Calls.{Call, whole, failed}
+use Rattle.node_words.specs.Calls as any
 use Rattle.outcomes.specs.declared.commands.Command.TheVariants as command
 use Rattle.outcomes.specs.PlanWords.{plan_words}
 use Rattle.outcomes.specs.Commands.{as_it_goes}

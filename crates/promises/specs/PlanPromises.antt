@@ -4,8 +4,8 @@ use Rattle.std.specs.Prelude.{◌≡◌, ℕ, ◌≤◌, List, Result, Ok, IfOk}
 use Rattle.construction.specs.Plans.{Plan}
 use Rattle.plan_numbers.specs.Premises.{IsAccepted}
 use Rattle.plan_laws.specs.VersionLaws.{in_version, AreSame}
-use Rattle.plan_certificate.specs.Tables.{table_text}
-use Rattle.plan_certificate.specs.PlanTexts.{plan_text, PlanTextIsRead}
+use Rattle.plan_reader.specs.Tables.{table_text}
+use Rattle.plan_reader.specs.PlanTexts.{plan_text, PlanTextIsRead}
 use Rattle.plan_finder.specs.declared.wants.Want.{Want}
 use Rattle.plan_finder.specs.FindPart.{IsFit}
 use Rattle.plan_finder.specs.WantTexts.{want_text}
@@ -14,7 +14,7 @@ use Rattle.consensus_layer.specs.AgreeTexts.{AgreeTextIsRead}
 use Rattle.firing.specs.RequestTexts.{RequestTextIsRead}
 use Rattle.replicated_log.specs.LogTexts.{LogTextIsRead}
 use Rattle.node_words.specs.HeaderTexts.{HeaderTextIsRead}
-use Rattle.run_promises.specs.WrittenLines.{text_of_words}
+use Rattle.promises.specs.WrittenLines.{text_of_words}
 use Rattle.outcomes.specs.declared.refusals.Refusal.{Refusal}
 use Rattle.outcomes.specs.declared.commands.Batch.TheVariants as batch
 use Rattle.outcomes.specs.Inputs.{plan_alone, tabled_of, wants_of}

@@ -8,10 +8,10 @@ use Rattle.texts.specs.Growth.{Told, Wrote}
 use Rattle.construction.specs.Plans.{Plan}
 use Rattle.adversary_script.specs.Scripts.{Script}
 use Rattle.plan_finder.specs.declared.wants.Want.{Want}
-use Rattle.run_certificates.specs.Certificates.{certificate_text}
-use Rattle.run_certificates.specs.Recorded.{certificate_of}
-use Rattle.plan_certificate.specs.Tables.{table_text}
-use Rattle.plan_certificate.specs.PlanTexts.{plan_text}
+use Rattle.run_checker.specs.Certificates.{certificate_text}
+use Rattle.run_checker.specs.Recorded.{certificate_of}
+use Rattle.plan_reader.specs.Tables.{table_text}
+use Rattle.plan_reader.specs.PlanTexts.{plan_text}
 use Rattle.run_lines.specs.HoldTexts.{hold_text}
 use Rattle.run_lines.specs.DecisionTexts.{decision_text}
 use Rattle.run_lines.specs.FireTexts.{fire_text}

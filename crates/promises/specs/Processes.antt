@@ -6,7 +6,7 @@ use Rattle.construction.specs.Runs.{IsState}
 use Rattle.plan_laws.specs.VersionLaws.{in_version}
 use Rattle.plan_machine.specs.PlanMachines.{machine_of_plan}
 use Rattle.plan_machine.specs.PlanNodes.{node_text}
-use Rattle.node_promises.specs.Processes as any
+use Rattle.node_words.specs.Processes as any
 use Rattle.outcomes.specs.PlanWords.{plan_words}
 use Rattle.promises.specs.NodeCalls.{Call, packets_in, text_of, IsOfNode}
 

@@ -2,12 +2,12 @@
 use Rattle.std.specs.Prelude.{◌≡◌, ℕ, ◌+◌, List, length, Some, IfOk}
 use Rattle.construction.specs.Plans.{Plan}
 use Rattle.adversary_script.specs.Scripts.{Script}
-use Rattle.run_certificates.specs.declared.Verdict.{Verdict}
-use Rattle.run_certificates.specs.declared.Verdict.TheVariants as verdict
-use Rattle.run_certificates.specs.Certificates.{certificate_text}
-use Rattle.run_certificates.specs.Grammar.{IsCertificate}
-use Rattle.run_certificates.specs.Stated.{verdict_of}
-use Rattle.run_certificates.specs.Recorded.{certificate_of, IsOfRun}
+use Rattle.run_checker.specs.declared.Verdict.{Verdict}
+use Rattle.run_checker.specs.declared.Verdict.TheVariants as verdict
+use Rattle.run_checker.specs.Certificates.{certificate_text}
+use Rattle.run_checker.specs.Grammar.{IsCertificate}
+use Rattle.run_checker.specs.Stated.{verdict_of}
+use Rattle.run_checker.specs.Recorded.{certificate_of, IsOfRun}
 use Rattle.outcomes.specs.declared.commands.Command.TheVariants as command
 use Rattle.run_lines.specs.RowTexts.{lock_played}
 use Rattle.outcomes.specs.Inputs.{scripted_of}

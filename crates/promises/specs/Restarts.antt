@@ -5,8 +5,8 @@ use Rattle.construction.specs.Steps.{state_of}
 use Rattle.construction.specs.Runs.{IsBorne, IsLocked}
 use Rattle.plan_machine.specs.NodeRuns.{IsCorrect, SomeIsCorrect}
 use Rattle.plan_machine.specs.Laws.{StayLockedThrough}
-pub use Rattle.node_promises.specs.Restarts.{Restart, calls_after, begins_after}
-pub use Rattle.node_promises.specs.Restarts.{AreFaultyMeanwhile}
+pub use Rattle.node_words.specs.Restarts.{Restart, calls_after, begins_after}
+pub use Rattle.node_words.specs.Restarts.{AreFaultyMeanwhile}
 use Rattle.promises.specs.NodeCalls.{Call}
 use Rattle.promises.specs.CallWindows.{cell_written, states_written, CallsConnect}
 use Rattle.promises.specs.CallWindows.{NodesKeepPromise}

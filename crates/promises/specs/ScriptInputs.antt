@@ -2,7 +2,7 @@
 use Rattle.std.specs.Prelude.{◌≡◌, ℕ, ◌≤◌, List, ◌++◌, length, All, Ok, IfOk}
 use Rattle.construction.specs.Plans.{Plan}
 use Rattle.plan_numbers.specs.Premises.{IsAccepted}
-use Rattle.plan_certificate.specs.PlanTexts.{plan_text}
+use Rattle.plan_reader.specs.PlanTexts.{plan_text}
 use Rattle.state_codec.specs.Shapes.{shape_of}
 use Rattle.adversary_script.specs.Scripts.{Script}
 use Rattle.adversary_script.specs.ScriptTexts.{script_text}

@@ -4,7 +4,7 @@ use Rattle.std.specs.Prelude.{if◌then◌else◌, Result, Ok, Err}
 use Rattle.texts.specs.Lines.{lines_of, is_one_line}
 use Rattle.texts.specs.Words.{text_of}
 use Rattle.texts.specs.Parts.{is_skipped}
-use Rattle.node_promises.specs.Skips.{HeaderSkipsAreUnseen}
+use Rattle.node_words.specs.Skips.{HeaderSkipsAreUnseen}
 use Rattle.outcomes.specs.declared.refusals.Refusal.{Refusal}
 use Rattle.outcomes.specs.declared.refusals.Refusal.TheVariants as refusal
 use Rattle.outcomes.specs.Inputs.{plan_alone, scripted_of, wants_of}

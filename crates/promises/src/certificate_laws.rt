@@ -4,7 +4,7 @@
 ghost use Rattle.promises.specs.CheckLaws.{CheckIsExact};
 ghost use Rattle.promises.specs.RecordLaws.{RecordsAreChecked};
 
-use run_certificates::laws::{
+use run_checker::certificate_laws::{
     records_are_of_runs, records_are_true, stretches_are_runs, texts_are_checked,
     true_locks_are_first, true_rows_count,
 };

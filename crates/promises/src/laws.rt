@@ -6,6 +6,7 @@ ghost use Rattle.promises.specs.Completeness.{CutsAreUnseen};
 ghost use Rattle.promises.specs.Laws.{AcceptedStabilise, AcceptedPlansSettle, PromiseIsKept};
 ghost use Rattle.promises.specs.DemoLaws.{DemoIsAccepted, DemoIsAnswered, LiarsAreSpread};
 
+use crate::run_laws::{plain_scripts_are_played, texts_are_written};
 use plan_laws::laws::{
     each_has_one_next, every_plan_settles, locked_runs_count, locks_at_bound, versions_agree,
 };
@@ -13,7 +14,6 @@ use round_runner::laws::{
     each_is_of_one_era, eras_are_runs, eras_count, eras_lock, eras_stay_locked,
 };
 use run_explanations::laws::{explained_eras_lock, found_is_first, long_eras_are_explained};
-use run_promises::laws::{plain_scripts_are_played, texts_are_written};
 
 /// Every accepted plan settles. No run of it can come to an end, each is locked at the bound, and
 /// from any locked configuration on it stays so and counts. Its texts of both versions are of one

@@ -4,14 +4,14 @@
 ghost use Rattle.promises.specs.LayerPromises.{HoldsAreKept, DecisionsAreKept, FiresAreKept};
 ghost use Rattle.promises.specs.LayerPromises.{EntriesAreKept};
 
+use crate::run_laws::{
+    lines_decide, lines_fire_together, lines_put_one, plain_scripts_are_played, scripts_are_played,
+    slots_are_exact, texts_are_written,
+};
 use consensus_layer::Agreement;
 use firing::Firing;
 use replicated_log::Replica;
 use run_lines::laws::{at_most_one_in_a_line, hold_words_are_exact};
-use run_promises::laws::{
-    lines_decide, lines_fire_together, lines_put_one, plain_scripts_are_played, scripts_are_played,
-    slots_are_exact, texts_are_written,
-};
 
 /// Where an input is a plan, a slot table and a script, what is played is the script's: its starts,
 /// its faulty sets and its lies. What is written has just its lines. A node's word in a line is 1

@@ -3,10 +3,10 @@
 
 ghost use Rattle.promises.specs.LockPromises.{LocksAreKept};
 
+use crate::locks::{layered_eras_lock, plain_eras_lock};
 use consensus_layer::Agreement;
 use firing::Firing;
 use replicated_log::Replica;
-use run_promises::locks::{layered_eras_lock, plain_eras_lock};
 
 /// Where an input of `slots`, `consensus`, `fire` or `log` is a plan, such a part and a script: the
 /// number behind `locked` in the line of an era is the era's first locked configuration, and is at

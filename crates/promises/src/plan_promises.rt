@@ -10,9 +10,9 @@ use adversary_script::laws::{read_scripts_have_texts, script_texts_read_back};
 use consensus_layer::laws::agree_texts_read_back;
 use firing::laws::request_texts_read_back;
 use node_words::laws::header_texts_read_back;
-use plan_certificate::{plan_texts_read_back, tables_read_back};
 use plan_finder::laws::want_texts_read_back;
 use plan_laws::laws::versions_agree;
+use plan_reader::{plan_texts_read_back, tables_read_back};
 use replicated_log::laws::log_texts_read_back;
 use slot_table::laws::slot_texts_read_back;
 

@@ -3,10 +3,10 @@ use Rattle.std.proofs.Common.{ℕ, ◌<◌, List}
 use Rattle.std.specs.Prelude.{◌↔◌}
 use Rattle.sync_types.specs.States.{State}
 use Rattle.machines.specs.Machines as machines
-use Rattle.pulse_construction.specs.Halvings.{Halving, One, Split}
-use Rattle.pulse_construction.specs.Runs as trees
-use Rattle.pulse_construction.specs.Runs.{machine_of}
-use Rattle.pulse_construction.proofs.States.{range_of_state, state_of_range}
+use Rattle.pulse_plan.specs.Halvings.{Halving, One, Split}
+use Rattle.pulse_plan.specs.Runs as trees
+use Rattle.pulse_plan.specs.Runs.{machine_of}
+use Rattle.pulse_plan.proofs.States.{range_of_state, state_of_range}
 use Rattle.pulse_machine.specs.Alike.{AreAlike, TreesAreMachines}
 
 same_locks : (tree : Halving) (modulus : ℕ) (faulty : List ℕ) (config : List State)

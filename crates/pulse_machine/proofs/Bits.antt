@@ -10,12 +10,12 @@ use Rattle.std.proofs.lemmas.List.Sums.{sum_by-cons, sum_by-append}
 use Rattle.construction.specs.Widths.{width}
 use Rattle.plan_numbers.proofs.WidthLaws.{width_most}
 use Rattle.state_codec.specs.Shapes.{Fields, register_bits, registers_bits, bits_in}
-use Rattle.pulse_construction.specs.Halves.{faults_of, instructions, left_period, right_period}
-use Rattle.pulse_construction.specs.Halvings.{Halving, One, Split, halving_nodes, halving_height}
-use Rattle.pulse_construction.specs.Halvings.{halving_of, halves_of}
-use Rattle.pulse_construction.specs.Steps.{halving_depth}
-use Rattle.pulse_construction.specs.Runs.{fields_in, all_fields}
-use Rattle.pulse_construction.proofs.Numbers.{three_faults}
+use Rattle.pulse_plan.specs.Halves.{faults_of, instructions, left_period, right_period}
+use Rattle.pulse_plan.specs.Halvings.{Halving, One, Split, halving_nodes, halving_height}
+use Rattle.pulse_plan.specs.Halvings.{halving_of, halves_of}
+use Rattle.pulse_plan.specs.Steps.{halving_depth}
+use Rattle.pulse_plan.specs.Runs.{fields_in, all_fields}
+use Rattle.pulse_plan.proofs.Numbers.{three_faults}
 use Rattle.pulse_plan.specs.Plans.{PulseNumbers, IsAccepted, tree_of}
 use Rattle.pulse_plan.proofs.Trees.{taller}
 use Rattle.pulse_plan.proofs.Sound.{nodes_are}

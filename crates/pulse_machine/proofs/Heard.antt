@@ -6,9 +6,9 @@ use Rattle.sync_types.specs.declared.states.Reg.{Reg}
 use Rattle.sync_types.specs.States.{State, register_at, zero_register}
 use Rattle.construction.specs.PhaseKing.{instructed, up}
 use Rattle.construction.specs.Steps.{state_of}
-use Rattle.pulse_construction.specs.LevelStates.{LevelState, sees, says_left, says_right, values_of}
-use Rattle.pulse_construction.specs.Halvings.{halving_of}
-use Rattle.pulse_construction.specs.Steps.{shown_in}
+use Rattle.pulse_plan.specs.LevelStates.{LevelState, sees, says_left, says_right, values_of}
+use Rattle.pulse_plan.specs.Halvings.{halving_of}
+use Rattle.pulse_plan.specs.Steps.{shown_in}
 use Rattle.pulse_plan.specs.Groups.{PulseGroup, left_of, right_of}
 use Rattle.pulse_machine.specs.declared.level_states.Said.{Said}
 use Rattle.pulse_machine.specs.Groups.{below, section}

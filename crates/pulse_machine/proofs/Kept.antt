@@ -8,11 +8,11 @@ use Rattle.construction.specs.Steps.{state_of}
 use Rattle.state_codec.specs.Shapes.{Fields}
 use Rattle.state_codec.specs.Ranges.{InRange}
 use Rattle.machines.specs.Machines.{IsConfiguration}
-use Rattle.pulse_construction.specs.Halvings.{halving_nodes, halving_of}
-use Rattle.pulse_construction.specs.Steps.{halving_depth}
-use Rattle.pulse_construction.specs.Runs.{fields_in, all_fields, lock_of}
-use Rattle.pulse_construction.proofs.Ranges.{positive_fields}
-use Rattle.pulse_construction.proofs.States.{long, fields_most}
+use Rattle.pulse_plan.specs.Halvings.{halving_nodes, halving_of}
+use Rattle.pulse_plan.specs.Steps.{halving_depth}
+use Rattle.pulse_plan.specs.Runs.{fields_in, all_fields, lock_of}
+use Rattle.pulse_plan.proofs.Ranges.{positive_fields}
+use Rattle.pulse_plan.proofs.States.{long, fields_most}
 use Rattle.pulse_plan.specs.Plans.{PulseNumbers, IsAccepted, tree_of}
 use Rattle.pulse_plan.specs.Laws.{machine_in}
 use Rattle.pulse_plan.proofs.Sound.{nodes_are, accepted_are_sound}

@@ -7,12 +7,12 @@ use Rattle.std.proofs.lemmas.List.{drop-drop, get_or-map}
 use Rattle.sync_types.specs.States.{State, zero_state}
 use Rattle.construction.specs.PhaseKing.{up}
 use Rattle.construction.specs.Steps.{state_of}
-use Rattle.pulse_construction.specs.Halves.{Halves, faults_of, left_period, right_period}
-use Rattle.pulse_construction.specs.LevelStates.{LevelState, level_state_after}
-use Rattle.pulse_construction.specs.Halvings.{Halving, halving_nodes}
-use Rattle.pulse_construction.specs.Halvings.{halves_of}
-use Rattle.pulse_construction.specs.Registers.{level_state_of, inner, with_level_state}
-use Rattle.pulse_construction.specs.Steps.{shown_in, half_of, new_level_state, step_in}
+use Rattle.pulse_plan.specs.Halves.{Halves, faults_of, left_period, right_period}
+use Rattle.pulse_plan.specs.LevelStates.{LevelState, level_state_after}
+use Rattle.pulse_plan.specs.Halvings.{Halving, halving_nodes}
+use Rattle.pulse_plan.specs.Halvings.{halves_of}
+use Rattle.pulse_plan.specs.Registers.{level_state_of, inner, with_level_state}
+use Rattle.pulse_plan.specs.Steps.{shown_in, half_of, new_level_state, step_in}
 use Rattle.pulse_plan.specs.Groups.{PulseGroup, IsGroup, tree_in, left_of, right_of, half_in}
 use Rattle.pulse_plan.specs.Groups.{sizes_of}
 use Rattle.pulse_plan.proofs.Trees.{split_of, nodes_of_half}

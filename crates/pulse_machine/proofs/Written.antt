@@ -10,9 +10,9 @@ use Rattle.std.proofs.lemmas.List.{set-append_right, drop_more}
 use Rattle.sync_types.specs.declared.states.Reg.{Reg}
 use Rattle.sync_types.specs.States.{State, zero_register, zero_state}
 use Rattle.counter_core.specs.Meanings.{written}
-use Rattle.pulse_construction.specs.LevelStates.{LevelState}
-use Rattle.pulse_construction.specs.Registers.{registers_of, with_level_state}
-use Rattle.pulse_construction.specs.Steps.{filled}
+use Rattle.pulse_plan.specs.LevelStates.{LevelState}
+use Rattle.pulse_plan.specs.Registers.{registers_of, with_level_state}
+use Rattle.pulse_plan.specs.Steps.{filled}
 use Rattle.pulse_machine.specs.Groups.{overlaid}
 use Rattle.pulse_machine.specs.LevelStates.{with_level_state_at}
 

@@ -5,10 +5,10 @@ use Rattle.construction.specs.Runs.{configuration}
 use Rattle.machines.specs.Machines as machines
 use Rattle.machines.specs.Machines.{IsBorne, Run}
 use Rattle.machines.specs.Laws as laws
-use Rattle.pulse_construction.specs.Halvings.{Halving, halving_bound}
-use Rattle.pulse_construction.specs.Runs as trees
-use Rattle.pulse_construction.specs.Runs.{machine_of}
-use Rattle.pulse_construction.specs.Laws as tree_laws
+use Rattle.pulse_plan.specs.Halvings.{Halving, halving_bound}
+use Rattle.pulse_plan.specs.Runs as trees
+use Rattle.pulse_plan.specs.Runs.{machine_of}
+use Rattle.pulse_plan.specs.TreeLaws as tree_laws
 
 -- The states of a node, the locked configurations, that each run is locked at the bound, and that
 -- it stays so and counts. Rounds, runs and what settles have no other words than those of machines.

@@ -1,7 +1,7 @@
 -- The states of a group's nodes among all that are heard, and in a state what its group reads.
 use Rattle.std.specs.Prelude.{◌≡◌, ℕ, ◌+◌, ◌≤◌, List, ◌++◌, length, map, take, drop, All}
 use Rattle.sync_types.specs.States.{State}
-use Rattle.pulse_construction.specs.Steps.{halving_depth}
+use Rattle.pulse_plan.specs.Steps.{halving_depth}
 use Rattle.pulse_plan.specs.Groups.{PulseGroup, registers_end}
 use Rattle.pulse_plan.specs.Plans.{PulseNumbers, tree_of}
 

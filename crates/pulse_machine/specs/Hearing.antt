@@ -3,9 +3,9 @@ use Rattle.std.specs.Prelude.{ℕ, List, map, Option}
 use Rattle.sync_types.specs.States.{State, register_at}
 use Rattle.construction.specs.PhaseKing.{up}
 use Rattle.construction.specs.Steps.{state_of}
-use Rattle.pulse_construction.specs.LevelStates.{LevelState, level_state_after}
-use Rattle.pulse_construction.specs.Registers.{level_state_of}
-use Rattle.pulse_construction.specs.Steps.{shown_in}
+use Rattle.pulse_plan.specs.LevelStates.{LevelState, level_state_after}
+use Rattle.pulse_plan.specs.Registers.{level_state_of}
+use Rattle.pulse_plan.specs.Steps.{shown_in}
 use Rattle.pulse_plan.specs.Groups.{PulseGroup, tree_in, left_of, right_of, sizes_of}
 use Rattle.pulse_machine.specs.Groups.{below, section}
 

@@ -2,7 +2,7 @@
 use Rattle.std.specs.Prelude.{◌≡◌, List, map}
 use Rattle.std.specs.List.{range_with_len}
 use Rattle.state_codec.specs.Shapes.{Fields}
-use Rattle.pulse_construction.specs.Runs.{all_fields}
+use Rattle.pulse_plan.specs.Runs.{all_fields}
 use Rattle.pulse_plan.specs.Plans.{PulseNumbers, IsAccepted, tree_of}
 
 pub record IsKept (plan : PulseNumbers) (fields : List Fields) : Type 0 where

@@ -2,10 +2,10 @@
 use Rattle.std.specs.Prelude.{ℕ, ◌+◌, ◌++◌, take, drop, ◌&&◌, ◌||◌, nat_eq, not, Bool}
 use Rattle.sync_types.specs.declared.states.Reg.{Reg}
 use Rattle.sync_types.specs.States.{State}
-use Rattle.pulse_construction.specs.Halves.{left_period}
-use Rattle.pulse_construction.specs.LevelStates.{LevelState, echoed, backed, busy, older, begun}
-use Rattle.pulse_construction.specs.LevelStates.{next_instruction}
-use Rattle.pulse_construction.specs.Registers.{registers_of}
+use Rattle.pulse_plan.specs.Halves.{left_period}
+use Rattle.pulse_plan.specs.LevelStates.{LevelState, echoed, backed, busy, older, begun}
+use Rattle.pulse_plan.specs.LevelStates.{next_instruction}
+use Rattle.pulse_plan.specs.Registers.{registers_of}
 use Rattle.pulse_machine.specs.declared.level_states.Said.{Said}
 
 -- a state with a level state written at a register

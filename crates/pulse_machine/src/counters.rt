@@ -1,7 +1,7 @@
 ghost use Rattle.std.specs.Prelude.{◌≡◌, ℕ, ◌<◌, ◌≤◌, ◌↔◌, IsTrue, IfOk, All, length};
 ghost use Rattle.sync_types.specs.States.{zero_state};
-ghost use Rattle.pulse_construction.specs.Steps.{halving_depth, shown_in, step_of};
-ghost use Rattle.pulse_construction.specs.Runs.{IsState};
+ghost use Rattle.pulse_plan.specs.Steps.{halving_depth, shown_in, step_of};
+ghost use Rattle.pulse_plan.specs.Runs.{IsState};
 ghost use Rattle.counter_core.specs.Meanings.{written, cut};
 ghost use Rattle.pulse_plan.specs.Plans.{tree_of};
 ghost use Rattle.pulse_machine.specs.Groups.{IsDeep, CanHear};

@@ -1,5 +1,5 @@
 ghost use Rattle.std.specs.Prelude.{◌≡◌, ◌+◌, ◌*◌, ◌≤◌, ◌<◌, length, All, count_by, nat_eq};
-ghost use Rattle.pulse_construction.specs.LevelStates.{sees};
+ghost use Rattle.pulse_plan.specs.LevelStates.{sees};
 ghost use Rattle.pulse_machine.specs.Groups.{HasGroup};
 ghost use Rattle.pulse_machine.specs.Hearing.{outputs_in, level_state_heard};
 

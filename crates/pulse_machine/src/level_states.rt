@@ -1,6 +1,6 @@
 ghost use Rattle.std.specs.Prelude.{◌≡◌, ◌+◌, ◌≤◌, if◌then◌else◌, min, length};
-ghost use Rattle.pulse_construction.specs.LevelStates.{busy, older};
-ghost use Rattle.pulse_construction.specs.Registers.{level_state_of, value_of, number_of};
+ghost use Rattle.pulse_plan.specs.LevelStates.{busy, older};
+ghost use Rattle.pulse_plan.specs.Registers.{level_state_of, value_of, number_of};
 ghost use Rattle.pulse_machine.specs.Groups.{below};
 ghost use Rattle.pulse_machine.specs.LevelStates.{with_level_state_at, level_state_counted};
 
@@ -26,7 +26,7 @@ pub struct LevelState {
 }
 
 impl Model for LevelState {
-    ghost use Rattle.pulse_construction.specs.LevelStates.{LevelState};
+    ghost use Rattle.pulse_plan.specs.LevelStates.{LevelState};
 
     ghost Value = { LevelState };
 

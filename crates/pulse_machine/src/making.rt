@@ -1,6 +1,6 @@
 ghost use Rattle.std.specs.Prelude.{◌≡◌, ◌<◌, map, IfOk};
 ghost use Rattle.std.specs.List.{range_with_len};
-ghost use Rattle.pulse_construction.specs.Runs.{all_fields};
+ghost use Rattle.pulse_plan.specs.Runs.{all_fields};
 ghost use Rattle.pulse_plan.specs.Plans.{tree_of};
 
 use pulse_plan::PulsePlan;

@@ -1,7 +1,7 @@
 ghost use Rattle.std.specs.Prelude.{◌≡◌, ◌<◌, length, IfOk};
-ghost use Rattle.pulse_construction.specs.Halvings.{halving_nodes};
-ghost use Rattle.pulse_construction.specs.Steps.{halving_depth};
-ghost use Rattle.pulse_construction.specs.Runs.{all_fields};
+ghost use Rattle.pulse_plan.specs.Halvings.{halving_nodes};
+ghost use Rattle.pulse_plan.specs.Steps.{halving_depth};
+ghost use Rattle.pulse_plan.specs.Runs.{all_fields};
 ghost use Rattle.pulse_plan.specs.Plans.{tree_of};
 
 use crate::making::all_nodes_fields;

@@ -1,5 +1,5 @@
 ghost use Rattle.std.specs.Prelude.{◌≡◌, ◌+◌, ◌-◌, ◌≤◌, ◌<◌, length, All};
-ghost use Rattle.pulse_construction.specs.Steps.{step_in};
+ghost use Rattle.pulse_plan.specs.Steps.{step_in};
 ghost use Rattle.pulse_plan.specs.Groups.{tree_in};
 ghost use Rattle.pulse_machine.specs.Groups.{HasGroup, stretch, overlaid};
 

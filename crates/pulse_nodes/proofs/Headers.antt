@@ -2,8 +2,8 @@
 use Rattle.std.proofs.Common.{Result, Ok, Err, sym, ◌∙◌, arith}
 use Rattle.std.specs.Prelude.{IfOk}
 use Rattle.node_words.specs.Constructions.{IsShaped}
-use Rattle.node_promises.specs.Headers.{HeadersAreOfMachines}
-use Rattle.node_promises.proofs.Headers.{IsServed, are_of_machines}
+use Rattle.node_words.specs.HeaderPromises.{HeadersAreOfMachines}
+use Rattle.node_words.proofs.SoundHeaders.{IsServed, are_of_machines}
 use Rattle.pulse_plan.specs.Plans.{PulseNumbers, IsAccepted}
 use Rattle.pulse_plan.proofs.Sound.{accepted_are_sound, nodes_are}
 use Rattle.pulse_texts.proofs.Rewritten.{read_is_accepted}

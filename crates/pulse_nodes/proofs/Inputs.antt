@@ -3,9 +3,9 @@ use Rattle.std.proofs.Common.{ℕ, ◌<◌, List, [], ◌∷◌, arith, refl}
 use Rattle.std.specs.Prelude.{codes}
 use Rattle.std.proofs.lemmas.List.Elements.{All-append}
 use Rattle.sync_types.specs.States.{State}
-use Rattle.node_runs.specs.Bytes.{AreBytes}
-use Rattle.node_promises.proofs.InputTexts.{AreWritten}
-use Rattle.node_promises.proofs.TextBytes.{word, count, pieces_bytes, node_part}
+use Rattle.node_stepper.specs.Bytes.{AreBytes}
+use Rattle.node_words.proofs.InputTexts.{AreWritten}
+use Rattle.node_words.proofs.TextBytes.{word, count, pieces_bytes, node_part}
 use Rattle.node_words.specs.WrittenHeaders.{node_part_in}
 use Rattle.pulse_plan.specs.Plans.{PulseNumbers, IsAccepted}
 use Rattle.pulse_plan.specs.Laws.{AcceptedAreSound}

@@ -4,8 +4,8 @@ use Rattle.std.proofs.Common.{sym, subst, arith}
 use Rattle.state_codec.specs.Shapes.{Fields, fields_at, registers_bits, bits_in}
 use Rattle.state_codec.proofs.RegisterSteps.{registers_bits-cons}
 use Rattle.node_words.proofs.StateDigits.{wide, some_register}
-use Rattle.pulse_construction.specs.Halvings.{Halving, One, Split, halving_height, halved_within}
-use Rattle.pulse_construction.specs.Runs.{all_fields}
+use Rattle.pulse_plan.specs.Halvings.{Halving, One, Split, halving_height, halved_within}
+use Rattle.pulse_plan.specs.Runs.{all_fields}
 use Rattle.pulse_plan.specs.Plans.{PulseNumbers, IsAccepted, tree_of}
 use Rattle.pulse_nodes.specs.PulseShapes.{shape_of}
 use Rattle.pulse_nodes.proofs.Shaped.{fields_are}

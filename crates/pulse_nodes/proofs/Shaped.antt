@@ -7,8 +7,8 @@ use Rattle.state_codec.specs.Shapes.{Fields, IsFields, IsShape, fields_at, shape
 use Rattle.state_codec.specs.Shapes.{no_fields, to_depth}
 use Rattle.state_codec.proofs.Lows.{same_depth}
 use Rattle.machines.specs.Laws.{IsSound}
-use Rattle.pulse_construction.specs.Steps.{halving_depth}
-use Rattle.pulse_construction.specs.Runs.{fields_in, all_fields}
+use Rattle.pulse_plan.specs.Steps.{halving_depth}
+use Rattle.pulse_plan.specs.Runs.{fields_in, all_fields}
 use Rattle.pulse_plan.specs.Plans.{PulseNumbers, IsAccepted, tree_of}
 use Rattle.pulse_plan.specs.Laws.{machine_in}
 use Rattle.pulse_plan.proofs.Sound.{accepted_are_sound}

@@ -4,11 +4,11 @@ use Rattle.std.proofs.Common.{get_or, sym, ap, ◌∙◌, subst, inl, inr}
 use Rattle.std.proofs.Common.{arith}
 use Rattle.std.specs.Prelude.{nat_lt, if◌then◌else◌}
 use Rattle.std.proofs.lemmas.Bool.{cases_lt, lt-ltb, le-ltb}
-use Rattle.pulse_construction.specs.Halves.{faults_of, left_period, right_period}
-use Rattle.pulse_construction.specs.Halvings.{Halving, One, Split, halving_nodes, halving_height}
-use Rattle.pulse_construction.specs.Halvings.{halves_of}
-use Rattle.pulse_construction.specs.Steps.{halving_depth}
-use Rattle.pulse_construction.specs.Runs.{Fields, fields_in}
+use Rattle.pulse_plan.specs.Halves.{faults_of, left_period, right_period}
+use Rattle.pulse_plan.specs.Halvings.{Halving, One, Split, halving_nodes, halving_height}
+use Rattle.pulse_plan.specs.Halvings.{halves_of}
+use Rattle.pulse_plan.specs.Steps.{halving_depth}
+use Rattle.pulse_plan.specs.Runs.{Fields, fields_in}
 use Rattle.pulse_plan.proofs.GroupFields.{with_level, no_fields}
 
 -- a node that has each register

@@ -2,17 +2,17 @@
 use Rattle.std.specs.Prelude.{ℕ, List}
 use Rattle.machines.specs.Machines.{IsBorne}
 use Rattle.machines.specs.Laws.{IsSound}
-use Rattle.node_runs.specs.NodeRuns.{SomeIsCorrect}
-use Rattle.node_runs.specs.Missed.{OthersAreMissed}
-use Rattle.node_promises.specs.Calls.{Call, IsOfNode, CallsWriteTexts}
-use Rattle.node_promises.specs.CallWindows.{ConnectedCallsCount, HeardCallsStayLocked}
-use Rattle.node_promises.specs.Restarts.{RestartedNodesCount}
-use Rattle.node_promises.specs.Processes.{CallsAreProcesses}
-use Rattle.node_promises.specs.Inputs.{AnyInputsConnect}
-use Rattle.node_promises.specs.RestartInputs.{AnyInputsRestart}
-use Rattle.node_promises.specs.ResumedInputs.{AnyInputsResume}
-use Rattle.node_promises.specs.LossyInputs.{AnyInputsLose}
-use Rattle.node_promises.specs.Skips.{HeaderSkipsAreUnseen}
+use Rattle.node_stepper.specs.NodeRuns.{SomeIsCorrect}
+use Rattle.node_stepper.specs.Missed.{OthersAreMissed}
+use Rattle.node_words.specs.Calls.{Call, IsOfNode, CallsWriteTexts}
+use Rattle.node_words.specs.CallWindows.{ConnectedCallsCount, HeardCallsStayLocked}
+use Rattle.node_words.specs.Restarts.{RestartedNodesCount}
+use Rattle.node_words.specs.Processes.{CallsAreProcesses}
+use Rattle.node_words.specs.Inputs.{AnyInputsConnect}
+use Rattle.node_words.specs.RestartInputs.{AnyInputsRestart}
+use Rattle.node_words.specs.ResumedInputs.{AnyInputsResume}
+use Rattle.node_words.specs.LossyInputs.{AnyInputsLose}
+use Rattle.node_words.specs.Skips.{HeaderSkipsAreUnseen}
 use Rattle.pulse_plan.specs.Plans.{PulseNumbers, IsAccepted}
 use Rattle.pulse_plan.specs.Laws.{machine_in}
 use Rattle.pulse_nodes.specs.PulseWords.{pulse_words}

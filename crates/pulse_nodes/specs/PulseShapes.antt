@@ -3,8 +3,8 @@ use Rattle.std.specs.Prelude.{map}
 use Rattle.std.specs.List.{range_with_len}
 use Rattle.state_codec.specs.Shapes.{Shape}
 use Rattle.node_words.specs.HeaderParts.{PlanPart}
-use Rattle.pulse_construction.specs.Steps.{halving_depth}
-use Rattle.pulse_construction.specs.Runs.{all_fields}
+use Rattle.pulse_plan.specs.Steps.{halving_depth}
+use Rattle.pulse_plan.specs.Runs.{all_fields}
 use Rattle.pulse_plan.specs.Plans.{PulseNumbers, tree_of}
 use Rattle.pulse_texts.specs.declared.premises.LinePremise.{LinePremise}
 use Rattle.pulse_texts.specs.declared.premises.LinePremise.TheVariants.{Form}

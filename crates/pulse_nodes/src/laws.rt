@@ -7,7 +7,7 @@ ghost use Rattle.pulse_nodes.specs.NodePromises.{AnyPulseInputsRestart, AnyPulse
 ghost use Rattle.pulse_nodes.specs.NodePromises.{AnyPulseInputs};
 
 use crate::header_laws::header_texts_read_back;
-use node_runs::laws::others_are_missed;
+use node_stepper::run_laws::others_are_missed;
 use pulse_plan::laws::accepted_are_sound;
 
 /// N calls, one for each node of a pulse plan, of which few are faulty. For a window of rounds each

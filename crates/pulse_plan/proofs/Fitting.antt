@@ -1,6 +1,6 @@
 -- A half lies in its group.
 use Rattle.std.proofs.Common.{ℕ, ◌+◌, ◌-◌, ◌*◌, ◌/◌, ◌<◌, ◌≤◌, refl, ap, arith}
-use Rattle.pulse_construction.specs.Halvings.{halving_height, halving_of}
+use Rattle.pulse_plan.specs.Halvings.{halving_height, halving_of}
 use Rattle.pulse_plan.specs.Groups.{PulseGroup, IsGroup, IsHalf, left_of, right_of, registers_end}
 use Rattle.pulse_plan.proofs.Halves.{half_tree}
 use Rattle.pulse_plan.proofs.Trees.{height_of, taller}

@@ -2,9 +2,9 @@
 use Rattle.std.proofs.Common.{◌≡◌, ℕ, zero, suc, ◌+◌, ◌-◌, ◌*◌, ◌/◌, ◌<◌, ◌≤◌, Bool, true, false}
 use Rattle.std.proofs.Common.{List, [], ◌∷◌, Option, Some, None, refl, sym, ap, ap₂, ◌∙◌, arith}
 use Rattle.std.specs.Prelude.{nat_lt, if◌then◌else◌, slice_get}
-use Rattle.pulse_construction.specs.Halves.{faults_of, instructions, left_period, right_period}
-use Rattle.pulse_construction.specs.Halvings.{Halving, halving_nodes, halving_of, halves_of}
-use Rattle.pulse_construction.specs.Runs.{Fields, fields_in}
+use Rattle.pulse_plan.specs.Halves.{faults_of, instructions, left_period, right_period}
+use Rattle.pulse_plan.specs.Halvings.{Halving, halving_nodes, halving_of, halves_of}
+use Rattle.pulse_plan.specs.Runs.{Fields, fields_in}
 use Rattle.pulse_plan.specs.Groups.{PulseGroup, IsGroup, left_of, right_of, half_in}
 use Rattle.pulse_plan.specs.Fields.{fields_by}
 use Rattle.pulse_plan.proofs.Trees.{split_of, nodes_of_half}

@@ -1,7 +1,7 @@
 -- The bits of a group are those of its level and the most that a half has.
 use Rattle.std.proofs.Common.{◌≡◌, ℕ, ◌+◌, ◌-◌, ◌*◌, ◌/◌, ◌<◌, max, sym, ap, ap₂, ◌∙◌}
-use Rattle.pulse_construction.specs.Halves.{faults_of, left_period, right_period}
-use Rattle.pulse_construction.specs.Halvings.{Halving, halves_of}
+use Rattle.pulse_plan.specs.Halves.{faults_of, left_period, right_period}
+use Rattle.pulse_plan.specs.Halvings.{Halving, halves_of}
 use Rattle.pulse_plan.specs.Groups.{PulseGroup, IsGroup, tree_in, left_of, right_of}
 use Rattle.pulse_plan.proofs.Trees.{split_of}
 use Rattle.pulse_plan.proofs.Halves.{left_tree, right_tree, half_tree, both_faults, halves_are}

@@ -2,9 +2,9 @@
 use Rattle.std.proofs.Common.{◌≡◌, ℕ, ◌+◌, ◌-◌, ◌*◌, ◌/◌, ◌<◌, ◌≤◌, sym, ap, ◌∙◌, ⊎_elim, arith}
 use Rattle.std.specs.Prelude.{nat_lt}
 use Rattle.std.proofs.lemmas.Bool.{cases_lt, lt-ltb, le-ltb}
-use Rattle.pulse_construction.specs.Halvings.{Halving, halving_nodes, halving_faults, halving_of}
-use Rattle.pulse_construction.specs.Halvings.{halves_of}
-use Rattle.pulse_construction.proofs.Numbers.{faults_of_halving}
+use Rattle.pulse_plan.specs.Halvings.{Halving, halving_nodes, halving_faults, halving_of}
+use Rattle.pulse_plan.specs.Halvings.{halves_of}
+use Rattle.pulse_plan.proofs.Numbers.{faults_of_halving}
 use Rattle.pulse_plan.specs.Groups.{PulseGroup, IsGroup, sizes_of}
 use Rattle.pulse_plan.proofs.Trees.{nodes_of_half}
 

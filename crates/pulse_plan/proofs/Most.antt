@@ -6,13 +6,13 @@ use Rattle.std.specs.Prelude.{nat_lt, if◌then◌else◌, sum_by}
 use Rattle.std.proofs.lemmas.Bool.{cases_lt, lt-ltb, le-ltb, ltb-true, ltb-false}
 use Rattle.std.proofs.lemmas.List.Sums.{sum_by-cons}
 use Rattle.construction.specs.Widths.{width}
-use Rattle.pulse_construction.specs.Halves.{faults_of, instructions, left_period, right_period}
-use Rattle.pulse_construction.specs.Halvings.{Halving, One, Split, halving_nodes, halving_of}
-use Rattle.pulse_construction.specs.Halvings.{halves_of}
-use Rattle.pulse_construction.specs.Runs.{Fields, fields_in}
+use Rattle.pulse_plan.specs.Halves.{faults_of, instructions, left_period, right_period}
+use Rattle.pulse_plan.specs.Halvings.{Halving, One, Split, halving_nodes, halving_of}
+use Rattle.pulse_plan.specs.Halvings.{halves_of}
+use Rattle.pulse_plan.specs.Runs.{Fields, fields_in}
 use Rattle.pulse_plan.specs.Plans.{PulseNumbers, IsAccepted, tree_of}
 use Rattle.pulse_plan.proofs.GroupFields.{with_level, no_fields}
-use Rattle.pulse_construction.proofs.Numbers.{nodes_of_halving}
+use Rattle.pulse_plan.proofs.Numbers.{nodes_of_halving}
 use Rattle.pulse_plan.specs.Sizes.{register_bits, fields_bits, level_bits, most_bits, IsMost}
 use Rattle.pulse_plan.specs.Sizes.{BitsAreMost}
 

@@ -1,7 +1,7 @@
 -- The machine of an accepted plan is sound.
 use Rattle.std.proofs.Common.{◌≡◌, ◌<◌, ◌≤◌, arith}
-use Rattle.pulse_construction.specs.Halvings.{halving_nodes}
-use Rattle.pulse_construction.proofs.Sound.{machines_are_sound}
+use Rattle.pulse_plan.specs.Halvings.{halving_nodes}
+use Rattle.pulse_plan.proofs.TreeSound.{machines_are_sound}
 use Rattle.pulse_plan.specs.Plans.{PulseNumbers, IsAccepted, tree_of}
 use Rattle.pulse_plan.specs.Laws.{AcceptedAreSound}
 use Rattle.pulse_plan.proofs.Trees.{nodes_of_tree}

@@ -2,11 +2,11 @@
 use Rattle.std.proofs.Common.{◌≡◌, ℕ, zero, suc, ◌+◌, ◌-◌, ◌*◌, ◌/◌, ◌<◌, ◌≤◌, max, refl, ap, ap₂}
 use Rattle.std.proofs.Common.{◌∙◌, arith}
 use Rattle.std.proofs.Math.Nat.{max-le}
-use Rattle.pulse_construction.specs.Halves.{left_period, right_period}
-use Rattle.pulse_construction.specs.Halvings.{Split, halving_nodes, halving_faults}
-use Rattle.pulse_construction.specs.Halvings.{halving_height, halving_bound, bound_over}
-use Rattle.pulse_construction.specs.Halvings.{halved_within, halving_of}
-use Rattle.pulse_construction.proofs.Numbers.{faults_of_halving, nodes_of_halving}
+use Rattle.pulse_plan.specs.Halves.{left_period, right_period}
+use Rattle.pulse_plan.specs.Halvings.{Split, halving_nodes, halving_faults}
+use Rattle.pulse_plan.specs.Halvings.{halving_height, halving_bound, bound_over}
+use Rattle.pulse_plan.specs.Halvings.{halved_within, halving_of}
+use Rattle.pulse_plan.proofs.Numbers.{faults_of_halving, nodes_of_halving}
 
 -- each height that is enough gives the same tree
 pub same_within : (h k f spares : ℕ) → f ≤ h → f ≤ k

@@ -9,10 +9,10 @@ use Rattle.std.proofs.lemmas.List.Sums.{sum_by-cons, sum_by-append}
 use Rattle.construction.specs.Widths.{width}
 use Rattle.state_codec.specs.Shapes.{registers_bits}
 use Rattle.state_codec.specs.Shapes as codec
-use Rattle.pulse_construction.specs.Halvings.{Halving}
-use Rattle.pulse_construction.specs.Steps.{halving_depth}
-use Rattle.pulse_construction.specs.Runs.{Fields, fields_in}
-use Rattle.pulse_construction.proofs.Ranges.{positive_fields}
+use Rattle.pulse_plan.specs.Halvings.{Halving}
+use Rattle.pulse_plan.specs.Steps.{halving_depth}
+use Rattle.pulse_plan.specs.Runs.{Fields, fields_in}
+use Rattle.pulse_plan.proofs.Ranges.{positive_fields}
 use Rattle.pulse_plan.specs.Plans.{tree_of}
 use Rattle.pulse_plan.specs.Sizes.{register_bits, BitsAreWritten}
 

@@ -1,6 +1,6 @@
 -- The fields that a node has in a group, and in a plan.
 use Rattle.std.specs.Prelude.{ℕ, ◌-◌}
-use Rattle.pulse_construction.specs.Runs.{Fields, fields_in}
+use Rattle.pulse_plan.specs.Runs.{Fields, fields_in}
 use Rattle.pulse_plan.specs.Groups.{PulseGroup, tree_in}
 use Rattle.pulse_plan.specs.Plans.{PulseNumbers, tree_of}
 

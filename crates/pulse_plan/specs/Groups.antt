@@ -2,9 +2,9 @@
 -- halves.
 use Rattle.std.specs.Prelude.{◌≡◌, ℕ, ◌+◌, ◌-◌, ◌*◌, ◌/◌, ◌^◌, ◌<◌, ◌≤◌, nat_lt, if◌then◌else◌}
 use Rattle.std.specs.Prelude.{Option, Some, None}
-use Rattle.pulse_construction.specs.Halves.{Halves, left_period, right_period}
-use Rattle.pulse_construction.specs.Halvings.{Halving, halving_of}
-use Rattle.pulse_construction.specs.Steps.{halving_depth}
+use Rattle.pulse_plan.specs.Halves.{Halves, left_period, right_period}
+use Rattle.pulse_plan.specs.Halvings.{Halving, halving_of}
+use Rattle.pulse_plan.specs.Steps.{halving_depth}
 use Rattle.pulse_plan.specs.Plans.{PulseNumbers}
 
 -- its first node, how many nodes there are and how many of them may be faulty, the modulus that

@@ -1,10 +1,10 @@
 -- What a plan promises: it is the machine of its tree, with its numbers, and that settles.
 use Rattle.std.specs.Prelude.{◌≡◌, ℕ, ◌*◌, ◌≤◌}
-use Rattle.pulse_construction.specs.Halvings.{halving_nodes, halving_faults, halving_bound}
-use Rattle.pulse_construction.specs.Halvings.{halving_of}
+use Rattle.pulse_plan.specs.Halvings.{halving_nodes, halving_faults, halving_bound}
+use Rattle.pulse_plan.specs.Halvings.{halving_of}
 use Rattle.machines.specs.Machines.{Machine, Settles}
 use Rattle.machines.specs.Laws.{IsSound}
-use Rattle.pulse_construction.specs.Runs.{machine_of}
+use Rattle.pulse_plan.specs.Runs.{machine_of}
 use Rattle.pulse_plan.specs.Plans.{PulseNumbers, tree_of, IsAccepted}
 
 -- the machine that a plan is

@@ -1,3 +1,12 @@
+pub mod Halvings
+pub mod Registers
+pub mod Steps
+pub mod Runs
+pub mod Halves
+pub mod LevelStates
+pub mod Hearing
+pub mod Level
+pub mod TreeLaws
 pub mod Plans
 pub mod Groups
 pub mod Fields

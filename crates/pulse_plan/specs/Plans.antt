@@ -2,7 +2,7 @@
 use Rattle.std.specs.Prelude.{◌≡◌, ℕ, ◌+◌, ◌-◌, ◌*◌, ◌^◌, ◌<◌, ◌≤◌, ◌||◌, ◌&&◌, nat_lt, nat_le}
 use Rattle.std.specs.Prelude.{nat_eq}
 use Rattle.std.specs.Prelude.{if◌then◌else◌, Option, Some, None, Result, Ok, Err}
-use Rattle.pulse_construction.specs.Halvings.{Halving, halving_of}
+use Rattle.pulse_plan.specs.Halvings.{Halving, halving_of}
 use Rattle.pulse_plan.specs.declared.premises.PulsePremise.{PulsePremise}
 use Rattle.pulse_plan.specs.declared.premises.PulsePremise.TheVariants.{Limit, Modulus, Quorum}
 use Rattle.pulse_plan.specs.declared.premises.PulsePremise.TheVariants.{Single}

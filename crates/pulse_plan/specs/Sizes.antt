@@ -3,9 +3,9 @@ use Rattle.std.specs.Prelude.{◌≡◌, ℕ, ◌+◌, ◌<◌, ◌≤◌, max, 
 use Rattle.std.specs.Int.{div_ceil}
 use Rattle.construction.specs.Widths.{width}
 use Rattle.state_codec.specs.Shapes.{bits_in}
-use Rattle.pulse_construction.specs.Halves.{faults_of, instructions, left_period, right_period}
-use Rattle.pulse_construction.specs.Halvings.{Halving, One, Split, halving_height, halves_of}
-use Rattle.pulse_construction.specs.Runs.{Fields}
+use Rattle.pulse_plan.specs.Halves.{faults_of, instructions, left_period, right_period}
+use Rattle.pulse_plan.specs.Halvings.{Halving, One, Split, halving_height, halves_of}
+use Rattle.pulse_plan.specs.Runs.{Fields}
 use Rattle.pulse_plan.specs.Plans.{PulseNumbers, IsAccepted, tree_of}
 use Rattle.pulse_plan.specs.Fields.{fields_of}
 use Rattle.pulse_plan.specs.Laws.{machine_in}

@@ -1,6 +1,6 @@
 ghost use Rattle.std.specs.Prelude.{◌≡◌, ℕ, ◌*◌, ◌≤◌};
-ghost use Rattle.pulse_construction.specs.Halvings.{halving_of, halving_bound};
-ghost use Rattle.pulse_construction.specs.Steps.{halving_depth};
+ghost use Rattle.pulse_plan.specs.Halvings.{halving_of, halving_bound};
+ghost use Rattle.pulse_plan.specs.Steps.{halving_depth};
 
 /// From which round on the tree of so many faults counts. It goes down both halves, in two calls
 /// for each fault.

@@ -1,5 +1,5 @@
 ghost use Rattle.std.specs.Prelude.{◌≡◌, ◌+◌, ◌*◌, ◌/◌, ◌≤◌, ◌<◌, IfSome};
-ghost use Rattle.pulse_construction.specs.Halves.{instructions, left_period, right_period};
+ghost use Rattle.pulse_plan.specs.Halves.{instructions, left_period, right_period};
 ghost use Rattle.pulse_plan.specs.Groups.{PulseGroup, IsGroup, IsHalf, left_of, right_of, half_in};
 
 use std::marker::Model;

@@ -8,9 +8,11 @@
 
 mod bits;
 mod bounds;
+pub mod construction_laws;
 mod fields;
 mod groups;
 pub mod laws;
+pub mod level_laws;
 mod plans;
 mod premises;
 mod size_laws;

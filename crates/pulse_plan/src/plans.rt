@@ -1,6 +1,6 @@
 ghost use Rattle.std.specs.Prelude.{◌≡◌, ◌≤◌, ◌<◌, slice_get};
-ghost use Rattle.pulse_construction.specs.Halvings.{halving_bound};
-ghost use Rattle.pulse_construction.specs.Steps.{halving_depth};
+ghost use Rattle.pulse_plan.specs.Halvings.{halving_bound};
+ghost use Rattle.pulse_plan.specs.Steps.{halving_depth};
 ghost use Rattle.pulse_plan.specs.Plans.{PulseNumbers, IsAccepted, tree_of, first_premise, unless};
 ghost use Rattle.pulse_plan.specs.Fields.{fields_of};
 ghost use Rattle.pulse_plan.specs.Groups.{whole_of};

@@ -12,8 +12,8 @@ use Rattle.machine_runner.proofs.ReadFor.{readers_fit}
 use Rattle.slot_table.specs.declared.lines.SlotLine.{SlotLine}
 use Rattle.slot_table.specs.SlotPart.{part_for, IsTable}
 use Rattle.slot_table.proofs.FitLines.{tables_fit}
-use Rattle.pulse_construction.specs.Halvings.{halving_faults}
-use Rattle.pulse_construction.proofs.Numbers.{faults_of_halving}
+use Rattle.pulse_plan.specs.Halvings.{halving_faults}
+use Rattle.pulse_plan.proofs.Numbers.{faults_of_halving}
 use Rattle.pulse_plan.specs.Plans.{PulseNumbers, IsAccepted, tree_of}
 use Rattle.pulse_plan.specs.Laws.{machine_in}
 use Rattle.pulse_plan.proofs.Sound.{nodes_are}

@@ -2,8 +2,8 @@
 use Rattle.std.specs.Prelude.{ℕ, zero, suc, ◌-◌, List, [], ◌∷◌, ◌++◌, ◌==◌, if◌then◌else◌, codes}
 use Rattle.std.specs.Prelude.{decimal}
 use Rattle.std.specs.List.{concat}
-use Rattle.pulse_construction.specs.Halves.{left_period, right_period}
-use Rattle.pulse_construction.specs.Halvings.{halving_bound}
+use Rattle.pulse_plan.specs.Halves.{left_period, right_period}
+use Rattle.pulse_plan.specs.Halvings.{halving_bound}
 use Rattle.pulse_plan.specs.Plans.{PulseNumbers, tree_of}
 use Rattle.pulse_plan.specs.Groups.{PulseGroup, left_of, right_of, whole_of}
 use Rattle.pulse_plan.specs.Sizes.{state_bits, state_bytes, levels_of}

@@ -1,8 +1,8 @@
 -- What was counted of what is heard is the part of the line that is defined.
 use Rattle.std.proofs.Common.{◌≡◌, ℕ, ◌<◌, List, Option, sym, ap, ap₂, ◌∙◌}
 use Rattle.counting.specs.Values.{count_of, least_above}
-use Rattle.pulse_construction.specs.Halves.{faults_of}
-use Rattle.pulse_construction.specs.LevelStates.{LevelState, says_left, says_right, values_of}
+use Rattle.pulse_plan.specs.Halves.{faults_of}
+use Rattle.pulse_plan.specs.LevelStates.{LevelState, says_left, says_right, values_of}
 use Rattle.pulse_plan.specs.Groups.{PulseGroup, sizes_of}
 use Rattle.pulse_plan.proofs.Halves.{both_faults}
 use Rattle.pulse_traces.specs.declared.counted.Said.{Said}

@@ -1,7 +1,7 @@
 -- What is written of what a node counts of a group of so many nodes, which tolerates f faults.
 use Rattle.std.specs.Prelude.{ℕ, List, [], ◌∷◌, Bool, true, false, codes, decimal}
 use Rattle.std.specs.List.{concat}
-use Rattle.pulse_construction.specs.LevelStates.{LevelState, echoed, backed}
+use Rattle.pulse_plan.specs.LevelStates.{LevelState, echoed, backed}
 use Rattle.pulse_machine.specs.LevelStates.{left_fires, right_fires}
 use Rattle.trace_words.specs.Words.{number_or_none}
 use Rattle.pulse_traces.specs.declared.counted.Said.{Said}

@@ -6,10 +6,10 @@ use Rattle.counting.specs.Values.{count_of, least_above}
 use Rattle.sync_types.specs.States.{State}
 use Rattle.sync_types.specs.declared.states.Reg.{Reg}
 use Rattle.construction.specs.Steps.{state_of}
-use Rattle.pulse_construction.specs.Halves.{Halves, faults_of, instructions}
-use Rattle.pulse_construction.specs.LevelStates.{LevelState, says_left, says_right, fires_left}
-use Rattle.pulse_construction.specs.LevelStates.{fires_right}
-use Rattle.pulse_construction.specs.LevelStates.{values_of}
+use Rattle.pulse_plan.specs.Halves.{Halves, faults_of, instructions}
+use Rattle.pulse_plan.specs.LevelStates.{LevelState, says_left, says_right, fires_left}
+use Rattle.pulse_plan.specs.LevelStates.{fires_right}
+use Rattle.pulse_plan.specs.LevelStates.{values_of}
 use Rattle.pulse_plan.specs.Groups.{PulseGroup, sizes_of}
 use Rattle.pulse_machine.specs.Hearing.{level_state_in, level_states_in}
 use Rattle.trace_words.specs.declared.headings.Heading.{Heading}

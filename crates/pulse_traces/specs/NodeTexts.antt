@@ -7,7 +7,7 @@ use Rattle.construction.specs.Steps.{state_of}
 use Rattle.adversary_script.specs.Scripts.{Script}
 use Rattle.adversary_script.specs.Eras.{faulty_at}
 use Rattle.machine_runner.specs.Played.{heard_at}
-use Rattle.pulse_construction.specs.Steps.{shown_in}
+use Rattle.pulse_plan.specs.Steps.{shown_in}
 use Rattle.pulse_plan.specs.Fields.{fields_of}
 use Rattle.pulse_plan.specs.Groups.{PulseGroup, whole_of}
 use Rattle.pulse_plan.specs.Plans.{PulseNumbers, tree_of}

@@ -3,8 +3,8 @@
 ghost use Rattle.std.specs.Prelude.{◌≡◌, ◌+◌, ◌≤◌, ◌<◌, length, All};
 ghost use Rattle.counting.specs.Values.{count_of, least_above};
 ghost use Rattle.texts.specs.Growth.{Puts};
-ghost use Rattle.pulse_construction.specs.LevelStates.{echoed, backed, says_left, says_right};
-ghost use Rattle.pulse_construction.specs.LevelStates.{values_of};
+ghost use Rattle.pulse_plan.specs.LevelStates.{echoed, backed, says_left, says_right};
+ghost use Rattle.pulse_plan.specs.LevelStates.{values_of};
 ghost use Rattle.pulse_machine.specs.Hearing.{level_states_in};
 ghost use Rattle.pulse_machine.specs.LevelStates.{left_fires, right_fires};
 ghost use Rattle.pulse_traces.specs.Counted.{grade_word, fires_word, counted_part};

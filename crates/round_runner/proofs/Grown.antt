@@ -22,7 +22,7 @@ use Rattle.state_codec.proofs.Plans.{length-moduli_of, all_of_accepted}
 use Rattle.state_codec.proofs.RegisterSteps.{state_is}
 use Rattle.shared_board.specs.Groups.{Group, groups_of, nodes_in}
 use Rattle.shared_board.proofs.Places.{groups_within, groups_low}
-use Rattle.shared_board.proofs.Stretches.{same_range}
+use Rattle.shared_board.proofs.GroupStretches.{same_range}
 use Rattle.counter_core.specs.Meanings.{cut}
 use Rattle.plan_laws.proofs.Ranges.{state_of-cut}
 use Rattle.tower.specs.Settled.{IsSettledGroup, IsSettled}

@@ -18,7 +18,7 @@ use Rattle.plan_laws.specs.PlanMeaning.{plan_meaning}
 use Rattle.counter_core.specs.NoLayers.{no_layer}
 use Rattle.state_codec.specs.Shapes.{Shape, moduli_of, shape_over, shape_of, shape_with}
 use Rattle.state_codec.specs.Shapes.{fields_at}
-use Rattle.shared_board.proofs.Stretches.{same_range}
+use Rattle.shared_board.proofs.GroupStretches.{same_range}
 use Rattle.tower.specs.Settled.{IsSettled}
 use Rattle.layer_laws.specs.Scenes.{Scene}
 use Rattle.adversary_script.specs.Scripts.{Script, IsScript}

@@ -32,7 +32,7 @@ use Rattle.shared_board.proofs.Descent.{group_top, group_under, step_register, s
 use Rattle.shared_board.proofs.Descent.{step_number, step_numberless, length-step_at}
 use Rattle.shared_board.proofs.Nested.{group_within}
 use Rattle.shared_board.proofs.Places.{group_stands, group_has, index_less, length-groups_of}
-use Rattle.shared_board.proofs.Stretches.{stretch_of_range, same_range}
+use Rattle.shared_board.proofs.GroupStretches.{stretch_of_range, same_range}
 use Rattle.tower.specs.Settled.{IsSettledGroup, IsSettled}
 use Rattle.adversary_script.specs.Lies.{shifted_register, shifted}
 

@@ -7,9 +7,9 @@ use Rattle.sync_types.specs.States.{State, zero_state}
 use Rattle.construction.specs.Plans.{Plan, plan_nodes, plan_depth}
 use Rattle.construction.specs.Runs.{is_in, heard_by}
 use Rattle.construction.specs.Steps.{step_of}
-use Rattle.run_certificates.specs.Grammar.{pairs_of}
-use Rattle.run_certificates.specs.Stated.{Told, told_of, lies_table, stepped}
-use Rattle.run_certificates.specs.Checking.{attributed}
+use Rattle.run_checker.specs.Grammar.{pairs_of}
+use Rattle.run_checker.specs.Stated.{Told, told_of, lies_table, stepped}
+use Rattle.run_checker.specs.Checking.{attributed}
 use Rattle.run_checker.specs.Rounds.{told_for, told_table, stepped_all}
 
 same_map : {X Y : Type 0} (f g : X → Y) → ((x : X) → f x ≡ g x) → (xs : List X)

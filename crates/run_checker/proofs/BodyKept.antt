@@ -7,7 +7,7 @@ use Rattle.std.proofs.lemmas.List.{length-replicate}
 use Rattle.std.proofs.lemmas.List.Elements.{All-push, All-nil, All-cons, All-head, All-tail}
 use Rattle.sync_types.specs.States.{State, zero_state, zero_register}
 use Rattle.sync_types.specs.FaultSets.{FaultIds, is_in}
-use Rattle.run_certificates.specs.Grammar.{pairs_of}
+use Rattle.run_checker.specs.Grammar.{pairs_of}
 use Rattle.construction.specs.Plans.{Plan, plan_nodes, plan_depth}
 use Rattle.plan_numbers.specs.Premises.{IsAccepted}
 use Rattle.plan_laws.specs.PlanMeaning.{IsInRange}
@@ -21,8 +21,8 @@ use Rattle.state_codec.proofs.Ranged.{read_is_in_range}
 use Rattle.state_codec.proofs.Lows.{fields_limited}
 use Rattle.state_codec.proofs.Plans.{shape_of_accepted, nodes_of_shape, depth_of_shape}
 use Rattle.std.specs.Prelude.{nat_lt}
-use Rattle.run_certificates.specs.Checking.{is_next}
-use Rattle.run_certificates.specs.Stated.{unless_faulty}
+use Rattle.run_checker.specs.Checking.{is_next}
+use Rattle.run_checker.specs.Stated.{unless_faulty}
 use Rattle.run_checker.specs.Tellings.{Telling, AddsState}
 use Rattle.std.specs.List.{flat_map}
 use Rattle.std.proofs.lemmas.Bool.{and_parts, eqb-true, ltb-true, lt-ltb, le-ltb, ne_eqb}

@@ -6,11 +6,11 @@ use Rattle.edge_io.specs.declared.taking.TakeError.TheVariants as take
 use Rattle.edge_io.specs.Taking.{Takes}
 use Rattle.texts.specs.Parts.{goes, ends, refuses}
 use Rattle.construction.specs.Plans.{plan_nodes, plan_faults, plan_depth}
-use Rattle.run_certificates.specs.Items.{row_item, era_item, era_by, row_by}
-use Rattle.run_certificates.specs.Checking.{Stage, Onward, putting, telling, refused, step, step_by}
-use Rattle.run_certificates.specs.Checking.{compared, renewed, is_borne, is_row, era_fits, row_fits}
+use Rattle.run_checker.specs.Items.{row_item, era_item, era_by, row_by}
+use Rattle.run_checker.specs.Checking.{Stage, Onward, putting, telling, refused, step, step_by}
+use Rattle.run_checker.specs.Checking.{compared, renewed, is_borne, is_row, era_fits, row_fits}
 use Rattle.run_checker.specs.Bodies.{BodySeen, stage_of}
-use Rattle.run_certificates.specs.Stated.{same_rows, shown_row}
+use Rattle.run_checker.specs.Stated.{same_rows, shown_row}
 use Rattle.run_checker.specs.Sets.{borne_ids}
 use Rattle.run_checker.specs.Rows.{row_compared}
 use Rattle.run_checker.specs.declared.check_lines.Phase.{Phase}

@@ -10,7 +10,7 @@ use Rattle.texts.specs.Growth.{Told, Wrote, Cut, Puts}
 use Rattle.texts.proofs.Growth.{wrote_none, cut_more, puts_then}
 use Rattle.adversary_script.specs.Eras.{faulty_at}
 use Rattle.round_runner.specs.Beginnings.{BeginsAt}
-use Rattle.run_certificates.specs.Recorded.{era_at}
+use Rattle.run_checker.specs.Recorded.{era_at}
 use Rattle.run_checker.specs.RunLines.{era_text, starts_text, era_lines}
 
 abbrev first_is : ℕ → Era → Bool

@@ -18,7 +18,7 @@ use Rattle.round_runner.specs.Locks.{correct_nodes}
 use Rattle.round_runner.proofs.Heard.{is_among}
 use Rattle.round_runner.proofs.Own.{same_place}
 use Rattle.round_runner.proofs.Places.{within, all_places}
-use Rattle.run_certificates.specs.Grammar.{pairs_of}
+use Rattle.run_checker.specs.Grammar.{pairs_of}
 use Rattle.run_checker.specs.Rounds.{told_for, AreStates}
 use Rattle.run_checker.specs.Hearing.{heard_from, Lays, LaysHeard}
 use Rattle.run_checker.proofs.ToldPlaces.{told_at, none_told, length-pairs_of}

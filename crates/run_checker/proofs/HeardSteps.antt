@@ -18,7 +18,7 @@ use Rattle.shared_board.specs.Sharing as sharing
 use Rattle.round_runner.proofs.Counted.{HangsOn}
 use Rattle.round_runner.proofs.Heard.{heard_is}
 use Rattle.round_runner.proofs.Told.{stands_at, step_cut}
-use Rattle.run_certificates.specs.Grammar.{pairs_of}
+use Rattle.run_checker.specs.Grammar.{pairs_of}
 use Rattle.run_checker.specs.Rounds.{told_for, stepped_at}
 use Rattle.run_checker.specs.Hearing.{heard_from, LaysHeard}
 

@@ -10,10 +10,10 @@ use Rattle.construction.specs.Shown.{shown}
 use Rattle.construction.specs.Steps.{state_of}
 use Rattle.construction.specs.Runs.{is_in}
 use Rattle.texts.specs.Words.{joined, ended}
-use Rattle.run_certificates.specs.Items.{Item, run_item, base_item, level_item, faulty_item}
-use Rattle.run_certificates.specs.Items.{start_item, row_item, lie_item, era_item, row_word}
-use Rattle.run_certificates.specs.Items.{item_line}
-use Rattle.run_certificates.specs.Certificates.{level_of}
+use Rattle.run_checker.specs.Items.{Item, run_item, base_item, level_item, faulty_item}
+use Rattle.run_checker.specs.Items.{start_item, row_item, lie_item, era_item, row_word}
+use Rattle.run_checker.specs.Items.{item_line}
+use Rattle.run_checker.specs.Certificates.{level_of}
 use Rattle.run_checker.specs.RunLines.{number_word, version_line, base_line, level_line, node_word}
 use Rattle.run_checker.specs.RunLines.{row_text, faulty_text, era_text}
 

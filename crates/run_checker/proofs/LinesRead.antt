@@ -11,8 +11,8 @@ use Rattle.edge_io.specs.declared.feed.Feed.{Feed}
 use Rattle.edge_io.specs.Feeds.{feed_left}
 use Rattle.edge_io.proofs.EndedLines.{short_step, goes_on}
 use Rattle.edge_io.proofs.Standing.{Standing}
-use Rattle.run_certificates.specs.Items.{item_of}
-use Rattle.run_certificates.specs.Checking.{Stage, Onward, step_by, line_step}
+use Rattle.run_checker.specs.Items.{item_of}
+use Rattle.run_checker.specs.Checking.{Stage, Onward, step_by, line_step}
 use Rattle.run_checker.specs.NextLies.{IsNextRead}
 
 -- the step with the test of a line's length

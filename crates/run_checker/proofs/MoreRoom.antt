@@ -8,8 +8,8 @@ use Rattle.texts.specs.Parts.{Next, goes, ends, refuses, Found, At, part_from}
 use Rattle.texts.specs.Limits.{Limited, by, beyond, line_cost, with_limit, with_rest, behind_lines}
 use Rattle.texts.specs.EndedTexts as texts
 use Rattle.texts.specs.EndedTexts.{with_length, then_alone}
-use Rattle.run_certificates.specs.declared.Verdict.{Verdict}
-use Rattle.run_certificates.specs.Checking.{Stage, Onward, unread, line_step}
+use Rattle.run_checker.specs.declared.Verdict.{Verdict}
+use Rattle.run_checker.specs.Checking.{Stage, Onward, unread, line_step}
 use Rattle.run_checker.specs.Checks.{checked_by}
 
 -- a part of lines, and what is left of the limit behind it

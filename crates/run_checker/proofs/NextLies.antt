@@ -12,13 +12,13 @@ use Rattle.construction.specs.Plans.{plan_nodes}
 use Rattle.plan_numbers.specs.Premises.{IsAccepted}
 use Rattle.state_codec.specs.Shapes.{Shape}
 use Rattle.state_codec.specs.Texts.{is_state_text, read_text}
-use Rattle.run_certificates.specs.NodeFields.{fields_of}
-use Rattle.run_certificates.specs.Items.{HasLine, lie_item, item_line, item_words}
-use Rattle.run_certificates.specs.Checking.{Stage, telling, refused, step_by, line_step, has_round}
-use Rattle.run_certificates.specs.Checking.{is_next, lie_fits}
-use Rattle.run_certificates.proofs.Lexical.{item_is_words, said_there}
-use Rattle.run_certificates.proofs.Live.{pairs_are_ids}
-use Rattle.run_certificates.proofs.RecordedLines.{lie_line}
+use Rattle.run_checker.specs.NodeFields.{fields_of}
+use Rattle.run_checker.specs.Items.{HasLine, lie_item, item_line, item_words}
+use Rattle.run_checker.specs.Checking.{Stage, telling, refused, step_by, line_step, has_round}
+use Rattle.run_checker.specs.Checking.{is_next, lie_fits}
+use Rattle.run_checker.proofs.Lexical.{item_is_words, said_there}
+use Rattle.run_checker.proofs.Live.{pairs_are_ids}
+use Rattle.run_checker.proofs.RecordedLines.{lie_line}
 use Rattle.run_checker.specs.Bodies.{BodySeen, stage_of}
 use Rattle.run_checker.specs.Changes.{pairs_in, next_sender, Tells}
 use Rattle.run_checker.specs.Tellings.{Telling, IsTelling}

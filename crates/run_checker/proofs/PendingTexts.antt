@@ -11,10 +11,10 @@ use Rattle.texts.specs.Limits.{Limited}
 use Rattle.texts.specs.Words.{ended, text_of, open_rest}
 use Rattle.texts.proofs.Texts.{whole_text}
 use Rattle.edge_io.specs.EndedReads.{RefusedOnlyAt}
-use Rattle.run_certificates.specs.declared.Verdict.{Verdict}
-use Rattle.run_certificates.specs.Grammar.{AreFirstLines}
-use Rattle.run_certificates.specs.Checking.{checked}
-use Rattle.run_certificates.specs.Laws.{IsAnswer, TextsAreChecked}
+use Rattle.run_checker.specs.declared.Verdict.{Verdict}
+use Rattle.run_checker.specs.Grammar.{AreFirstLines}
+use Rattle.run_checker.specs.Checking.{checked}
+use Rattle.run_checker.specs.Laws.{IsAnswer, TextsAreChecked}
 use Rattle.run_checker.specs.Checks.{Pending, checked_by, unlimited}
 use Rattle.run_checker.proofs.ShortTexts.{certificates_are_short}
 use Rattle.run_checker.proofs.Unlimited.{limits_matter_beyond}

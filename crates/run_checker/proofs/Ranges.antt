@@ -10,7 +10,7 @@ use Rattle.std.proofs.lemmas.List.Elements.{filter-append}
 use Rattle.std.proofs.lemmas.List.Filters.{length-filter_both}
 use Rattle.sync_types.specs.FaultSets.{is_in}
 use Rattle.round_runner.specs.Locks.{correct_nodes}
-use Rattle.run_certificates.specs.Checking.{needs_state}
+use Rattle.run_checker.specs.Checking.{needs_state}
 
 -- one id more
 more_ids : (a n b : ℕ) → a + n ≡ b → range_with_len a (suc n) ≡ range_with_len a n ++ b ∷ []

@@ -18,15 +18,15 @@ use Rattle.adversary_script.specs.Lies.{lie_of}
 use Rattle.texts.specs.Words.{text_of}
 use Rattle.round_runner.specs.Locks.{correct_nodes}
 use Rattle.round_runner.specs.Played.{played_at}
-use Rattle.run_certificates.specs.Items.{Item, item_line, faulty_item, row_item}
-use Rattle.run_certificates.specs.Certificates.{level_of, start_of, era_items}
-use Rattle.run_certificates.specs.Certificates.{turns_items, items_of, certificate_text}
-use Rattle.run_certificates.specs.Certificates as certificates
-use Rattle.run_certificates.specs.Grammar.{pairs_of}
-use Rattle.run_certificates.specs.Stated.{shown_row}
-use Rattle.run_certificates.specs.Recorded.{stand_at, put_at, lie_at, is_put, puts_at, era_with}
-use Rattle.run_certificates.specs.Recorded.{era_at, turn_at, recorded_version, certificate_of}
-use Rattle.run_certificates.proofs.EraBegins.{found_faulty}
+use Rattle.run_checker.specs.Items.{Item, item_line, faulty_item, row_item}
+use Rattle.run_checker.specs.Certificates.{level_of, start_of, era_items}
+use Rattle.run_checker.specs.Certificates.{turns_items, items_of, certificate_text}
+use Rattle.run_checker.specs.Certificates as certificates
+use Rattle.run_checker.specs.Grammar.{pairs_of}
+use Rattle.run_checker.specs.Stated.{shown_row}
+use Rattle.run_checker.specs.Recorded.{stand_at, put_at, lie_at, is_put, puts_at, era_with}
+use Rattle.run_checker.specs.Recorded.{era_at, turn_at, recorded_version, certificate_of}
+use Rattle.run_checker.proofs.EraBegins.{found_faulty}
 use Rattle.run_checker.specs.RunLines.{version_line, base_line, level_line, level_lines}
 use Rattle.run_checker.specs.RunLines.{faulty_text, start_text, first_start, first_starts, lie_text}
 use Rattle.run_checker.specs.RunLines.{lie_if, lies_from, lies_text, starts_text, era_text}

@@ -15,8 +15,8 @@ use Rattle.shared_board.specs.Sharing.{place_among}
 use Rattle.shared_board.proofs.Ids.{places_of_all}
 use Rattle.state_codec.specs.Shapes.{Shape, shape_of, fields_at, bits_in, bytes_in}
 use Rattle.round_runner.specs.Locks.{correct_nodes}
-use Rattle.run_certificates.specs.Grammar.{pairs_of}
-use Rattle.run_certificates.proofs.LiveLines.{few_bits}
+use Rattle.run_checker.specs.Grammar.{pairs_of}
+use Rattle.run_checker.proofs.LiveLines.{few_bits}
 use Rattle.run_checker.specs.Tellings.{most_pairs}
 use Rattle.run_checker.proofs.Ranges.{count_one, count_faulty}
 use Rattle.run_checker.proofs.ToldPlaces.{row_of, length-pairs_of}

@@ -18,7 +18,7 @@ use Rattle.state_codec.proofs.Plans.{shape_of_accepted, length-moduli_of}
 use Rattle.state_codec.proofs.PlanStates.{in_range_of_node}
 use Rattle.adversary_script.proofs.LiesInRange.{zero_of_node}
 use Rattle.counter_core.specs.Meanings.{written}
-use Rattle.run_certificates.specs.Grammar.{pairs_of}
+use Rattle.run_checker.specs.Grammar.{pairs_of}
 use Rattle.round_runner.proofs.Places.{all_places, set_has}
 use Rattle.run_checker.specs.declared.rounds.Room.{Room}
 use Rattle.run_checker.specs.Rounds.{stepped_at, stepped_all, state_next, AreStates, IsGathered}

@@ -8,9 +8,9 @@ use Rattle.sync_types.specs.States.{State}
 use Rattle.sync_types.specs.FaultSets.{is_in}
 use Rattle.construction.specs.Shown.{shown}
 use Rattle.construction.specs.Steps.{state_of}
-use Rattle.run_certificates.specs.Items.{value_said, values_said, onto}
-use Rattle.run_certificates.specs.Stated.{same_rows}
-use Rattle.run_certificates.specs.Checking.{same_marks}
+use Rattle.run_checker.specs.Items.{value_said, values_said, onto}
+use Rattle.run_checker.specs.Stated.{same_rows}
+use Rattle.run_checker.specs.Checking.{same_marks}
 use Rattle.run_checker.specs.Rows.{shown_at, compared_from, row_compared, value_compared}
 use Rattle.run_checker.specs.Rows.{word_compared, behind_word, words_compared}
 

@@ -14,7 +14,7 @@ use Rattle.adversary_script.specs.Eras.{faulty_at}
 use Rattle.round_runner.specs.Played.{played_at}
 use Rattle.round_runner.specs.Runners.{Running, Advances}
 use Rattle.round_runner.proofs.Playing.{bare_is_played}
-use Rattle.run_certificates.specs.Recorded.{era_at}
+use Rattle.run_checker.specs.Recorded.{era_at}
 use Rattle.run_checker.specs.RunLines.{first_starts, lies_text, era_lines, row_text, turn_text}
 use Rattle.run_checker.specs.RunLines.{turns_text, head_text, record_text}
 use Rattle.run_checker.specs.Playing.{Plays, IsToRecord, HasPlayedOne}

@@ -19,13 +19,13 @@ use Rattle.plan_numbers.proofs.Accepted.{accepted_sized, accepted_depth}
 use Rattle.state_codec.specs.Shapes.{bits_in, bytes_in}
 use Rattle.state_codec.specs.Texts.{is_state_text}
 use Rattle.round_runner.specs.Locks.{correct_nodes}
-use Rattle.run_certificates.specs.NodeFields.{fields_of}
-use Rattle.run_certificates.specs.Items.{Item, HasLine, item_line, run_item, base_item, faulty_item}
-use Rattle.run_certificates.specs.Items.{row_item}
-use Rattle.run_certificates.specs.Certificates.{Put, Lie, Era, Turn, level_of, start_of, lie_of}
-use Rattle.run_certificates.specs.Certificates.{era_items, turns_items, items_of}
-use Rattle.run_certificates.specs.Grammar.{AreStarts, IsEra, IsTurn, AreTurns, faulty_behind}
-use Rattle.run_certificates.proofs.LiveLines.{few_bits}
+use Rattle.run_checker.specs.NodeFields.{fields_of}
+use Rattle.run_checker.specs.Items.{Item, HasLine, item_line, run_item, base_item, faulty_item}
+use Rattle.run_checker.specs.Items.{row_item}
+use Rattle.run_checker.specs.Certificates.{Put, Lie, Era, Turn, level_of, start_of, lie_of}
+use Rattle.run_checker.specs.Certificates.{era_items, turns_items, items_of}
+use Rattle.run_checker.specs.Grammar.{AreStarts, IsEra, IsTurn, AreTurns, faulty_behind}
+use Rattle.run_checker.proofs.LiveLines.{few_bits}
 use Rattle.run_checker.specs.TrueTexts.{CertificatesAreShort}
 use Rattle.run_checker.proofs.LineTexts.{line_of}
 use Rattle.run_checker.proofs.RecordTexts.{lines, lines_text}

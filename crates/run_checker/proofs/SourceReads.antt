@@ -10,9 +10,9 @@ use Rattle.edge_io.specs.declared.feed.Feed.{Feed}
 use Rattle.edge_io.specs.Feeds.{buffered}
 use Rattle.edge_io.specs.FedParts.{MayFollow}
 use Rattle.edge_io.specs.EndedReads.{WholeText, RefusedText, LongText, LostText, HaltedText}
-use Rattle.run_certificates.specs.declared.Verdict.{Verdict}
-use Rattle.run_certificates.specs.Checking.{unread, line_step, checked}
-use Rattle.run_certificates.proofs.Answers.{texts_checked}
+use Rattle.run_checker.specs.declared.Verdict.{Verdict}
+use Rattle.run_checker.specs.Checking.{unread, line_step, checked}
+use Rattle.run_checker.proofs.Answers.{texts_checked}
 use Rattle.run_checker.specs.Checks.{Pending, ReadAhead, DecidesAtOnce, checked_by, unlimited}
 use Rattle.run_checker.specs.Checks.{IsChecked, IsRefused, IsTooLong, IsLost, IsHalted}
 use Rattle.run_checker.proofs.MoreRoom.{more_room}

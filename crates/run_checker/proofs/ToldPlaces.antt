@@ -10,7 +10,7 @@ use Rattle.std.proofs.lemmas.List.Elements.{filter-append}
 use Rattle.sync_types.specs.States.{State, zero_state}
 use Rattle.sync_types.specs.FaultSets.{is_in}
 use Rattle.round_runner.specs.Locks.{correct_nodes}
-use Rattle.run_certificates.specs.Grammar.{pairs_of}
+use Rattle.run_checker.specs.Grammar.{pairs_of}
 use Rattle.run_checker.specs.Rounds.{told_for}
 
 -- ---- numbers in a row

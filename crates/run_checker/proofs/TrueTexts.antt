@@ -1,12 +1,12 @@
 -- Texts that are checked true, and the texts of certificates and of what is recorded.
 use Rattle.std.proofs.Common.{◌≡◌, ℕ, ◌+◌, length, Option, Some, None, Ok, refl, sym, ap, subst}
 use Rattle.std.proofs.Common.{◌∙◌}
-use Rattle.run_certificates.specs.declared.Verdict.TheVariants as verdict
-use Rattle.run_certificates.specs.Certificates.{certificate_text}
-use Rattle.run_certificates.specs.Stated.{first_difference, locks_at, verdict_by}
-use Rattle.run_certificates.specs.Recorded.{certificate_of, RecordsAreTrue}
-use Rattle.run_certificates.specs.Laws.{IsOf, IsAnswer, TextsAreChecked, CertificatesAreChecked}
-use Rattle.run_certificates.specs.Laws.{StretchesAreRuns, TrueRowsCount}
+use Rattle.run_checker.specs.declared.Verdict.TheVariants as verdict
+use Rattle.run_checker.specs.Certificates.{certificate_text}
+use Rattle.run_checker.specs.Stated.{first_difference, locks_at, verdict_by}
+use Rattle.run_checker.specs.Recorded.{certificate_of, RecordsAreTrue}
+use Rattle.run_checker.specs.Laws.{IsOf, IsAnswer, TextsAreChecked, CertificatesAreChecked}
+use Rattle.run_checker.specs.Laws.{StretchesAreRuns, TrueRowsCount}
 use Rattle.run_checker.specs.Checks.{unlimited}
 use Rattle.run_checker.specs.TrueTexts.{most_bytes, TrueTextsAreTrue, ShortTextsAreChecked}
 use Rattle.run_checker.specs.TrueTexts.{RecordsAreCheckedTrue}

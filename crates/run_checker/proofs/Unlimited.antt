@@ -11,10 +11,10 @@ use Rattle.texts.specs.EndedTexts.{with_length, then_alone}
 use Rattle.texts.proofs.Lines.{lines_of_first}
 use Rattle.texts.specs.Words.{text_of, open_from, open_rest}
 use Rattle.texts.proofs.Texts.{whole_text}
-use Rattle.run_certificates.specs.declared.Verdict.{Verdict}
-use Rattle.run_certificates.specs.Items.{item_of}
-use Rattle.run_certificates.specs.Checking.{Stage, Onward, unread, refused, step_by, line_step}
-use Rattle.run_certificates.specs.Checking.{alone, checked}
+use Rattle.run_checker.specs.declared.Verdict.{Verdict}
+use Rattle.run_checker.specs.Items.{item_of}
+use Rattle.run_checker.specs.Checking.{Stage, Onward, unread, refused, step_by, line_step}
+use Rattle.run_checker.specs.Checking.{alone, checked}
 use Rattle.texts.specs.Lines.{words_of}
 use Rattle.std.specs.Prelude.{nat_le, nat_lt}
 use Rattle.run_checker.specs.Checks.{checked_by, checked_within, unlimited, LimitsMatterBeyond}

@@ -5,8 +5,8 @@ use Rattle.sync_types.specs.FaultSets.{FaultIds}
 use Rattle.construction.specs.Plans.{Plan, plan_nodes}
 use Rattle.state_codec.specs.Shapes.{shape_of}
 use Rattle.state_codec.specs.Packs.{Pack}
-use Rattle.run_certificates.specs.Grammar.{pairs_of, most_eras}
-use Rattle.run_certificates.specs.Checking.{Known, Stage, putting, telling}
+use Rattle.run_checker.specs.Grammar.{pairs_of, most_eras}
+use Rattle.run_checker.specs.Checking.{Known, Stage, putting, telling}
 use Rattle.run_checker.specs.declared.rounds.Room.{Room}
 use Rattle.run_checker.specs.Rounds.{AreStates, IsReady}
 use Rattle.run_checker.specs.Sets.{no_ids}

@@ -7,10 +7,10 @@ use Rattle.construction.specs.Plans.{Plan, plan_nodes}
 use Rattle.construction.specs.Runs.{is_in}
 use Rattle.state_codec.specs.Texts.{is_state_text, read_text}
 use Rattle.round_runner.specs.Locks.{is_locked, first_of}
-use Rattle.run_certificates.specs.NodeFields.{fields_of}
-use Rattle.run_certificates.specs.Grammar.{pairs_of, most_eras}
-use Rattle.run_certificates.specs.Checking.{nothing_known, needs_state, put_state, has_round}
-use Rattle.run_certificates.specs.Checking.{is_next, all_told, moved, is_row, compared}
+use Rattle.run_checker.specs.NodeFields.{fields_of}
+use Rattle.run_checker.specs.Grammar.{pairs_of, most_eras}
+use Rattle.run_checker.specs.Checking.{nothing_known, needs_state, put_state, has_round}
+use Rattle.run_checker.specs.Checking.{is_next, all_told, moved, is_row, compared}
 use Rattle.run_checker.specs.Bodies.{BodySeen}
 
 -- behind the head

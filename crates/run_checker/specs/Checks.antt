@@ -9,8 +9,8 @@ use Rattle.texts.specs.Pending.{AllButLast, AtOnce}
 use Rattle.texts.specs.EndedTexts.{ended_text}
 use Rattle.edge_io.specs.FedParts.{MayFollow}
 use Rattle.edge_io.specs.EndedReads.{TextPending}
-use Rattle.run_certificates.specs.declared.Verdict.{Verdict}
-use Rattle.run_certificates.specs.Checking.{unread, line_step, checked}
+use Rattle.run_checker.specs.declared.Verdict.{Verdict}
+use Rattle.run_checker.specs.Checking.{unread, line_step, checked}
 use Rattle.run_checker.specs.declared.checks.CheckError.{CheckError}
 use Rattle.run_checker.specs.declared.checks.CheckError.TheVariants as check
 

@@ -6,7 +6,7 @@ use Rattle.sync_types.specs.FaultSets.{is_in}
 use Rattle.construction.specs.Plans.{Plan, plan_nodes, plan_depth}
 use Rattle.construction.specs.Steps.{state_of}
 use Rattle.shared_board.specs.Sharing.{place_among}
-use Rattle.run_certificates.specs.Grammar.{pairs_of}
+use Rattle.run_checker.specs.Grammar.{pairs_of}
 use Rattle.run_checker.specs.Rounds.{told_for, AreStates}
 
 -- what node v hears of a faulty node u: of itself its state, and else what is told

@@ -1,3 +1,11 @@
+pub mod NodeFields
+pub mod Items
+pub mod Certificates
+pub mod Grammar
+pub mod Stated
+pub mod Checking
+pub mod Laws
+pub mod Recorded
 pub mod SaidLines
 pub mod Sets
 pub mod Rows

@@ -6,7 +6,7 @@ use Rattle.texts.specs.Lines.{is_one_line}
 use Rattle.texts.specs.Parts.{goes}
 use Rattle.edge_io.specs.declared.feed.Line.TheVariants as how
 use Rattle.edge_io.specs.Feeds.{LineIs}
-use Rattle.run_certificates.specs.Checking.{Stage, line_step}
+use Rattle.run_checker.specs.Checking.{Stage, line_step}
 use Rattle.run_checker.specs.Tellings.{Telling}
 
 -- what stands before the digits that the first node of a pair tells the second

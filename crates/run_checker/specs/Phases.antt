@@ -3,7 +3,7 @@ use Rattle.std.specs.Prelude.{◌≡◌, Result, Ok, Err}
 use Rattle.texts.specs.Parts.{goes, ends, refuses}
 use Rattle.edge_io.specs.declared.taking.TakeError.{TakeError}
 use Rattle.edge_io.specs.declared.taking.TakeError.TheVariants as take
-use Rattle.run_certificates.specs.Checking.{Stage, Onward, unread, begun, planned}
+use Rattle.run_checker.specs.Checking.{Stage, Onward, unread, begun, planned}
 use Rattle.run_checker.specs.Bodies.{stage_of}
 use Rattle.run_checker.specs.declared.planned.Planned.{Planned}
 use Rattle.run_checker.specs.declared.check_lines.Head.{Head}

@@ -9,7 +9,7 @@ use Rattle.construction.specs.Runs.{heard_by}
 use Rattle.state_codec.specs.Shapes.{shape_of}
 use Rattle.state_codec.specs.Packs.{Pack}
 use Rattle.shared_board.specs.Sharing.{stands_for}
-use Rattle.run_certificates.specs.Grammar.{pairs_of}
+use Rattle.run_checker.specs.Grammar.{pairs_of}
 use Rattle.plan_laws.specs.PlanMeaning.{IsInRange}
 use Rattle.run_checker.specs.declared.rounds.Room.{Room}
 use Rattle.run_checker.specs.Tellings.{Telling}

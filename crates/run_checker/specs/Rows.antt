@@ -7,9 +7,9 @@ use Rattle.sync_types.specs.States.{State}
 use Rattle.sync_types.specs.FaultSets.{is_in}
 use Rattle.construction.specs.Shown.{shown}
 use Rattle.construction.specs.Steps.{state_of}
-use Rattle.run_certificates.specs.Items.{value_said}
-use Rattle.run_certificates.specs.Stated.{same_rows}
-use Rattle.run_certificates.specs.Checking.{same_marks}
+use Rattle.run_checker.specs.Items.{value_said}
+use Rattle.run_checker.specs.Stated.{same_rows}
+use Rattle.run_checker.specs.Checking.{same_marks}
 
 module _ (depth : ℕ) (faulty : List ℕ) (config : List State) where
   -- what the word of node v has to say

@@ -14,7 +14,7 @@ use Rattle.adversary_script.specs.Scripts.{Script}
 use Rattle.adversary_script.specs.Eras.{faulty_at}
 use Rattle.adversary_script.specs.Lies.{lie_of}
 use Rattle.round_runner.specs.Played.{played_at}
-use Rattle.run_certificates.specs.Recorded.{is_put, era_at, recorded_version}
+use Rattle.run_checker.specs.Recorded.{is_put, era_at, recorded_version}
 
 -- a word that is a number
 abbrev pub number_word : ℕ → List ℕ

@@ -6,9 +6,9 @@ use Rattle.std.specs.Option.{option_map}
 use Rattle.texts.specs.Numbers.{number_of}
 use Rattle.state_codec.specs.Texts.{is_lower_digit}
 use Rattle.adversary_script.specs.WordTests.{numbers_in}
-use Rattle.run_certificates.specs.Items.{Item, run_item, base_item, level_item, faulty_item}
-use Rattle.run_certificates.specs.Items.{start_item, lie_item, end_item, values_said, row_by}
-use Rattle.run_certificates.specs.Items.{era_by}
+use Rattle.run_checker.specs.Items.{Item, run_item, base_item, level_item, faulty_item}
+use Rattle.run_checker.specs.Items.{start_item, lie_item, end_item, values_said, row_by}
+use Rattle.run_checker.specs.Items.{era_by}
 use Rattle.run_checker.specs.declared.said_lines.Said.{Said}
 use Rattle.run_checker.specs.declared.said_lines.Said.TheVariants as said
 

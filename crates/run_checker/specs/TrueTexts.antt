@@ -6,13 +6,13 @@ use Rattle.adversary_script.specs.Scripts.{Script}
 use Rattle.round_runner.specs.Laws.{IsReadFor}
 use Rattle.round_runner.specs.Locks.{era_locked, first_locked}
 use Rattle.round_runner.specs.Played.{played_at}
-use Rattle.run_certificates.specs.declared.Verdict.TheVariants as verdict
-use Rattle.run_certificates.specs.Certificates.{Turn, Certificate, certificate_text}
-use Rattle.run_certificates.specs.Grammar.{IsCertificate}
-use Rattle.run_certificates.specs.Stated.{first_stand, stands_behind, first_difference, verdict_of}
-use Rattle.run_certificates.specs.Recorded.{certificate_of, HasItsEras}
-use Rattle.run_certificates.specs.Laws.{AreQuiet, StretchCounts, stand_after}
-use Rattle.run_certificates.specs.Checking.{checked}
+use Rattle.run_checker.specs.declared.Verdict.TheVariants as verdict
+use Rattle.run_checker.specs.Certificates.{Turn, Certificate, certificate_text}
+use Rattle.run_checker.specs.Grammar.{IsCertificate}
+use Rattle.run_checker.specs.Stated.{first_stand, stands_behind, first_difference, verdict_of}
+use Rattle.run_checker.specs.Recorded.{certificate_of, HasItsEras}
+use Rattle.run_checker.specs.Laws.{AreQuiet, StretchCounts, stand_after}
+use Rattle.run_checker.specs.Checking.{checked}
 use Rattle.run_checker.specs.Checks.{checked_within}
 
 -- A stretch of rounds behind which no era begins is a run of the plan, with the stated lies, and

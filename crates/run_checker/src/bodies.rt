@@ -1,13 +1,13 @@
 ghost use Rattle.std.specs.Prelude.{◌≡◌, ◌<◌, ◌≤◌, length};
-ghost use Rattle.run_certificates.specs.Grammar.{most_eras};
+ghost use Rattle.run_checker.specs.Grammar.{most_eras};
 
+use crate::Verdict;
 use crate::id_lists::{all_nodes, empty_sets, most_eras, needs_state, read_ids};
 use crate::rounds::{Room, play, room_for};
 use crate::tellings::Tellings;
 use counter_core::Counter;
 use edge_io::{TakeError, Words};
 use plan_numbers::Plan;
-use run_certificates::Verdict;
 use state_codec::{NotState, Packed, StateShape};
 use std::alloc::Global;
 use std::marker::Model;
@@ -67,7 +67,7 @@ impl Drop for Body {
 
 impl Model for Body {
     ghost use Rattle.std.specs.Prelude.{◌-◌, length};
-    ghost use Rattle.run_certificates.specs.Grammar.{most_eras};
+    ghost use Rattle.run_checker.specs.Grammar.{most_eras};
     ghost use Rattle.run_checker.specs.Bodies.{BodySeen, IsBody};
 
     ghost Value = { BodySeen };
@@ -97,8 +97,8 @@ impl Body {
     ghost use Rattle.construction.specs.Plans.{plan_nodes, plan_faults};
     ghost use Rattle.edge_io.specs.Taking.{Takes};
     ghost use Rattle.adversary_script.specs.WordTests.{numbers_in};
-    ghost use Rattle.run_certificates.specs.Items.{start_item, lie_item, era_by};
-    ghost use Rattle.run_certificates.specs.Checking.{has_round, all_told, step, step_by};
+    ghost use Rattle.run_checker.specs.Items.{start_item, lie_item, era_by};
+    ghost use Rattle.run_checker.specs.Checking.{has_round, all_told, step, step_by};
     ghost use Rattle.run_checker.specs.Bodies.{stage_of};
     ghost use Rattle.run_checker.specs.Sets.{no_ids};
     ghost use Rattle.run_checker.specs.NextLies.{TakesNext};

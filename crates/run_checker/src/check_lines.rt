@@ -2,13 +2,14 @@ ghost use Rattle.std.specs.Prelude.{◌≡◌};
 ghost use Rattle.edge_io.specs.Taking.{Takes};
 ghost use Rattle.adversary_script.specs.WordTests.{numbers_in};
 ghost use Rattle.std.specs.Option.{option_map};
-ghost use Rattle.run_certificates.specs.Items.{run_item, faulty_item};
-ghost use Rattle.run_certificates.specs.Checking.{unread, planned, step, step_by, base_step};
-ghost use Rattle.run_certificates.specs.Checking.{level_step};
+ghost use Rattle.run_checker.specs.Items.{run_item, faulty_item};
+ghost use Rattle.run_checker.specs.Checking.{unread, planned, step, step_by, base_step};
+ghost use Rattle.run_checker.specs.Checking.{level_step};
 ghost use Rattle.run_checker.specs.SaidLines.{item_seen};
 ghost use Rattle.run_checker.specs.Bodies.{stage_of};
 ghost use Rattle.run_checker.specs.Phases.{head_seen, planned_seen, Enters};
 
+use crate::Verdict;
 use crate::bodies::Body;
 use crate::id_lists::read_ids;
 use crate::planned::Planned;
@@ -16,7 +17,6 @@ use crate::said_lines::{Said, read_said};
 use crate::versions::Version;
 use edge_io::{LineReader, TakeError, Words};
 use plan_numbers::{Plan, PremiseError};
-use run_certificates::Verdict;
 use std::alloc::Global;
 use std::marker::Model;
 use std::mem;
@@ -67,7 +67,7 @@ impl Drop for CheckLines {
 }
 
 impl Model for CheckLines {
-    ghost use Rattle.run_certificates.specs.Checking.{Stage};
+    ghost use Rattle.run_checker.specs.Checking.{Stage};
     ghost use Rattle.run_checker.specs.Phases.{phase_seen};
 
     ghost Value = { Stage };
@@ -166,7 +166,7 @@ fn take_inside(body: &mut Body, said: Said<'_>) -> Result<Option<Verdict>, TakeE
 }
 
 impl CheckLines {
-    ghost use Rattle.run_certificates.specs.Checking.{unread};
+    ghost use Rattle.run_checker.specs.Checking.{unread};
     ghost use Rattle.run_checker.specs.NextLies.{TakesNext};
 
     /// A reader of a text of which nothing was read.
@@ -218,7 +218,7 @@ impl LineReader for CheckLines {
 
     type Rule = ();
 
-    ghost use Rattle.run_certificates.specs.Checking.{line_step};
+    ghost use Rattle.run_checker.specs.Checking.{line_step};
 
     ghost step = { line_step };
 

@@ -1,10 +1,10 @@
 ghost use Rattle.std.specs.Prelude.{◌≡◌, IsErrOf};
 ghost use Rattle.run_checker.specs.Checks.{Checks, HasCheckCause};
 
+use crate::Verdict;
 use crate::check_lines::CheckLines;
 use crate::line_reading::read_lines;
 use edge_io::{FedError, Feed, LineBuf, Source};
-use run_certificates::Verdict;
 use std::alloc::Global;
 use thiserror::Error;
 

@@ -2,6 +2,7 @@
 
 ghost use Rattle.std.specs.Prelude.{◌≡◌};
 
+use crate::Verdict;
 use crate::bodies::Body;
 use crate::firsts::first_of;
 use crate::id_lists::needs_state;
@@ -9,13 +10,12 @@ use crate::rows::Showing;
 use counter_core::Counter;
 use edge_io::{TakeError, Words};
 use round_runner::is_locked;
-use run_certificates::Verdict;
 
 impl Body {
     ghost use Rattle.std.specs.Prelude.{Some};
     ghost use Rattle.edge_io.specs.Taking.{Takes};
-    ghost use Rattle.run_certificates.specs.Items.{end_item, row_by, values_said};
-    ghost use Rattle.run_certificates.specs.Checking.{verdict_now, step, step_by};
+    ghost use Rattle.run_checker.specs.Items.{end_item, row_by, values_said};
+    ghost use Rattle.run_checker.specs.Checking.{verdict_now, step, step_by};
     ghost use Rattle.run_checker.specs.Bodies.{stage_of};
     ghost use Rattle.run_checker.specs.Changes.{has_states, Marks, ComesToRow, is_at_row};
 

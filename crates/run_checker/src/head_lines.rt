@@ -2,7 +2,7 @@ ghost use Rattle.texts.specs.Growth.{Puts};
 ghost use Rattle.std.specs.Prelude.{◌≡◌};
 ghost use Rattle.plan_numbers.specs.Numbers.{level_of};
 ghost use Rattle.adversary_script.specs.Eras.{faulty_at};
-ghost use Rattle.run_certificates.specs.Recorded.{recorded_version};
+ghost use Rattle.run_checker.specs.Recorded.{recorded_version};
 ghost use Rattle.run_checker.specs.RunLines.{version_line, base_line, spares_text, level_front};
 ghost use Rattle.run_checker.specs.RunLines.{level_line, level_lines, head_text};
 

@@ -48,7 +48,7 @@ impl Turn<'_> {
     ghost use Rattle.construction.specs.Plans.{plan_nodes};
     ghost use Rattle.construction.specs.Steps.{step_of};
     ghost use Rattle.shared_board.specs.Sharing.{Tells, heard_with};
-    ghost use Rattle.run_certificates.specs.Grammar.{pairs_of};
+    ghost use Rattle.run_checker.specs.Grammar.{pairs_of};
     ghost use Rattle.run_checker.specs.Hearing.{LaysHeard};
     ghost use Rattle.run_checker.specs.Rounds.{stepped_at, IsGathered};
 

@@ -2,8 +2,8 @@ ghost use Rattle.std.specs.Prelude.{◌≡◌, ◌<◌, ◌≤◌, ◌^◌, ◌&
 ghost use Rattle.sync_types.specs.FaultSets.{is_in};
 ghost use Rattle.adversary_script.specs.WordTests.{numbers_in};
 ghost use Rattle.std.specs.List.{range_with_len};
-ghost use Rattle.run_certificates.specs.Grammar.{most_eras};
-ghost use Rattle.run_certificates.specs.Checking.{needs_state};
+ghost use Rattle.run_checker.specs.Grammar.{most_eras};
+ghost use Rattle.run_checker.specs.Checking.{needs_state};
 ghost use Rattle.run_checker.specs.Sets.{no_ids, is_above, may_follow, ReadsBorne, GivesSet};
 
 use edge_io::{Words, number};

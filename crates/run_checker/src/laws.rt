@@ -5,7 +5,7 @@ ghost use Rattle.run_checker.specs.Checks.{LimitsMatterBeyond};
 ghost use Rattle.run_checker.specs.TrueTexts.{TrueTextsAreTrue, CertificatesAreShort};
 ghost use Rattle.run_checker.specs.TrueTexts.{ShortTextsAreChecked, RecordsAreCheckedTrue};
 
-use run_certificates::laws::{
+use crate::certificate_laws::{
     certificates_are_checked, records_are_true, stretches_are_runs, texts_are_checked,
     true_rows_count,
 };

@@ -7,6 +7,7 @@
 #![tactic(auto)]
 
 mod bodies;
+pub mod certificate_laws;
 mod check_lines;
 mod checks;
 mod digits;
@@ -32,4 +33,13 @@ mod versions;
 
 pub use checks::{CertRefusal, CheckError, check_run};
 pub use records::write_run;
-pub use run_certificates::Verdict;
+
+/// What a certificate that is read to its end comes to.
+#[derive(Clone, Copy, Debug, PartialEq, Eq)]
+pub enum Verdict {
+    /// All rows are those of the stated run: how many, and the first locked configuration of the
+    /// last era.
+    True { rows: u64, locked: Option<u64> },
+    /// The first row that differs.
+    False { row: u64 },
+}

@@ -3,12 +3,12 @@ ghost use Rattle.edge_io.specs.Feeds.{feed_left, IsDry};
 ghost use Rattle.edge_io.specs.FedParts.{HasPartCause};
 ghost use Rattle.edge_io.specs.EndedReads.{TextRead, EndIs};
 ghost use Rattle.edge_io.specs.declared.fed_parts.FedError.TheVariants as fed;
-ghost use Rattle.run_certificates.specs.Checking.{line_step};
+ghost use Rattle.run_checker.specs.Checking.{line_step};
 ghost use Rattle.run_checker.specs.NextLies.{IsNextRead};
 
+use crate::Verdict;
 use crate::check_lines::CheckLines;
 use edge_io::{FedError, Feed, Line, LineBuf, LineFault, LineReader, Refused, Source, TakeError};
-use run_certificates::Verdict;
 
 const NEWLINE: u8 = b'\n';
 

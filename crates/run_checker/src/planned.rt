@@ -1,5 +1,5 @@
 ghost use Rattle.std.specs.Prelude.{◌≡◌};
-ghost use Rattle.run_certificates.specs.Grammar.{plan_version};
+ghost use Rattle.run_checker.specs.Grammar.{plan_version};
 
 use crate::versions::Version;
 use plan_numbers::Plan;

@@ -1,7 +1,7 @@
 ghost use Rattle.std.specs.Prelude.{◌≡◌, ◌<◌, ◌+◌, OnOk, OnErr};
 ghost use Rattle.texts.specs.Growth.{Puts};
-ghost use Rattle.run_certificates.specs.Certificates.{certificate_text};
-ghost use Rattle.run_certificates.specs.Recorded.{certificate_of, era_at};
+ghost use Rattle.run_checker.specs.Certificates.{certificate_text};
+ghost use Rattle.run_checker.specs.Recorded.{certificate_of, era_at};
 ghost use Rattle.run_checker.specs.RunLines.{era_lines, turn_text, turns_text, record_text};
 ghost use Rattle.run_checker.specs.Playing.{IsToRecord, StillPlays, HasPlayedOne, HasPlayedAll};
 

@@ -4,7 +4,7 @@ ghost use Rattle.construction.specs.Plans.{plan_nodes};
 ghost use Rattle.state_codec.specs.Shapes.{shape_of};
 ghost use Rattle.round_runner.specs.Locks.{correct_nodes};
 ghost use Rattle.round_runner.specs.Ledgers.{IsBlankOf};
-ghost use Rattle.run_certificates.specs.Grammar.{pairs_of};
+ghost use Rattle.run_checker.specs.Grammar.{pairs_of};
 ghost use Rattle.run_checker.specs.Rounds.{stepped_all, AreStates, IsReady, IsTold, IsConfig};
 
 use crate::tellings::Tellings;

@@ -1,5 +1,5 @@
 ghost use Rattle.std.specs.Prelude.{◌≡◌, ◌≤◌, ◌<◌, ◌&&◌, length};
-ghost use Rattle.run_certificates.specs.Items.{value_said, values_said};
+ghost use Rattle.run_checker.specs.Items.{value_said, values_said};
 ghost use Rattle.run_checker.specs.Rows.{shown_at, value_compared, row_compared};
 
 use edge_io::{Words, number};

@@ -1,8 +1,8 @@
 ghost use Rattle.std.specs.Prelude.{◌≡◌, ◌∷◌};
 ghost use Rattle.std.specs.Option.{option_map};
-ghost use Rattle.run_certificates.specs.Items.{one_said, run_item, base_item, level_said};
-ghost use Rattle.run_certificates.specs.Items.{start_said, lie_said, row_said, era_said, end_said};
-ghost use Rattle.run_certificates.specs.Items.{item_of, said};
+ghost use Rattle.run_checker.specs.Items.{one_said, run_item, base_item, level_said};
+ghost use Rattle.run_checker.specs.Items.{start_said, lie_said, row_said, era_said, end_said};
+ghost use Rattle.run_checker.specs.Items.{item_of, said};
 ghost use Rattle.run_checker.specs.SaidLines.{item_or_none, only_number, spares_in, only_word};
 
 use edge_io::{LONGEST_LINE, Words, number};

@@ -1,7 +1,7 @@
 ghost use Rattle.std.specs.Prelude.{◌≡◌, ◌&&◌, ◌||◌, not, length};
 ghost use Rattle.texts.specs.Growth.{Puts};
 ghost use Rattle.construction.specs.Plans.{Plan, plan_nodes};
-ghost use Rattle.run_certificates.specs.Recorded.{is_put};
+ghost use Rattle.run_checker.specs.Recorded.{is_put};
 ghost use Rattle.run_checker.specs.Playing.{HasNode, Begins};
 ghost use Rattle.run_checker.specs.RunLines.{start_text, first_start, first_starts, start_if};
 ghost use Rattle.run_checker.specs.RunLines.{starts_text};

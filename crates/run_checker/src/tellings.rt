@@ -1,9 +1,9 @@
 ghost use Rattle.std.specs.Prelude.{[], ◌≡◌, ◌<◌, ◌≤◌, ◌+◌, ◌*◌, ◌^◌, ◌++◌};
 ghost use Rattle.std.specs.Prelude.{false, length, drop, map, All, IfOk, IfSome, nat_eq, ◌==◌};
 ghost use Rattle.std.specs.Prelude.{vec_capacity};
-ghost use Rattle.run_certificates.specs.Grammar.{pairs_of};
+ghost use Rattle.run_checker.specs.Grammar.{pairs_of};
 ghost use Rattle.round_runner.specs.Locks.{correct_nodes};
-ghost use Rattle.run_certificates.specs.Checking.{is_next};
+ghost use Rattle.run_checker.specs.Checking.{is_next};
 ghost use Rattle.construction.specs.Steps.{state_of};
 ghost use Rattle.state_codec.specs.Shapes.{shape_of, shape_nodes};
 ghost use Rattle.run_checker.specs.Tellings.{most_pairs, AddsState};

@@ -24,7 +24,7 @@ pub struct Turn<'a> {
 
 impl Turn<'_> {
     ghost use Rattle.std.specs.Prelude.{◌≡◌, slice_set};
-    ghost use Rattle.run_certificates.specs.Grammar.{pairs_of};
+    ghost use Rattle.run_checker.specs.Grammar.{pairs_of};
     ghost use Rattle.run_checker.specs.Rounds.{stepped_at, state_next, IsGathered};
 
     /// Makes its step into `room.out`.

@@ -4,7 +4,7 @@ use Rattle.std.proofs.Common.{[], ◌∷◌, length, sym, ap, ◌∙◌, subst, 
 use Rattle.std.proofs.Math.Nat.{mod-add-mod, mod-eq_of_lt}
 use Rattle.sync_types.specs.States.{State}
 use Rattle.construction.specs.Plans.{Level, Plan, beat_of, nodes_of, faults_of}
-use Rattle.level_laws.specs.Explained.{Explains}
+use Rattle.plan_laws.specs.Explained.{Explains}
 use Rattle.adversary_script.specs.Scripts.{Script}
 use Rattle.round_runner.specs.Played.{played_at}
 use Rattle.run_explanations.specs.declared.seeing.Seen.{Seen}

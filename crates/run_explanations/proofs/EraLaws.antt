@@ -11,7 +11,7 @@ use Rattle.construction.specs.Plans.{Level, Plan, plan_bound, beat_of, nodes_of,
 use Rattle.construction.specs.Pointers.{pointer_of, part_of}
 use Rattle.construction.specs.Plans.{leaders_of}
 use Rattle.construction.specs.Runs.{configuration, IsBorne, IsLocked}
-use Rattle.level_laws.specs.Explained.{Explains}
+use Rattle.plan_laws.specs.Explained.{Explains}
 use Rattle.plan_laws.specs.ExplainedRuns.{inner_in, ExplainedRunsLock, BoundIsExplained}
 use Rattle.adversary_script.specs.Scripts.{Era, Script, faulty_sets}
 use Rattle.adversary_script.specs.Eras.{first_of_era, end_of_era, faulty_of_era}

@@ -6,7 +6,7 @@ use Rattle.construction.specs.Plans.{Level, Plan, plan_depth, nodes_of, faults_o
 use Rattle.construction.specs.Shown.{shown}
 use Rattle.construction.specs.Steps.{state_of}
 use Rattle.construction.specs.Runs.{is_in}
-use Rattle.level_laws.specs.Explained.{Explains}
+use Rattle.plan_laws.specs.Explained.{Explains}
 use Rattle.adversary_script.specs.Scripts.{Script}
 use Rattle.adversary_script.specs.Eras.{first_of_era, faulty_of_era}
 use Rattle.round_runner.specs.Played.{played_at}

@@ -3,7 +3,7 @@
 use Rattle.std.specs.Prelude.{◌≡◌, ℕ, zero, suc, ◌+◌, ◌*◌, ◌<◌, ◌≤◌, Bool, false, not, ◌==◌, nat_le}
 use Rattle.std.specs.Prelude.{Option, Some, None, if◌then◌else◌}
 use Rattle.construction.specs.Pointers.{pointer_of, part_of}
-use Rattle.level_laws.specs.Level.{faults_in}
+use Rattle.plan_laws.specs.Level.{faults_in}
 use Rattle.run_explanations.specs.declared.seeing.Shared.{Shared}
 use Rattle.run_explanations.specs.declared.seeing.Shared.TheVariants.{Nothing, One, Several}
 use Rattle.run_explanations.specs.declared.seeing.Seen.{Seen}

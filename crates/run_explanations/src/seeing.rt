@@ -57,7 +57,7 @@ impl<'a> Sight<'a> {
     ghost use Rattle.std.specs.Prelude.{◌≡◌, ◌-◌, ◌<◌, ◌≤◌, nat_le};
     ghost use Rattle.construction.specs.Plans.{plan_depth};
     ghost use Rattle.construction.specs.Runs.{is_in};
-    ghost use Rattle.level_laws.specs.Level.{faults_in};
+    ghost use Rattle.plan_laws.specs.Level.{faults_in};
     ghost use Rattle.run_explanations.specs.Explanations.{outputs_in};
     ghost use Rattle.run_explanations.specs.Seeing.{shared_by, is_sound, is_correct, pointer_at};
     ghost use Rattle.run_explanations.specs.Seeing.{part_at, pointed, parted, seen_in};

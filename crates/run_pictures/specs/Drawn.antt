@@ -2,8 +2,8 @@
 use Rattle.std.specs.Prelude.{◌≡◌, ◌≤◌, ◌⊎◌, ℕ, length, List, Result, Ok, Err}
 use Rattle.texts.specs.Growth.{Told, Wrote, Cut}
 use Rattle.run_pictures.specs.declared.charts.Chart.{Chart}
-use Rattle.survey_pictures.specs.declared.choices.Point.{Point}
-use Rattle.survey_pictures.specs.declared.sweep_charts.Sweep.{Sweep}
+use Rattle.run_pictures.specs.declared.choices.Point.{Point}
+use Rattle.run_pictures.specs.declared.sweep_charts.Sweep.{Sweep}
 use Rattle.trace_pictures.specs.declared.traces.Trace.{Trace}
 use Rattle.run_pictures.specs.declared.drawing.DrawError.{DrawError}
 use Rattle.run_pictures.specs.declared.drawing.DrawError.TheVariants as error
@@ -12,10 +12,10 @@ use Rattle.run_pictures.specs.declared.pages.Form.{Form}
 use Rattle.run_pictures.specs.Laid.{IsLaid}
 use Rattle.run_pictures.specs.Pages.{formed}
 use Rattle.run_pictures.specs.Pictures.{picture_text}
-use Rattle.survey_pictures.specs.Choices.{ArePlotted, choice_text}
-use Rattle.survey_pictures.specs.ChoicePictures.{choice_picture}
-use Rattle.survey_pictures.specs.Sweeps.{sweep_text, IsSweepLaid}
-use Rattle.survey_pictures.specs.SweepPictures.{sweep_picture}
+use Rattle.run_pictures.specs.Choices.{ArePlotted, choice_text}
+use Rattle.run_pictures.specs.ChoicePictures.{choice_picture}
+use Rattle.run_pictures.specs.Sweeps.{sweep_text, IsSweepLaid}
+use Rattle.run_pictures.specs.SweepPictures.{sweep_picture}
 use Rattle.trace_pictures.specs.Traces.{trace_text}
 use Rattle.trace_pictures.specs.TraceLaid.{IsTraceLaid}
 use Rattle.trace_pictures.specs.TracePictures.{trace_picture}

@@ -1,3 +1,7 @@
+pub mod Sweeps
+pub mod SweepPictures
+pub mod Choices
+pub mod ChoicePictures
 pub mod Charts
 pub mod Laid
 pub mod Cells

@@ -6,8 +6,8 @@ ghost use Rattle.trace_pictures.specs.Traces.{trace_text};
 ghost use Rattle.run_pictures.specs.Drawn.{ChoiceAs, Does, DrawsAs, PulsesAs, RowsAs, SweepAs};
 ghost use Rattle.run_pictures.specs.Drawn.{TraceAs};
 ghost use Rattle.pulse_pictures.specs.PulseTexts.{pulse_text};
-ghost use Rattle.survey_pictures.specs.Choices.{choice_text};
-ghost use Rattle.survey_pictures.specs.Sweeps.{sweep_text};
+ghost use Rattle.run_pictures.specs.Choices.{choice_text};
+ghost use Rattle.run_pictures.specs.Sweeps.{sweep_text};
 
 use crate::charts::Chart;
 use crate::laid::is_laid;
@@ -17,16 +17,16 @@ use crate::pages::{
 };
 use crate::printing::put_chart;
 use crate::reading::read_chart;
+use crate::{
+    Point, Sweep, are_plotted, is_choice, is_sweep, is_sweep_laid, put_choice, put_sweep,
+    read_choice, read_sweep,
+};
 use edge_io::{MemSink, NoMemory, Sink, WriteFault};
 use picture_parts::ChartError;
 use pulse_pictures::{
     PulseTrace, is_pulse_trace, is_pulse_trace_laid, pulse_trace_of, put_pulse_trace,
 };
 use std::alloc::Global;
-use survey_pictures::{
-    Point, Sweep, are_plotted, is_choice, is_sweep, is_sweep_laid, put_choice, put_sweep,
-    read_choice, read_sweep,
-};
 use thiserror::Error;
 use trace_pictures::{Trace, is_trace, is_trace_laid, put_trace, trace_of};
 

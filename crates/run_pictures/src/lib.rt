@@ -8,6 +8,36 @@
 //! that `run` writes is read, how wide columns are, and who is found hit, is not.
 #![tactic(auto)]
 
+mod cells;
+mod charts;
+mod choice_pictures;
+mod choices;
+mod drawing;
+mod hits;
+mod laid;
+mod lines;
+mod marks;
+mod pages;
+mod pictures;
+mod printing;
+mod reading;
+mod sweep_charts;
+mod sweep_laid;
+mod sweep_pictures;
+mod sweep_printing;
+mod sweep_reading;
+
+pub use choice_pictures::put_choice_picture;
+pub use choices::{Point, are_plotted, is_choice, put_choice, read_choice};
+pub use drawing::{DrawError, draw};
+pub use pages::Form;
+pub use picture_parts::{ChartError, Wanted, laws};
+pub use sweep_charts::Sweep;
+pub use sweep_laid::is_sweep_laid;
+pub use sweep_pictures::put_sweep_picture;
+pub use sweep_printing::put_sweep;
+pub use sweep_reading::{is_sweep, read_sweep};
+
 // As `?` behind a part of a text that is written, but with no call of its own.
 macro_rules! written {
     ($part:expr) => {
@@ -18,18 +48,12 @@ macro_rules! written {
     };
 }
 
-mod cells;
-mod charts;
-mod drawing;
-mod hits;
-mod laid;
-mod lines;
-mod marks;
-mod pages;
-mod pictures;
-mod printing;
-mod reading;
-
-pub use drawing::{DrawError, draw};
-pub use pages::Form;
-pub use picture_parts::{ChartError, Wanted, laws};
+// As `?` behind a part of a text that is written, but with no call of its own.
+macro_rules! written {
+    ($part:expr) => {
+        match $part {
+            Ok(()) => {}
+            Err(WriteFault) => return Err(WriteFault),
+        }
+    };
+}

@@ -3,18 +3,18 @@
 
 ghost use Rattle.texts.specs.Growth.{Puts};
 ghost use Rattle.pulse_pictures.specs.PulsePictures.{pulse_picture};
-ghost use Rattle.survey_pictures.specs.ChoicePictures.{choice_picture};
+ghost use Rattle.run_pictures.specs.ChoicePictures.{choice_picture};
 ghost use Rattle.run_pictures.specs.Pages.{formed, page_behind, page_choose, page_front};
 ghost use Rattle.run_pictures.specs.Pages.{page_keys, page_middle, page_script, page_text};
 ghost use Rattle.run_pictures.specs.Pictures.{picture_text};
-ghost use Rattle.survey_pictures.specs.SweepPictures.{sweep_picture};
+ghost use Rattle.run_pictures.specs.SweepPictures.{sweep_picture};
 ghost use Rattle.trace_pictures.specs.TracePictures.{trace_picture};
 
 use crate::charts::Chart;
 use crate::pictures::put_picture;
+use crate::{Point, Sweep, put_choice_picture, put_sweep_picture};
 use edge_io::{Sink, WriteFault, put_all};
 use pulse_pictures::{PulseTrace, put_pulse_picture};
-use survey_pictures::{Point, Sweep, put_choice_picture, put_sweep_picture};
 use trace_pictures::{Trace, put_trace_picture};
 
 /// What is written of a text.

@@ -11,9 +11,9 @@ use Rattle.sync_types.specs.FaultSets.{is_in}
 use Rattle.sync_types.specs.States.{State, zero_state, zero_register, register_at}
 use Rattle.construction.specs.Shown.{shown}
 use Rattle.construction.specs.Steps.{state_of}
-use Rattle.group_votes.specs.Senders.{AreSent}
+use Rattle.shared_board.specs.Senders.{AreSent}
 use Rattle.shared_board.specs.Sharing.{place_among}
-use Rattle.shared_board.proofs.Stretches.{same_range}
+use Rattle.shared_board.proofs.GroupStretches.{same_range}
 use Rattle.shared_board.specs.Boards.{Board, AreLiars, IsBoard, board_of, state_by, sent_of}
 
 -- a list by its places

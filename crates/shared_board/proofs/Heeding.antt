@@ -8,13 +8,13 @@ use Rattle.construction.specs.Steps.{state_of, register_after}
 use Rattle.plan_numbers.specs.declared.numbers.LevelNums.{LevelNums}
 use Rattle.plan_numbers.specs.Numbers.{level_of}
 use Rattle.plan_numbers.specs.Sizes.{block_nodes}
-use Rattle.group_votes.specs.Senders.{Sent, is_liar, register_of, output_of, liars_below, told_by}
-use Rattle.group_votes.specs.Senders.{output_heard, value_heard, outputs_heard, values_heard}
-use Rattle.group_votes.specs.Groups.{register_heard}
+use Rattle.shared_board.specs.Senders.{Sent, is_liar, register_of, output_of, liars_below, told_by}
+use Rattle.shared_board.specs.Senders.{output_heard, value_heard, outputs_heard, values_heard}
+use Rattle.shared_board.specs.GroupVotes.{register_heard}
 use Rattle.shared_board.specs.Sharing.{place_among}
-use Rattle.shared_board.proofs.Stretches.{same_range}
+use Rattle.shared_board.proofs.GroupStretches.{same_range}
 use Rattle.shared_board.specs.Boards.{Board, sent_of}
-use Rattle.shared_board.proofs.Hearing.{below_is}
+use Rattle.shared_board.proofs.RegistersHeard.{below_is}
 
 -- two lists of lies, of which the liars of the nodes from one to before another tell the same
 module _ (s : Sent) (lies told : List State) (from to : ℕ)

@@ -8,7 +8,7 @@ use Rattle.sync_types.specs.FaultSets.{is_in}
 use Rattle.sync_types.specs.States.{State, zero_register, register_at}
 use Rattle.construction.specs.Shown.{shown}
 use Rattle.shared_board.specs.Sharing.{place_among}
-use Rattle.group_votes.specs.Senders.{Sent}
+use Rattle.shared_board.specs.Senders.{Sent}
 
 -- states with so many registers each, and the ids of the liars among their nodes
 pub record Board : Type 0 where

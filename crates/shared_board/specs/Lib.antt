@@ -1,3 +1,6 @@
+pub mod Senders
+pub mod Votes
+pub mod GroupVotes
 pub mod Sharing
 pub mod LieOrder
 pub mod Groups

@@ -5,9 +5,9 @@ ghost use Rattle.counter_core.specs.Meanings.{cut};
 ghost use Rattle.shared_board.specs.Boards.{sent_of, AreLiars};
 ghost use Rattle.shared_board.specs.Sharing.{place_among};
 
+use crate::Senders;
 use crate::columns::{fill, zero_outputs, zero_registers};
 use crate::liars::{take_liars, zero_counts, zero_marks};
-use group_votes::Senders;
 use state_codec::Packed;
 use std::alloc::Global;
 use std::marker::Model;

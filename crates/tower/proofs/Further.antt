@@ -13,7 +13,7 @@ use Rattle.counter_core.specs.Meanings.{cut}
 use Rattle.plan_numbers.specs.Premises.{IsAccepted}
 use Rattle.plan_laws.proofs.PlanCounter.{plan_ignores}
 use Rattle.shared_board.specs.Sharing.{place_among, heard_at, heard_with}
-use Rattle.shared_board.proofs.Stretches.{same_range}
+use Rattle.shared_board.proofs.GroupStretches.{same_range}
 
 -- cut twice
 cut_again : (d : ℕ) (s : State) → cut d (cut d s) ≡ cut d s

@@ -15,15 +15,15 @@ use Rattle.construction.specs.Plans.{Level, Plan, nodes_of, low_of}
 use Rattle.construction.specs.PhaseKing.{up}
 use Rattle.construction.specs.Steps.{state_of, step_of}
 use Rattle.counter_core.specs.Meanings.{cut, written}
-use Rattle.group_votes.specs.Senders.{Sent, TellsItself}
-use Rattle.group_votes.proofs.Registers.{locked_heard}
+use Rattle.shared_board.specs.Senders.{Sent, TellsItself}
+use Rattle.shared_board.proofs.Registers.{locked_heard}
 use Rattle.shared_board.specs.Sharing.{place_among, heard_with}
 use Rattle.shared_board.specs.Groups.{Group, groups_of, group_at, nodes_in}
 use Rattle.shared_board.proofs.Places.{group_has}
 use Rattle.shared_board.proofs.Nested.{IsWithin}
-use Rattle.shared_board.proofs.Stretches.{same_range}
+use Rattle.shared_board.proofs.GroupStretches.{same_range}
 use Rattle.shared_board.specs.Boards.{Board, sent_of, AreLiars}
-use Rattle.shared_board.proofs.Hearing.{liar_is, below_is, told_is}
+use Rattle.shared_board.proofs.RegistersHeard.{liar_is, below_is, told_is}
 use Rattle.shared_board.proofs.Heeding.{register_alike}
 use Rattle.tower.specs.declared.rows.Row.{Row}
 use Rattle.tower.specs.Rows.{IsRow}

@@ -9,10 +9,10 @@ use Rattle.sync_types.specs.States.{zero_state, zero_register, register_at}
 use Rattle.construction.specs.Plans.{Level, nodes_of}
 use Rattle.construction.specs.Steps.{state_of}
 use Rattle.phase_king.specs.Groups.{IsLockedGroup}
-use Rattle.group_votes.specs.Senders.{is_liar, register_of}
+use Rattle.shared_board.specs.Senders.{is_liar, register_of}
 use Rattle.shared_board.specs.Boards.{Board, sent_of}
 use Rattle.shared_board.specs.Groups.{groups_of}
-use Rattle.shared_board.proofs.Hearing.{liar_is}
+use Rattle.shared_board.proofs.RegistersHeard.{liar_is}
 use Rattle.tower.specs.Placings.{Placing, key_of, IsReady}
 use Rattle.tower.specs.Settled.{IsSettledGroup}
 use Rattle.tower.specs.Sharing.{AllStand}

@@ -24,7 +24,7 @@ use Rattle.shared_board.proofs.Descent.{length-step_at, group_top, group_under}
 use Rattle.shared_board.proofs.Places.{group_stands, group_has, index_less, length-groups_of}
 use Rattle.shared_board.proofs.Places.{groups_within, groups_low as levels_low}
 use Rattle.shared_board.specs.Boards.{Board}
-use Rattle.shared_board.proofs.Hearing.{register_is}
+use Rattle.shared_board.proofs.RegistersHeard.{register_is}
 use Rattle.tower.specs.Placings.{Placing}
 use Rattle.tower.specs.declared.rows.Row.{Row}
 use Rattle.tower.specs.Rows.{IsRow}

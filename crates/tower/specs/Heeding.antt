@@ -1,8 +1,8 @@
 -- When the new register of a node hangs on nothing that it is told.
 use Rattle.std.specs.Prelude.{◌≡◌, ℕ, ◌+◌, ◌<◌, ◌≤◌, List, length, slice_index_or}
 use Rattle.sync_types.specs.States.{State}
-use Rattle.group_votes.specs.Senders.{IsTold, TellsItself}
-use Rattle.group_votes.specs.Groups.{Stands}
+use Rattle.shared_board.specs.Senders.{IsTold, TellsItself}
+use Rattle.shared_board.specs.GroupVotes.{Stands}
 use Rattle.shared_board.specs.Boards.{Board, sent_of}
 use Rattle.tower.specs.declared.rows.Row.{Row}
 use Rattle.tower.specs.Placings.{Placing, register_by}

@@ -5,7 +5,7 @@ use Rattle.sync_types.specs.declared.states.Reg.{Reg}
 use Rattle.sync_types.specs.States.{State, zero_register, register_at}
 use Rattle.plan_numbers.specs.Numbers.{level_of}
 use Rattle.plan_numbers.specs.Sizes.{block_nodes}
-use Rattle.group_votes.specs.Groups.{Contents, HasRoom, Stands, AreBelow, AreLies, register_heard}
+use Rattle.shared_board.specs.GroupVotes.{Contents, HasRoom, Stands, AreBelow, AreLies, register_heard}
 use Rattle.shared_board.specs.Sharing.{honest_in}
 use Rattle.shared_board.specs.Groups.{Group}
 use Rattle.shared_board.specs.Boards.{Board, sent_of}

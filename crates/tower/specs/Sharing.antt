@@ -5,7 +5,7 @@ use Rattle.plan_numbers.specs.declared.numbers.LevelNums.{LevelNums}
 use Rattle.plan_numbers.specs.Numbers.{levels_in, numbers_of}
 use Rattle.plan_numbers.specs.Premises.{IsAccepted}
 use Rattle.plan_laws.specs.PlanMeaning.{IsInRange}
-use Rattle.group_votes.specs.Groups.{Stands}
+use Rattle.shared_board.specs.GroupVotes.{Stands}
 use Rattle.shared_board.specs.Sharing.{Shares}
 use Rattle.shared_board.specs.Groups.{groups_of}
 use Rattle.shared_board.specs.Boards.{Board, sent_of}

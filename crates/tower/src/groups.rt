@@ -5,7 +5,7 @@ ghost use Rattle.construction.specs.Plans.{nodes_of};
 ghost use Rattle.plan_numbers.specs.Numbers.{level_of, levels_in};
 ghost use Rattle.plan_numbers.specs.Sizes.{block_nodes};
 ghost use Rattle.plan_numbers.specs.Stacked.{AreSomeLevels};
-ghost use Rattle.group_votes.specs.Groups.{AreNumbers, Stands};
+ghost use Rattle.shared_board.specs.GroupVotes.{AreNumbers, Stands};
 ghost use Rattle.shared_board.specs.Boards.{Board, sent_of};
 ghost use Rattle.shared_board.specs.Groups.{groups_of};
 ghost use Rattle.shared_board.specs.Sharing.{place_among};
@@ -15,10 +15,9 @@ ghost use Rattle.tower.specs.Placings.{row_register};
 ghost use Rattle.tower.specs.Sharing.{AllStand};
 
 use crate::rows::Row;
-use group_votes::Group;
 use majority_votes::Steps;
 use plan_numbers::LevelNums;
-use shared_board::Board;
+use shared_board::{Board, Group};
 use std::alloc::Global;
 use std::marker::Model;
 use std::sync::ledger::Ledger;
@@ -32,7 +31,7 @@ pub(crate) struct Placed {
 }
 
 impl Model for Placed {
-    ghost use Rattle.group_votes.specs.Groups.{contents};
+    ghost use Rattle.shared_board.specs.GroupVotes.{contents};
     ghost use Rattle.tower.specs.Placings.{Placing};
 
     ghost Value = { Placing };

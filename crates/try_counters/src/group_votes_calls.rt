@@ -1,10 +1,10 @@
 ghost use Rattle.std.specs.Prelude.{◌≡◌, ◌<◌, [], ◌∷◌, length, true, false, IfOk, IfSome};
 ghost use Rattle.sync_types.specs.States.{register_at};
-ghost use Rattle.group_votes.specs.Groups.{AreNumbers, AreBelow, AreLies};
+ghost use Rattle.shared_board.specs.GroupVotes.{AreNumbers, AreBelow, AreLies};
 
-use group_votes::{Group, Senders};
 use majority_votes::Steps;
 use plan_numbers::LevelNums;
+use shared_board::{Group, Senders};
 use std::alloc::Global;
 use std::marker::Brand;
 use std::sync::ledger::{Blank, Ledger};

@@ -1,6 +1,5 @@
-use any_machine::AnyMachine;
 use machines::Machine;
-use node_calls::{CallError, counter_in, output, state_bytes, step};
+use node_calls::{AnyMachine, CallError, counter_in, output, state_bytes, step};
 use plan_reader::PlanRefusal;
 use pulse_plan::PulsePremise;
 use pulse_texts::{LinePremise, PulsesRefusal};

@@ -3,8 +3,7 @@ ghost use Rattle.std.specs.Prelude.{◌<◌, ◌^◌, ◌-◌};
 use crate::players::begun;
 use edge_io::{MemSink, PlainSource};
 use plan_reader::read_whole_plan;
-use run_certificates::Verdict;
-use run_checker::{CertRefusal, CheckError, check_run, write_run};
+use run_checker::{CertRefusal, CheckError, Verdict, check_run, write_run};
 use std::alloc::Global;
 use std::test::Fail;
 

@@ -1,6 +1,5 @@
 use edge_io::MemSink;
-use plan_certificate::{TableError, TableRefusal, read_table, write_plan, write_table};
-use plan_reader::read_whole_plan;
+use plan_reader::{TableError, TableRefusal, read_table, read_whole_plan, write_plan, write_table};
 use std::alloc::Global;
 use std::test::Fail;
 use sync_types::{Cause, Premise};

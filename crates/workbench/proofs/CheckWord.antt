@@ -10,8 +10,8 @@ use Rattle.texts.specs.Growth.{Told, Wrote, Cut}
 use Rattle.texts.proofs.Growth.{wrote_none}
 use Rattle.edge_io.specs.FedParts.{MayFollow}
 use Rattle.sync_types.specs.declared.status.Status.TheVariants as status
-use Rattle.run_certificates.specs.declared.Verdict.{Verdict}
-use Rattle.run_certificates.specs.declared.Verdict.TheVariants as verdict
+use Rattle.run_checker.specs.declared.Verdict.{Verdict}
+use Rattle.run_checker.specs.declared.Verdict.TheVariants as verdict
 use Rattle.run_checker.specs.Checks.{checked_by, unlimited, LimitsMatterBeyond, IsChecked}
 use Rattle.run_checker.specs.Checks.{IsRefused, IsTooLong, IsLost}
 use Rattle.node_words.proofs.Returns.{left_of, holds_left, all_front}

@@ -7,9 +7,8 @@ ghost use Rattle.outcomes.specs.Conduct.{Does, LeavesUnmet, LeavesUntouched};
 
 use edge_io::{Piece, Sink, Source, WriteFault, put_pieces};
 use outcomes::{Command, Refusal, put_refusal};
-use run_certificates::Verdict;
 use run_checker::laws::limits_matter_beyond;
-use run_checker::{CertRefusal, CheckError, check_run};
+use run_checker::{CertRefusal, CheckError, Verdict, check_run};
 use std::alloc::Global;
 use sync_types::Status;
 

@@ -1,6 +1,6 @@
 use Rattle.std.proofs.Common.{ap}
-use Rattle.run_certificates.specs.Certificates.{certificate_text}
-use Rattle.run_certificates.specs.Recorded.{certificate_of}
+use Rattle.run_checker.specs.Certificates.{certificate_text}
+use Rattle.run_checker.specs.Recorded.{certificate_of}
 use Rattle.outcomes.specs.Inputs.{Scripted, scripted_of}
 use Rattle.outcomes.specs.Answers.{text_by}
 use Rattle.answers.proofs.Unwritten.{refuses_text, unread, unwritten}

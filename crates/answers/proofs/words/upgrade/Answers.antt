@@ -1,6 +1,6 @@
 use Rattle.std.proofs.Common.{ap}
 use Rattle.plan_reader.specs.PlanPart.{whole_plan_of}
-use Rattle.plan_certificate.specs.PlanTexts.{plan_text}
+use Rattle.plan_reader.specs.PlanTexts.{plan_text}
 use Rattle.outcomes.specs.Inputs.{in_plan, or_refusal}
 use Rattle.outcomes.specs.Answers.{text_by}
 use Rattle.answers.proofs.Unwritten.{refuses_plan, refuses_text, unread, unwritten}

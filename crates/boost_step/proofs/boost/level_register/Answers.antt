@@ -3,7 +3,7 @@ use Rattle.std.specs.List.{range_with_len}
 use Rattle.sync_types.specs.States.{register_at}
 use Rattle.construction.specs.Steps.{state_of, register_after}
 use Rattle.plan_numbers.specs.Numbers.{level_of}
-use Rattle.level_laws.specs.Boosted.{outputs_heard}
+use Rattle.plan_laws.specs.Boosted.{outputs_heard}
 use Rattle.boost_step.specs.Groups.{counter_below}
 use Rattle.boost_step.specs.Numbers.{block_nodes, in_blocks}
 use Rattle.boost_step.proofs.Numbers.{block_nodes_below, related}

@@ -1,6 +1,6 @@
 use Rattle.std.proofs.Common.{arith}
 use Rattle.texts.proofs.Growth.{wrote_none}
-use Rattle.plan_certificate.proofs.LevelTexts.{wrote_level, cut_level, wrote_levels}
+use Rattle.plan_reader.proofs.LevelTexts.{wrote_level, cut_level, wrote_levels}
 use Rattle.choose.specs.FrontText.{level_part}
 use Rattle.choose.proofs.writing.put_levels.Goals as goal
 

@@ -1,5 +1,5 @@
 use Rattle.texts.specs.Growth.{Wrote}
-use Rattle.plan_certificate.proofs.LevelTexts.{first_texts}
+use Rattle.plan_reader.proofs.LevelTexts.{first_texts}
 use Rattle.choose.specs.FrontText.{level_part}
 use Rattle.choose.proofs.writing.put_levels.Given as goal
 

@@ -1,6 +1,6 @@
 use Rattle.std.proofs.Common.{subst, sym}
 use Rattle.machines.specs.Machines.{IsState}
-use Rattle.node_runs.proofs.States.{read_is_state}
+use Rattle.node_stepper.proofs.States.{read_is_state}
 use Rattle.node_calls.proofs.calls.shown_by.Goals as goal
 
 pub output-requires-clause-state : goal.output-requires-clause-state

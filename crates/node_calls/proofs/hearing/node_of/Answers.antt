@@ -1,6 +1,6 @@
 use Rattle.std.proofs.Common.{subst, sym}
 use Rattle.machines.specs.Machines.{IsState}
-use Rattle.node_runs.proofs.States.{read_is_state}
+use Rattle.node_stepper.proofs.States.{read_is_state}
 use Rattle.node_calls.proofs.hearing.node_of.Goals as goal
 
 pub new-requires-clause-state : goal.new-requires-clause-state

@@ -3,9 +3,9 @@ use Rattle.std.proofs.lemmas.List.{map-id, take_all, take_at}
 use Rattle.sync_types.specs.declared.states.Reg.{Reg}
 use Rattle.sync_types.specs.States.{State, zero_state}
 use Rattle.counter_core.specs.Meanings.{written, cut}
-use Rattle.pulse_construction.specs.Steps.{step_in, step_of, halving_depth}
-use Rattle.pulse_construction.specs.Runs.{IsState}
-use Rattle.pulse_construction.proofs.Ranges.{step_is_state, depth_most}
+use Rattle.pulse_plan.specs.Steps.{step_in, step_of, halving_depth}
+use Rattle.pulse_plan.specs.Runs.{IsState}
+use Rattle.pulse_plan.proofs.Ranges.{step_is_state, depth_most}
 use Rattle.pulse_plan.specs.Groups.{PulseGroup, whole_of}
 use Rattle.pulse_plan.specs.Plans.{PulseNumbers, tree_of}
 use Rattle.pulse_machine.specs.Groups.{overlaid, stretch}

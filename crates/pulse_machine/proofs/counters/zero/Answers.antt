@@ -1,10 +1,10 @@
 use Rattle.std.proofs.Common.{◌≡◌, ℕ, ◌<◌, Result, Ok, Err, IfOk, subst, sym, ap, ◌∙◌, arith}
 use Rattle.sync_types.specs.States.{State, zero_state}
 use Rattle.sync_types.specs.declared.answers.NoMemory.{NoMemory}
-use Rattle.pulse_construction.specs.Halvings.{Halving}
-use Rattle.pulse_construction.specs.Steps.{halving_depth}
-use Rattle.pulse_construction.specs.Runs.{IsState}
-use Rattle.pulse_construction.proofs.Ranges.{zero_is_state}
+use Rattle.pulse_plan.specs.Halvings.{Halving}
+use Rattle.pulse_plan.specs.Steps.{halving_depth}
+use Rattle.pulse_plan.specs.Runs.{IsState}
+use Rattle.pulse_plan.proofs.Ranges.{zero_is_state}
 use Rattle.pulse_plan.specs.Plans.{tree_of}
 use Rattle.pulse_machine.proofs.counters.zero.Goals as goal
 

@@ -3,7 +3,7 @@ use Rattle.std.specs.Prelude.{slice_index_or}
 use Rattle.sync_types.specs.States.{State, zero_state}
 use Rattle.construction.specs.Steps.{state_of}
 use Rattle.construction.specs.PhaseKing.{instructed, up}
-use Rattle.pulse_construction.specs.LevelStates.{LevelState, sees}
+use Rattle.pulse_plan.specs.LevelStates.{LevelState, sees}
 use Rattle.pulse_plan.specs.Groups.{PulseGroup}
 use Rattle.pulse_machine.specs.Groups.{HasGroup}
 use Rattle.pulse_machine.specs.Hearing.{level_state_in, outputs_in, values_in}

@@ -1,6 +1,6 @@
 use Rattle.std.proofs.Common.{◌≡◌, map}
 use Rattle.std.specs.List.{range_with_len}
-use Rattle.pulse_construction.specs.Runs.{all_fields}
+use Rattle.pulse_plan.specs.Runs.{all_fields}
 use Rattle.pulse_plan.specs.Plans.{tree_of}
 use Rattle.pulse_machine.proofs.making.all_nodes_fields.Given as goal
 

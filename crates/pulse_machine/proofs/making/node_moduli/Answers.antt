@@ -3,8 +3,8 @@ use Rattle.std.proofs.Common.{arith}
 use Rattle.std.specs.Prelude.{unwrap_or}
 use Rattle.std.proofs.lemmas.List.{take_all}
 use Rattle.std.proofs.lemmas.Option.{unwrap_or-slice_get}
-use Rattle.pulse_construction.specs.Steps.{halving_depth}
-use Rattle.pulse_construction.specs.Runs.{fields_in, all_fields}
+use Rattle.pulse_plan.specs.Steps.{halving_depth}
+use Rattle.pulse_plan.specs.Runs.{fields_in, all_fields}
 use Rattle.pulse_plan.specs.Plans.{tree_of}
 use Rattle.pulse_machine.proofs.Kept.{all_long}
 use Rattle.pulse_machine.proofs.Made.{filled_at, one_more}

@@ -1,5 +1,5 @@
 use Rattle.std.proofs.Common.{◌≡◌, take}
-use Rattle.pulse_construction.specs.Runs.{all_fields}
+use Rattle.pulse_plan.specs.Runs.{all_fields}
 use Rattle.pulse_plan.specs.Plans.{tree_of}
 use Rattle.pulse_machine.proofs.making.node_moduli.Given as goal
 

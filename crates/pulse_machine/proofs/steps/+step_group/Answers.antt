@@ -1,6 +1,6 @@
 use Rattle.std.proofs.Common.{◌<◌, ◌+◌, ◌∙◌, ap, subst, sym, Option, arith}
 use Rattle.sync_types.specs.States.{State}
-use Rattle.pulse_construction.specs.Registers.{with_level_state}
+use Rattle.pulse_plan.specs.Registers.{with_level_state}
 use Rattle.pulse_plan.specs.Groups.{PulseGroup}
 use Rattle.pulse_machine.specs.Groups.{HasGroup, overlaid}
 use Rattle.pulse_machine.specs.Hearing.{level_state_heard}

@@ -1,4 +1,4 @@
-use Rattle.node_promises.proofs.Inputs.{any_connect}
+use Rattle.node_words.proofs.Inputs.{any_connect}
 use Rattle.pulse_plan.specs.Plans.{IsAccepted}
 use Rattle.pulse_nodes.specs.HeaderTexts.{header_text}
 use Rattle.pulse_nodes.specs.NodePromises.{header_lines}

@@ -1,4 +1,4 @@
-use Rattle.node_promises.proofs.LossyInputs.{any_lose}
+use Rattle.node_words.proofs.LossyInputs.{any_lose}
 use Rattle.pulse_plan.specs.Plans.{IsAccepted}
 use Rattle.pulse_nodes.specs.HeaderTexts.{header_text}
 use Rattle.pulse_nodes.specs.NodePromises.{header_lines}

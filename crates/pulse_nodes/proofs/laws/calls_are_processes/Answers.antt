@@ -1,4 +1,4 @@
-use Rattle.node_promises.proofs.Processes.{are_processes}
+use Rattle.node_words.proofs.Processes.{are_processes}
 use Rattle.pulse_nodes.specs.PulseWords.{pulse_words}
 use Rattle.pulse_nodes.proofs.Headers.{headers_are_served}
 use Rattle.pulse_nodes.proofs.laws.calls_are_processes.Goals as goal

@@ -1,10 +1,10 @@
-use Rattle.node_runs.proofs.Correct.{some_left}
-use Rattle.node_promises.proofs.Calls.{calls_write}
-use Rattle.node_promises.proofs.CallStates.{header_is, is_sound}
-use Rattle.node_promises.proofs.Connected.{connected_count}
-use Rattle.node_promises.proofs.Heard.{heard_stay_locked}
-use Rattle.node_promises.proofs.Restarts.{restarted_count}
-use Rattle.node_promises.proofs.Skips.{header_skips}
+use Rattle.node_stepper.proofs.Correct.{some_left}
+use Rattle.node_words.proofs.Calls.{calls_write}
+use Rattle.node_words.proofs.CallStates.{header_is, is_sound}
+use Rattle.node_words.proofs.Connected.{connected_count}
+use Rattle.node_words.proofs.Heard.{heard_stay_locked}
+use Rattle.node_words.proofs.Restarts.{restarted_count}
+use Rattle.node_words.proofs.Skips.{header_skips}
 use Rattle.pulse_plan.specs.Laws.{machine_in}
 use Rattle.pulse_nodes.specs.PulseWords.{pulse_words}
 use Rattle.pulse_nodes.proofs.Headers.{headers_are_served}

@@ -1,5 +1,5 @@
 use Rattle.std.proofs.Common.{◌<◌, arith}
-use Rattle.pulse_construction.proofs.Numbers.{bound_of_halving}
+use Rattle.pulse_plan.proofs.Numbers.{bound_of_halving}
 use Rattle.pulse_plan.proofs.Trees.{bound_of_halves}
 use Rattle.pulse_plan.proofs.bounds.+bound_of.Goals as goal
 

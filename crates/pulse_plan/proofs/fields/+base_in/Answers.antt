@@ -1,5 +1,5 @@
 use Rattle.std.proofs.Common.{◌<◌, Option, ap, sym, ◌∙◌, arith}
-use Rattle.pulse_construction.specs.Runs.{Fields}
+use Rattle.pulse_plan.specs.Runs.{Fields}
 use Rattle.pulse_plan.specs.Groups.{PulseGroup}
 use Rattle.pulse_plan.proofs.GroupFields.{fields_by_level, fields_in_half}
 use Rattle.pulse_plan.proofs.fields.+base_in.Goals as goal

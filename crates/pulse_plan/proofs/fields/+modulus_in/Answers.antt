@@ -1,7 +1,7 @@
 use Rattle.std.proofs.Common.{◌≡◌, ℕ, ◌-◌, ◌<◌, ◌≤◌, Option, Some, refl, ap, sym, ◌∙◌, arith}
 use Rattle.std.specs.Prelude.{slice_get}
-use Rattle.pulse_construction.specs.Halves.{instructions, left_period}
-use Rattle.pulse_construction.specs.Runs.{Fields}
+use Rattle.pulse_plan.specs.Halves.{instructions, left_period}
+use Rattle.pulse_plan.specs.Runs.{Fields}
 use Rattle.pulse_plan.specs.Fields.{fields_by}
 use Rattle.pulse_plan.specs.Groups.{PulseGroup, IsGroup, half_in}
 use Rattle.pulse_plan.proofs.GroupFields.{fields_by_level, fields_in_half, with_level, after_four}

@@ -1,8 +1,8 @@
 use Rattle.std.proofs.Common.{◌≡◌, ℕ, zero, suc, ◌+◌, ◌-◌, ◌*◌, ◌<◌, refl, arith}
-use Rattle.pulse_construction.specs.Halvings.{halving_nodes, halving_of}
-use Rattle.pulse_construction.proofs.Numbers.{faults_of_halving, nodes_of_halving, bound_of_halving}
-use Rattle.pulse_construction.proofs.Settles.{one_half_is_sound, pulses_settle}
-use Rattle.pulse_construction.proofs.RunLaws.{every_halving_settles}
+use Rattle.pulse_plan.specs.Halvings.{halving_nodes, halving_of}
+use Rattle.pulse_plan.proofs.Numbers.{faults_of_halving, nodes_of_halving, bound_of_halving}
+use Rattle.pulse_plan.proofs.Settles.{one_half_is_sound, pulses_settle}
+use Rattle.pulse_plan.proofs.RunLaws.{every_halving_settles}
 use Rattle.pulse_plan.specs.Plans.{tree_of}
 use Rattle.pulse_plan.proofs.Trees.{nodes_of_tree}
 use Rattle.pulse_plan.proofs.laws.every_plan_settles.Goals as goal

@@ -2,7 +2,7 @@ use Rattle.std.proofs.Common.{◌≡◌, ℕ, List, map, take, drop, Option, ap,
 use Rattle.counting.specs.Values.{count_of, least_above}
 use Rattle.sync_types.specs.States.{State, register_at}
 use Rattle.counter_core.specs.HeardRegisters.{RegisterHeard, values_heard}
-use Rattle.pulse_construction.specs.LevelStates.{LevelState, values_of}
+use Rattle.pulse_plan.specs.LevelStates.{LevelState, values_of}
 use Rattle.pulse_machine.specs.Groups.{section}
 use Rattle.pulse_machine.specs.Hearing.{level_states_in}
 use Rattle.pulse_machine.proofs.Heard.{marks_left, marks_right, values_are}

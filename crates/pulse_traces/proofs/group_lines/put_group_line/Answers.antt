@@ -1,7 +1,7 @@
 use Rattle.std.proofs.Common.{ap, arith}
 use Rattle.std.specs.Prelude.{slice_index_or}
 use Rattle.texts.proofs.Growth.{puts_exit, puts_then, cut_more, cut_then}
-use Rattle.pulse_construction.specs.LevelStates.{LevelState}
+use Rattle.pulse_plan.specs.LevelStates.{LevelState}
 use Rattle.pulse_machine.proofs.Depths.{four_deep}
 use Rattle.pulse_machine.specs.Hearing.{level_states_in}
 use Rattle.pulse_plan.specs.Groups.{sizes_of}

@@ -1,8 +1,8 @@
 use Rattle.std.proofs.Common.{◌≡◌, ◌<◌, Bool, true, sym, ap, ◌∙◌, arith}
 use Rattle.std.specs.Prelude.{nat_lt, if◌then◌else◌, codes}
 use Rattle.std.proofs.lemmas.Bool.{lt-ltb}
-use Rattle.pulse_construction.specs.Halves.{instructions}
-use Rattle.pulse_construction.specs.LevelStates.{LevelState}
+use Rattle.pulse_plan.specs.Halves.{instructions}
+use Rattle.pulse_plan.specs.LevelStates.{LevelState}
 use Rattle.trace_words.proofs.LineParts.{puts_as}
 use Rattle.pulse_traces.specs.GroupTexts.{turn_part}
 use Rattle.pulse_traces.proofs.group_lines.put_instruction.Goals as goal

@@ -1,5 +1,5 @@
 use Rattle.texts.proofs.Growth.{cut_then, cut_more, puts_then, puts_exit}
-use Rattle.run_certificates.specs.Recorded.{recorded_version}
+use Rattle.run_checker.specs.Recorded.{recorded_version}
 use Rattle.run_checker.specs.RunLines.{version_line, base_line, level_lines}
 use Rattle.run_checker.proofs.Recording.{puts_last}
 use Rattle.run_checker.proofs.head_lines.put_head.Goals as goal

@@ -1,5 +1,5 @@
 use Rattle.std.proofs.Common.{Bool, ◌||◌, ◌+◌, ap, sym, ◌∙◌}
-use Rattle.run_certificates.specs.Checking.{needs_state}
+use Rattle.run_checker.specs.Checking.{needs_state}
 use Rattle.run_checker.proofs.Ranges.{one_needs}
 use Rattle.run_checker.proofs.id_lists.needs_state.Goals as goal
 

@@ -1,5 +1,5 @@
 use Rattle.std.proofs.Common.{◌≡◌}
-use Rattle.run_certificates.specs.Checking.{needs_state}
+use Rattle.run_checker.specs.Checking.{needs_state}
 use Rattle.run_checker.proofs.id_lists.needs_state.Given as goal
 
 abbrev pub invariant-loop-v : goal.invariant-loop-v

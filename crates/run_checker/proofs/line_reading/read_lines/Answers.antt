@@ -4,7 +4,7 @@ use Rattle.edge_io.proofs.EndedLines.{starts, short_step, ended_here, refused_he
 use Rattle.edge_io.proofs.EndedLines.{no_line, too_long_line, beyond_line, goes_on, lost_line}
 use Rattle.edge_io.proofs.EndedLines.{halted_line}
 use Rattle.edge_io.proofs.AloneLines.{end_met, end_read}
-use Rattle.run_certificates.specs.Checking.{line_step}
+use Rattle.run_checker.specs.Checking.{line_step}
 use Rattle.run_checker.proofs.LinesRead.{reads_still, reads_next}
 use Rattle.run_checker.proofs.line_reading.read_lines.Goals as goal
 

@@ -1,6 +1,6 @@
 use Rattle.std.proofs.Common.{sym, ap, ◌∙◌, subst}
 use Rattle.adversary_script.specs.Scripts.{Script}
-use Rattle.run_certificates.specs.Recorded.{is_put}
+use Rattle.run_checker.specs.Recorded.{is_put}
 use Rattle.run_checker.specs.Playing.{Begins}
 use Rattle.run_checker.proofs.Recording.{not_stated, stated}
 use Rattle.run_checker.proofs.start_lines.put_start_if.Goals as goal

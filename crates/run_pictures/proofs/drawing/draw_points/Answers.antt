@@ -1,5 +1,5 @@
 use Rattle.std.proofs.Common.{sym, ◌∙◌}
-use Rattle.survey_pictures.proofs.Chains.{some_in}
+use Rattle.run_pictures.proofs.Chains.{some_in}
 use Rattle.run_pictures.proofs.drawing.draw_points.Goals as goal
 
 pub returns-in-Ok : goal.returns-in-Ok

@@ -1,6 +1,6 @@
 use Rattle.texts.proofs.Growth.{cut_more, cut_then, puts_then}
 use Rattle.run_pictures.specs.Pages.{page_front}
-use Rattle.survey_pictures.specs.SweepPictures.{sweep_picture}
+use Rattle.run_pictures.specs.SweepPictures.{sweep_picture}
 use Rattle.run_pictures.proofs.pages.put_sweep_page.Goals as goal
 
 pub returns-in-Err : goal.returns-in-Err

@@ -10,7 +10,7 @@ use Rattle.std.proofs.lemmas.List.Sums.{sum_by-append, sum_by-cons}
 use Rattle.plan_numbers.specs.declared.numbers.LevelNums.{LevelNums}
 use Rattle.plan_numbers.specs.Numbers.{level_of}
 use Rattle.plan_numbers.specs.Sizes.{block_nodes}
-use Rattle.group_votes.specs.Groups.{Stands}
+use Rattle.shared_board.specs.GroupVotes.{Stands}
 use Rattle.shared_board.specs.Sharing.{honest_in}
 use Rattle.shared_board.specs.Boards.{Board, sent_of}
 use Rattle.tower.specs.Placings.{Placing}

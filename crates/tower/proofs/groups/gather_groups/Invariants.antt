@@ -1,6 +1,6 @@
 use Rattle.std.proofs.Common.{◌≡◌, ℕ, ◌+◌, ◌*◌, ◌<◌, ◌≤◌, true, length, map, take, get_or, All}
 use Rattle.std.specs.List.{sum_by}
-use Rattle.group_votes.specs.Groups.{Stands}
+use Rattle.shared_board.specs.GroupVotes.{Stands}
 use Rattle.shared_board.specs.Boards.{sent_of}
 use Rattle.tower.specs.Placings.{Placing}
 use Rattle.tower.specs.Placings.{key_of, cost_of, Fits}

@@ -5,8 +5,8 @@ use Rattle.counter_core.specs.Meanings.{Meaning, written}
 use Rattle.counter_core.specs.Laws.{Sizes}
 use Rattle.plan_numbers.specs.Numbers.{level_of}
 use Rattle.construction.specs.Plans.{Level, group_size}
-use Rattle.level_laws.specs.Boosted.{inner_state, level_register, boosted}
-use Rattle.level_laws.proofs.BoostLaws.{deep_inner}
+use Rattle.plan_laws.specs.Boosted.{inner_state, level_register, boosted}
+use Rattle.plan_laws.proofs.BoostLaws.{deep_inner}
 use Rattle.boost_step.specs.Groups.{Group}
 use Rattle.boost_step.proofs.Stepping.{length_written, register_written}
 use Rattle.boost_step.proofs.boost.BoostCounter.advance.Goals as goal

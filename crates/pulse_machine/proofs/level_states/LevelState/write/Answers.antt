@@ -2,8 +2,8 @@ use Rattle.std.proofs.Common.{◌≡◌, ◌+◌, ◌≤◌, List, [], ◌∷◌
 use Rattle.std.proofs.Common.{ap₂, ◌∙◌, arith}
 use Rattle.sync_types.specs.declared.states.Reg.{Reg}
 use Rattle.sync_types.specs.States.{State}
-use Rattle.pulse_construction.specs.Halves.{instructions, left_period}
-use Rattle.pulse_construction.specs.Registers.{value_of}
+use Rattle.pulse_plan.specs.Halves.{instructions, left_period}
+use Rattle.pulse_plan.specs.Registers.{value_of}
 use Rattle.pulse_machine.specs.LevelStates.{with_level_state_at}
 use Rattle.pulse_machine.proofs.Written.{four_set}
 use Rattle.pulse_machine.proofs.level_states.LevelState.write.Goals as goal

@@ -1,5 +1,5 @@
 use Rattle.std.proofs.Common.{◌∙◌, sym}
-use Rattle.pulse_construction.proofs.Numbers.{faults_of_halving}
+use Rattle.pulse_plan.proofs.Numbers.{faults_of_halving}
 use Rattle.pulse_machine.proofs.pulse_machines.PulseMachineMachine.faults.Goals as goal
 
 pub returns : goal.returns

@@ -1,5 +1,5 @@
 use Rattle.std.proofs.Common.{ℕ, not, eqb, length, ap, ◌∙◌, nat_lt}
-use Rattle.run_certificates.specs.Grammar.{most_eras}
+use Rattle.run_checker.specs.Grammar.{most_eras}
 use Rattle.run_checker.specs.Bodies.{BodySeen}
 use Rattle.run_checker.proofs.BodyKept.{some_left}
 use Rattle.run_checker.proofs.bodies.Body.has_set.Goals as goal

@@ -1,5 +1,5 @@
 use Rattle.std.proofs.Common.{arith}
-use Rattle.run_certificates.specs.Items.{values_said}
+use Rattle.run_checker.specs.Items.{values_said}
 use Rattle.run_checker.proofs.BodySteps.{row_marks}
 use Rattle.run_checker.proofs.BodyKept.{shape_has_depth}
 use Rattle.run_checker.proofs.bodies.Body.mark_row.Goals as goal

@@ -9,7 +9,7 @@ use Rattle.plan_numbers.specs.Premises.{IsAccepted}
 use Rattle.state_codec.specs.Packs.{Pack}
 use Rattle.state_codec.specs.Shapes.{Shape, shape_of}
 use Rattle.state_codec.proofs.Plans.{length-moduli_of}
-use Rattle.run_certificates.specs.Grammar.{pairs_of, most_eras}
+use Rattle.run_checker.specs.Grammar.{pairs_of, most_eras}
 use Rattle.run_checker.specs.Bodies.{BodySeen}
 use Rattle.run_checker.specs.Rounds.{AreStates}
 use Rattle.run_checker.specs.Sets.{no_ids}

@@ -5,7 +5,7 @@ use Rattle.std.proofs.Math.Seq.{get_or-append_seam}
 use Rattle.std.proofs.lemmas.List.{length_push}
 use Rattle.construction.specs.Plans.{plan_nodes}
 use Rattle.sync_types.specs.FaultSets.{FaultIds}
-use Rattle.run_certificates.specs.Grammar.{most_eras}
+use Rattle.run_checker.specs.Grammar.{most_eras}
 use Rattle.run_checker.specs.Bodies.{BodySeen}
 use Rattle.run_checker.specs.Changes.{era_more}
 use Rattle.run_checker.specs.Sets.{no_ids}

@@ -2,8 +2,8 @@ use Rattle.std.proofs.Common.{◌+◌, ◌-◌, List, length, All, subst, refl, 
 use Rattle.std.proofs.lemmas.List.FromFn.{length-map-range_with_len}
 use Rattle.sync_types.specs.States.{State}
 use Rattle.construction.specs.Plans.{plan_nodes}
-use Rattle.run_certificates.specs.Grammar.{most_eras}
-use Rattle.run_certificates.specs.Checking.{all_told}
+use Rattle.run_checker.specs.Grammar.{most_eras}
+use Rattle.run_checker.specs.Checking.{all_told}
 use Rattle.run_checker.specs.Tellings.{Telling}
 use Rattle.run_checker.specs.Bodies.{BodySeen}
 use Rattle.run_checker.specs.Rounds.{AreStates}

@@ -3,9 +3,9 @@ use Rattle.std.proofs.Common.{◌∙◌, arith}
 use Rattle.std.proofs.lemmas.List.FromFn.{length-map-range_with_len}
 use Rattle.sync_types.specs.States.{State}
 use Rattle.construction.specs.Plans.{plan_nodes, plan_faults}
-use Rattle.run_certificates.specs.Grammar.{pairs_of, most_eras}
+use Rattle.run_checker.specs.Grammar.{pairs_of, most_eras}
 use Rattle.sync_types.specs.FaultSets.{FaultIds}
-use Rattle.run_certificates.specs.Checking.{all_told}
+use Rattle.run_checker.specs.Checking.{all_told}
 use Rattle.run_checker.specs.Tellings.{Telling}
 use Rattle.run_checker.specs.Bodies.{BodySeen}
 use Rattle.run_checker.specs.Rounds.{AreStates}

@@ -1,6 +1,6 @@
 use Rattle.std.proofs.Common.{Ok, None, subst}
 use Rattle.edge_io.specs.Taking.{Takes}
-use Rattle.run_certificates.specs.Checking.{Stage, step_by}
+use Rattle.run_checker.specs.Checking.{Stage, step_by}
 use Rattle.run_checker.specs.SaidLines.{item_seen}
 use Rattle.run_checker.specs.Phases.{phase_seen}
 use Rattle.run_checker.proofs.BodySteps.{entered}

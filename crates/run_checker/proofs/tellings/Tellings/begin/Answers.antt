@@ -2,7 +2,7 @@ use Rattle.std.proofs.Common.{◌<◌, ◌≤◌, ◌*◌, ℕ, List, All, lengt
 use Rattle.std.proofs.Common.{subst, arith}
 use Rattle.std.proofs.lemmas.List.{length-set, get_or_default}
 use Rattle.sync_types.specs.States.{State}
-use Rattle.run_certificates.specs.Grammar.{pairs_of}
+use Rattle.run_checker.specs.Grammar.{pairs_of}
 use Rattle.state_codec.specs.Shapes.{Shape, fields_at, bytes_in, shape_nodes}
 use Rattle.run_checker.specs.Tellings.{Telling, states_read}
 use Rattle.run_checker.proofs.BodyKept.{Below}

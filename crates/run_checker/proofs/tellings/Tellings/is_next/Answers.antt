@@ -1,5 +1,5 @@
 use Rattle.std.proofs.Common.{ℕ, List, length, drop, sym, ap, ◌∙◌}
-use Rattle.run_certificates.specs.Checking.{is_next}
+use Rattle.run_checker.specs.Checking.{is_next}
 use Rattle.run_checker.specs.Tellings.{Telling}
 use Rattle.run_checker.proofs.StatesRead.{length_told}
 use Rattle.run_checker.proofs.tellings.Tellings.is_next.Goals as goal

@@ -1,7 +1,7 @@
 use Rattle.std.proofs.Common.{ℕ, ◌+◌, ◌≤◌, length, sym, ap, ◌∙◌, subst, arith}
-use Rattle.group_votes.specs.Senders.{correct_in}
+use Rattle.shared_board.specs.Senders.{correct_in}
 use Rattle.shared_board.specs.Boards.{Board}
-use Rattle.shared_board.proofs.Hearing.{correct_are}
+use Rattle.shared_board.proofs.RegistersHeard.{correct_are}
 use Rattle.tower.specs.Placings.{Placing, cost_of}
 use Rattle.tower.proofs.groups.Placed.gather.Goals as goal
 

@@ -1,7 +1,7 @@
 use Rattle.std.proofs.Common.{◌≡◌, ℕ, List, sym, ◌∙◌, subst}
 use Rattle.sync_types.specs.States.{State}
-use Rattle.group_votes.specs.Senders.{Sent, IsTold, TellsItself}
-use Rattle.group_votes.specs.Groups.{Stands, contents, register_heard}
+use Rattle.shared_board.specs.Senders.{Sent, IsTold, TellsItself}
+use Rattle.shared_board.specs.GroupVotes.{Stands, contents, register_heard}
 use Rattle.shared_board.specs.Boards.{Board, sent_of}
 use Rattle.tower.specs.Heeding.{Holds, IsShut}
 use Rattle.tower.proofs.groups.Placed.is_open.Goals as goal

@@ -1,8 +1,8 @@
 use Rattle.std.proofs.Common.{ℕ, ◌+◌, ◌≤◌, length, sym, ap, ◌∙◌, subst, arith}
-use Rattle.group_votes.specs.Senders.{Sent, IsTold, liars_in}
-use Rattle.group_votes.specs.Groups.{register_heard}
+use Rattle.shared_board.specs.Senders.{Sent, IsTold, liars_in}
+use Rattle.shared_board.specs.GroupVotes.{register_heard}
 use Rattle.shared_board.specs.Boards.{Board}
-use Rattle.shared_board.proofs.Hearing.{told_is, few_in}
+use Rattle.shared_board.proofs.RegistersHeard.{told_is, few_in}
 use Rattle.tower.specs.Placings.{Placing, register_by}
 use Rattle.tower.proofs.groups.Placed.register.Goals as goal
 

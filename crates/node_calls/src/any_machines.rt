@@ -1,0 +1,111 @@
+use counter_core::{Heard, Work};
+use machines::Machine;
+use plan_machine::PlanMachine;
+use pulse_machine::PulseMachine;
+use sync_types::NodeState;
+
+/// The machine of a plan of either construction.
+#[derive(Drop)]
+pub enum AnyMachine {
+    /// A plan of levels over blocks.
+    Boosting(PlanMachine),
+    /// A pulse plan.
+    Pulses(PulseMachine),
+}
+
+impl Machine for AnyMachine {
+    ghost use Rattle.node_calls.specs.Machines.{machine_of};
+
+    ghost machine = { machine_of };
+
+    fn nodes(&self) -> u32 {
+        match self {
+            AnyMachine::Boosting(machine) => machine.nodes(),
+            AnyMachine::Pulses(machine) => machine.nodes(),
+        }
+    }
+
+    fn faults(&self) -> u32 {
+        match self {
+            AnyMachine::Boosting(machine) => machine.faults(),
+            AnyMachine::Pulses(machine) => machine.faults(),
+        }
+    }
+
+    fn modulus(&self) -> u64 {
+        match self {
+            AnyMachine::Boosting(machine) => machine.modulus(),
+            AnyMachine::Pulses(machine) => machine.modulus(),
+        }
+    }
+
+    fn bound(&self) -> u64 {
+        match self {
+            AnyMachine::Boosting(machine) => machine.bound(),
+            AnyMachine::Pulses(machine) => machine.bound(),
+        }
+    }
+
+    fn depth(&self) -> usize {
+        match self {
+            AnyMachine::Boosting(machine) => machine.depth(),
+            AnyMachine::Pulses(machine) => machine.depth(),
+        }
+    }
+
+    fn lock(&self) -> Option<usize> {
+        match self {
+            AnyMachine::Boosting(machine) => machine.lock(),
+            AnyMachine::Pulses(machine) => machine.lock(),
+        }
+    }
+
+    fn tell(&self) {
+        match self {
+            AnyMachine::Boosting(machine) => machine.tell(),
+            AnyMachine::Pulses(machine) => machine.tell(),
+        }
+    }
+
+    fn bytes_of(&self, v: u32) -> usize {
+        match self {
+            AnyMachine::Boosting(machine) => machine.bytes_of(v),
+            AnyMachine::Pulses(machine) => machine.bytes_of(v),
+        }
+    }
+
+    fn write_state(&self, v: u32, state: &NodeState, out: &mut [u8]) {
+        match self {
+            AnyMachine::Boosting(machine) => machine.write_state(v, state, out),
+            AnyMachine::Pulses(machine) => machine.write_state(v, state, out),
+        }
+    }
+
+    fn read_state(&self, v: u32, bytes: &[u8], out: &mut NodeState) {
+        match self {
+            AnyMachine::Boosting(machine) => machine.read_state(v, bytes, out),
+            AnyMachine::Pulses(machine) => machine.read_state(v, bytes, out),
+        }
+    }
+
+    fn read_front(&self, v: u32, bytes: &[u8], out: &mut NodeState) {
+        match self {
+            AnyMachine::Boosting(machine) => machine.read_front(v, bytes, out),
+            AnyMachine::Pulses(machine) => machine.read_front(v, bytes, out),
+        }
+    }
+
+    fn output(&self, v: u32, state: &NodeState) -> u64 {
+        match self {
+            AnyMachine::Boosting(machine) => machine.output(v, state),
+            AnyMachine::Pulses(machine) => machine.output(v, state),
+        }
+    }
+
+    fn advance(&self, v: u32, heard: &Heard<'_>, work: &mut Work, out: &mut NodeState) {
+        match self {
+            AnyMachine::Boosting(machine) => machine.advance(v, heard, work, out),
+            AnyMachine::Pulses(machine) => machine.advance(v, heard, work, out),
+        }
+    }
+}

@@ -1,5 +1,0 @@
-use Rattle.node_runs.proofs.Connected.{any_losses_connect}
-use Rattle.node_runs.proofs.laws.any_losses_connect.Goals as goal
-
-pub returns : goal.returns
-returns c = any_losses_connect

@@ -1,5 +1,0 @@
-use Rattle.node_runs.proofs.Heard as law
-use Rattle.node_runs.proofs.laws.heard_nodes_stay_locked.Goals as goal
-
-pub returns : goal.returns
-returns c = law.heard_nodes_stay_locked

@@ -1,5 +1,0 @@
-use Rattle.node_runs.proofs.Rounds.{nodes_in_rounds_run}
-use Rattle.node_runs.proofs.laws.nodes_in_rounds_run.Goals as goal
-
-pub returns : goal.returns
-returns c = nodes_in_rounds_run

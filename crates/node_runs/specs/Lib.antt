@@ -1,9 +1,0 @@
-pub mod NodeRuns
-pub mod Cells
-pub mod Losses
-pub mod Laws
-pub mod Rounds
-pub mod Lossy
-pub mod Restarts
-pub mod Missed
-pub mod Bytes

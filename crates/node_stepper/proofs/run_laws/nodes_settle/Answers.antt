@@ -1,0 +1,5 @@
+use Rattle.node_stepper.proofs.Settled as law
+use Rattle.node_stepper.proofs.run_laws.nodes_settle.Goals as goal
+
+pub returns : goal.returns
+returns c = law.nodes_settle

@@ -1,5 +1,0 @@
-use Rattle.plan_certificate.proofs.ReadBack.{text_is_read, text_is_whole}
-use Rattle.plan_certificate.proofs.laws.plan_texts_read_back.Goals as goal
-
-pub returns : goal.returns
-returns c = record { part = text_is_read; whole = text_is_whole }

@@ -1,9 +1,0 @@
-use Rattle.texts.specs.Growth.{Wrote}
-use Rattle.plan_certificate.specs.PlanTexts.{level_text}
-use Rattle.plan_certificate.proofs.LevelTexts.{first_texts}
-use Rattle.plan_certificate.proofs.plan_texts.put_levels.Given as goal
-
-abbrev pub invariant-loop-i : goal.invariant-loop-i
-invariant-loop-i g l =
-    Wrote (first_texts (level_text l.version) l.plan l.i) (g.K.Sink.told l.fn.sink)
-    (g.K.Sink.told l.sink)

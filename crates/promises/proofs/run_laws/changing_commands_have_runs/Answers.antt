@@ -1,0 +1,5 @@
+use Rattle.promises.proofs.run_laws.changing_commands_have_runs.Goals as goal
+use Rattle.promises.proofs.ChangingRuns as law
+
+pub returns : goal.returns
+returns c = law.changing_commands_have_runs

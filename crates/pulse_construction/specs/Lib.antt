@@ -1,9 +1,0 @@
-pub mod Halvings
-pub mod Registers
-pub mod Steps
-pub mod Runs
-pub mod Halves
-pub mod LevelStates
-pub mod Hearing
-pub mod Level
-pub mod Laws

@@ -1,0 +1,170 @@
+-- Registers after a tree's own change neither what a state shows nor the step.
+use Rattle.std.proofs.Common.{◌≡◌, ℕ, zero, suc, ◌+◌, ◌-◌, ◌<◌, ◌≤◌, cond, List, []}
+use Rattle.std.proofs.Common.{◌∷◌, map, take, drop, unwrap_or, refl, sym, ap, ap₂}
+use Rattle.std.proofs.Common.{◌∙◌}
+use Rattle.std.proofs.Common.{arith}
+use Rattle.std.specs.Prelude.{nat_lt}
+use Rattle.std.proofs.Math.Seq.{take-nil}
+use Rattle.std.proofs.Math.Nat.{le-max_left, le-max_right}
+use Rattle.std.proofs.lemmas.List.{get_or-take, drop-take, take-map, drop-map}
+use Rattle.sync_types.specs.declared.states.Reg.{Reg}
+use Rattle.sync_types.specs.States.{State, zero_state, zero_register, register_at}
+use Rattle.construction.specs.PhaseKing.{up}
+use Rattle.construction.specs.Steps.{state_of}
+use Rattle.counter_core.specs.Meanings.{cut}
+use Rattle.machines.specs.Laws.{IgnoresFurther}
+use Rattle.pulse_plan.specs.Halves.{faults_of, instructions, left_period, right_period}
+use Rattle.pulse_plan.specs.LevelStates.{LevelState, level_state_after}
+use Rattle.pulse_plan.specs.Halvings.{Halving, One, Split, halving_nodes, halving_height}
+use Rattle.pulse_plan.specs.Halvings.{halves_of}
+use Rattle.pulse_plan.specs.Registers.{number_of, level_state_of, inner, with_level_state}
+use Rattle.pulse_plan.specs.Steps.{shown_in, half_of, new_level_state, step_in}
+use Rattle.pulse_plan.specs.Steps.{halving_depth, filled}
+use Rattle.pulse_plan.specs.Runs.{machine_of}
+
+-- ---- lists of states
+
+map_map : {X Y Z : Type 0} (f : Y → Z) (g : X → Y) (xs : List X)
+    → map f (map g xs) ≡ map (λ x. f (g x)) xs
+map_map f g [] = refl
+map_map f g (x ∷ xs) = ap (λ ys. f (g x) ∷ ys) (map_map f g xs)
+
+map_same : {X Y : Type 0} (f g : X → Y) (same : (x : X) → f x ≡ g x) (xs : List X)
+    → map f xs ≡ map g xs
+map_same f g same [] = refl
+map_same f g same (x ∷ xs) = ap₂ (λ y ys. y ∷ ys) (same x) (map_same f g same xs)
+
+state_of_cut : (d : ℕ) (group : List State) (v : ℕ)
+    → state_of (map (cut d) group) v ≡ cut d (state_of group v)
+state_of_cut d [] v = ap (λ (rs : List Reg). record { x = 0; registers = rs }) (sym (take-nil d))
+state_of_cut d (s ∷ group) zero = refl
+state_of_cut d (s ∷ group) (suc v) = state_of_cut d group v
+
+-- ---- a state of a level
+
+register_cut : (d i : ℕ) (s : State) → i < d → register_at i (cut d s) ≡ register_at i s
+register_cut d i s lt = get_or-take d s.registers i zero_register lt
+
+-- four registers more
+abbrev more : ℕ → ℕ
+more d = suc (suc (suc (suc d)))
+
+inner_cut : (d : ℕ) (s : State) → inner (cut (more d) s) ≡ cut d (inner s)
+inner_cut d s =
+    let four : more d ≡ 4 + d = omega arith in
+    ap (λ (rs : List Reg). record { x = s.x; registers = rs })
+    (ap (λ k. drop 4 (take k s.registers)) four ∙ drop-take 4 d s.registers)
+
+abbrev level_state_by : (f : ℕ) (king phases left right : Reg) → LevelState
+level_state_by f king phases left right = record {
+  register = king;
+  instruction = number_of (instructions f) phases.a;
+  begun_by_left = phases.d;
+  age = number_of (left_period f) left.a;
+  saw_left = left.d;
+  saw_right = right.d;
+}
+
+level_state_cut : (f d : ℕ) (s : State) → level_state_of f (cut (more d) s) ≡ level_state_of f s
+level_state_cut f d s =
+    let t : State = cut (more d) s in
+    ap₂ (λ a b. level_state_by f a b (register_at 2 t) (register_at 3 t))
+    (register_cut (more d) 0 s (omega arith)) (register_cut (more d) 1 s (omega arith))
+    ∙ ap₂ (level_state_by f (register_at 0 s) (register_at 1 s))
+    (register_cut (more d) 2 s (omega arith)) (register_cut (more d) 3 s (omega arith))
+
+shown_cut : (tree : Halving) (d : ℕ) (s : State) → halving_depth tree ≤ d
+    → shown_in tree (cut d s) ≡ shown_in tree s
+shown_cut One d s deep = refl
+shown_cut (Split left right spares) d s deep =
+    ap (λ (r : Reg). unwrap_or r.a 0) (register_cut d 0 s (omega arith))
+
+half_cut : (d first nodes : ℕ) (group : List State)
+    → half_of first nodes (map (cut (more d)) group) ≡ map (cut d) (half_of first nodes group)
+half_cut d first nodes group =
+    let states : List State = map inner group in
+    ap (λ xs. take nodes (drop first xs))
+    (map_map inner (cut (more d)) group
+    ∙ map_same (λ s. inner (cut (more d) s)) (λ s. cut d (inner s)) (inner_cut d) group
+    ∙ sym (map_map (cut d) inner group))
+    ∙ (ap (take nodes) (drop-map (cut d) first states) ∙ take-map (cut d) nodes (drop first states))
+
+outputs_cut : (tree : Halving) (d first nodes : ℕ) (group : List State) → halving_depth tree ≤ d
+    → map (shown_in tree) (half_of first nodes (map (cut (more d)) group))
+    ≡ map (shown_in tree) (half_of first nodes group)
+outputs_cut tree d first nodes group deep =
+    ap (map (shown_in tree)) (half_cut d first nodes group)
+    ∙ (map_map (shown_in tree) (cut d) (half_of first nodes group)
+    ∙ map_same (λ s. shown_in tree (cut d s)) (shown_in tree) (λ s. shown_cut tree d s deep)
+    (half_of first nodes group))
+
+-- ---- the step
+
+-- what stands before the half, and the state in it
+abbrev level_by : (left right : Halving) (spares modulus : ℕ) (own : LevelState)
+    (outputs others : List ℕ) (states : List LevelState) → LevelState
+level_by left right spares modulus own outputs others states =
+    level_state_after (halves_of left right spares) (up modulus) own outputs others states
+
+new_cut : (left right : Halving) (spares modulus v d : ℕ) (group : List State)
+    → halving_depth left ≤ d → halving_depth right ≤ d
+    → new_level_state left right spares modulus v (map (cut (more d)) group)
+    ≡ new_level_state left right spares modulus v group
+new_cut left right spares modulus v d group in_left in_right =
+    let f : ℕ = faults_of (halves_of left right spares) in
+    let n : ℕ = halving_nodes left in
+    let m : ℕ = halving_nodes right in
+    let all : List State = map (cut (more d)) group in
+    let states : map (level_state_of f) all ≡ map (level_state_of f) group =
+    map_map (level_state_of f) (cut (more d)) group
+    ∙ map_same (λ s. level_state_of f (cut (more d) s)) (level_state_of f) (level_state_cut f d)
+    group in
+    let own : level_state_of f (state_of all v) ≡ level_state_of f (state_of group v) =
+    ap (level_state_of f) (state_of_cut (more d) group v)
+    ∙ level_state_cut f d (state_of group v) in
+    ap (λ s. level_by left right spares modulus s (map (shown_in left) (half_of 0 n all))
+    (map (shown_in right) (half_of n m all)) (map (level_state_of f) all)) own
+    ∙ (ap₂ (λ a b. level_by left right spares modulus (level_state_of f (state_of group v)) a b
+    (map (level_state_of f) all)) (outputs_cut left d 0 n group in_left)
+    (outputs_cut right d n m group in_right)
+    ∙ ap (level_by left right spares modulus (level_state_of f (state_of group v))
+    (map (shown_in left) (half_of 0 n group)) (map (shown_in right) (half_of n m group))) states)
+
+step_cut : (tree : Halving) (modulus v d : ℕ) (group : List State) → halving_depth tree ≤ d
+    → step_in tree modulus v (map (cut d) group) ≡ step_in tree modulus v group
+step_cut One modulus v d group deep =
+    ap (λ (s : State). record { x = up modulus s.x; registers = [] }) (state_of_cut d group v)
+step_cut (Split left right spares) modulus v zero group deep = absurd (omega arith)
+step_cut (Split left right spares) modulus v (suc zero) group deep = absurd (omega arith)
+step_cut (Split left right spares) modulus v (suc (suc zero)) group deep = absurd (omega arith)
+step_cut (Split left right spares) modulus v (suc (suc (suc zero))) group deep =
+    absurd (omega arith)
+step_cut (Split left right spares) modulus v (suc (suc (suc (suc d)))) group deep =
+    let f : ℕ = faults_of (halves_of left right spares) in
+    let n : ℕ = halving_nodes left in
+    let m : ℕ = halving_nodes right in
+    let all : List State = map (cut (more d)) group in
+    let in_left : halving_depth left ≤ d =
+    omega (arith, le-max_left (halving_height left) (halving_height right)) in
+    let in_right : halving_depth right ≤ d =
+    omega (arith, le-max_right (halving_height left) (halving_height right)) in
+    let new : List State → LevelState = new_level_state left right spares modulus v in
+    let by : State → State → State = λ a b.
+    cond (nat_lt v n) a (cond (nat_lt v (n + m)) b (zero_state 0)) in
+    let l : step_in left (left_period f) v (half_of 0 n all)
+    ≡ step_in left (left_period f) v (half_of 0 n group) =
+    ap (step_in left (left_period f) v) (half_cut d 0 n group)
+    ∙ step_cut left (left_period f) v d (half_of 0 n group) in_left in
+    let r : step_in right (right_period f) (v - n) (half_of n m all)
+    ≡ step_in right (right_period f) (v - n) (half_of n m group) =
+    ap (step_in right (right_period f) (v - n)) (half_cut d n m group)
+    ∙ step_cut right (right_period f) (v - n) d (half_of n m group) in_right in
+    ap₂ (λ p s. with_level_state f p s)
+    (new_cut left right spares modulus v d group in_left in_right) (ap₂ by l r)
+
+pub ignores_further : (tree : Halving) (modulus : ℕ) → IgnoresFurther (machine_of tree modulus)
+ignores_further tree modulus = record {
+  shows = λ v lt s. shown_cut tree (halving_depth tree) s (omega arith);
+  step = λ v lt heard size. ap (filled (halving_depth tree))
+      (step_cut tree modulus v (halving_depth tree) heard (omega arith));
+}

@@ -1,0 +1,129 @@
+-- Trees settle, their configuration at the bound is locked, and locked ones stay so.
+use Rattle.std.proofs.Common.{ℕ, ◌-◌, ◌≤◌, List, [], length, unwrap_or, refl, sym, ap, ◌∙◌}
+use Rattle.std.proofs.Common.{append-nil, arith}
+use Rattle.sync_types.specs.declared.states.Reg.{Reg}
+use Rattle.sync_types.specs.States.{State}
+use Rattle.counting.specs.Places.{places}
+use Rattle.construction.specs.Steps.{state_of}
+use Rattle.construction.specs.Runs.{is_in, configuration}
+use Rattle.counter_core.proofs.ListsAndPlaces.{places_of_ids}
+use Rattle.pulse_plan.specs.Halves.{faults_of, left_period, right_period}
+use Rattle.pulse_plan.specs.Level.{OneHalfIsSound, PulsesSettle, LockedStaysLocked}
+use Rattle.pulse_plan.specs.Halvings.{Halving, One, Split, halving_nodes, halving_faults}
+use Rattle.pulse_plan.specs.Halvings.{halving_bound, halves_of}
+use Rattle.pulse_plan.specs.Registers.{level_state_of, with_level_state}
+use Rattle.machines.specs.Machines.{Run, CountsFrom, IsBorne}
+use Rattle.pulse_plan.specs.Runs.{machine_of}
+use Rattle.pulse_plan.proofs.Numbers.{three_faults, faults_of_halving, nodes_of_halving}
+use Rattle.pulse_plan.proofs.Numbers.{bound_of_halving}
+use Rattle.pulse_plan.proofs.LevelStates.{level_state_back, state_back}
+use Rattle.pulse_plan.proofs.Ranges.{zero_is_state, step_is_state}
+use Rattle.pulse_plan.specs.TreeLaws.{HasQuorum, AreFast, LevelStatesAreRegisters}
+use Rattle.pulse_plan.specs.TreeLaws.{ZeroIsInRange}
+use Rattle.pulse_plan.specs.TreeLaws.{NextIsInRange, EveryHalvingSettles}
+use Rattle.pulse_plan.specs.TreeLaws.{LocksAtBound, StaysLockedFrom, LockedRunsCount}
+use Rattle.pulse_plan.proofs.Places.{CountsIn}
+use Rattle.pulse_plan.proofs.Counting.{one_counts, tree_settles, locked_over, stays_over}
+use Rattle.pulse_plan.proofs.TreeRuns.{run_in}
+
+pub every_halving_has_quorum : HasQuorum
+every_halving_has_quorum tree = three_faults tree
+
+pub halvings_are_fast : AreFast
+halvings_are_fast f spares = record {
+  faults = faults_of_halving f spares;
+  nodes = nodes_of_halving f spares;
+  bound = bound_of_halving f spares;
+}
+
+pub level_states_are_registers : LevelStatesAreRegisters
+level_states_are_registers = record {
+  read = λ f level_state state is. record {
+    first = ap
+        (λ (registers : List Reg). level_state_of f (record { x = state.x; registers = registers }))
+        (sym (append-nil (with_level_state f level_state state).registers))
+        ∙ level_state_back f level_state state [] is;
+    rest = refl;
+  };
+  written = state_back;
+}
+
+pub zero_is_in_range : ZeroIsInRange
+zero_is_in_range tree modulus two v = zero_is_state tree modulus v (omega arith)
+
+pub next_is_in_range : NextIsInRange
+next_is_in_range tree modulus two v heard = step_is_state tree modulus v heard (omega arith)
+
+-- faulty places are as few as the ids
+few_places : (tree : Halving) (faulty : List ℕ) → length faulty ≤ halving_faults tree
+    → places (is_in faulty) (halving_nodes tree) ≤ halving_faults tree
+few_places tree faulty few = omega (arith, places_of_ids faulty (halving_nodes tree))
+
+-- what counts by place counts over lists
+counts_over : (tree : Halving) (modulus : ℕ) (faulty : List ℕ) (run : List (List State))
+    → CountsIn tree modulus (is_in faulty) (length run - 1)
+    (λ t v. state_of (configuration run t) v)
+    → CountsFrom (machine_of tree modulus) faulty run (halving_bound tree)
+counts_over tree modulus faulty run counts = record {
+  output = counts.output;
+  shows = λ t lo hi v lt correct. counts.shows t v lo (omega arith) lt correct;
+  grows = λ t lo hi. counts.grows t lo (omega arith);
+}
+
+-- a locked configuration has one
+one_stays : (modulus : ℕ) → 2 ≤ modulus → (faulty : List ℕ) (run : List (List State)) (from : ℕ)
+    → IsBorne (machine_of One modulus) faulty → Run (machine_of One modulus) faulty run
+    → StaysLockedFrom One modulus faulty run from
+one_stays modulus two faulty run from borne is =
+    let counts = one_counts modulus (is_in faulty) (length run - 1)
+    (λ t v. state_of (configuration run t) v) (few_places One faulty borne.few)
+    (run_in One modulus faulty (omega (arith, two)) run is) in
+    record {
+      locked = λ t lo hi. tt;
+      counts = record {
+        output = counts.output;
+        shows = λ t lo hi v lt correct. counts.shows t v (omega arith) (omega arith) lt correct;
+        grows = λ t lo hi. counts.grows t (omega arith) (omega arith);
+      };
+    }
+
+module _ (one_half : OneHalfIsSound) (settle : PulsesSettle) where
+  pub every_halving_settles : EveryHalvingSettles
+  every_halving_settles tree modulus two faulty run borne is =
+      counts_over tree modulus faulty run
+      (tree_settles one_half settle tree modulus (is_in faulty) (length run - 1)
+      (λ t v. state_of (configuration run t) v) (few_places tree faulty borne.few)
+      (run_in tree modulus faulty (omega (arith, two)) run is))
+
+  pub locks_at_bound : LocksAtBound
+  locks_at_bound One modulus two faulty run borne is long = tt
+  locks_at_bound (Split left right spares) modulus two faulty run borne is long =
+      let tree : Halving = Split left right spares in
+      let f : ℕ = faults_of (halves_of left right spares) in
+      let stays = locked_over left right spares modulus (is_in faulty) (length run - 1)
+      (λ t v. state_of (configuration run t) v) (few_places tree faulty borne.few)
+      (run_in tree modulus faulty (omega (arith, two)) run is) one_half settle
+      (tree_settles one_half settle left (left_period f))
+      (tree_settles one_half settle right (right_period f)) in
+      record {
+        value = stays.value (halving_bound tree);
+        each = stays.locked (halving_bound tree) (omega arith) (omega arith);
+      }
+
+pub locked_runs_count : LockedStaysLocked → LockedRunsCount
+locked_runs_count stay One modulus two faulty run borne is from lt locked =
+    one_stays modulus two faulty run from borne is
+locked_runs_count stay (Split left right spares) modulus two faulty run borne is from lt locked =
+    let tree : Halving = Split left right spares in
+    let stays = stays_over left right spares modulus (is_in faulty) (length run - 1)
+    (λ t v. state_of (configuration run t) v) (few_places tree faulty borne.few)
+    (run_in tree modulus faulty (omega (arith, two)) run is) stay from locked.value locked.each in
+    record {
+      locked = λ t lo hi. record { value = stays.value t; each = stays.locked t lo (omega arith) };
+      counts = record {
+        output = stays.value;
+        shows = λ t lo hi v vlt correct.
+            ap (λ (r : Reg). unwrap_or r.a 0) (stays.locked t lo (omega arith) v vlt correct);
+        grows = λ t lo hi. stays.grows t lo (omega arith);
+      };
+    }

@@ -1,0 +1,60 @@
+-- A group halved again and again, and its numbers. There is no premise: each such tree is a
+-- counter.
+use Rattle.std.specs.Prelude.{ℕ, zero, suc, ◌+◌, ◌-◌, ◌*◌, ◌/◌, max}
+use Rattle.pulse_plan.specs.Halves.{Halves, faults_of, instructions, left_period}
+use Rattle.pulse_plan.specs.Halves.{right_period}
+
+-- One node, or a left and a right half and after them two spare nodes, and so many more.
+pub data Halving : Type 0 where
+  One : Halving
+  Split : (left right : Halving) (spares : ℕ) → Halving
+
+-- F: however these faults fall, one half has no more than it tolerates
+abbrev pub halving_faults : Halving → ℕ
+halving_faults One = 0
+halving_faults (Split left right spares) = halving_faults left + halving_faults right + 1
+
+-- N, at least 3 F + 1
+abbrev pub halving_nodes : Halving → ℕ
+halving_nodes One = 1
+halving_nodes (Split left right spares) = halving_nodes left + halving_nodes right + 2 + spares
+
+-- how many levels stand on the lowest node
+abbrev pub halving_height : Halving → ℕ
+halving_height One = 0
+halving_height (Split left right spares) = max (halving_height left) (halving_height right) + 1
+
+-- the sizes of the level over two halves
+abbrev pub halves_of : (left right : Halving) (spares : ℕ) → Halves
+halves_of left right spares = record {
+  left_nodes = halving_nodes left;
+  left_faults = halving_faults left;
+  right_nodes = halving_nodes right;
+  right_faults = halving_faults right;
+  nodes = halving_nodes left + halving_nodes right + 2 + spares;
+}
+
+-- the bound of a level that tolerates so many faults, from those of its halves: two periods of the
+-- left half, or three of the right one, and the phases of all kings
+abbrev pub bound_over : (f left right : ℕ) → ℕ
+bound_over f left right =
+    max (left + 2 * left_period f) (right + 3 * right_period f) + instructions f + 1
+
+-- T: from this configuration on the tree counts
+abbrev pub halving_bound : Halving → ℕ
+halving_bound One = 0
+halving_bound (Split left right spares) =
+    bound_over (faults_of (halves_of left right spares)) (halving_bound left) (halving_bound right)
+
+-- the tree of f faults, in which the left half of each group takes a third of its faults, and the
+-- right half what is left but for one; so high at most
+abbrev pub halved_within : (height f spares : ℕ) → Halving
+halved_within zero f spares = One
+halved_within (suc height) zero spares = One
+halved_within (suc height) (suc f) spares =
+    Split (halved_within height ((f + 1) / 3) 0) (halved_within height (f - (f + 1) / 3) 0) spares
+
+-- The tree of so many faults that plans have: 3 F + 1 nodes, and so many spares more in the whole
+-- group. A tree of no faults is one node.
+abbrev pub halving_of : (faults spares : ℕ) → Halving
+halving_of faults spares = halved_within faults faults spares

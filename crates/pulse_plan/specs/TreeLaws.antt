@@ -1,0 +1,103 @@
+-- The laws of trees of halves and of their runs, with each modulus from 2 on.
+use Rattle.std.specs.Prelude.{◌≡◌, ℕ, ◌+◌, ◌*◌, ◌^◌, ◌<◌, ◌≤◌, List, length, false}
+use Rattle.sync_types.specs.States.{State, zero_state}
+use Rattle.construction.specs.Steps.{state_of}
+use Rattle.construction.specs.Runs.{is_in, configuration}
+use Rattle.pulse_plan.specs.Halvings.{Halving, halving_nodes, halving_faults, halving_bound}
+use Rattle.pulse_plan.specs.Halvings.{halving_of}
+use Rattle.pulse_plan.specs.LevelStates.{LevelState}
+use Rattle.pulse_plan.specs.Registers.{level_state_of, inner, with_level_state}
+use Rattle.pulse_plan.specs.Registers.{IsLevelState, HasLevelState}
+use Rattle.pulse_plan.specs.Steps.{halving_depth, step_of}
+use Rattle.machines.specs.Machines.{IsConfiguration, IsTable, Round, Run, CountsFrom}
+use Rattle.machines.specs.Machines.{IsBorne, Settles}
+use Rattle.machines.specs.Laws.{IsSound}
+use Rattle.pulse_plan.specs.Runs.{IsState, machine_of, IsLocked}
+
+-- Every tree has more than three nodes for each fault.
+abbrev pub HasQuorum : Type 0
+HasQuorum = (tree : Halving) → 3 * halving_faults tree < halving_nodes tree
+
+-- the tree of f faults that plans have, with so many spares more
+pub record IsFast (f spares : ℕ) : Type 0 where
+  pub faults : halving_faults (halving_of f spares) ≡ f
+  pub nodes : 0 < f → halving_nodes (halving_of f spares) ≡ 3 * f + 1 + spares
+  pub bound : halving_bound (halving_of f spares) ≤ 42 * f
+
+-- Each tree that plans have is as small and as fast as that.
+abbrev pub AreFast : Type 0
+AreFast = (f spares : ℕ) → IsFast f spares
+
+-- the level state that is written before a state is read back, and so is the state
+pub record IsReadBack (f : ℕ) (level_state : LevelState) (state : State) : Type 0 where
+  pub first : level_state_of f (with_level_state f level_state state) ≡ level_state
+  pub rest : inner (with_level_state f level_state state) ≡ state
+
+-- A level state in range is read back from registers, and registers in range are written back.
+pub record LevelStatesAreRegisters : Type 0 where
+  pub read : (f : ℕ) (level_state : LevelState) (state : State) → IsLevelState f level_state
+      → IsReadBack f level_state state
+  pub written : (f : ℕ) (state : State) → HasLevelState f state
+      → with_level_state f (level_state_of f state) (inner state) ≡ state
+
+-- The zero state is a state of each node.
+abbrev pub ZeroIsInRange : Type 0
+ZeroIsInRange = (tree : Halving) (modulus : ℕ) → 2 ≤ modulus → (v : ℕ)
+    → IsState tree modulus v (zero_state (halving_depth tree))
+
+-- The step of a node gives a state of it, whatever was heard.
+abbrev pub NextIsInRange : Type 0
+NextIsInRange = (tree : Halving) (modulus : ℕ) → 2 ≤ modulus → (v : ℕ) (heard : List State)
+    → IsState tree modulus v (step_of tree modulus v heard)
+
+-- Every tree settles.
+abbrev pub EveryHalvingSettles : Type 0
+EveryHalvingSettles =
+    (tree : Halving) (modulus : ℕ) → 2 ≤ modulus → Settles (machine_of tree modulus)
+
+-- In each run with a borne faulty set that reaches the bound, the configuration at the bound is
+-- locked.
+abbrev pub LocksAtBound : Type 0
+LocksAtBound =
+    (tree : Halving) (modulus : ℕ) → 2 ≤ modulus → (faulty : List ℕ) (run : List (List State))
+    → IsBorne (machine_of tree modulus) faulty → Run (machine_of tree modulus) faulty run
+    → halving_bound tree < length run
+    → IsLocked tree faulty (configuration run (halving_bound tree))
+
+-- from a configuration on each one is locked, and the outputs count
+pub record StaysLockedFrom (tree : Halving) (modulus : ℕ) (faulty : List ℕ)
+    (run : List (List State)) (from : ℕ) : Type 0 where
+  pub locked : (t : ℕ) → from ≤ t → t < length run → IsLocked tree faulty (configuration run t)
+  pub counts : CountsFrom (machine_of tree modulus) faulty run from
+
+-- From any locked configuration on, before the bound too, whatever lies follow.
+abbrev pub LockedRunsCount : Type 0
+LockedRunsCount =
+    (tree : Halving) (modulus : ℕ) → 2 ≤ modulus → (faulty : List ℕ) (run : List (List State))
+    → IsBorne (machine_of tree modulus) faulty → Run (machine_of tree modulus) faulty run
+    → (from : ℕ) → from < length run → IsLocked tree faulty (configuration run from)
+    → StaysLockedFrom tree modulus faulty run from
+
+-- there is a next configuration, and all that are next have the same states of correct nodes
+pub record HasOneNext (tree : Halving) (modulus : ℕ) (faulty : List ℕ) (old : List State)
+    (lies : List (List State)) : Type 0 where
+  pub new : List State
+  pub states : IsConfiguration (machine_of tree modulus) new
+  pub round : Round (machine_of tree modulus) faulty old lies new
+  pub only : (other : List State) → Round (machine_of tree modulus) faulty old lies other
+      → (v : ℕ) → v < halving_nodes tree → is_in faulty v ≡ false
+      → state_of other v ≡ state_of new v
+
+-- Each configuration and table of lies has exactly one next for the correct nodes.
+abbrev pub EachHasOneNext : Type 0
+EachHasOneNext =
+    (tree : Halving) (modulus : ℕ) → 2 ≤ modulus
+    → (faulty : List ℕ) (old : List State) (lies : List (List State))
+    → IsConfiguration (machine_of tree modulus) old → IsTable (machine_of tree modulus) lies
+    → HasOneNext tree modulus faulty old lies
+
+-- The machine of each tree is sound, within the limits of what is read.
+abbrev pub MachinesAreSound : Type 0
+MachinesAreSound =
+    (tree : Halving) (modulus : ℕ) → 2 ≤ modulus → modulus ≤ 2 ^ 40 → halving_nodes tree ≤ 256
+    → IsSound (machine_of tree modulus)

@@ -1,5 +1,0 @@
-use Rattle.run_certificates.proofs.Answers as answers
-use Rattle.run_certificates.proofs.laws.certificates_are_checked.Goals as goal
-
-pub returns : goal.returns
-returns c = answers.certificates_checked

@@ -1,5 +1,0 @@
-use Rattle.run_certificates.proofs.RecordedTrue as recorded
-use Rattle.run_certificates.proofs.laws.recorded_rows_are_true.Goals as goal
-
-pub returns : goal.returns
-returns c = recorded.no_difference

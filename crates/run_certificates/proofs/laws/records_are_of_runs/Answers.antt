@@ -1,5 +1,0 @@
-use Rattle.run_certificates.proofs.laws.records_are_of_runs.Goals as goal
-use Rattle.run_certificates.proofs.RecordedRuns as law
-
-pub returns : goal.returns
-returns c = law.records_are_of_runs

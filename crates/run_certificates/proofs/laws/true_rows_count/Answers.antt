@@ -1,5 +1,0 @@
-use Rattle.run_certificates.proofs.TrueRows as rows
-use Rattle.run_certificates.proofs.laws.true_rows_count.Goals as goal
-
-pub returns : goal.returns
-returns c = rows.true_rows_count c.every_plan_settles.ensures

@@ -1,0 +1,10 @@
+use Rattle.std.proofs.Common.{take}
+use Rattle.std.specs.List.{flat_map}
+use Rattle.texts.specs.Growth.{Wrote}
+use Rattle.run_pictures.specs.Choices.{point_line}
+use Rattle.run_pictures.proofs.choices.put_choice.Given as goal
+
+abbrev pub invariant-loop-i : goal.invariant-loop-i
+invariant-loop-i g l =
+    Wrote (flat_map (point_line) (take l.i l.points))
+    (g.K.Sink.told l.fn.sink) (g.K.Sink.told l.sink)

@@ -1,0 +1,63 @@
+-- The text of a choice, a line for each plan, and where its plans belong: each one stands by its
+-- nodes, and by its bound on a scale of decades.
+use Rattle.std.specs.Prelude.{◌≡◌, ℕ, ◌+◌, ◌*◌, ◌/◌, ◌^◌, ◌<◌, ◌≤◌, ◌==◌, ◌&&◌, ◌||◌, nat_le}
+use Rattle.std.specs.Prelude.{nat_lt, Bool, true, List, [], ◌∷◌, ◌++◌, Option, Some, None, All}
+use Rattle.std.specs.Prelude.{if◌then◌else◌, codes, decimal}
+use Rattle.std.specs.List.{concat, flat_map}
+use Rattle.run_pictures.specs.declared.choices.Point.{Point}
+use Rattle.run_pictures.specs.Sweeps.{AreChained}
+
+-- ---- the text
+
+abbrev pub point_words : Point → List ℕ
+point_words point = concat (
+    codes "nodes " ∷ decimal point.nodes
+    ∷ codes " bound " ∷ decimal point.bound
+    ∷ codes " " ∷ point.rest.now ∷ [])
+
+abbrev pub point_line : Point → List ℕ
+point_line point = point_words point ++ codes "\n"
+
+abbrev pub choice_text : List Point → List ℕ
+choice_text points = flat_map point_line points
+
+-- ---- where the plans stand
+
+-- whether a byte is one of these, or between them
+abbrev pub is_between : (least most byte : ℕ) → Bool
+is_between least most byte = nat_le least byte && nat_le byte most
+
+-- small letters, digits, spaces and semicolons, of which the text of a plan consists
+abbrev pub is_plain : ℕ → Bool
+is_plain byte =
+    (byte == 32) || ((byte == 59) || (is_between 48 57 byte || is_between 97 122 byte))
+
+-- where a bound stands on the scale of decades: 0 where 1 does
+abbrev pub on_scale : ℕ → ℕ
+on_scale bound = if bound == 0 then 1 else bound
+
+-- whether a plan has more nodes than the one before it, if there is one, and a lesser bound
+abbrev pub is_better : Option Point → Point → Bool
+is_better None point = true
+is_better (Some before) point =
+    nat_lt before.nodes point.nodes && nat_lt point.bound before.bound
+
+-- how many plans stand before one
+abbrev pub place_behind : Option Point → ℕ
+place_behind None = 0
+place_behind (Some before) = before.place + 1
+
+-- A plan in its place, behind the one before it: the decade of its bound, and the first two digits
+-- of that, or ten times a bound of one digit.
+pub record IsPlotted (before : Option Point) (point : Point) : Type 0 where
+  pub better : is_better before point ≡ true
+  pub place : point.place ≡ place_behind before
+  pub few : point.nodes ≤ 256
+  pub least : 10 ^ point.decade ≤ on_scale point.bound
+  pub most : on_scale point.bound < 10 * 10 ^ point.decade
+  pub part : point.part ≡ on_scale point.bound * 10 / 10 ^ point.decade
+  pub plain : All (λ byte. is_plain byte ≡ true) point.rest.now
+
+-- all plans of a choice
+abbrev pub ArePlotted : List Point → Type 0
+ArePlotted points = AreChained IsPlotted None points

@@ -1,0 +1,257 @@
+//! What `choose` writes: plans, a line for each.
+
+ghost use Rattle.std.specs.Prelude.{◌≡◌, ◌≤◌, ◌<◌, ◌^◌, ◌*◌, ◌/◌, ◌+◌, All, IfSome, None, true};
+ghost use Rattle.texts.specs.Growth.{Puts};
+ghost use Rattle.run_pictures.specs.Choices.{ArePlotted, IsPlotted, choice_text, is_between};
+ghost use Rattle.run_pictures.specs.Choices.{is_better, is_plain, on_scale, place_behind};
+ghost use Rattle.run_pictures.specs.Choices.{point_line, point_words};
+
+use edge_io::{Lines, Piece, Sink, Words, WriteFault, first_line, number, put_all, put_pieces};
+use picture_parts::{ChartError, LineError, Wanted, next_is, number_behind};
+use std::alloc::Global;
+
+/// A bound is below this.
+const MOST_BOUND: u64 = 1 << 50;
+
+/// A plan, and where it is drawn: by its nodes, and by its bound on a scale of decades.
+#[derive(Clone, Copy)]
+pub struct Point<'a> {
+    pub nodes: u32,
+    pub bound: u64,
+    /// What stands behind these in its line: other numbers, and its text.
+    pub rest: &'a [u8],
+    /// How many plans stand before it.
+    pub place: u32,
+    /// How many digits the bound has, less one.
+    pub decade: u32,
+    /// Its first two digits, or ten times a bound of one digit.
+    pub part: u32,
+}
+
+// ---- the text
+
+/// Writes a line, without its newline.
+pub fn put_point_words<K: Sink>(sink: &mut K, point: &Point<'_>) -> Result<(), WriteFault>
+    ensures { Puts result (point_words point.now) (K.told sink.old) (K.told sink.new) }
+{
+    put_pieces(
+        sink,
+        &[
+            Piece::Text(b"nodes "),
+            Piece::Number(u64::from(point.nodes)),
+            Piece::Text(b" bound "),
+            Piece::Number(point.bound),
+            Piece::Text(b" "),
+            Piece::Text(point.rest),
+        ],
+    )
+}
+
+/// Writes a line.
+fn put_point_line<K: Sink>(sink: &mut K, point: &Point<'_>) -> Result<(), WriteFault>
+    ensures { Puts result (point_line point.now) (K.told sink.old) (K.told sink.new) }
+{
+    written!(put_point_words(sink, point));
+    put_all(sink, b"\n")
+}
+
+/// Writes plans as `choose` writes them.
+pub fn put_choice<K: Sink>(sink: &mut K, points: &[Point<'_>]) -> Result<(), WriteFault>
+    ensures { Puts result (choice_text points.now) (K.told sink.old) (K.told sink.new) }
+{
+    for i in 0..points.len() {
+        written!(put_point_line(sink, &points[i]));
+    }
+    Ok(())
+}
+
+// ---- where the plans stand
+
+/// Whether a byte is one of these, or between them.
+fn is_between(least: u8, most: u8, byte: u8) -> bool
+    ensures { result ≡ is_between least most byte }
+{
+    least <= byte && byte <= most
+}
+
+/// Whether a byte is a small letter, a digit, a space or a semicolon.
+fn is_plain(byte: u8) -> bool
+    ensures { result ≡ is_plain byte }
+{
+    byte == 32 || byte == 59 || is_between(48, 57, byte) || is_between(97, 122, byte)
+}
+
+/// Whether all bytes are.
+fn are_plain(bytes: &[u8]) -> bool
+    ensures { result ≡ true → All (λ byte. is_plain byte ≡ true) bytes.now }
+{
+    for k in 0..bytes.len() {
+        if !is_plain(bytes[k]) {
+            return false;
+        }
+    }
+    true
+}
+
+/// Where a bound stands on the scale of decades: 0 where 1 does.
+fn on_scale(bound: u64) -> u64
+    ensures value { result ≡ on_scale bound }
+    ensures least { 1 ≤ result }
+    ensures most { result ≤ bound + 1 }
+{
+    if bound == 0 { 1 } else { bound }
+}
+
+/// The first two digits of a bound in its decade, or ten times a bound of one digit.
+fn part_of(bound: u64, decade: u32) -> Option<u64>
+    requires { bound < 2 ^ 50 }
+    ensures least { IfSome result (λ _. 10 ^ decade ≤ on_scale bound) }
+    ensures most { IfSome result (λ _. on_scale bound < 10 * 10 ^ decade) }
+    ensures part { IfSome result (λ part. part ≡ on_scale bound * 10 / 10 ^ decade) }
+{
+    let bound = on_scale(bound);
+    if decade != bound.ilog10() {
+        return None;
+    }
+    Some(bound * 10 / 10u64.pow(decade))
+}
+
+/// Whether a bound is in its decade, and has these first two digits.
+fn is_scaled(bound: u64, decade: u32, part: u32) -> bool
+    ensures least { result ≡ true → 10 ^ decade ≤ on_scale bound }
+    ensures most { result ≡ true → on_scale bound < 10 * 10 ^ decade }
+    ensures part { result ≡ true → part ≡ on_scale bound * 10 / 10 ^ decade }
+{
+    if bound >= MOST_BOUND {
+        return false;
+    }
+    match part_of(bound, decade) {
+        Some(found) => u64::from(part) == found,
+        None => false,
+    }
+}
+
+/// Whether a plan has more nodes than the one before it, if there is one, and a lesser bound.
+fn is_better(before: Option<Point<'_>>, point: Point<'_>) -> bool
+    ensures { result ≡ is_better before.entry point.entry }
+{
+    match before {
+        None => true,
+        Some(before) => before.nodes < point.nodes && point.bound < before.bound,
+    }
+}
+
+/// How many plans stand before one.
+fn place_behind(before: Option<Point<'_>>) -> u64
+    ensures { result ≡ place_behind before.entry }
+{
+    match before {
+        None => 0,
+        Some(before) => u64::from(before.place) + 1,
+    }
+}
+
+/// Whether a plan is in its place, behind the one before it.
+fn is_plotted(before: Option<Point<'_>>, point: Point<'_>) -> bool
+    ensures { result ≡ true → IsPlotted before.entry point.entry }
+{
+    is_better(before, point)
+        && u64::from(point.place) == place_behind(before)
+        && point.nodes <= 256
+        && is_scaled(point.bound, point.decade, point.part)
+        && are_plain(point.rest)
+}
+
+/// Whether all plans are.
+pub fn are_plotted(points: &[Point<'_>]) -> bool
+    ensures { result ≡ true → ArePlotted points.now }
+{
+    let mut last: Option<Point<'_>> = None;
+    for k in 0..points.len() {
+        let point = points[k];
+        if !is_plotted(last, point) {
+            return false;
+        }
+        last = Some(point);
+    }
+    true
+}
+
+// ---- reading
+
+/// What stands behind the first four words of a line.
+fn rest_of(line: &[u8]) -> &[u8] {
+    let mut rest = line;
+    for _ in 0..4 {
+        match rest.iter().position(|byte| *byte == b' ') {
+            Some(end) => rest = rest.get(end.saturating_add(1)..).unwrap_or(&[]),
+            None => return &[],
+        }
+    }
+    rest
+}
+
+/// What a line says.
+fn point_of(line: &[u8]) -> Option<Point<'_>> {
+    let mut words = Words::new(line);
+    let nodes = number_behind(&mut words, b"nodes")?;
+    if !next_is(&mut words, b"bound") {
+        return None;
+    }
+    let bound = number(words.next()?)?;
+    let rest = rest_of(line);
+    if bound >= MOST_BOUND || !rest.starts_with(b"bytes ") {
+        return None;
+    }
+    let decade = on_scale(bound).checked_ilog10()?;
+    let part = u32::try_from(part_of(bound, decade)?).ok()?;
+    Some(Point {
+        nodes,
+        bound,
+        rest,
+        place: 0,
+        decade,
+        part,
+    })
+}
+
+/// Whether a text begins with a line of a choice.
+pub fn is_choice(text: &[u8]) -> bool {
+    if text.is_empty() {
+        return false;
+    }
+    let (line, _) = first_line(text);
+    point_of(line).is_some()
+}
+
+/// Takes a line, behind those before it.
+fn take<'a>(points: &mut Vec<Point<'a>>, line: &'a [u8]) -> Result<(), LineError> {
+    let Some(mut point) = point_of(line) else {
+        return Err(LineError::Unwanted);
+    };
+    let before = points.last().copied();
+    point.place = u32::try_from(place_behind(before)).unwrap_or(0);
+    if !is_plotted(before, point) {
+        return Err(LineError::Unwanted);
+    }
+    points.push(point)?;
+    Ok(())
+}
+
+/// Reads plans. The error is the first line that is not what should stand there, or want of memory.
+pub fn read_choice(alloc: Global, text: &[u8]) -> Result<Vec<Point<'_>>, ChartError> {
+    let mut points = Vec::new(alloc);
+    for (line, bytes) in Lines::new(text, 1) {
+        match take(&mut points, bytes) {
+            Ok(()) => {}
+            Err(LineError::Unwanted) => {
+                return Err(ChartError::Line {
+                    line,
+                    wanted: Wanted::Plan,
+                });
+            }
+            Err(LineError::NoMemory) => return Err(ChartError::NoMemory),
+        }
+    }
+    Ok(points)
+}

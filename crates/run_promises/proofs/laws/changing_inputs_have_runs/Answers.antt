@@ -1,5 +1,0 @@
-use Rattle.run_promises.proofs.laws.changing_inputs_have_runs.Goals as goal
-use Rattle.run_promises.proofs.ChangingRuns as law
-
-pub returns : goal.returns
-returns c = law.changing_inputs_have_runs

@@ -1,5 +1,0 @@
-use Rattle.run_promises.proofs.locks.plain_eras_lock.Goals as goal
-use Rattle.run_promises.proofs.LockLaws as law
-
-pub returns : goal.returns
-returns c = law.plain_eras_lock c.eras_lock.ensures

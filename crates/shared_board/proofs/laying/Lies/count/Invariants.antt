@@ -1,0 +1,10 @@
+use Rattle.std.proofs.Common.{◌≡◌, ◌+◌, map, take}
+use Rattle.counting.specs.Values.{count_of}
+use Rattle.sync_types.specs.States.{register_at}
+use Rattle.shared_board.proofs.laying.Lies.count.Given as goal
+
+-- the places so far
+abbrev pub invariant-loop-lie : goal.invariant-loop-lie
+invariant-loop-lie l =
+    l.count ≡ count_of l.poll.values l.value + count_of
+    (map (λ s. (register_at l.self.height s).a) (take l.lie-index l.self.lies.now)) l.value

@@ -1,0 +1,110 @@
+ghost use Rattle.std.specs.Prelude.{◌≡◌, ◌+◌, ◌-◌, ◌/◌, ◌<◌, ◌≤◌, length, take, drop};
+ghost use Rattle.std.proofs.Props.{props};
+ghost use Rattle.sync_types.specs.States.{register_at};
+ghost use Rattle.construction.specs.Steps.{state_of};
+ghost use Rattle.shared_board.specs.Senders.{IsTold, lies_in, value_heard};
+ghost use Rattle.shared_board.specs.Votes.{IsMost, most_heard};
+ghost use Rattle.shared_board.specs.GroupVotes.{AreNumbers, AreBelow, AreLies};
+
+use crate::laying::Lies;
+use crate::polls::Poll;
+use crate::readings::Reading;
+use crate::senders::Senders;
+use plan_numbers::LevelNums;
+use sync_types::NodeState;
+
+/// What a node of a group hears: the senders, and what the liars among them tell it.
+#[derive(Clone, Copy, Drop)]
+pub(crate) struct Hearing<'a> {
+    pub senders: &'a Senders<'a>,
+    /// The numbers of the group's level, and its first node.
+    pub nums: &'a LevelNums,
+    pub first: usize,
+    pub lies: &'a [NodeState],
+    ghost numbers: { AreNumbers nums.now } by { Prim.hlevel props },
+    ghost within: { first + nums.now.nodes ≤ length senders.now.registers },
+    ghost told: { IsTold senders.now lies.now },
+    ghost below: { AreBelow nums.now.modulus senders.now.registers } by { Prim.hlevel props },
+    ghost range: { AreLies senders.now.height nums.now.modulus lies.now } by { Prim.hlevel props },
+}
+
+/// The items from one place on to before another.
+fn between<T>(items: &[T], from: usize, to: usize) -> &[T]
+    requires order { from ≤ to }
+    requires within { to ≤ length items.now }
+    ensures { result.now ≡ take (to - from) (drop from items.now) }
+{
+    &items[from..to]
+}
+
+impl Hearing<'_> {
+    /// What the liars among `count` nodes from `first` on tell.
+    pub fn lies_in(&self, first: usize, count: usize) -> Lies<'_>
+        requires { first + count ≤ length self.now.senders.now.registers }
+        ensures height { result.height ≡ self.now.senders.now.height }
+        ensures lies { result.lies.now
+            ≡ lies_in self.now.senders.now self.now.lies.now first count }
+    {
+        let _nodes = self.senders.len();
+        let from = self.senders.liars_below(first);
+        let to = self.senders.liars_below(first + count);
+        Lies {
+            height: self.senders.height(),
+            lies: between(self.lies, from, to),
+        }
+    }
+
+    /// The value of the register of one of the lies.
+    fn told_value(&self, at: usize) -> Option<u64>
+        requires { at < length self.now.lies.now }
+        ensures { result
+            ≡ (register_at self.now.senders.now.height (state_of self.now.lies.now at)).a }
+    {
+        self.lies[at].reg(self.senders.height()).a
+    }
+
+    /// The value heard of a node's register.
+    fn value(&self, node: usize) -> Option<u64>
+        requires { node < length self.now.senders.now.registers }
+        ensures { result ≡ value_heard self.now.senders.now self.now.lies.now node }
+    {
+        if self.senders.is_liar(node) {
+            self.told_value(self.senders.liars_below(node))
+        } else {
+            self.senders.register(node).a
+        }
+    }
+
+    /// The value heard of the register of the king of a beat.
+    pub fn king(&self, beat: u64) -> Option<u64>
+        requires { beat < self.now.nums.now.beat }
+        ensures { result ≡ value_heard self.now.senders.now self.now.lies.now
+            (self.now.first + beat / 3) }
+    {
+        let _nodes = self.senders.len();
+        self.value(self.first + (beat / 3) as usize)
+    }
+
+    /// The number heard that most of `count` nodes from `first` on have: the known one, or that of
+    /// their correct ones, which the poll has, with their liars.
+    pub fn most<R: Reading>(
+        &self,
+        reading: &R,
+        known: Option<u64>,
+        first: usize,
+        count: usize,
+        poll: &Poll,
+    ) -> u64
+        requires within { first + count ≤ length self.now.senders.now.registers }
+        requires stands { IsMost self.now.senders.now (R.reads reading.now)
+            first count known poll.now }
+        requires room { count ≤ poll.now.capacity }
+        ensures { result ≡ most_heard self.now.senders.now self.now.lies.now
+            (R.reads reading.now) first count }
+    {
+        match known {
+            Some(most) => most,
+            None => self.lies_in(first, count).most(reading, poll),
+        }
+    }
+}

@@ -1,0 +1,204 @@
+ghost use Rattle.std.specs.Prelude.{◌≡◌, ◌+◌, ◌-◌, ◌/◌, ◌%◌, ◌<◌, ◌≤◌, ◌++◌, ◌⊎◌, ℕ, length, map};
+ghost use Rattle.std.specs.Prelude.{All, IfSome, None, false, nat_le, if◌then◌else◌};
+ghost use Rattle.std.proofs.Props.{props};
+ghost use Rattle.counting.specs.Values.{count_of, least_above};
+ghost use Rattle.sync_types.specs.States.{register_at};
+ghost use Rattle.construction.specs.PhaseKing.{incremented, instructed, locked_at, up};
+ghost use Rattle.shared_board.specs.Senders.{is_liar, liars_in, values_heard, values_of};
+ghost use Rattle.shared_board.specs.Votes.{IsKnown};
+ghost use Rattle.shared_board.specs.GroupVotes.{AreNumbers};
+
+use crate::hearing::Hearing;
+use crate::laying::Lies;
+use crate::polls::Poll;
+use crate::senders::Senders;
+use majority_votes::Steps;
+use phase_king::king_step;
+use plan_numbers::LevelNums;
+use std::sync::ledger::Ledger;
+use sync_types::Reg;
+
+/// The register after one that is locked at a value, in a group that is.
+pub(crate) fn locked_next(value: u64, modulus: u64) -> Reg
+    requires { value < modulus }
+    ensures { result ≡ locked_at (up modulus value) }
+{
+    let next = if value + 1 == modulus { 0 } else { value + 1 };
+    Reg {
+        a: Some(next),
+        d: true,
+    }
+}
+
+/// Whether a register may hang on what its king tells: not where it is locked, where the king is
+/// correct, or where it is that of the king.
+pub(crate) fn is_king_open(senders: &Senders<'_>, own: Reg, king: usize, node: usize) -> bool
+    requires { king < length senders.now.registers }
+    ensures { result ≡ false → ((value : ℕ) × (own ≡ locked_at value))
+        ⊎ ((is_liar senders.now king ≡ false) ⊎ (king ≡ node)) }
+{
+    if own.d && own.a.is_some() {
+        return false;
+    }
+    if senders.is_liar(king) {
+        king != node
+    } else {
+        false
+    }
+}
+
+/// Whether so many liars may decide whether `need` places hold a value that `same` places hold.
+pub(crate) fn is_test_open(same: usize, liars: usize, need: usize) -> bool
+    ensures { result ≡ false → (need ≤ same) ⊎ (same + liars < need) }
+{
+    if same < need {
+        need - same <= liars
+    } else {
+        false
+    }
+}
+
+/// The least value that more than `faults` have, the known one or that of the values with the lies.
+fn least_of<G: Ledger>(
+    lies: &Lies<'_>,
+    faults: usize,
+    known: Option<Option<u64>>,
+    values: &mut Poll,
+    steps: &mut Steps<G>,
+) -> Option<u64>
+    requires room { length values.old.values + length lies.now.lies.now ≤ values.old.capacity }
+    requires known { let heard = values.old.values
+        ++ map (λ s. (register_at lies.now.height s).a) lies.now.lies.now in
+        IfSome known (λ m. least_above faults heard ≡ m) }
+    ensures least { result ≡ least_above faults (values.old.values
+        ++ map (λ s. (register_at lies.now.height s).a) lies.now.lies.now) }
+    ensures same { values.new ≡ values.old }
+    ensures steps { steps.new ≤ steps.old + length lies.now.lies.now }
+{
+    match known {
+        Some(least) => least,
+        None => lies.least(faults, values, steps),
+    }
+}
+
+/// A node that obeys: the numbers of its level, and its own register.
+#[derive(Clone, Copy, Drop)]
+struct Node<'a> {
+    nums: &'a LevelNums,
+    own: Reg,
+    ghost numbers: { AreNumbers nums.now } by { Prim.hlevel props },
+    ghost below: { IfSome own.a (λ a. a < nums.now.modulus) } by { Prim.hlevel props },
+}
+
+impl Node<'_> {
+    /// Its register after the instruction of kind 0: an infinite value stays so, and a finite one
+    /// stays where enough have it.
+    fn obey_zeroth(&self, lies: &Lies<'_>, values: &Poll) -> Reg
+        requires { length values.now.values + length lies.now.lies.now ≤ values.now.capacity }
+        ensures { let heard = values.now.values
+            ++ map (λ s. (register_at lies.now.height s).a) lies.now.lies.now in
+            let nums = self.now.nums.now in
+            result ≡ incremented (up nums.modulus) (record {
+              a = if nat_le (nums.nodes - nums.faults) (count_of heard self.now.own.a)
+                  then self.now.own.a else None;
+              d = self.now.own.d;
+            }) }
+    {
+        let nums = self.nums;
+        let own = self.own;
+        if own.a.is_none() {
+            return own;
+        }
+        let same = lies.count(own.a, values);
+        king_step(
+            0,
+            own,
+            same,
+            None,
+            None,
+            nums.nodes,
+            nums.faults,
+            nums.modulus,
+        )
+    }
+
+    /// Its register after the instruction of kind 1: whether enough have the own value, and the
+    /// least value that more than the faults have.
+    fn obey_first<G: Ledger>(
+        &self,
+        least: Option<Option<u64>>,
+        lies: &Lies<'_>,
+        values: &mut Poll,
+        steps: &mut Steps<G>,
+    ) -> Reg
+        requires room { length values.old.values + length lies.now.lies.now ≤ values.old.capacity }
+        requires below { All (λ o. IfSome o (λ a. a < self.now.nums.now.modulus))
+            (values.old.values ++ map (λ s. (register_at lies.now.height s).a) lies.now.lies.now) }
+        requires least { let heard = values.old.values
+            ++ map (λ s. (register_at lies.now.height s).a) lies.now.lies.now in
+            IfSome least (λ m. least_above self.now.nums.now.faults heard ≡ m) }
+        ensures register { let heard = values.old.values
+            ++ map (λ s. (register_at lies.now.height s).a) lies.now.lies.now in
+            let nums = self.now.nums.now in
+            result ≡ incremented (up nums.modulus) (record {
+              a = least_above nums.faults heard;
+              d = nat_le (nums.nodes - nums.faults) (count_of heard self.now.own.a);
+            }) }
+        ensures same { values.new ≡ values.old }
+        ensures steps { steps.new ≤ steps.old + length lies.now.lies.now }
+    {
+        let nums = self.nums;
+        let own = self.own;
+        let same = lies.count(own.a, values);
+        let least = least_of(lies, nums.faults as usize, least, values, steps);
+        king_step(
+            1,
+            own,
+            same,
+            least,
+            None,
+            nums.nodes,
+            nums.faults,
+            nums.modulus,
+        )
+    }
+}
+
+/// The register after the instruction of a beat.
+pub(crate) fn obey<G: Ledger>(
+    hearing: &Hearing<'_>,
+    beat: u64,
+    own: Reg,
+    least: Option<Option<u64>>,
+    values: &mut Poll,
+    steps: &mut Steps<G>,
+) -> Reg
+    requires beat { beat < hearing.now.nums.now.beat }
+    requires own { IfSome own.a (λ a. a < hearing.now.nums.now.modulus) }
+    requires room { hearing.now.nums.now.nodes ≤ values.old.capacity }
+    requires values { beat % 3 < 2 → values.old.values
+        ≡ values_of hearing.now.senders.now hearing.now.first hearing.now.nums.now.nodes }
+    requires least { IsKnown hearing.now.senders.now
+        (λ lies. least_above hearing.now.nums.now.faults (values_heard hearing.now.senders.now lies
+        hearing.now.first hearing.now.nums.now.nodes)) least }
+    ensures register { result ≡ instructed hearing.now.nums.now.nodes hearing.now.nums.now.faults
+        (up hearing.now.nums.now.modulus) (beat % 3) own
+        (values_heard hearing.now.senders.now hearing.now.lies.now
+        hearing.now.first hearing.now.nums.now.nodes) (beat / 3) }
+    ensures same { values.new ≡ values.old }
+    ensures steps { steps.new ≤ steps.old + liars_in hearing.now.senders.now
+        hearing.now.first hearing.now.nums.now.nodes }
+{
+    let nums = hearing.nums;
+    if beat % 3 == 2 {
+        let king = hearing.king(beat);
+        return king_step(2, own, 0, None, king, nums.nodes, nums.faults, nums.modulus);
+    }
+    let node = Node { nums, own };
+    let lies = hearing.lies_in(hearing.first, nums.nodes as usize);
+    if beat % 3 == 0 {
+        node.obey_zeroth(&lies, values)
+    } else {
+        node.obey_first(least, &lies, values, steps)
+    }
+}

@@ -1,0 +1,185 @@
+ghost use Rattle.std.specs.Prelude.{◌≡◌, ◌+◌, ◌<◌, ◌≤◌, ◌++◌, ◌↔◌, ℕ, false, length, IsTrue};
+ghost use Rattle.std.specs.Prelude.{None, slice_index_or};
+ghost use Rattle.shared_board.specs.Senders.{is_liar, output_of, correct_in, liars_in, values_of};
+ghost use Rattle.shared_board.specs.Senders.{numbers_of};
+ghost use Rattle.shared_board.specs.Votes.{known_number, IsMost};
+
+use crate::polls::Poll;
+use crate::readings::Reading;
+use crate::senders::Senders;
+use majority_votes::{Outlook, Steps};
+use std::sync::ledger::Ledger;
+
+/// So many nodes, from the first on.
+#[derive(Clone, Copy, Drop)]
+pub(crate) struct Stretch<'a> {
+    pub senders: &'a Senders<'a>,
+    pub first: usize,
+    pub count: usize,
+    ghost within: { first + count ≤ length senders.now.registers },
+}
+
+/// What is known of a number that most have, or 0 where there is none.
+pub(crate) fn known_number(outlook: Outlook) -> Option<u64>
+    ensures { result ≡ known_number outlook }
+{
+    match outlook {
+        Outlook::Is(majority) => Some(majority.unwrap_or(0)),
+        Outlook::Open => None,
+    }
+}
+
+impl Stretch<'_> {
+    /// The place behind its last node.
+    pub fn end(&self) -> usize
+        ensures { result ≡ self.now.first + self.now.count }
+    {
+        let _nodes = self.senders.len();
+        self.first + self.count
+    }
+
+    /// The node at a place of it.
+    pub fn node(&self, i: usize) -> usize
+        requires { i < self.now.count }
+        ensures { result ≡ self.now.first + i }
+    {
+        let _nodes = self.senders.len();
+        self.first + i
+    }
+
+    /// How many of its nodes are liars.
+    pub fn liars(&self) -> usize
+        ensures { result ≡ liars_in self.now.senders.now self.now.first self.now.count }
+    {
+        self.senders.liars_below(self.end()) - self.senders.liars_below(self.first)
+    }
+
+    /// Counts what is read of a node, where it is correct.
+    fn gather_number<R: Reading, G: Ledger>(
+        &self,
+        reading: &R,
+        u: usize,
+        poll: &mut Poll,
+        steps: &mut Steps<G>,
+    )
+        requires within { u < length self.now.senders.now.registers }
+        requires room { length poll.old.values < poll.old.capacity }
+        ensures poll { poll.new ≡ record poll.old {
+          values = poll.old.values
+              ++ numbers_of self.now.senders.now (R.reads reading.now) u 1;
+        } }
+        ensures steps { steps.new ≡ steps.old + length (correct_in self.now.senders.now u 1) }
+    {
+        if !self.senders.is_liar(u) {
+            poll.place(Some(reading.of(self.senders.output(u))), steps);
+        }
+    }
+
+    /// Counts what is read of its correct nodes.
+    pub fn gather_numbers<R: Reading, G: Ledger>(
+        &self,
+        reading: &R,
+        poll: &mut Poll,
+        steps: &mut Steps<G>,
+    )
+        requires { self.now.count ≤ poll.old.capacity }
+        ensures poll { poll.new ≡ record poll.old {
+          values = numbers_of self.now.senders.now
+              (R.reads reading.now) self.now.first self.now.count;
+        } }
+        ensures steps { steps.new ≡ steps.old
+            + length (correct_in self.now.senders.now self.now.first self.now.count) }
+    {
+        poll.clear();
+        for u in self.first..self.end() {
+            self.gather_number(reading, u, poll, steps);
+        }
+    }
+
+    /// What its first correct node shows, if there is one.
+    fn first_output(&self) -> Option<u64>
+        ensures { result ≡ slice_index_or (numbers_of self.now.senders.now (λ output. output)
+            self.now.first self.now.count) 0 None }
+    {
+        for u in self.first..self.end() {
+            if !self.senders.is_liar(u) {
+                return Some(self.senders.output(u));
+            }
+        }
+        None
+    }
+
+    /// Whether all of its correct nodes show this.
+    fn all_show(&self, output: u64) -> bool
+        ensures { IsTrue result ↔ ((u : ℕ) → self.now.first ≤ u
+            → u < self.now.first + self.now.count → is_liar self.now.senders.now u ≡ false
+            → output_of self.now.senders.now u ≡ output) }
+    {
+        for u in self.first..self.end() {
+            if !self.senders.is_liar(u) && self.senders.output(u) != output {
+                return false;
+            }
+        }
+        true
+    }
+
+    /// Counts what is read of its correct nodes, as far as the liars may decide what most have.
+    /// Else that is known. Nothing is counted where all correct nodes show one number, and they
+    /// are more than the liars.
+    pub fn gather_most<R: Reading, G: Ledger>(
+        &self,
+        reading: &R,
+        poll: &mut Poll,
+        steps: &mut Steps<G>,
+    ) -> Option<u64>
+        requires { self.now.count ≤ poll.old.capacity }
+        ensures most { IsMost self.now.senders.now (R.reads reading.now)
+            self.now.first self.now.count result poll.new }
+        ensures room { poll.new.capacity ≡ poll.old.capacity }
+        ensures steps { steps.new ≤ steps.old
+            + length (correct_in self.now.senders.now self.now.first self.now.count) }
+    {
+        if self.count == 1 && !self.senders.is_liar(self.first) {
+            return Some(reading.of(self.senders.output(self.first)));
+        }
+        if self.liars() < self.count - self.count / 2
+            && let Some(output) = self.first_output()
+            && self.all_show(output)
+        {
+            return Some(reading.of(output));
+        }
+        self.gather_numbers(reading, poll, steps);
+        known_number(poll.majority_with(self.liars()))
+    }
+
+    /// Counts the value of a node's register, where it is correct.
+    fn gather_value<G: Ledger>(&self, u: usize, poll: &mut Poll, steps: &mut Steps<G>)
+        requires within { u < length self.now.senders.now.registers }
+        requires room { length poll.old.values < poll.old.capacity }
+        ensures poll { poll.new ≡ record poll.old {
+          values = poll.old.values
+              ++ values_of self.now.senders.now u 1;
+        } }
+        ensures steps { steps.new ≡ steps.old + length (correct_in self.now.senders.now u 1) }
+    {
+        if !self.senders.is_liar(u) {
+            poll.place(self.senders.register(u).a, steps);
+        }
+    }
+
+    /// Counts the values of its correct nodes' registers.
+    pub fn gather_values<G: Ledger>(&self, poll: &mut Poll, steps: &mut Steps<G>)
+        requires { self.now.count ≤ poll.old.capacity }
+        ensures poll { poll.new ≡ record poll.old {
+          values
+              = values_of self.now.senders.now self.now.first self.now.count;
+        } }
+        ensures steps { steps.new ≡ steps.old
+            + length (correct_in self.now.senders.now self.now.first self.now.count) }
+    {
+        poll.clear();
+        for u in self.first..self.end() {
+            self.gather_value(u, poll, steps);
+        }
+    }
+}

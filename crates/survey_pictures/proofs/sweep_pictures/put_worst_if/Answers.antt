@@ -1,5 +1,0 @@
-use Rattle.picture_parts.proofs.Parts.{wrote_unless}
-use Rattle.survey_pictures.proofs.sweep_pictures.put_worst_if.Goals as goal
-
-pub returns-else-tally : goal.returns-else-tally
-returns-else-tally g c = wrote_unless c.args.tally.is_worst _ _ c.if-tally.false

@@ -1,4 +1,0 @@
-pub mod Sweeps
-pub mod SweepPictures
-pub mod Choices
-pub mod ChoicePictures
