@@ -1,7 +1,6 @@
 -- Whether a configuration is locked.
-use Rattle.std.specs.Prelude.{ℕ, zero, suc, ◌<◌, ◌≤◌, List, [], ◌∷◌, map, filter, not, nat_eq}
-use Rattle.std.specs.Prelude.{◌==◌, Bool, true, ◌&&◌, Option, Some, None, unwrap_or}
-use Rattle.std.specs.Prelude.{if◌then◌else◌}
+use Rattle.std.specs.Prelude.{ℕ, suc, ◌<◌, ◌≤◌, List, [], ◌∷◌, map, filter, not, nat_eq}
+use Rattle.std.specs.Prelude.{Bool, true, ◌&&◌, Option, Some, None, unwrap_or}
 use Rattle.std.specs.List.{list_all, range_with_len}
 use Rattle.std.specs.Option.{option_eq}
 use Rattle.sync_types.specs.declared.states.Reg.{Reg}
@@ -10,7 +9,9 @@ use Rattle.construction.specs.Steps.{state_of}
 use Rattle.construction.specs.Runs.{is_in}
 use Rattle.machines.specs.Machines.{Machine, IsLocked}
 use Rattle.adversary_script.specs.Scripts.{Script}
-use Rattle.adversary_script.specs.Eras.{era_of, first_of_era, end_of_era, faulty_of_era, faulty_at}
+use Rattle.run_texts.specs.FirstLocked as words
+pub use Rattle.run_texts.specs.FirstLocked.{first_of, first_locked}
+use Rattle.adversary_script.specs.Eras.{first_of_era, end_of_era, faulty_of_era}
 
 -- whether a register is marked and has the value a
 abbrev pub is_locked_at : ℕ → Reg → Bool
@@ -43,20 +44,10 @@ is_locked_by (Some register) n faulty config =
 abbrev pub is_locked : Machine → (faulty : List ℕ) → List State → Bool
 is_locked machine faulty config = is_locked_by machine.lock machine.nodes faulty config
 
--- the first locked one, where there was one, and else that of this number if it is locked
-abbrev pub first_of : Option ℕ → Bool → ℕ → Option ℕ
-first_of (Some t) locked now = Some t
-first_of None locked now = if locked then Some now else None
-
--- the first number up to t that is locked
-abbrev pub first_locked : (locked : ℕ → Bool) → ℕ → Option ℕ
-first_locked locked zero = first_of None (locked zero) zero
-first_locked locked (suc t) = first_of (first_locked locked t) (locked (suc t)) (suc t)
-
 -- Of a script's configurations: whether configuration t is one of era j, and locked.
 abbrev pub era_locked : Machine → Script → (config_at : ℕ → List State) → (j : ℕ) → ℕ → Bool
 era_locked machine script config_at j t =
-    era_of script t == j && is_locked machine (faulty_at script t) (config_at t)
+    words.era_locked (is_locked machine) script config_at j t
 
 -- none of the configurations of era j before number `end` is locked
 abbrev pub NoneIsLocked : Machine → Script → (config_at : ℕ → List State) → (j end : ℕ) → Type 0

@@ -1,1 +1,2 @@
 pub mod RunTexts
+pub mod FirstLocked
