@@ -1,3 +1,5 @@
+pub mod Counters
+pub mod Numbers
 pub mod Scenes
 pub mod LayerRuns
 pub mod Played

@@ -1,0 +1,85 @@
+-- Where a script stands that is played round by round on a counter with a layer above.
+use Rattle.std.specs.Prelude.{◌≡◌, ℕ, ◌+◌, ◌*◌, ◌<◌, ◌≤◌, List, ◌∷◌, length, map, All, replicate}
+use Rattle.std.specs.Prelude.{slice_set, slice_index_or, Option, None}
+use Rattle.std.specs.List.{range_with_len}
+use Rattle.sync_types.specs.States.{State}
+use Rattle.counter_core.specs.Meanings.{Meaning}
+use Rattle.counter_core.specs.Overlays.{Layer, StandsOver}
+use Rattle.adversary_script.specs.Scripts.{Script, IsScript, faulty_sets}
+use Rattle.adversary_script.specs.Eras.{era_of, faulty_at}
+use Rattle.adversary_script.specs.Rounds.{starts}
+use Rattle.run_texts.specs.FirstLocked.{LockTest, first_of, first_locked, era_locked}
+use Rattle.layer_laws.specs.Counters.{IsBorneBy}
+use Rattle.layer_laws.specs.Scenes.{Scene}
+use Rattle.layer_runs.specs.Scenes.{next_scene, scene_at}
+
+-- A counter, its test for locked, the script that is played on it, the layer above, and at which
+-- configuration the play is: the states there and what the nodes keep, and of each era the first
+-- configuration so far that is locked.
+pub record Position (Kept : Type 0) : Type 0 where
+  pub counter : Meaning
+  pub locked : LockTest
+  pub script : Script
+  pub layer : Layer Kept
+  pub at : ℕ
+  pub scene : Scene Kept
+  pub locks : List (Option ℕ)
+
+-- the first locked configuration of each era so far, where configuration 0 is this one
+abbrev pub begun_locks : LockTest → Script → List State → List (Option ℕ)
+begun_locks locked script config =
+    first_of None (locked script.faulty config) 0 ∷ replicate (length script.eras) None
+
+-- the same where the next configuration, of number `at`, is this one
+abbrev pub next_locks : LockTest → Script → List (Option ℕ) → (at : ℕ) → List State
+    → List (Option ℕ)
+next_locks locked script locks at config =
+    slice_set locks (era_of script at) (first_of (slice_index_or locks (era_of script at) None)
+    (locked (faulty_at script at) config) at)
+
+-- the play at configuration 0, where the nodes keep these things
+abbrev pub begun : {Kept : Type 0} → Meaning → LockTest → Script → Layer Kept → List Kept
+    → Position Kept
+begun counter locked script layer kept = record {
+  counter = counter;
+  locked = locked;
+  script = script;
+  layer = layer;
+  at = 0;
+  scene = record { states = starts script; kept = kept };
+  locks = begun_locks locked script (starts script);
+}
+
+-- the same play one round later
+abbrev pub advanced : {Kept : Type 0} → Position Kept → Position Kept
+advanced p =
+    let scene = next_scene p.counter p.script p.layer p.at p.scene in
+    record p {
+      at = p.at + 1;
+      scene = scene;
+      locks = next_locks p.locked p.script p.locks (p.at + 1) scene.states;
+    }
+
+-- configuration t of the play, where the nodes began with these things kept
+abbrev pub configuration_in : {Kept : Type 0} → (began : List Kept) → Position Kept → (t : ℕ)
+    → List State
+configuration_in began p t = (scene_at p.counter p.script p.layer began t).states
+
+-- The position is one of the play in which the nodes began with these things kept.
+pub record IsPlayed {Kept : Type 0} (began : List Kept) (p : Position Kept) : Type 0 where
+  pub scene : p.scene ≡ scene_at p.counter p.script p.layer began p.at
+  pub locks : p.locks ≡ map (λ j. first_locked
+      (era_locked p.locked p.script (configuration_in began p) j) p.at)
+      (range_with_len 0 (length p.script.eras + 1))
+
+-- The script is one for the counter, which has few enough faulty nodes and counts by 2 at least,
+-- and the layer stands over it.
+pub record IsFitting {Kept : Type 0} (p : Position Kept) : Type 0 where
+  pub quorum : 3 * p.counter.faults < p.counter.nodes
+  pub few : p.counter.nodes ≤ 256
+  pub least : 2 ≤ p.counter.modulus
+  pub nodes : p.script.nodes ≡ p.counter.nodes
+  pub borne : All (IsBorneBy p.counter) (faulty_sets p.script)
+  pub whole : IsScript p.script
+  pub over : StandsOver p.layer p.counter
+  pub within : p.at ≤ p.script.rounds
