@@ -19,18 +19,18 @@ use Rattle.texts.proofs.Printed.{joined, IsPlain, ArePlain, spaced_length, decim
 use Rattle.texts.proofs.Printed.{words_joined, goes_behind, ends_there}
 use Rattle.sync_types.specs.declared.answers.Rule.{Rule}
 use Rattle.sync_types.specs.declared.answers.Rule.TheVariants.{Form, Slot}
-use Rattle.construction.specs.Plans.{Plan, plan_nodes, plan_faults, plan_modulus}
-use Rattle.plan_numbers.specs.Premises.{IsAccepted}
-use Rattle.plan_laws.proofs.PlanCounter.{plan_sizes}
-use Rattle.layer_laws.specs.Slots.{slot_length}
+use Rattle.layer_laws.specs.Numbers.{Numbers, AreNumbers, numbers_of as numbers_of_plan}
+use Rattle.layer_laws.specs.CounterSlots.{slot_length}
+use Rattle.layer_laws.proofs.PlanCounters.{plan_numbers_are}
 use Rattle.consensus_layer.specs.declared.agree_lines.AgreeStage.{AgreeStage}
 use Rattle.consensus_layer.specs.declared.agree_lines.AgreeStage.TheVariants.{Unread, Begun, Valued}
 use Rattle.consensus_layer.specs.declared.agree_lines.AgreeStage.TheVariants.{Given}
 use Rattle.consensus_layer.specs.AgreeSaid.{AgreeSaid}
-use Rattle.consensus_layer.specs.AgreePart.{AgreeSoFar, nothing_read, values_tested, goes_at}
-use Rattle.consensus_layer.specs.AgreePart.{inputs_tested, numbers_behind, goes_with, agree_step}
-use Rattle.consensus_layer.specs.AgreePart.{IsFor}
+use Rattle.consensus_layer.specs.AgreePart.{AgreeSoFar, nothing_read_over, values_tested}
+use Rattle.consensus_layer.specs.AgreePart.{goes_at, inputs_tested, numbers_behind, goes_with}
+use Rattle.consensus_layer.specs.AgreePart.{agree_step, IsForNumbers}
 use Rattle.consensus_layer.specs.AgreeTexts.{values_line, inputs_line, agree_text, AgreeTextIsRead}
+use Rattle.consensus_layer.specs.AgreeTexts.{AgreeTextIsReadOver}
 
 -- a number up to 65536 may be printed, in 5 digits at most, and is read
 pub small_plain : (n : ℕ) → n ≤ 65536 → IsPlain (decimal n)
@@ -98,14 +98,15 @@ abbrev read_on : AgreeSoFar → (taken number : ℕ) → List ℕ → Result (Fo
 read_on s taken number text =
     part_from (with_skips agree_step Form) Form s taken number (lines_of text)
 
-module _ (plan : Plan) (accepted : IsAccepted plan) (said : AgreeSaid) (for : IsFor plan said) where
+module _ (numbers : Numbers) (are : AreNumbers numbers) (said : AgreeSaid)
+    (for : IsForNumbers numbers said) where
   abbrev whole : Bool
-  whole = plan_modulus plan % slot_length (plan_faults plan) == 0
+  whole = numbers.modulus % slot_length numbers.faults == 0
 
   -- a part that was read so far
   abbrev so_far : AgreeStage → List ℕ → AgreeSoFar
   so_far stage inputs = record {
-    nodes = plan_nodes plan;
+    nodes = numbers.nodes;
     whole = whole;
     stage = stage;
     inputs = inputs;
@@ -145,7 +146,7 @@ module _ (plan : Plan) (accepted : IsAccepted plan) (said : AgreeSaid) (for : Is
 
   inputs_room : spaced_length (codes "inputs" ∷ map decimal said.inputs) ≤ 4096
   inputs_room =
-      let few = (plan_sizes plan accepted).most in
+      let few = are.few in
       let nodes = for.nodes in
       omega (arith, few, nodes, all_short said.inputs small)
 
@@ -160,27 +161,27 @@ module _ (plan : Plan) (accepted : IsAccepted plan) (said : AgreeSaid) (for : Is
       (All-weaker (λ a. a < said.values) (λ a. nat_lt a said.values ≡ true)
       (λ a lt. lt-ltb a said.values lt) said.inputs for.range)
 
-  tested : inputs_tested said.values (plan_nodes plan) (Some said.inputs) ≡ Ok said.inputs
+  tested : inputs_tested said.values numbers.nodes (Some said.inputs) ≡ Ok said.inputs
   tested =
-      rw (eq-eqb (length said.inputs) (plan_nodes plan) for.nodes, in_range) refl
+      rw (eq-eqb (length said.inputs) numbers.nodes for.nodes, in_range) refl
 
   inputs_step : agree_step (so_far (Valued said.values) []) (inputs_line said)
       ≡ goes (so_far (Given said.values) said.inputs)
   inputs_step =
       let s = so_far (Valued said.values) [] in
       ap (λ (ws : List (List ℕ)). goes_with said.values s (inputs_tested said.values
-      (plan_nodes plan) (numbers_behind (codes "inputs") ws)))
+      numbers.nodes (numbers_behind (codes "inputs") ws)))
       (words_joined (codes "inputs") (map decimal said.inputs) inputs_words)
       ∙ ap (λ (ns : Option (List ℕ)). goes_with said.values s (inputs_tested said.values
-      (plan_nodes plan) ns)) inputs_are
+      numbers.nodes ns)) inputs_are
       ∙ ap (goes_with said.values s) tested
 
   -- ---- all lines
 
-  head_is : agree_step (nothing_read plan) (codes "agree 1") ≡ goes (so_far Begun [])
+  head_is : agree_step (nothing_read_over numbers) (codes "agree 1") ≡ goes (so_far Begun [])
   head_is =
       ap (λ (b : Bool). goes_at (so_far Unread []) (if b then Ok Begun else Err Slot))
-      (eq-eqb (plan_modulus plan % slot_length (plan_faults plan)) 0 for.whole)
+      (eq-eqb (numbers.modulus % slot_length numbers.faults) 0 for.whole)
 
   abbrev fourth : List ℕ → List ℕ
   fourth rest = codes "end" ++ 10 ∷ rest
@@ -202,12 +203,12 @@ module _ (plan : Plan) (accepted : IsAccepted plan) (said : AgreeSaid) (for : Is
       ∙ ap (λ text. inputs_line said ++ 10 ∷ text) (text_more (codes "end") [] rest)))
 
   pub is_read : (number : ℕ) (rest : List ℕ)
-      → read_on (nothing_read plan) 0 number (agree_text said ++ rest)
+      → read_on (nothing_read_over numbers) 0 number (agree_text said ++ rest)
       ≡ Ok (record { value = said; taken = 4; behind = lines_of rest })
   is_read number rest =
-      ap (read_on (nothing_read plan) 0 number) (text_is rest)
+      ap (read_on (nothing_read_over numbers) 0 number) (text_is rest)
       ∙ goes_behind agree_step Form (codes "agree") (codes "1" ∷ []) (second rest)
-      (agree_plain, (one_plain, tt)) (omega arith) refl (nothing_read plan) 0 number
+      (agree_plain, (one_plain, tt)) (omega arith) refl (nothing_read_over numbers) 0 number
       (so_far Begun []) head_is
       ∙ goes_behind agree_step Form (codes "values") (decimal said.values ∷ []) (third rest)
       values_words (omega (arith, small_short said.values for.few))
@@ -220,5 +221,9 @@ module _ (plan : Plan) (accepted : IsAccepted plan) (said : AgreeSaid) (for : Is
       ∙ ends_there agree_step Form (codes "end") [] rest (end_plain, tt) (omega arith) refl
       (so_far (Given said.values) said.inputs) 3 (number + 1 + 1 + 1) said refl
 
+pub agree_text_is_read_over : AgreeTextIsReadOver
+agree_text_is_read_over numbers are said for number rest = is_read numbers are said for number rest
+
 pub agree_text_is_read : AgreeTextIsRead
-agree_text_is_read plan accepted said for number rest = is_read plan accepted said for number rest
+agree_text_is_read plan accepted said for number rest =
+    is_read (numbers_of_plan plan) (plan_numbers_are plan accepted) said for number rest

@@ -1,5 +1,5 @@
--- What is read of consensus is for the plan: values within their limits, an input of each node, and
--- a modulus that is a multiple of a slot's length.
+-- What is read of consensus is for the counter: values within their limits, an input of each node,
+-- and a modulus that is a multiple of a slot's length.
 use Rattle.std.proofs.Common.{◌≡◌, ℕ, ◌<◌, ◌≤◌, ◌%◌, Bool, true, false, List, [], ◌∷◌, length, All}
 use Rattle.std.proofs.Common.{Option, Some, None, Result, Ok, Err, refl, subst, ap, ap₂, ◌∙◌}
 use Rattle.std.specs.Prelude.{⊤, IfOk, nat_lt, not, ◌==◌, if◌then◌else◌, codes}
@@ -13,21 +13,23 @@ use Rattle.texts.specs.Parts.{Next, ends, refuses}
 use Rattle.texts.proofs.Parts.{After, skips_keep, part_keeps}
 use Rattle.sync_types.specs.declared.answers.Rule.{Rule}
 use Rattle.sync_types.specs.declared.answers.Rule.TheVariants.{Form, Limit, Range, Slot}
-use Rattle.construction.specs.Plans.{Plan, plan_nodes, plan_faults, plan_modulus}
-use Rattle.layer_laws.specs.Slots.{slot_length}
+use Rattle.construction.specs.Plans.{Plan}
+use Rattle.layer_laws.specs.Numbers.{Numbers, numbers_of}
+use Rattle.layer_laws.specs.CounterSlots.{slot_length}
 use Rattle.consensus_layer.specs.AgreeSaid.{AgreeSaid}
 use Rattle.consensus_layer.specs.declared.agree_lines.AgreeStage.{AgreeStage}
 use Rattle.consensus_layer.specs.declared.agree_lines.AgreeStage.TheVariants.{Unread, Begun, Valued}
 use Rattle.consensus_layer.specs.declared.agree_lines.AgreeStage.TheVariants.{Given}
-use Rattle.consensus_layer.specs.AgreePart.{AgreeSoFar, nothing_read, values_tested, numbers_behind}
-use Rattle.consensus_layer.specs.AgreePart.{inputs_tested, inputs_in, goes_at, goes_with, step_at}
-use Rattle.consensus_layer.specs.AgreePart.{agree_step, part_of, IsFor}
+use Rattle.consensus_layer.specs.AgreePart.{AgreeSoFar, nothing_read_over, values_tested}
+use Rattle.consensus_layer.specs.AgreePart.{numbers_behind, inputs_tested, inputs_in, goes_at}
+use Rattle.consensus_layer.specs.AgreePart.{goes_with, step_at, agree_step, part_over}
+use Rattle.consensus_layer.specs.AgreePart.{IsForNumbers, part_of, IsFor}
 
 abbrev IsValues : ℕ → Type 0
 IsValues values = (2 ≤ values) × (values ≤ 65536)
 
-abbrev IsWhole : Plan → Type 0
-IsWhole plan = plan_modulus plan % slot_length (plan_faults plan) ≡ 0
+abbrev IsWhole : Numbers → Type 0
+IsWhole numbers = numbers.modulus % slot_length numbers.faults ≡ 0
 
 -- ---- the inputs
 
@@ -82,30 +84,30 @@ module _ (values nodes : ℕ) (line inputs : List ℕ)
 -- ---- line by line
 
 -- what holds behind the lines of a stage
-abbrev IsStage : Plan → AgreeStage → List ℕ → Type 0
-IsStage plan Unread inputs = ⊤
-IsStage plan Begun inputs = IsWhole plan
-IsStage plan (Valued values) inputs = IsWhole plan × IsValues values
-IsStage plan (Given values) inputs = IsWhole plan × IsValues values
-    × AreInputs values (plan_nodes plan) inputs
+abbrev IsStage : Numbers → AgreeStage → List ℕ → Type 0
+IsStage numbers Unread inputs = ⊤
+IsStage numbers Begun inputs = IsWhole numbers
+IsStage numbers (Valued values) inputs = IsWhole numbers × IsValues values
+IsStage numbers (Given values) inputs = IsWhole numbers × IsValues values
+    × AreInputs values numbers.nodes inputs
 
-record FitSoFar (plan : Plan) (s : AgreeSoFar) : Type 0 where
-  nodes : s.nodes ≡ plan_nodes plan
-  whole : s.whole ≡ true → IsWhole plan
-  stage : IsStage plan s.stage s.inputs
+record FitSoFar (numbers : Numbers) (s : AgreeSoFar) : Type 0 where
+  nodes : s.nodes ≡ numbers.nodes
+  whole : s.whole ≡ true → IsWhole numbers
+  stage : IsStage numbers s.stage s.inputs
 
-module _ (plan : Plan) where
+module _ (numbers : Numbers) where
   abbrev Goes : Next AgreeSoFar AgreeSaid Rule → Type 0
-  Goes next = After (FitSoFar plan) (IsFor plan) next
+  Goes next = After (FitSoFar numbers) (IsForNumbers numbers) next
 
-  headed : (s : AgreeSoFar) (is whole : Bool) → s.whole ≡ whole → FitSoFar plan s
+  headed : (s : AgreeSoFar) (is whole : Bool) → s.whole ≡ whole → FitSoFar numbers s
       → Goes (goes_at s (if is then (if whole then Ok Begun else Err Slot) else Err Form))
   headed s false whole e fit = tt
   headed s true false e fit = tt
   headed s true true e fit = record { nodes = fit.nodes; whole = fit.whole; stage = fit.whole e }
 
-  valued : (s : AgreeSoFar) (numbers : Option (List ℕ)) → s.stage ≡ Begun → FitSoFar plan s
-      → Goes (goes_at s (values_tested numbers))
+  valued : (s : AgreeSoFar) (read : Option (List ℕ)) → s.stage ≡ Begun → FitSoFar numbers s
+      → Goes (goes_at s (values_tested read))
   valued s None at fit = tt
   valued s (Some []) at fit = tt
   valued s (Some (v ∷ w ∷ more)) at fit = tt
@@ -118,31 +120,31 @@ module _ (plan : Plan) where
       nodes = fit.nodes;
       whole = fit.whole;
       stage = (
-        subst (λ stage. IsStage plan stage s.inputs) at fit.stage,
+        subst (λ stage. IsStage numbers stage s.inputs) at fit.stage,
         (ltb-false v 2 e', ltb-false 65536 v e),
       );
     }
 
   given : (s : AgreeSoFar) (values : ℕ) (read : Result (List ℕ) Rule) → s.stage ≡ Valued values
-      → FitSoFar plan s → IfOk read (AreInputs values s.nodes) → Goes (goes_with values s read)
+      → FitSoFar numbers s → IfOk read (AreInputs values s.nodes) → Goes (goes_with values s read)
   given s values (Err rule) at fit are = tt
   given s values (Ok inputs) at fit are =
-      let before = subst (λ stage. IsStage plan stage s.inputs) at fit.stage in
+      let before = subst (λ stage. IsStage numbers stage s.inputs) at fit.stage in
       record {
         nodes = fit.nodes;
         whole = fit.whole;
         stage = (before.0, before.1, (are.0 ∙ fit.nodes, are.1));
       }
 
-  ended : (s : AgreeSoFar) (values : ℕ) (is : Bool) → s.stage ≡ Given values → FitSoFar plan s
+  ended : (s : AgreeSoFar) (values : ℕ) (is : Bool) → s.stage ≡ Given values → FitSoFar numbers s
       → Goes (if is then ends (record { values = values; inputs = s.inputs }) else refuses Form)
   ended s values false at fit = tt
   ended s values true at fit =
-      let h = subst (λ stage. IsStage plan stage s.inputs) at fit.stage in
+      let h = subst (λ stage. IsStage numbers stage s.inputs) at fit.stage in
       record { whole = h.0; two = h.1.0; few = h.1.1; nodes = h.2.0; range = h.2.1 }
 
   stepped : (stage : AgreeStage) (s : AgreeSoFar) (line : List ℕ) → s.stage ≡ stage
-      → FitSoFar plan s → Goes (step_at stage s line)
+      → FitSoFar numbers s → Goes (step_at stage s line)
   stepped Unread s line at fit = headed s (bytes_eq line (codes "agree 1")) s.whole refl fit
   stepped Begun s line at fit = valued s (numbers_after (codes "values") 1 (words_of line)) at fit
   stepped (Valued values) s line at fit =
@@ -150,18 +152,22 @@ module _ (plan : Plan) where
       (tested values s.nodes (numbers_behind (codes "inputs") (words_of line)))
   stepped (Given values) s line at fit = ended s values (bytes_eq line (codes "end")) at fit
 
-  begins : FitSoFar plan (nothing_read plan)
+  begins : FitSoFar numbers (nothing_read_over numbers)
   begins = record {
     nodes = refl;
-    whole = λ e. eqb-true (plan_modulus plan % slot_length (plan_faults plan)) 0 e;
+    whole = λ e. eqb-true (numbers.modulus % slot_length numbers.faults) 0 e;
     stage = tt;
   }
 
--- what is read is for the plan
+-- what is read is for the counter
+pub inputs_fit_over : (numbers : Numbers) (number : ℕ) (lines : List (List ℕ))
+    → IfOk (part_over numbers number lines) (λ found. IsForNumbers numbers found.value)
+inputs_fit_over numbers number lines =
+    part_keeps _ Form (FitSoFar numbers) (IsForNumbers numbers)
+    (λ s line fit. skips_keep agree_step Form (FitSoFar numbers) (IsForNumbers numbers) s line fit
+    (stepped numbers s.stage s line refl fit))
+    lines (nothing_read_over numbers) 0 number (begins numbers)
+
 pub inputs_fit : (plan : Plan) (number : ℕ) (lines : List (List ℕ))
     → IfOk (part_of plan number lines) (λ found. IsFor plan found.value)
-inputs_fit plan number lines =
-    part_keeps _ Form (FitSoFar plan) (IsFor plan)
-    (λ s line fit. skips_keep agree_step Form (FitSoFar plan) (IsFor plan) s line fit
-    (stepped plan s.stage s line refl fit))
-    lines (nothing_read plan) 0 number (begins plan)
+inputs_fit plan = inputs_fit_over (numbers_of plan)

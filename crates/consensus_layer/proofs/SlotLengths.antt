@@ -7,7 +7,7 @@ use Rattle.std.proofs.Math.Nat.{mod-eq_of_lt}
 use Rattle.std.proofs.lemmas.Bool.{eq-eqb, ne_eqb, false≢true, cases_lt}
 use Rattle.sync_types.specs.States.{zero_register}
 use Rattle.counter_core.specs.Overlays.{Layer}
-use Rattle.layer_laws.specs.Slots.{slot_length, agreed, agreed_in_turn}
+use Rattle.layer_laws.specs.CounterSlots.{slot_length, agreed, agreed_in_turn}
 use Rattle.consensus_layer.specs.Agreeing.{turned}
 use Rattle.consensus_layer.specs.Agreements.{agree_layer_of}
 

@@ -21,7 +21,7 @@ use Rattle.counter_core.specs.HeardRegisters.{RegisterHeard, heard_at}
 use Rattle.counter_core.specs.Heeding.{HearsTruth, HeedsOnly}
 use Rattle.counter_core.proofs.ListsAndPlaces.{places_of_ids}
 use Rattle.counter_core.proofs.Quorum.{quorum_is_least}
-use Rattle.layer_laws.specs.Slots.{agreed}
+use Rattle.layer_laws.specs.CounterSlots.{agreed}
 use Rattle.consensus_layer.specs.Heeding.{has_truly, true_count}
 
 -- the counts of two lists lie between the same bounds, and neither passes the test or both do

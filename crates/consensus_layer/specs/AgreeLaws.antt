@@ -14,7 +14,7 @@ use Rattle.counting.proofs.Least.{least_above_in}
 use Rattle.construction.specs.PhaseKing.{own_or_kings, without_increment}
 use Rattle.construction.specs.Steps.{state_of}
 use Rattle.counter_core.specs.Overlays.{HasValues, KeepsRange}
-use Rattle.layer_laws.specs.Slots.{slot_length, agreed, agreed_in_turn}
+use Rattle.layer_laws.specs.CounterSlots.{slot_length, agreed, agreed_in_turn}
 use Rattle.consensus_layer.specs.Agreeing.{turned, agree_step}
 use Rattle.consensus_layer.specs.Agreements.{agree_layer_of}
 

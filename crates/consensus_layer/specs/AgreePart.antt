@@ -8,8 +8,9 @@ use Rattle.texts.specs.Shapes.{numbers_of, numbers_after}
 use Rattle.texts.specs.Parts.{Next, goes, ends, refuses, with_skips, Found, At, part_from}
 use Rattle.sync_types.specs.declared.answers.Rule.{Rule}
 use Rattle.sync_types.specs.declared.answers.Rule.TheVariants.{Form, Limit, Range, Slot}
-use Rattle.construction.specs.Plans.{Plan, plan_nodes, plan_faults, plan_modulus}
-use Rattle.layer_laws.specs.Slots.{slot_length}
+use Rattle.construction.specs.Plans.{Plan}
+use Rattle.layer_laws.specs.Numbers.{Numbers, numbers_of as numbers_of_plan}
+use Rattle.layer_laws.specs.CounterSlots.{slot_length}
 use Rattle.consensus_layer.specs.AgreeSaid.{AgreeSaid}
 use Rattle.consensus_layer.specs.declared.agree_lines.AgreeStage.{AgreeStage}
 use Rattle.consensus_layer.specs.declared.agree_lines.AgreeStage.TheVariants.{Unread, Begun, Valued}
@@ -23,11 +24,11 @@ pub record AgreeSoFar : Type 0 where
   pub stage : AgreeStage
   pub inputs : List ℕ
 
--- a part of which nothing was read
-abbrev pub nothing_read : Plan → AgreeSoFar
-nothing_read plan = record {
-  nodes = plan_nodes plan;
-  whole = plan_modulus plan % slot_length (plan_faults plan) == 0;
+-- a part of which nothing was read, for a counter of these numbers
+abbrev pub nothing_read_over : Numbers → AgreeSoFar
+nothing_read_over numbers = record {
+  nodes = numbers.nodes;
+  whole = numbers.modulus % slot_length numbers.faults == 0;
   stage = Unread;
   inputs = [];
 }
@@ -85,17 +86,28 @@ step_at (Given values) s line =
 abbrev pub agree_step : AgreeSoFar → List ℕ → Next AgreeSoFar AgreeSaid Rule
 agree_step s line = step_at s.stage s line
 
--- The agree part at the front of these lines, of which the first has that number: what it says, how
--- many lines it took through `end`, and the lines behind; or the first line that fails, with the
--- first rule that it fails.
-abbrev pub part_of : Plan → (number : ℕ) → List (List ℕ) → Result (Found AgreeSaid) (At Rule)
-part_of plan number lines =
-    part_from (with_skips agree_step Form) Form (nothing_read plan) 0 number lines
+-- The agree part at the front of these lines, of which the first has that number, for a counter of
+-- these numbers: what it says, how many lines it took through `end`, and the lines behind; or the
+-- first line that fails, with the first rule that it fails.
+abbrev pub part_over : Numbers → (number : ℕ) → List (List ℕ) → Result (Found AgreeSaid) (At Rule)
+part_over numbers number lines =
+    part_from (with_skips agree_step Form) Form (nothing_read_over numbers) 0 number lines
 
--- what an agree part says that was read for a plan
-pub record IsFor (plan : Plan) (said : AgreeSaid) : Type 0 where
-  pub whole : plan_modulus plan % slot_length (plan_faults plan) ≡ 0
+-- what an agree part says that was read for a counter of these numbers
+pub record IsForNumbers (numbers : Numbers) (said : AgreeSaid) : Type 0 where
+  pub whole : numbers.modulus % slot_length numbers.faults ≡ 0
   pub two : 2 ≤ said.values
   pub few : said.values ≤ 65536
-  pub nodes : length said.inputs ≡ plan_nodes plan
+  pub nodes : length said.inputs ≡ numbers.nodes
   pub range : All (λ a. a < said.values) said.inputs
+
+-- ---- for the counter of a plan
+
+abbrev pub nothing_read : Plan → AgreeSoFar
+nothing_read plan = nothing_read_over (numbers_of_plan plan)
+
+abbrev pub part_of : Plan → (number : ℕ) → List (List ℕ) → Result (Found AgreeSaid) (At Rule)
+part_of plan = part_over (numbers_of_plan plan)
+
+abbrev pub IsFor : Plan → AgreeSaid → Type 0
+IsFor plan = IsForNumbers (numbers_of_plan plan)

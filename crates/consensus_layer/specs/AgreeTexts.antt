@@ -4,8 +4,9 @@ use Rattle.texts.specs.Lines.{lines_of}
 use Rattle.texts.specs.Words.{joined, text_of}
 use Rattle.construction.specs.Plans.{Plan}
 use Rattle.plan_numbers.specs.Premises.{IsAccepted}
+use Rattle.layer_laws.specs.Numbers.{Numbers, AreNumbers, numbers_of}
 use Rattle.consensus_layer.specs.AgreeSaid.{AgreeSaid}
-use Rattle.consensus_layer.specs.AgreePart.{part_of, IsFor}
+use Rattle.consensus_layer.specs.AgreePart.{part_over, IsForNumbers}
 
 abbrev pub values_line : AgreeSaid → List ℕ
 values_line said = joined (codes "values" ∷ decimal said.values ∷ [])
@@ -18,9 +19,16 @@ abbrev pub agree_text : AgreeSaid → List ℕ
 agree_text said =
     text_of (codes "agree 1" ∷ values_line said ∷ inputs_line said ∷ codes "end" ∷ [])
 
--- The text of what is said for an accepted plan is read as this, whatever text follows.
-abbrev pub AgreeTextIsRead : Type 0
-AgreeTextIsRead = (plan : Plan) → IsAccepted plan → (said : AgreeSaid) → IsFor plan said
+-- The text of what is said for a counter is read as this, whatever text follows.
+abbrev pub IsReadBack : Numbers → Type 0
+IsReadBack numbers = (said : AgreeSaid) → IsForNumbers numbers said
     → (number : ℕ) (rest : List ℕ)
-    → part_of plan number (lines_of (agree_text said ++ rest))
+    → part_over numbers number (lines_of (agree_text said ++ rest))
     ≡ Ok (record { value = said; taken = 4; behind = lines_of rest })
+
+abbrev pub AgreeTextIsReadOver : Type 0
+AgreeTextIsReadOver = (numbers : Numbers) → AreNumbers numbers → IsReadBack numbers
+
+-- So is that for an accepted plan.
+abbrev pub AgreeTextIsRead : Type 0
+AgreeTextIsRead = (plan : Plan) → IsAccepted plan → IsReadBack (numbers_of plan)

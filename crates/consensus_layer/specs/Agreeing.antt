@@ -4,14 +4,15 @@ use Rattle.std.specs.Prelude.{◌≡◌, ℕ, ◌+◌, ◌%◌, ◌<◌, List, [
 use Rattle.std.specs.Prelude.{Some, None}
 use Rattle.sync_types.specs.declared.states.Reg.{Reg}
 use Rattle.sync_types.specs.States.{State}
-use Rattle.construction.specs.Plans.{Plan, plan_nodes, plan_faults, plan_depth}
-use Rattle.construction.specs.Shown.{shown}
+use Rattle.construction.specs.Plans.{Plan}
 use Rattle.construction.specs.Steps.{state_of}
 use Rattle.construction.specs.Runs.{is_in}
+use Rattle.plan_laws.specs.PlanMeaning.{plan_meaning}
+use Rattle.counter_core.specs.Meanings.{Meaning}
 use Rattle.counter_core.specs.Overlays.{Layer}
 use Rattle.layer_laws.specs.Scenes.{Scene, kept_of}
-use Rattle.layer_laws.specs.LayerRuns.{StepsAs, scene}
-use Rattle.layer_laws.specs.Slots.{slot_length, agreed_in_turn}
+use Rattle.layer_laws.specs.CounterLayers.{StepsAs, scene}
+use Rattle.layer_laws.specs.CounterSlots.{slot_length, agreed_in_turn}
 
 -- an input as it is loaded: finite and not marked
 abbrev pub loaded : ℕ → Reg
@@ -44,13 +45,13 @@ pub record IsAgreeing {Kept : Type 0} (layer : Layer Kept) (faults : ℕ)
       ≡ (agree_step layer.nodes faults layer.depth v (input v kept) output heard).register ∷ []
 
 -- Node v steps in round t of a run, and decides the value in it.
-pub record NodeDecides {Kept : Type 0} (plan : Plan) (layer : Layer Kept) (input : ℕ → Kept → ℕ)
-    (first : ℕ) (run : List (Scene Kept)) (t v value : ℕ) : Type 0 where
+pub record NodeDecidesOver {Kept : Type 0} (counter : Meaning) (layer : Layer Kept)
+    (input : ℕ → Kept → ℕ) (first : ℕ) (run : List (Scene Kept)) (t v value : ℕ) : Type 0 where
   pub heard : List State
-  pub steps : StepsAs plan layer (first + t) (scene run t) heard v (scene run (t + 1))
+  pub steps : StepsAs counter layer (first + t) (scene run t) heard v (scene run (t + 1))
   pub decided : let kept = layer.begun (first + t) (kept_of layer (scene run t) v) in
-      (agree_step (plan_nodes plan) (plan_faults plan) (plan_depth plan) v (input v kept)
-      (shown (plan_depth plan) (state_of heard v)) heard).decided ≡ Some value
+      (agree_step counter.nodes counter.faults counter.depth v (input v kept)
+      (counter.shows v (state_of heard v)) heard).decided ≡ Some value
 
 -- the input of node v in round t
 abbrev pub input_in : {Kept : Type 0} → Layer Kept → (input : ℕ → Kept → ℕ) → (first : ℕ)
@@ -60,11 +61,21 @@ input_in layer input first run t v =
 
 -- All correct nodes decide one value in the last round of the slot that begins in configuration t.
 -- It is the common input of the round before, where they had one.
-pub record SlotDecides {Kept : Type 0} (plan : Plan) (layer : Layer Kept) (input : ℕ → Kept → ℕ)
-    (faulty : List ℕ) (first : ℕ) (run : List (Scene Kept)) (before : ℕ) : Type 0 where
+pub record SlotDecidesOver {Kept : Type 0} (counter : Meaning) (layer : Layer Kept)
+    (input : ℕ → Kept → ℕ) (faulty : List ℕ) (first : ℕ) (run : List (Scene Kept)) (before : ℕ)
+    : Type 0 where
   pub value : ℕ
-  pub decides : (v : ℕ) → v < plan_nodes plan → is_in faulty v ≡ false
-      → NodeDecides plan layer input first run (before + slot_length (plan_faults plan)) v value
+  pub decides : (v : ℕ) → v < counter.nodes → is_in faulty v ≡ false
+      → NodeDecidesOver counter layer input first run (before + slot_length counter.faults) v value
   pub valid : (common : ℕ)
-      → ((v : ℕ) → v < plan_nodes plan → is_in faulty v ≡ false
+      → ((v : ℕ) → v < counter.nodes → is_in faulty v ≡ false
       → input_in layer input first run before v ≡ common) → value ≡ common
+
+-- those over the counter of a plan
+module _ {Kept : Type 0} (plan : Plan) (layer : Layer Kept) (input : ℕ → Kept → ℕ) where
+  abbrev pub NodeDecides : (first : ℕ) (run : List (Scene Kept)) (t v value : ℕ) → Type 0
+  NodeDecides = NodeDecidesOver (plan_meaning plan) layer input
+
+  abbrev pub SlotDecides : (faulty : List ℕ) (first : ℕ) (run : List (Scene Kept)) (before : ℕ)
+      → Type 0
+  SlotDecides = SlotDecidesOver (plan_meaning plan) layer input

@@ -1,13 +1,13 @@
 ghost use Rattle.std.specs.Prelude.{◌≡◌, codes};
 ghost use Rattle.texts.specs.Shapes.{numbers_after};
 ghost use Rattle.texts.specs.Lines.{words_of};
-ghost use Rattle.consensus_layer.specs.AgreePart.{nothing_read, behind_head, values_tested};
+ghost use Rattle.consensus_layer.specs.AgreePart.{nothing_read_over, behind_head, values_tested};
 
 use crate::agree_parts::AgreePart;
 use crate::agreeing::slot_length;
 use crate::input_lines::read_inputs;
 use edge_io::{LineReader, TakeError, numbers_after};
-use plan_numbers::Plan;
+use layer_laws::CounterNumbers;
 use std::alloc::Global;
 use std::marker::Model;
 use std::mem;
@@ -83,14 +83,14 @@ fn behind_values(line: &[u8]) -> Result<AgreeStage, Rule>
 }
 
 impl AgreeLines {
-    /// A reader of a part of which nothing was read, for the nodes of a plan.
-    pub fn new(alloc: Global, plan: &Plan) -> AgreeLines
-        ensures { result ≡ nothing_read plan.now }
+    /// A reader of a part of which nothing was read, for a counter of these numbers.
+    pub fn new(alloc: Global, numbers: &CounterNumbers) -> AgreeLines
+        ensures { result ≡ nothing_read_over numbers.now }
     {
         AgreeLines {
             alloc,
-            nodes: plan.nodes(),
-            whole: plan.modulus() % slot_length(plan.faults()) == 0,
+            nodes: numbers.nodes(),
+            whole: numbers.modulus() % slot_length(numbers.faults()) == 0,
             stage: AgreeStage::Unread,
             inputs: Vec::new(alloc),
         }

@@ -1,6 +1,6 @@
 ghost use Rattle.std.specs.Prelude.{◌≡◌, ◌*◌, ◌<◌, ◌≤◌, length};
 ghost use Rattle.counter_core.specs.Working.{IsFor, IsAsRoomy};
-ghost use Rattle.layer_laws.specs.Slots.{slot_length, agreed};
+ghost use Rattle.layer_laws.specs.CounterSlots.{slot_length, agreed};
 ghost use Rattle.consensus_layer.specs.Agreeing.{agree_step};
 
 use counter_core::{HeardRegister, Work};

@@ -1,16 +1,16 @@
 ghost use Rattle.std.specs.Prelude.{◌≡◌, ◌*◌, ◌<◌, length, slice_index, All};
-ghost use Rattle.layer_laws.specs.Slots.{slot_length};
+ghost use Rattle.layer_laws.specs.CounterSlots.{slot_length};
 
 use crate::agree_parts::AgreePart;
 use crate::agreeing::{agree, slot_length};
 use crate::heeding::heeded;
 use counter_core::{Heard, HeardRegister, Overlay, Work};
-use plan_numbers::Plan;
+use layer_laws::CounterNumbers;
 use std::alloc::{AllocError, Global};
 use sync_types::{FaultSet, NodeState};
 
-/// Consensus on the counter of a plan: each node has an input, and keeps the decision of the last
-/// slot that ended.
+/// Consensus on a counter: each node has an input, and keeps the decision of the last slot that
+/// ended.
 #[derive(Debug, Drop)]
 pub struct Agreement {
     nodes: u32,
@@ -28,26 +28,29 @@ pub struct Agreement {
 
 impl Agreement {
     ghost use Rattle.std.specs.Prelude.{ℕ, List, replicate, IfOk};
-    ghost use Rattle.construction.specs.Plans.{plan_nodes};
-    ghost use Rattle.consensus_layer.specs.Agreements.{agree_layer, agree_layer_of};
+    ghost use Rattle.consensus_layer.specs.Agreements.{agree_layer_over, agree_layer_of};
     ghost use Rattle.consensus_layer.specs.AgreementsSeen.{layer_seen, decisions_seen};
-    ghost use Rattle.consensus_layer.specs.AgreePart.{IsFor};
+    ghost use Rattle.consensus_layer.specs.AgreePart.{IsForNumbers};
 
-    /// Consensus on the counter of a plan, as an agree part says that was read for it. Each node's
-    /// decision is 0.
-    pub fn new(alloc: Global, plan: &Plan, part: AgreePart) -> Result<Agreement, AllocError>
-        requires { IsFor plan.now part }
+    /// Consensus on a counter of these numbers, as an agree part says that was read for them. Each
+    /// node's decision is 0.
+    pub fn new(
+        alloc: Global,
+        numbers: &CounterNumbers,
+        part: AgreePart,
+    ) -> Result<Agreement, AllocError>
+        requires { IsForNumbers numbers.now part }
         ensures layer { IfOk result
-            (λ a. layer_seen a ≡ agree_layer plan.now part.values part.inputs) }
-        ensures kept { IfOk result (λ a. decisions_seen a ≡ replicate (plan_nodes plan.now) 0) }
+            (λ a. layer_seen a ≡ agree_layer_over numbers.now part.values part.inputs) }
+        ensures kept { IfOk result (λ a. decisions_seen a ≡ replicate numbers.now.nodes 0) }
     {
-        plan.tell();
-        let nodes = plan.nodes();
+        numbers.tell();
+        let nodes = numbers.nodes();
         Ok(Agreement {
             nodes,
-            faults: plan.faults(),
-            modulus: plan.modulus(),
-            depth: plan.depth(),
+            faults: numbers.faults(),
+            modulus: numbers.modulus(),
+            depth: numbers.depth(),
             values: part.values,
             inputs: part.inputs,
             decisions: Vec::from_elem(alloc, 0, nodes as usize)?,

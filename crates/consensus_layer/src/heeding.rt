@@ -4,7 +4,7 @@ ghost use Rattle.sync_types.specs.States.{State};
 ghost use Rattle.construction.specs.PhaseKing.{locked_at};
 ghost use Rattle.construction.specs.Steps.{state_of};
 ghost use Rattle.counter_core.specs.Heeding.{HeedsOnly};
-ghost use Rattle.layer_laws.specs.Slots.{agreed, agreed_in_turn, slot_length};
+ghost use Rattle.layer_laws.specs.CounterSlots.{agreed, agreed_in_turn, slot_length};
 ghost use Rattle.consensus_layer.specs.Heeding.{has_truly, true_count};
 
 use crate::agreeing::slot_length;

@@ -1,4 +1,4 @@
-//! Consensus on the counter of a plan.
+//! Consensus on any counter, by its numbers.
 //!
 //! Each node has an input. In slots of three rounds for each of F + 1 kings, whose turns the
 //! counter's outputs tell, all correct nodes agree on one of them: the common one where there is
@@ -21,5 +21,5 @@ pub use agree_parts::AgreePart;
 pub use agreeing::{Agreed, agree, agree_at, slot_length};
 pub use agreement::Agreement;
 pub use heeding::{heeded, heeded_at, liar_at};
-pub use reading::read_agree;
+pub use reading::{read_agree, read_agree_over};
 pub use refusals::{AgreeError, AgreeRefusal};

@@ -1,25 +1,50 @@
 ghost use Rattle.std.specs.Prelude.{◌≤◌, ◌<◌, ◌+◌, ◌^◌, length, IfOk};
-ghost use Rattle.consensus_layer.specs.AgreeAnswers.{IsAnswer};
+ghost use Rattle.consensus_layer.specs.AgreeAnswers.{IsAnswer, IsAnswerOver};
 
 use crate::agree_lines::AgreeLines;
 use crate::agreement::Agreement;
 use crate::refusals::AgreeError;
 use edge_io::read_part;
+use layer_laws::CounterNumbers;
 use plan_numbers::Plan;
 use std::alloc::Global;
 use sync_types::Rule;
 
-/// Reads the agree part at the front of an input: consensus on the counter of the plan as it says,
-/// where each node's decision is 0, how many bytes stand through the part's `end` line, that line's
-/// newline among them, and how many lines these are, skipped ones counted. The first line of
+/// Reads the agree part at the front of an input: consensus on a counter of these numbers as it
+/// says, where each node's decision is 0, how many bytes stand through the part's `end` line, that
+/// line's newline among them, and how many lines these are, skipped ones counted. The first line of
 /// `bytes` has the number `first_line`, which is at least 1 and whose sum with the length of
 /// `bytes` is below 2^64.
 ///
 /// `Refused` is the first line that fails, with the first rule that it fails: `Form`, also for
 /// inputs that are not as many as the nodes, `Limit` above 65536 values, `Range` below two values
-/// or for an input that is not below them, `Slot` on the first line where the plan's modulus is no
+/// or for an input that is not below them, `Slot` on the first line where the modulus is no
 /// multiple of a slot's length. A part that lacks its `end` is refused `Form` at the line after the
 /// last. `NoMemory` comes where memory was refused.
+pub fn read_agree_over(
+    alloc: Global,
+    numbers: &CounterNumbers,
+    bytes: &[u8],
+    first_line: u64,
+) -> Result<(Agreement, usize, u64), AgreeError>
+    requires first { 1 ≤ first_line }
+    requires count { first_line + length bytes.now < 2 ^ 64 }
+    ensures exact { IsAnswerOver numbers.now first_line bytes.now result }
+    ensures within { IfOk result (λ read. read.1 ≤ length bytes.now) }
+    ensures lines { IfOk result (λ read. read.2 ≤ read.1) }
+{
+    let read = read_part(
+        AgreeLines::new(alloc, numbers),
+        Rule::Form,
+        bytes,
+        first_line,
+    )?;
+    let agreement = Agreement::new(alloc, numbers, read.value)?;
+    Ok((agreement, read.bytes, read.lines))
+}
+
+/// Reads the agree part at the front of an input, as [`read_agree_over`] does, for the counter of a
+/// plan.
 pub fn read_agree(
     alloc: Global,
     plan: &Plan,
@@ -32,7 +57,5 @@ pub fn read_agree(
     ensures within { IfOk result (λ read. read.1 ≤ length bytes.now) }
     ensures lines { IfOk result (λ read. read.2 ≤ read.1) }
 {
-    let read = read_part(AgreeLines::new(alloc, plan), Rule::Form, bytes, first_line)?;
-    let agreement = Agreement::new(alloc, plan, read.value)?;
-    Ok((agreement, read.bytes, read.lines))
+    read_agree_over(alloc, &CounterNumbers::of(plan), bytes, first_line)
 }

@@ -18,7 +18,7 @@ pub struct AgreeRefusal {
 /// Why an agree part was not read.
 #[derive(Clone, Copy, Debug, PartialEq, Eq, Error)]
 pub enum AgreeError {
-    /// The text is no agree part for the plan: its first line that fails.
+    /// The text is no agree part for the counter: its first line that fails.
     #[error("line {} of the inputs fails the rule {:?}", .0.line, .0.rule)]
     Refused(AgreeRefusal),
     /// Memory was refused.

@@ -1,5 +1,4 @@
--- Requests that are read are those of nodes of the plan, and the plan's modulus is a multiple of a
--- slot.
+-- Requests that are read are those of nodes of the counter, whose modulus is a multiple of a slot.
 use Rattle.std.proofs.Common.{◌≡◌, ℕ, ◌<◌, ◌≤◌, ◌%◌, Bool, true, false, List, [], ◌∷◌, length, All}
 use Rattle.std.proofs.Common.{Option, Some, None, Result, Ok, Err, refl, subst, arith}
 use Rattle.std.specs.Prelude.{IfOk, nat_le, nat_lt, if◌then◌else◌, codes}
@@ -13,19 +12,22 @@ use Rattle.texts.specs.Parts.{Next, goes, ends, refuses}
 use Rattle.texts.proofs.Parts.{After, skips_keep, part_keeps}
 use Rattle.sync_types.specs.declared.answers.Rule.{Rule}
 use Rattle.sync_types.specs.declared.answers.Rule.TheVariants.{Form, Limit, Node, Range, Slot}
-use Rattle.construction.specs.Plans.{Plan, plan_nodes, plan_faults, plan_modulus}
+use Rattle.construction.specs.Plans.{Plan}
+use Rattle.layer_laws.specs.Numbers.{Numbers, numbers_of}
 use Rattle.layer_laws.specs.Slots.{slot_length}
 use Rattle.firing.specs.declared.requests.Request.{Request}
-use Rattle.firing.specs.FirePart.{FireSoFar, nothing_read, head_step, request_tested, request_in}
-use Rattle.firing.specs.FirePart.{goes_with, fire_step, part_of, AreFor}
+use Rattle.firing.specs.FirePart.{FireSoFar, nothing_read_over, head_step, request_tested}
+use Rattle.firing.specs.FirePart.{request_in}
+use Rattle.firing.specs.FirePart.{goes_with, fire_step, part_over, part_of, AreForNumbers}
+use Rattle.firing.specs.FirePart.{AreFor}
 
 -- what holds of the requests so far
-record FitSoFar (plan : Plan) (s : FireSoFar) : Type 0 where
-  nodes : s.nodes ≡ plan_nodes plan
-  whole : s.whole ≡ true → plan_modulus plan % slot_length (plan_faults plan) ≡ 0
-  begun : s.begun ≡ true → plan_modulus plan % slot_length (plan_faults plan) ≡ 0
+record FitSoFar (numbers : Numbers) (s : FireSoFar) : Type 0 where
+  nodes : s.nodes ≡ numbers.nodes
+  whole : s.whole ≡ true → numbers.modulus % slot_length numbers.faults ≡ 0
+  begun : s.begun ≡ true → numbers.modulus % slot_length numbers.faults ≡ 0
   many : length s.requests ≤ 256
-  each : All (λ request. request.node < plan_nodes plan) s.requests
+  each : All (λ request. request.node < numbers.nodes) s.requests
 
 -- a request that may be put behind the others
 abbrev IsOneMore : FireSoFar → Request → Type 0
@@ -51,23 +53,23 @@ tested s (Some (v ∷ a ∷ b ∷ [])) =
     by_tests s v a b (nat_le 256 (length s.requests)) (nat_le s.nodes v) (nat_lt b a) refl refl
 tested s (Some (v ∷ a ∷ b ∷ c ∷ more)) = tt
 
-module _ (plan : Plan) where
+module _ (numbers : Numbers) where
   abbrev Goes : Next FireSoFar (List Request) Rule → Type 0
-  Goes next = After (FitSoFar plan) (AreFor plan) next
+  Goes next = After (FitSoFar numbers) (AreForNumbers numbers) next
 
   with_request : (s : FireSoFar) (request : Result Request Rule) → s.begun ≡ true
-      → FitSoFar plan s → IfOk request (IsOneMore s) → Goes (goes_with s request)
+      → FitSoFar numbers s → IfOk request (IsOneMore s) → Goes (goes_with s request)
   with_request s (Err rule) begun fit one = tt
   with_request s (Ok request) begun fit one = record {
     nodes = fit.nodes;
     whole = fit.whole;
     begun = fit.begun;
     many = let room = one.0 in omega (arith, length_push s.requests request, room);
-    each = All-push (λ (r : Request). r.node < plan_nodes plan) s.requests request fit.each
+    each = All-push (λ (r : Request). r.node < numbers.nodes) s.requests request fit.each
         (subst (λ n. request.node < n) fit.nodes one.1);
   }
 
-  headed : (s : FireSoFar) (is whole : Bool) → s.whole ≡ whole → FitSoFar plan s
+  headed : (s : FireSoFar) (is whole : Bool) → s.whole ≡ whole → FitSoFar numbers s
       → Goes (if is then (if whole then goes (record s { begun = true }) else refuses Slot)
       else refuses Form)
   headed s false whole e fit = tt
@@ -80,7 +82,7 @@ module _ (plan : Plan) where
     each = fit.each;
   }
 
-  ended : (s : FireSoFar) (is : Bool) (line : List ℕ) → s.begun ≡ true → FitSoFar plan s
+  ended : (s : FireSoFar) (is : Bool) (line : List ℕ) → s.begun ≡ true → FitSoFar numbers s
       → Goes (if is then ends s.requests else goes_with s (request_in s line))
   ended s true line begun fit =
       record { whole = fit.begun begun; many = fit.many; nodes = fit.each }
@@ -88,7 +90,7 @@ module _ (plan : Plan) where
       with_request s (request_in s line) begun fit
       (tested s (numbers_after (codes "request") 3 (words_of line)))
 
-  stepped : (s : FireSoFar) (line : List ℕ) (begun : Bool) → s.begun ≡ begun → FitSoFar plan s
+  stepped : (s : FireSoFar) (line : List ℕ) (begun : Bool) → s.begun ≡ begun → FitSoFar numbers s
       → Goes (if begun
       then
       (if bytes_eq line (codes "end") then ends s.requests else goes_with s (request_in s line))
@@ -96,20 +98,25 @@ module _ (plan : Plan) where
   stepped s line true e fit = ended s (bytes_eq line (codes "end")) line e fit
   stepped s line false e fit = headed s (bytes_eq line (codes "fire 1")) s.whole refl fit
 
-  begins : FitSoFar plan (nothing_read plan)
+  begins : FitSoFar numbers (nothing_read_over numbers)
   begins = record {
     nodes = refl;
-    whole = λ e. eqb-true (plan_modulus plan % slot_length (plan_faults plan)) 0 e;
+    whole = λ e. eqb-true (numbers.modulus % slot_length numbers.faults) 0 e;
     begun = λ e. absurd (cc);
     many = omega arith;
-    each = All-nil (λ (r : Request). r.node < plan_nodes plan);
+    each = All-nil (λ (r : Request). r.node < numbers.nodes);
   }
 
--- what is read is for the plan
+-- what is read is for the counter
+pub requests_fit_over : (numbers : Numbers) (number : ℕ) (lines : List (List ℕ))
+    → IfOk (part_over numbers number lines) (λ found. AreForNumbers numbers found.value)
+requests_fit_over numbers number lines =
+    part_keeps _ Form (FitSoFar numbers) (AreForNumbers numbers)
+    (λ s line fit. skips_keep fire_step Form (FitSoFar numbers) (AreForNumbers numbers) s line fit
+    (stepped numbers s line s.begun refl fit))
+    lines (nothing_read_over numbers) 0 number (begins numbers)
+
+-- so it is for that of a plan
 pub requests_fit : (plan : Plan) (number : ℕ) (lines : List (List ℕ))
     → IfOk (part_of plan number lines) (λ found. AreFor plan found.value)
-requests_fit plan number lines =
-    part_keeps _ Form (FitSoFar plan) (AreFor plan)
-    (λ s line fit. skips_keep fire_step Form (FitSoFar plan) (AreFor plan) s line fit
-    (stepped plan s line s.begun refl fit))
-    lines (nothing_read plan) 0 number (begins plan)
+requests_fit plan = requests_fit_over (numbers_of plan)

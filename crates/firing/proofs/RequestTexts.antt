@@ -18,16 +18,15 @@ use Rattle.texts.proofs.Printed.{IsPlain, ArePlain, spaced_length, decimal_is_pl
 use Rattle.texts.proofs.Printed.{words_joined, goes_behind, ends_there}
 use Rattle.sync_types.specs.declared.answers.Rule.{Rule}
 use Rattle.sync_types.specs.declared.answers.Rule.TheVariants.{Form, Slot}
-use Rattle.construction.specs.Plans.{Plan, plan_nodes, plan_faults, plan_modulus}
-use Rattle.plan_numbers.specs.Premises.{IsAccepted}
-use Rattle.plan_laws.proofs.PlanCounter.{plan_sizes}
+use Rattle.layer_laws.specs.Numbers.{Numbers, AreNumbers, numbers_of}
 use Rattle.layer_laws.specs.Slots.{slot_length}
+use Rattle.layer_laws.proofs.PlanCounters.{plan_numbers_are}
 use Rattle.consensus_layer.proofs.AgreeTexts.{one_plain, end_plain, text_more}
 use Rattle.firing.specs.declared.requests.Request.{Request}
-use Rattle.firing.specs.FirePart.{FireSoFar, nothing_read, request_tested, goes_with}
-use Rattle.firing.specs.FirePart.{fire_step, AreFor}
+use Rattle.firing.specs.FirePart.{FireSoFar, nothing_read_over, request_tested, goes_with}
+use Rattle.firing.specs.FirePart.{fire_step, AreForNumbers}
 use Rattle.firing.specs.RequestTexts.{request_text, HasRounds}
-use Rattle.firing.specs.RequestTexts.{RequestTextIsRead}
+use Rattle.firing.specs.RequestTexts.{RequestTextIsReadOver, RequestTextIsRead}
 
 -- a number of a line may be printed, in 15 digits at most, and is read
 short_plain : (n : ℕ) → n < 10 ^ 15 → IsPlain (decimal n)
@@ -50,21 +49,21 @@ abbrev read_on : FireSoFar → (taken number : ℕ) → List ℕ → Result (Fou
 read_on s taken number text =
     part_from (with_skips fire_step Form) Form s taken number (lines_of text)
 
-module _ (plan : Plan) (accepted : IsAccepted plan) where
+module _ (numbers : Numbers) (fine : AreNumbers numbers) where
   abbrev whole : Bool
-  whole = plan_modulus plan % slot_length (plan_faults plan) == 0
+  whole = numbers.modulus % slot_length numbers.faults == 0
 
   -- a part of which these requests were read
   abbrev with_requests : List Request → FireSoFar
   with_requests requests = record {
-    nodes = plan_nodes plan;
+    nodes = numbers.nodes;
     whole = whole;
     begun = true;
     requests = requests;
   }
 
   module _ (done more : List Request) (request : Request)
-      (are : AreFor plan (done ++ request ∷ more))
+      (are : AreForNumbers numbers (done ++ request ∷ more))
       (rounds : All HasRounds (done ++ request ∷ more)) where
     abbrev all : List Request
     all = done ++ request ∷ more
@@ -77,9 +76,9 @@ module _ (plan : Plan) (accepted : IsAccepted plan) where
         let zero_more : length done ≡ length done + 0 = omega arith in
         ap (λ i. get_or all i d) zero_more ∙ get_or-append-add done (request ∷ more) 0 d
 
-    of_node : request.node < plan_nodes plan
-    of_node = subst (λ (r : Request). r.node < plan_nodes plan) (at_place request)
-        (All-get_or (λ (r : Request). r.node < plan_nodes plan) all (length done) request
+    of_node : request.node < numbers.nodes
+    of_node = subst (λ (r : Request). r.node < numbers.nodes) (at_place request)
+        (All-get_or (λ (r : Request). r.node < numbers.nodes) all (length done) request
         (omega (arith, long)) are.nodes)
 
     in_rounds : HasRounds request
@@ -87,16 +86,16 @@ module _ (plan : Plan) (accepted : IsAccepted plan) where
         (All-get_or HasRounds all (length done) request (omega (arith, long)) rounds)
 
     node_short : request.node < 10 ^ 15
-    node_short = let few = (plan_sizes plan accepted).most in omega (arith, few, of_node)
+    node_short = let few = fine.few in omega (arith, few, of_node)
 
     first_short : request.first < 10 ^ 15
     first_short =
         let order = in_rounds.order in let short = in_rounds.short in omega (arith, order, short)
 
-    abbrev numbers : List (List ℕ)
-    numbers = decimal request.node ∷ decimal request.first ∷ decimal request.last ∷ []
+    abbrev told : List (List ℕ)
+    told = decimal request.node ∷ decimal request.first ∷ decimal request.last ∷ []
 
-    plain : ArePlain (codes "request" ∷ numbers)
+    plain : ArePlain (codes "request" ∷ told)
     plain = (
       request_plain,
       (
@@ -108,7 +107,7 @@ module _ (plan : Plan) (accepted : IsAccepted plan) where
       ),
     )
 
-    room : spaced_length (codes "request" ∷ numbers) ≤ 4096
+    room : spaced_length (codes "request" ∷ told) ≤ 4096
     room = omega (
       arith,
       short_length request.node node_short,
@@ -119,7 +118,7 @@ module _ (plan : Plan) (accepted : IsAccepted plan) where
     numbers_are : numbers_after (codes "request") 3 (words_of (request_text request))
         ≡ Some (request.node ∷ request.first ∷ request.last ∷ [])
     numbers_are =
-        ap (numbers_after (codes "request") 3) (words_joined (codes "request") numbers plain)
+        ap (numbers_after (codes "request") 3) (words_joined (codes "request") told plain)
         ∙ rw (
           short_read request.node node_short,
           short_read request.first first_short,
@@ -132,7 +131,7 @@ module _ (plan : Plan) (accepted : IsAccepted plan) where
     tested =
         let many = are.many in rw (
           lt-leb 256 (length done) (omega (arith, many, long)),
-          lt-leb (plan_nodes plan) request.node of_node,
+          lt-leb numbers.nodes request.node of_node,
           le-ltb request.last request.first in_rounds.order,
         ) refl
 
@@ -147,7 +146,7 @@ module _ (plan : Plan) (accepted : IsAccepted plan) where
         → read_on (with_requests done) taken number (request_text request ++ 10 ∷ rest)
         ≡ read_on (with_requests (done ++ request ∷ [])) (taken + 1) (number + 1) rest
     request_read taken number rest =
-        goes_behind fire_step Form (codes "request") numbers rest plain room
+        goes_behind fire_step Form (codes "request") told rest plain room
         (counts (request_text request) (omega arith) refl) (with_requests done) taken number
         (with_requests (done ++ request ∷ [])) steps
 
@@ -160,7 +159,7 @@ module _ (plan : Plan) (accepted : IsAccepted plan) where
       (with_requests requests) taken number requests refl
 
   requests_read : (done more : List Request) (taken number : ℕ) (rest : List ℕ)
-      → AreFor plan (done ++ more) → All HasRounds (done ++ more)
+      → AreForNumbers numbers (done ++ more) → All HasRounds (done ++ more)
       → read_on (with_requests done) taken number
       (text_of (map request_text more ++ codes "end" ∷ []) ++ rest)
       ≡ Ok (record {
@@ -180,23 +179,27 @@ module _ (plan : Plan) (accepted : IsAccepted plan) where
       ap (read_on (with_requests done) taken number) (text_more (request_text request) ended rest)
       ∙ request_read done more request are rounds taken number (text_of ended ++ rest)
       ∙ requests_read (done ++ request ∷ []) more (taken + 1) (number + 1) rest
-      (subst (AreFor plan) (sym same) are) (subst (All HasRounds) (sym same) rounds)
+      (subst (AreForNumbers numbers) (sym same) are) (subst (All HasRounds) (sym same) rounds)
       ∙ rw (same, count) refl
 
   -- the first line, where the modulus is a multiple of a slot
-  head_is : plan_modulus plan % slot_length (plan_faults plan) ≡ 0
-      → fire_step (nothing_read plan) (codes "fire 1") ≡ goes (with_requests [])
+  head_is : numbers.modulus % slot_length numbers.faults ≡ 0
+      → fire_step (nothing_read_over numbers) (codes "fire 1") ≡ goes (with_requests [])
   head_is multiple =
       ap (λ (b : Bool). if b then goes (with_requests []) else refuses Slot)
-      (eq-eqb (plan_modulus plan % slot_length (plan_faults plan)) 0 multiple)
+      (eq-eqb (numbers.modulus % slot_length numbers.faults) 0 multiple)
 
-pub request_text_is_read : RequestTextIsRead
-request_text_is_read plan accepted requests are rounds number rest =
+pub request_text_is_read_over : RequestTextIsReadOver
+request_text_is_read_over numbers fine requests are rounds number rest =
     let behind = map request_text requests ++ codes "end" ∷ [] in
     let count : 0 + 1 + (length requests + 1) ≡ length requests + 2 = omega arith in
-    ap (read_on (nothing_read plan) 0 number) (text_more (codes "fire 1") behind rest)
+    ap (read_on (nothing_read_over numbers) 0 number) (text_more (codes "fire 1") behind rest)
     ∙ goes_behind fire_step Form (codes "fire") (codes "1" ∷ []) (text_of behind ++ rest)
-    (fire_plain, (one_plain, tt)) (omega arith) refl (nothing_read plan) 0 number
-    (with_requests plan accepted []) (head_is plan accepted are.whole)
-    ∙ requests_read plan accepted [] requests (0 + 1) (number + 1) rest are rounds
+    (fire_plain, (one_plain, tt)) (omega arith) refl (nothing_read_over numbers) 0 number
+    (with_requests numbers fine []) (head_is numbers fine are.whole)
+    ∙ requests_read numbers fine [] requests (0 + 1) (number + 1) rest are rounds
     ∙ rw count refl
+
+pub request_text_is_read : RequestTextIsRead
+request_text_is_read plan accepted =
+    request_text_is_read_over (numbers_of plan) (plan_numbers_are plan accepted)

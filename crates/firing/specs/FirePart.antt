@@ -8,7 +8,8 @@ use Rattle.texts.specs.Shapes.{numbers_after}
 use Rattle.texts.specs.Parts.{Next, goes, ends, refuses, with_skips, Found, At, part_from}
 use Rattle.sync_types.specs.declared.answers.Rule.{Rule}
 use Rattle.sync_types.specs.declared.answers.Rule.TheVariants.{Form, Limit, Node, Range, Slot}
-use Rattle.construction.specs.Plans.{Plan, plan_nodes, plan_faults, plan_modulus}
+use Rattle.construction.specs.Plans.{Plan}
+use Rattle.layer_laws.specs.Numbers.{Numbers, numbers_of}
 use Rattle.layer_laws.specs.Slots.{slot_length}
 use Rattle.firing.specs.declared.requests.Request.{Request}
 
@@ -20,11 +21,11 @@ pub record FireSoFar : Type 0 where
   pub begun : Bool
   pub requests : List Request
 
--- a part of which nothing was read
-abbrev pub nothing_read : Plan → FireSoFar
-nothing_read plan = record {
-  nodes = plan_nodes plan;
-  whole = plan_modulus plan % slot_length (plan_faults plan) == 0;
+-- a part for a counter of which nothing was read
+abbrev pub nothing_read_over : Numbers → FireSoFar
+nothing_read_over numbers = record {
+  nodes = numbers.nodes;
+  whole = numbers.modulus % slot_length numbers.faults == 0;
   begun = false;
   requests = [];
 }
@@ -61,15 +62,27 @@ fire_step s line =
     then (if bytes_eq line (codes "end") then ends s.requests else goes_with s (request_in s line))
     else head_step s line
 
--- The fire part at the front of these lines, of which the first has that number: its requests, how
--- many lines it took through `end`, and the lines behind; or the first line that fails, with the
--- first rule that it fails.
-abbrev pub part_of : Plan → (number : ℕ) → List (List ℕ) → Result (Found (List Request)) (At Rule)
-part_of plan number lines =
-    part_from (with_skips fire_step Form) Form (nothing_read plan) 0 number lines
+-- The fire part for a counter at the front of these lines, of which the first has that number: its
+-- requests, how many lines it took through `end`, and the lines behind; or the first line that
+-- fails, with the first rule that it fails.
+abbrev pub part_over : Numbers → (number : ℕ) → List (List ℕ)
+    → Result (Found (List Request)) (At Rule)
+part_over numbers number lines =
+    part_from (with_skips fire_step Form) Form (nothing_read_over numbers) 0 number lines
 
--- what requests are that were read for a plan
-pub record AreFor (plan : Plan) (requests : List Request) : Type 0 where
-  pub whole : plan_modulus plan % slot_length (plan_faults plan) ≡ 0
+-- those for the counter of a plan
+abbrev pub nothing_read : Plan → FireSoFar
+nothing_read plan = nothing_read_over (numbers_of plan)
+
+abbrev pub part_of : Plan → (number : ℕ) → List (List ℕ) → Result (Found (List Request)) (At Rule)
+part_of plan = part_over (numbers_of plan)
+
+-- what requests are that were read for a counter
+pub record AreForNumbers (numbers : Numbers) (requests : List Request) : Type 0 where
+  pub whole : numbers.modulus % slot_length numbers.faults ≡ 0
   pub many : length requests ≤ 256
-  pub nodes : All (λ request. request.node < plan_nodes plan) requests
+  pub nodes : All (λ request. request.node < numbers.nodes) requests
+
+-- those for the counter of a plan
+abbrev pub AreFor : Plan → List Request → Type 0
+AreFor plan = AreForNumbers (numbers_of plan)

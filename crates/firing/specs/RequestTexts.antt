@@ -5,8 +5,9 @@ use Rattle.texts.specs.Lines.{lines_of}
 use Rattle.texts.specs.Words.{joined, text_of}
 use Rattle.construction.specs.Plans.{Plan}
 use Rattle.plan_numbers.specs.Premises.{IsAccepted}
+use Rattle.layer_laws.specs.Numbers.{Numbers, AreNumbers, numbers_of}
 use Rattle.firing.specs.declared.requests.Request.{Request}
-use Rattle.firing.specs.FirePart.{part_of, AreFor}
+use Rattle.firing.specs.FirePart.{part_over, AreForNumbers}
 
 -- the words of a request's line
 abbrev pub request_words : Request → List (List ℕ)
@@ -25,9 +26,16 @@ pub record HasRounds (request : Request) : Type 0 where
   pub order : request.first ≤ request.last
   pub short : request.last < 10 ^ 15
 
--- The text of requests for an accepted plan is read as these requests, whatever text follows.
-abbrev pub RequestTextIsRead : Type 0
-RequestTextIsRead = (plan : Plan) → IsAccepted plan → (requests : List Request)
-    → AreFor plan requests → All HasRounds requests → (number : ℕ) (rest : List ℕ)
-    → part_of plan number (lines_of (requests_text requests ++ rest))
+-- The text of requests for a counter is read as these requests, whatever text follows.
+abbrev pub IsReadBack : Numbers → Type 0
+IsReadBack numbers = (requests : List Request) → AreForNumbers numbers requests
+    → All HasRounds requests → (number : ℕ) (rest : List ℕ)
+    → part_over numbers number (lines_of (requests_text requests ++ rest))
     ≡ Ok (record { value = requests; taken = length requests + 2; behind = lines_of rest })
+
+abbrev pub RequestTextIsReadOver : Type 0
+RequestTextIsReadOver = (numbers : Numbers) → AreNumbers numbers → IsReadBack numbers
+
+-- So is that for an accepted plan.
+abbrev pub RequestTextIsRead : Type 0
+RequestTextIsRead = (plan : Plan) → IsAccepted plan → IsReadBack (numbers_of plan)

@@ -1,10 +1,10 @@
 ghost use Rattle.std.specs.Prelude.{◌≡◌, Ok, Err};
-ghost use Rattle.firing.specs.FirePart.{nothing_read, request_in};
+ghost use Rattle.firing.specs.FirePart.{nothing_read_over, request_in};
 
 use crate::requests::{Request, Requests};
 use consensus_layer::slot_length;
 use edge_io::{LineReader, TakeError, numbers_after};
-use plan_numbers::Plan;
+use layer_laws::CounterNumbers;
 use std::alloc::Global;
 use std::marker::Model;
 use std::mem;
@@ -37,14 +37,14 @@ impl Model for FireLines {
 }
 
 impl FireLines {
-    /// A reader of a part of which nothing was read, for the nodes of a plan.
-    pub fn new(alloc: Global, plan: &Plan) -> FireLines
-        ensures { result ≡ nothing_read plan.now }
+    /// A reader of a part of which nothing was read, for the nodes of a counter.
+    pub fn new(alloc: Global, numbers: &CounterNumbers) -> FireLines
+        ensures { result ≡ nothing_read_over numbers.now }
     {
         FireLines {
             alloc,
-            nodes: plan.nodes(),
-            whole: plan.modulus() % slot_length(plan.faults()) == 0,
+            nodes: numbers.nodes(),
+            whole: numbers.modulus() % slot_length(numbers.faults()) == 0,
             begun: false,
             requests: Vec::new(alloc),
         }

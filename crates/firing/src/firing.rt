@@ -4,12 +4,12 @@ use crate::fires::Fire;
 use crate::requests::Requests;
 use consensus_layer::{agree, heeded};
 use counter_core::{Heard, HeardRegister, Overlay, Work};
-use plan_numbers::Plan;
+use layer_laws::CounterNumbers;
 use std::alloc::{AllocError, Global};
 use sync_types::{FaultSet, NodeState};
 
-/// Simultaneous firing over the counter of a plan: consensus on whether to fire, in slots, where a
-/// node is for it if it requests in the round before the slot.
+/// Simultaneous firing over a counter: consensus on whether to fire, in slots, where a node is for
+/// it if it requests in the round before the slot.
 #[derive(Debug, Drop)]
 pub struct Firing {
     nodes: u32,
@@ -27,23 +27,27 @@ pub struct Firing {
 
 impl Firing {
     ghost use Rattle.std.specs.Prelude.{◌≡◌, ◌<◌, IfOk, replicate};
-    ghost use Rattle.construction.specs.Plans.{plan_nodes};
-    ghost use Rattle.firing.specs.Firings.{bit, requests_in, fire_layer, fires_of, unfired};
+    ghost use Rattle.firing.specs.Firings.{bit, requests_in, fire_layer_over, fires_of, unfired};
     ghost use Rattle.firing.specs.FiringsSeen.{layer_seen, fires_seen};
 
-    /// Firing over the counter of a plan, on these requests. No node fired yet.
-    pub fn new(alloc: Global, plan: &Plan, requests: Requests) -> Result<Firing, AllocError>
-        ensures layer { IfOk result (λ firing. layer_seen firing ≡ fire_layer plan.now requests) }
+    /// Firing over a counter, on these requests. No node fired yet.
+    pub fn new(
+        alloc: Global,
+        numbers: &CounterNumbers,
+        requests: Requests,
+    ) -> Result<Firing, AllocError>
+        ensures layer { IfOk result
+            (λ firing. layer_seen firing ≡ fire_layer_over numbers.now requests) }
         ensures kept { IfOk result
-            (λ firing. fires_seen firing ≡ replicate (plan_nodes plan.now) unfired) }
+            (λ firing. fires_seen firing ≡ replicate numbers.now.nodes unfired) }
     {
-        plan.tell();
-        let nodes = plan.nodes();
+        numbers.tell();
+        let nodes = numbers.nodes();
         Ok(Firing {
             nodes,
-            faults: plan.faults(),
-            modulus: plan.modulus(),
-            depth: plan.depth(),
+            faults: numbers.faults(),
+            modulus: numbers.modulus(),
+            depth: numbers.depth(),
             requests,
             round: 0,
             fired: Vec::from_elem(alloc, false, nodes as usize)?,

@@ -1,4 +1,4 @@
-//! Simultaneous firing over the counter of a plan.
+//! Simultaneous firing over a counter.
 #![tactic(auto)]
 
 mod fire_lines;
@@ -12,6 +12,6 @@ mod requests;
 pub use fire_lines::FireLines;
 pub use fires::Fire;
 pub use firing::Firing;
-pub use reading::read_fire;
+pub use reading::{read_fire, read_fire_over};
 pub use refusals::{FireError, FireRefusal};
 pub use requests::{Request, Requests};

@@ -18,7 +18,7 @@ pub struct FireRefusal {
 /// Why a fire part was not read.
 #[derive(Clone, Copy, Debug, PartialEq, Eq, Error)]
 pub enum FireError {
-    /// The text is no fire part for the plan: its first line that fails.
+    /// The text is no fire part for the counter: its first line that fails.
     #[error("line {} of the requests fails the rule {:?}", .0.line, .0.rule)]
     Refused(FireRefusal),
     /// Memory was refused.

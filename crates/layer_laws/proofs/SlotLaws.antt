@@ -9,21 +9,20 @@ use Rattle.std.proofs.lemmas.List.{length-map, get_or-map}
 use Rattle.sync_types.specs.declared.states.Reg.{Reg}
 use Rattle.sync_types.specs.States.{State, zero_state, zero_register, register_at}
 use Rattle.counting.specs.Places.{places}
-use Rattle.construction.specs.Plans.{Plan, plan_nodes, plan_faults, plan_depth}
 use Rattle.construction.specs.PhaseKing.{instructed}
-use Rattle.construction.specs.Shown.{shown}
 use Rattle.construction.specs.Steps.{state_of}
 use Rattle.construction.specs.Runs.{is_in}
 use Rattle.phase_king.specs.Hearing.{Hears, Obeys, AllObey}
 use Rattle.phase_king.specs.Laws.{IsSlot}
 use Rattle.phase_king.proofs.Slots.{agrees}
-use Rattle.plan_laws.specs.PlanMeaning.{plan_meaning}
+use Rattle.counter_core.specs.Meanings.{Meaning}
 use Rattle.counter_core.specs.Overlays.{Layer, SameNumbers}
+use Rattle.layer_laws.specs.Counters.{HasFront}
 use Rattle.layer_laws.specs.Scenes.{Scene, kept_of}
-use Rattle.layer_laws.specs.LayerRuns.{LayerRun, NodeSteps, StepsAs, scene}
-use Rattle.layer_laws.specs.Slots.{slot_length, agreed_in_turn, HasSlots, SlotAgrees}
-use Rattle.layer_laws.proofs.CutRuns.{layer_register}
-use Rattle.layer_laws.proofs.NodesSteps.{node_steps}
+use Rattle.layer_laws.specs.CounterLayers.{LayerRun, NodeSteps, StepsAs, scene}
+use Rattle.layer_laws.specs.CounterSlots.{slot_length, agreed_in_turn, HasSlots, SlotAgrees}
+use Rattle.layer_laws.proofs.CounterCuts.{layer_register}
+use Rattle.layer_laws.proofs.CounterSteps.{node_steps}
 
 -- ---- one of many for each correct place
 
@@ -70,26 +69,27 @@ unfolding ends_with
 at_end end registers results =
     ap (λ b. if b then registers end else results) (le-ltb end end (omega arith))
 
-module _ {Kept : Type 0} (plan : Plan) (layer : Layer Kept)
-    (same : SameNumbers layer (plan_meaning plan)) (period from place : ℕ)
-    (has : HasSlots layer (plan_faults plan) period from place)
-    (faulty : List ℕ) (quorum : 3 * plan_faults plan < plan_nodes plan)
-    (few : places (is_in faulty) (plan_nodes plan) ≤ plan_faults plan)
-    (first : ℕ) (run : List (Scene Kept)) (is : LayerRun plan layer faulty first run)
-    (s : ℕ) (room : s + slot_length (plan_faults plan) < length run)
-    (turns : (x v : ℕ) → x < slot_length (plan_faults plan) → v < plan_nodes plan
+module _ {Kept : Type 0} (counter : Meaning) (is_state : (v : ℕ) → State → Type 0)
+    (front : HasFront counter) (layer : Layer Kept)
+    (same : SameNumbers layer counter) (period from place : ℕ)
+    (has : HasSlots layer counter.faults period from place)
+    (faulty : List ℕ) (quorum : 3 * counter.faults < counter.nodes)
+    (few : places (is_in faulty) counter.nodes ≤ counter.faults)
+    (first : ℕ) (run : List (Scene Kept)) (is : LayerRun counter is_state layer faulty first run)
+    (s : ℕ) (room : s + slot_length counter.faults < length run)
+    (turns : (x v : ℕ) → x < slot_length counter.faults → v < counter.nodes
     → is_in faulty v ≡ false
-    → shown (plan_depth plan) (state_of (scene run (s + x)).states v) % period ≡ from + x)
+    → counter.shows v (state_of (scene run (s + x)).states v) % period ≡ from + x)
   where
     abbrev n : ℕ
-    n = plan_nodes plan
+    n = counter.nodes
 
     abbrev f : ℕ
-    f = plan_faults plan
+    f = counter.faults
 
     -- the register's index in a state
     abbrev i : ℕ
-    i = plan_depth plan + place
+    i = counter.depth + place
 
     abbrev value_of : State → Option ℕ
     value_of state = (register_at i state).a
@@ -97,7 +97,7 @@ module _ {Kept : Type 0} (plan : Plan) (layer : Layer Kept)
     abbrev register : ℕ → ℕ → Reg
     register x v = register_at i (state_of (scene run (s + x)).states v)
 
-    hears : (x v : ℕ) (steps : NodeSteps plan layer faulty first run (s + x) v)
+    hears : (x v : ℕ) (steps : NodeSteps counter is_state layer faulty first run (s + x) v)
         → Hears n (is_in faulty) (register x) (map value_of steps.heard)
     hears x v steps = record {
       size = length-map steps.heard value_of ∙ steps.size;
@@ -108,7 +108,7 @@ module _ {Kept : Type 0} (plan : Plan) (layer : Layer Kept)
     }
 
     obeys_of : (x v : ℕ) → v < n → is_in faulty v ≡ false
-        → (steps : NodeSteps plan layer faulty first run (s + x) v) → (r : Reg)
+        → (steps : NodeSteps counter is_state layer faulty first run (s + x) v) → (r : Reg)
         → r ≡ agreed_in_turn n f i v x steps.heard
         → Obeys n f (λ a. a) (is_in faulty) (register x) (x % 3) (x / 3) (register x v) r
     obeys_of x v lt ok steps r e = record {
@@ -125,7 +125,7 @@ module _ {Kept : Type 0} (plan : Plan) (layer : Layer Kept)
         → Obeys n f (λ a. a) (is_in faulty) (register x) (x % 3) (x / 3) (register x v)
         (register (x + 1) v)
     turn x v lt vlt ok =
-        let steps = node_steps plan layer faulty first run is (s + x) v
+        let steps = node_steps counter is_state layer faulty first run is (s + x) v
         (omega (arith, room, lt)) vlt
         ok in
         let kept : Kept = kept_of layer (scene run (s + x)) v in
@@ -135,11 +135,12 @@ module _ {Kept : Type 0} (plan : Plan) (layer : Layer Kept)
         obeys_of x v vlt ok steps (register (x + 1) v)
         (ap (λ t. register_at i (state_of (scene run t).states v)) e
         ∙ (ap (register_at i) steps.steps.state
-        ∙ (layer_register plan layer place (first + (s + x)) kept v steps.heard
+        ∙ (layer_register counter layer place (first + (s + x)) kept v steps.heard
+        (front.deep v steps.heard vlt)
         ∙
-        (has.turns v x (shown (plan_depth plan) (state_of steps.heard v))
+        (has.turns v x (counter.shows v (state_of steps.heard v))
         (layer.begun (first + (s + x)) kept) steps.heard (omega (arith, vlt, nodes)) lt
-        (ap (λ st. shown (plan_depth plan) st % period) own ∙ turns x v (omega arith) vlt ok)
+        (ap (λ st. counter.shows v st % period) own ∙ turns x v (omega arith) vlt ok)
         ∙ (ap (λ k. agreed_in_turn k f (layer.depth + place) v x steps.heard) same.nodes
         ∙ ap (λ d. agreed_in_turn n f (d + place) v x steps.heard) same.depth)))))
 
@@ -149,14 +150,14 @@ module _ {Kept : Type 0} (plan : Plan) (layer : Layer Kept)
 
     Ends : ℕ → Reg → Type 0
     Ends v r =
-        (steps : NodeSteps plan layer faulty first run (s + last) v)
+        (steps : NodeSteps counter is_state layer faulty first run (s + last) v)
         × (r ≡ agreed_in_turn n f i v last steps.heard)
 
     each_ends : (v : ℕ) → v < n → is_in faulty v ≡ false → (r : Reg) × Ends v r
     unfolding Ends
     each_ends v lt ok =
-        let steps = node_steps plan layer faulty first run is (s + last) v (omega (arith, room)) lt
-        ok in
+        let steps = node_steps counter is_state layer faulty first run is (s + last) v
+        (omega (arith, room)) lt ok in
         (agreed_in_turn n f i v last steps.heard, (steps, refl))
 
     result : ℕ → Reg
@@ -191,7 +192,7 @@ module _ {Kept : Type 0} (plan : Plan) (layer : Layer Kept)
     is_slot : IsSlot n f (is_in faulty) registers
     is_slot x lt = slot_by x lt (cases_lt (x + 1) (slot_length f))
 
-    pub slot_agrees : SlotAgrees plan layer place faulty first run s
+    pub slot_agrees : SlotAgrees counter layer place faulty first run s
     unfolding Ends result
     slot_agrees =
         let a = agrees n f (is_in faulty) quorum few registers is_slot in
@@ -205,7 +206,7 @@ module _ {Kept : Type 0} (plan : Plan) (layer : Layer Kept)
                 own = steps.honest v lt ok;
                 steps =
                     subst
-                    (λ (k : ℕ). StepsAs plan layer k (scene run (s + last)) steps.heard v
+                    (λ (k : ℕ). StepsAs counter layer k (scene run (s + last)) steps.heard v
                     (scene run (s + last + 1)))
                     refl steps.steps;
                 locked =

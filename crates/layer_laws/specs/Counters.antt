@@ -6,12 +6,17 @@ use Rattle.sync_types.specs.States.{State}
 use Rattle.construction.specs.Steps.{state_of}
 use Rattle.construction.specs.Runs.{is_in, configuration, heard_by}
 use Rattle.counter_core.specs.Meanings.{Meaning, cut}
+pub use Rattle.counter_core.specs.Runs.{Bears}
 
--- a faulty set that a counter bears: rising ids of nodes, at most F
-pub record IsBorneBy (counter : Meaning) (faulty : List ℕ) : Type 0 where
-  pub rising : IsStrictlyIncreasing faulty
-  pub ids : All (λ id. id < counter.nodes) faulty
-  pub few : length faulty ≤ counter.faults
+-- Registers behind the counter's own stand apart: a step gives as many as the counter has, and
+-- further ones change neither the step nor what a state shows.
+pub record HasFront (counter : Meaning) : Type 0 where
+  pub deep : (v : ℕ) (heard : List State) → v < counter.nodes
+      → length (counter.next v heard).registers ≡ counter.depth
+  pub next : (v : ℕ) (heard : List State) → v < counter.nodes → length heard ≡ counter.nodes
+      → counter.next v (map (cut counter.depth) heard) ≡ counter.next v heard
+  pub shows : (v : ℕ) (state : State) → v < counter.nodes
+      → counter.shows v (cut counter.depth state) ≡ counter.shows v state
 
 -- a counter, and which states its nodes have
 module _ (counter : Meaning) (is_state : (v : ℕ) → State → Type 0) where
@@ -71,10 +76,6 @@ module _ (counter : Meaning) (is_state : (v : ℕ) → State → Type 0) where
         → counter.shows v state < counter.modulus
     pub next : (v : ℕ) (heard : List State) → v < counter.nodes
         → is_state v (counter.next v heard)
-    pub shows_front : (v : ℕ) (state : State) → v < counter.nodes
-        → counter.shows v (cut counter.depth state) ≡ counter.shows v state
-    pub next_front : (v : ℕ) (heard : List State) → v < counter.nodes
-        → length heard ≡ counter.nodes
-        → counter.next v (map (cut counter.depth) heard) ≡ counter.next v heard
-    pub settles : (faulty : List ℕ) (run : List (List State)) → IsBorneBy counter faulty
+    pub front : HasFront counter
+    pub settles : (faulty : List ℕ) (run : List (List State)) → Bears counter faulty
         → Run faulty run → CountsFrom faulty run counter.bound

@@ -1,14 +1,19 @@
--- The laws of runs with a layer.
+-- The laws of runs of a plan with a layer.
 use Rattle.std.specs.Prelude.{◌≡◌, ℕ, ◌+◌, ◌%◌, ◌<◌, ◌≤◌, List, length}
 use Rattle.construction.specs.Plans.{Plan, plan_nodes, plan_faults, plan_modulus, plan_bound}
-use Rattle.construction.specs.Runs.{Run, IsBorne}
+use Rattle.construction.specs.Runs.{IsState, Run, IsBorne}
 use Rattle.plan_numbers.specs.Premises.{IsAccepted}
 use Rattle.plan_laws.specs.PlanMeaning.{plan_meaning}
 use Rattle.counter_core.specs.Overlays.{Layer, SameNumbers, StandsOver, KeepsRange}
+use Rattle.layer_laws.specs.Counters.{IsSettling}
 use Rattle.layer_laws.specs.Scenes.{Scene}
 use Rattle.layer_laws.specs.LayerRuns.{IsLayerConfiguration, LayerRun, scene, without_layer}
 use Rattle.layer_laws.specs.Played.{Telling, TellsInRange, IsKeptFor, era_from}
 use Rattle.layer_laws.specs.Slots.{slot_length, HasSlots, AllAre, SlotAgrees}
+
+-- The counter of an accepted plan is one that a layer may stand on.
+abbrev pub PlansSettle : Type 0
+PlansSettle = (plan : Plan) → IsAccepted plan → IsSettling (plan_meaning plan) (IsState plan)
 
 -- A run with a layer is a run of the plan, once the layer's registers are cut off and what is kept
 -- is forgotten.

@@ -1,6 +1,10 @@
 pub mod Counters
 pub mod Numbers
 pub mod Scenes
+pub mod CounterLayers
+pub mod CounterPlayed
+pub mod CounterSlots
+pub mod CounterLaws
 pub mod LayerRuns
 pub mod Played
 pub mod Slots

@@ -11,12 +11,14 @@ pub record Numbers : Type 0 where
   pub modulus : ℕ
   pub depth : ℕ
 
--- less than a third of at most 256 nodes may be faulty, and they count by 2 to 2^40
+-- less than a third of at most 256 nodes may be faulty, they count by 2 to 2^40, and a state has at
+-- most 1000 registers
 pub record AreNumbers (numbers : Numbers) : Type 0 where
   pub quorum : 3 * numbers.faults < numbers.nodes
   pub few : numbers.nodes ≤ 256
   pub least : 2 ≤ numbers.modulus
   pub most : numbers.modulus ≤ 2 ^ 40
+  pub shallow : numbers.depth ≤ 1000
 
 -- those of a counter
 abbrev pub numbers_in : Meaning → Numbers

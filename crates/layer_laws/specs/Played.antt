@@ -1,64 +1,36 @@
--- Scenes that are played: all nodes step, the puppets of faulty ones too, and what a faulty node
--- tells follows from the round, the receiver and the configuration.
-use Rattle.std.specs.Prelude.{◌≡◌, ℕ, zero, suc, ◌+◌, ◌<◌, ◌≤◌, ◌⊎◌, nat_lt, if◌then◌else◌, List}
-use Rattle.std.specs.Prelude.{length, map}
-use Rattle.std.specs.List.{range_with_len}
+-- Scenes that are played on a plan: those on its counter.
+use Rattle.std.specs.Prelude.{ℕ, List}
 use Rattle.sync_types.specs.States.{State}
-use Rattle.construction.specs.Plans.{Plan, plan_nodes}
-use Rattle.construction.specs.Runs.{heard_by}
+use Rattle.construction.specs.Plans.{Plan}
+use Rattle.construction.specs.Runs.{IsState}
 use Rattle.plan_laws.specs.PlanMeaning.{plan_meaning}
 use Rattle.counter_core.specs.Overlays.{Layer}
-use Rattle.layer_laws.specs.Scenes.{Scene, kept_of, layer_step, new_state}
-use Rattle.layer_laws.specs.LayerRuns.{IsLayerState, IsLayerConfiguration}
-
--- what node u tells node v in round t, which begins with that configuration
-abbrev pub Telling : Type 0
-Telling = (t u v : ℕ) → List State → State
-
--- something is kept for each of n nodes, or there is nothing to tell apart
-abbrev pub IsKeptFor : {Kept : Type 0} → (n : ℕ) → (kept : List Kept) → Type 0
-IsKeptFor {Kept} n kept = ((x y : Kept) → x ≡ y) ⊎ (n ≤ length kept)
+use Rattle.layer_laws.specs.Scenes.{Scene}
+use Rattle.layer_laws.specs.CounterPlayed as counters
+pub use Rattle.layer_laws.specs.CounterPlayed.{Telling, IsKeptFor}
 
 module _ {Kept : Type 0} (plan : Plan) (layer : Layer Kept) (faulty : List ℕ) (lie : Telling) where
-  -- what each node tells each other in round t; what correct nodes would tell is not heard
   abbrev pub lies_in : (t : ℕ) → List State → List (List State)
-  lies_in t config = map (λ u. map (λ v. lie t u v config) (range_with_len 0 (plan_nodes plan)))
-      (range_with_len 0 (plan_nodes plan))
+  lies_in = counters.lies_in (plan_meaning plan) layer faulty lie
 
-  -- what node v hears in round t
   abbrev pub heard_in : (t : ℕ) → List State → (v : ℕ) → List State
-  heard_in t config v = heard_by (plan_nodes plan) faulty config (lies_in t config) v
+  heard_in = counters.heard_in (plan_meaning plan) layer faulty lie
 
-  -- the state of node v behind round t
   abbrev pub state_after : (t : ℕ) → Scene Kept → (v : ℕ) → State
-  state_after t scene v =
-      new_state (plan_meaning plan) layer t (kept_of layer scene v) v (heard_in t scene.states v)
+  state_after = counters.state_after (plan_meaning plan) layer faulty lie
 
-  -- what is kept at place v behind round t
   abbrev pub kept_after : (t : ℕ) → Scene Kept → (v : ℕ) → Kept
-  kept_after t scene v =
-      if nat_lt v (plan_nodes plan)
-      then (layer_step (plan_meaning plan) layer t
-      (kept_of layer scene v) v (heard_in t scene.states v)).kept
-      else kept_of layer scene v
+  kept_after = counters.kept_after (plan_meaning plan) layer faulty lie
 
-  -- the scene behind round t; as many things are kept as before
   abbrev pub next_scene : (t : ℕ) → Scene Kept → Scene Kept
-  next_scene t scene = record {
-    states = map (state_after t scene) (range_with_len 0 (plan_nodes plan));
-    kept = map (kept_after t scene) (range_with_len 0 (length scene.kept));
-  }
+  next_scene = counters.next_scene (plan_meaning plan) layer faulty lie
 
-  -- the scene so many rounds after one in which round `first` begins
   abbrev pub scene_after : (first : ℕ) → Scene Kept → (rounds : ℕ) → Scene Kept
-  scene_after first scene zero = scene
-  scene_after first scene (suc t) = next_scene (first + t) (scene_after first scene t)
+  scene_after = counters.scene_after (plan_meaning plan) layer faulty lie
 
-  -- an era: that scene, and those after each of so many rounds
   abbrev pub era_from : (first : ℕ) → Scene Kept → (rounds : ℕ) → List (Scene Kept)
-  era_from first scene rounds = map (scene_after first scene) (range_with_len 0 (rounds + 1))
+  era_from = counters.era_from (plan_meaning plan) layer faulty lie
 
   -- what is told is in range, where the configuration is
   abbrev pub TellsInRange : Type 0
-  TellsInRange = (t u v : ℕ) (config : List State) → u < plan_nodes plan → v < plan_nodes plan
-      → IsLayerConfiguration plan layer config → IsLayerState plan layer u (lie t u v config)
+  TellsInRange = counters.TellsInRange (plan_meaning plan) (IsState plan) layer lie

@@ -1,4 +1,4 @@
--- A configuration with a layer above the counter of a plan, and the step of a node with its layer.
+-- A configuration with a layer above a counter, and the step of a node with its layer.
 use Rattle.std.specs.Prelude.{ℕ, List, ◌++◌, slice_index_or}
 use Rattle.sync_types.specs.States.{State}
 use Rattle.construction.specs.Steps.{state_of}

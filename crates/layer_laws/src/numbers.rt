@@ -35,7 +35,7 @@ impl Model for CounterNumbers {
 
 impl CounterNumbers {
     /// Those of a counter of so many nodes, at most 256, of which less than a third may be faulty,
-    /// that counts by 2 to 2^40 and whose states have so many registers.
+    /// that counts by 2 to 2^40 and whose states have so many registers, at most 1000.
     pub fn new(nodes: u32, faults: u32, modulus: u64, depth: usize) -> CounterNumbers
         requires { AreNumbers (record {
           nodes = nodes;
@@ -99,7 +99,7 @@ impl CounterNumbers {
         self.modulus
     }
 
-    /// How many registers a state of the counter has.
+    /// How many registers a state of the counter has, at most 1000.
     pub fn depth(&self) -> usize
         ensures { result ≡ self.now.depth }
     {

@@ -1,5 +1,5 @@
--- What is read of a log is for the plan: numbers within their limits, commands of each node, and a
--- modulus that is a multiple of an entry of each node.
+-- What is read of a log is for the counter: numbers within their limits, commands of each node,
+-- and a modulus that is a multiple of an entry of each node.
 use Rattle.std.proofs.Common.{◌≡◌, ℕ, ◌*◌, ◌<◌, ◌≤◌, ◌%◌, Bool, true, false, List, [], ◌∷◌}
 use Rattle.std.proofs.Common.{◌++◌, length, All, Option, Some, None, Result, Ok, Err, refl, sym}
 use Rattle.std.proofs.Common.{subst, arith}
@@ -15,16 +15,17 @@ use Rattle.texts.specs.Parts.{Next, ends, refuses}
 use Rattle.texts.proofs.Parts.{After, skips_keep, part_keeps}
 use Rattle.sync_types.specs.declared.answers.Rule.{Rule}
 use Rattle.sync_types.specs.declared.answers.Rule.TheVariants.{Form, Limit, Node, Range, Slot}
-use Rattle.construction.specs.Plans.{Plan, plan_nodes, plan_faults, plan_modulus}
+use Rattle.construction.specs.Plans.{Plan}
+use Rattle.layer_laws.specs.Numbers.{Numbers, numbers_of}
 use Rattle.replicated_log.specs.EntryLength.{entry_length}
 use Rattle.replicated_log.specs.LogSaid.{LogSaid}
 use Rattle.replicated_log.specs.declared.log_lines.LogStage.{LogStage}
 use Rattle.replicated_log.specs.declared.log_lines.LogStage.TheVariants.{Unread, Begun, Valued}
 use Rattle.replicated_log.specs.declared.log_lines.LogStage.TheVariants.{Keeping}
-use Rattle.replicated_log.specs.LogPart.{LogSoFar, nothing_read, values_tested}
+use Rattle.replicated_log.specs.LogPart.{LogSoFar, nothing_read_over, values_tested}
 use Rattle.replicated_log.specs.LogPart.{keep_tested, numbers_behind, commands_tested, commands_in}
-use Rattle.replicated_log.specs.LogPart.{goes_at, goes_with, end_step, step_at, log_step, part_of}
-use Rattle.replicated_log.specs.LogPart.{AreInRange, IsFor}
+use Rattle.replicated_log.specs.LogPart.{goes_at, goes_with, end_step, step_at, log_step}
+use Rattle.replicated_log.specs.LogPart.{part_over, part_of, AreInRange, IsForNumbers, IsFor}
 
 abbrev IsValues : ℕ → Type 0
 IsValues values = (2 ≤ values) × (values ≤ 65536)
@@ -32,8 +33,8 @@ IsValues values = (2 ≤ values) × (values ≤ 65536)
 abbrev IsKeep : ℕ → Type 0
 IsKeep keep = (1 ≤ keep) × (keep ≤ 1024)
 
-abbrev IsWhole : Plan → Type 0
-IsWhole plan = plan_modulus plan % (plan_nodes plan * entry_length (plan_faults plan)) ≡ 0
+abbrev IsWhole : Numbers → Type 0
+IsWhole numbers = numbers.modulus % (numbers.nodes * entry_length numbers.faults) ≡ 0
 
 -- the stage is one behind the first line, with numbers in range
 abbrev IsStage : LogStage → Type 0
@@ -98,26 +99,27 @@ AreCommands Begun commands = commands ≡ []
 AreCommands (Valued values) commands = commands ≡ []
 AreCommands (Keeping values keep) commands = AreInRange values commands
 
--- behind its first line the part is one for the plan
-abbrev IsBegun : Plan → LogStage → Type 0
-IsBegun plan Unread = ⊤
-IsBegun plan Begun = IsWhole plan
-IsBegun plan (Valued values) = IsWhole plan
-IsBegun plan (Keeping values keep) = IsWhole plan
+-- behind its first line the part is one for the counter
+abbrev IsBegun : Numbers → LogStage → Type 0
+IsBegun numbers Unread = ⊤
+IsBegun numbers Begun = IsWhole numbers
+IsBegun numbers (Valued values) = IsWhole numbers
+IsBegun numbers (Keeping values keep) = IsWhole numbers
 
-record FitSoFar (plan : Plan) (s : LogSoFar) : Type 0 where
-  nodes : s.nodes ≡ plan_nodes plan
-  whole : s.whole ≡ true → IsWhole plan
-  begun : IsBegun plan s.stage
+record FitSoFar (numbers : Numbers) (s : LogSoFar) : Type 0 where
+  nodes : s.nodes ≡ numbers.nodes
+  whole : s.whole ≡ true → IsWhole numbers
+  begun : IsBegun numbers s.stage
   stage : IsStage s.stage
   few : length s.commands ≤ s.nodes
   commands : AreCommands s.stage s.commands
 
-module _ (plan : Plan) where
+module _ (numbers : Numbers) where
   abbrev Goes : Next LogSoFar LogSaid Rule → Type 0
-  Goes next = After (FitSoFar plan) (IsFor plan) next
+  Goes next = After (FitSoFar numbers) (IsForNumbers numbers) next
 
-  headed : (s : LogSoFar) (is whole : Bool) → s.whole ≡ whole → s.stage ≡ Unread → FitSoFar plan s
+  headed : (s : LogSoFar) (is whole : Bool) → s.whole ≡ whole → s.stage ≡ Unread → FitSoFar numbers
+      s
       → Goes (goes_at s (if is then (if whole then Ok Begun else Err Slot) else Err Form))
   headed s false whole e at fit = tt
   headed s true false e at fit = tt
@@ -130,8 +132,8 @@ module _ (plan : Plan) where
     commands = subst (λ stage. AreCommands stage s.commands) at fit.commands;
   }
 
-  valued : (s : LogSoFar) (numbers : Option (List ℕ)) → s.stage ≡ Begun → FitSoFar plan s
-      → Goes (goes_at s (values_tested numbers))
+  valued : (s : LogSoFar) (given : Option (List ℕ)) → s.stage ≡ Begun → FitSoFar numbers s
+      → Goes (goes_at s (values_tested given))
   valued s None at fit = tt
   valued s (Some []) at fit = tt
   valued s (Some (v ∷ w ∷ more)) at fit = tt
@@ -143,14 +145,14 @@ module _ (plan : Plan) where
     by false false e e' = record {
       nodes = fit.nodes;
       whole = fit.whole;
-      begun = subst (IsBegun plan) at fit.begun;
+      begun = subst (IsBegun numbers) at fit.begun;
       stage = (ltb-false v 2 e', ltb-false 65536 v e);
       few = fit.few;
       commands = subst (λ stage. AreCommands stage s.commands) at fit.commands;
     }
 
-  kept : (s : LogSoFar) (values : ℕ) (numbers : Option (List ℕ)) → s.stage ≡ Valued values
-      → FitSoFar plan s → Goes (goes_at s (keep_tested values numbers))
+  kept : (s : LogSoFar) (values : ℕ) (given : Option (List ℕ)) → s.stage ≡ Valued values
+      → FitSoFar numbers s → Goes (goes_at s (keep_tested values given))
   kept s values None at fit = tt
   kept s values (Some []) at fit = tt
   kept s values (Some (k ∷ l ∷ more)) at fit = tt
@@ -166,14 +168,14 @@ module _ (plan : Plan) where
     by false false e e' = record {
       nodes = fit.nodes;
       whole = fit.whole;
-      begun = subst (IsBegun plan) at fit.begun;
+      begun = subst (IsBegun numbers) at fit.begun;
       stage = (subst IsStage at fit.stage, (ltb-false k 1 e', ltb-false 1024 k e));
       few = fit.few;
       commands = subst (AreInRange values) (sym none) (All-nil (IsOwn values));
     }
 
   with_own : (s : LogSoFar) (values keep : ℕ) (read : Result (List ℕ) Rule)
-      → s.stage ≡ Keeping values keep → FitSoFar plan s
+      → s.stage ≡ Keeping values keep → FitSoFar numbers s
       → IfOk read (IsOneMore values s.nodes (length s.commands)) → Goes (goes_with s read)
   with_own s values keep (Err rule) at fit one = tt
   with_own s values keep (Ok own) at fit one = record {
@@ -188,26 +190,26 @@ module _ (plan : Plan) where
   }
 
   said : (s : LogSoFar) (values keep : ℕ) (left : Bool) → nat_lt (length s.commands) s.nodes ≡ left
-      → s.stage ≡ Keeping values keep → FitSoFar plan s
+      → s.stage ≡ Keeping values keep → FitSoFar numbers s
       → Goes (if left then refuses Form
       else ends (record { values = values; keep = keep; commands = s.commands }))
   said s values keep true e at fit = tt
   said s values keep false e at fit =
-      let numbers = subst IsStage at fit.stage in
+      let held = subst IsStage at fit.stage in
       let most = fit.few in
       let nodes = fit.nodes in
       record {
-        whole = subst (IsBegun plan) at fit.begun;
-        two = numbers.0.0;
-        few = numbers.0.1;
-        some = numbers.1.0;
-        short = numbers.1.1;
+        whole = subst (IsBegun numbers) at fit.begun;
+        two = held.0.0;
+        few = held.0.1;
+        some = held.1.0;
+        short = held.1.1;
         nodes = omega (arith, ltb-false (length s.commands) s.nodes e, most, nodes);
         range = subst (λ stage. AreCommands stage s.commands) at fit.commands;
       }
 
   ended : (s : LogSoFar) (values keep : ℕ) (is : Bool) (line : List ℕ)
-      → s.stage ≡ Keeping values keep → FitSoFar plan s
+      → s.stage ≡ Keeping values keep → FitSoFar numbers s
       → Goes (if is then end_step values keep s
       else goes_with s (commands_in values s.nodes (length s.commands) line))
   ended s values keep true line at fit =
@@ -216,7 +218,7 @@ module _ (plan : Plan) where
       with_own s values keep (commands_in values s.nodes (length s.commands) line) at fit
       (read_fits values s.nodes (length s.commands) line)
 
-  stepped : (stage : LogStage) (s : LogSoFar) (line : List ℕ) → s.stage ≡ stage → FitSoFar plan s
+  stepped : (stage : LogStage) (s : LogSoFar) (line : List ℕ) → s.stage ≡ stage → FitSoFar numbers s
       → Goes (step_at stage s line)
   stepped Unread s line at fit = headed s (bytes_eq line (codes "log 1")) s.whole refl at fit
   stepped Begun s line at fit = valued s (numbers_after (codes "values") 1 (words_of line)) at fit
@@ -225,22 +227,27 @@ module _ (plan : Plan) where
   stepped (Keeping values keep) s line at fit =
       ended s values keep (bytes_eq line (codes "end")) line at fit
 
-  begins : FitSoFar plan (nothing_read plan)
+  begins : FitSoFar numbers (nothing_read_over numbers)
   begins = record {
     nodes = refl;
     whole = λ e.
-        eqb-true (plan_modulus plan % (plan_nodes plan * entry_length (plan_faults plan))) 0 e;
+        eqb-true (numbers.modulus % (numbers.nodes * entry_length numbers.faults)) 0 e;
     begun = tt;
     stage = tt;
     few = omega arith;
     commands = refl;
   }
 
--- what is read is for the plan
+-- what is read is for the counter
+pub log_fits_over : (numbers : Numbers) (number : ℕ) (lines : List (List ℕ))
+    → IfOk (part_over numbers number lines) (λ found. IsForNumbers numbers found.value)
+log_fits_over numbers number lines =
+    part_keeps _ Form (FitSoFar numbers) (IsForNumbers numbers)
+    (λ s line fit. skips_keep log_step Form (FitSoFar numbers) (IsForNumbers numbers) s line fit
+    (stepped numbers s.stage s line refl fit))
+    lines (nothing_read_over numbers) 0 number (begins numbers)
+
+-- so it is for that of a plan
 pub log_fits : (plan : Plan) (number : ℕ) (lines : List (List ℕ))
     → IfOk (part_of plan number lines) (λ found. IsFor plan found.value)
-log_fits plan number lines =
-    part_keeps _ Form (FitSoFar plan) (IsFor plan)
-    (λ s line fit. skips_keep log_step Form (FitSoFar plan) (IsFor plan) s line fit
-    (stepped plan s.stage s line refl fit))
-    lines (nothing_read plan) 0 number (begins plan)
+log_fits plan = log_fits_over (numbers_of plan)

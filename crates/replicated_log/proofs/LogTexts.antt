@@ -18,9 +18,8 @@ use Rattle.texts.proofs.Printed.{IsPlain, ArePlain, spaced_length, counts, words
 use Rattle.texts.proofs.Printed.{goes_behind, ends_there}
 use Rattle.sync_types.specs.declared.answers.Rule.{Rule}
 use Rattle.sync_types.specs.declared.answers.Rule.TheVariants.{Form, Slot}
-use Rattle.construction.specs.Plans.{Plan, plan_nodes, plan_faults, plan_modulus}
-use Rattle.plan_numbers.specs.Premises.{IsAccepted}
-use Rattle.plan_laws.proofs.PlanCounter.{plan_sizes}
+use Rattle.layer_laws.specs.Numbers.{Numbers, AreNumbers, numbers_of as plan_numbers}
+use Rattle.layer_laws.proofs.PlanCounters.{plan_numbers_are}
 use Rattle.consensus_layer.proofs.AgreeTexts.{small_plain, small_short, small_read, all_plain}
 use Rattle.consensus_layer.proofs.AgreeTexts.{all_short, all_read, values_plain, one_plain}
 use Rattle.consensus_layer.proofs.AgreeTexts.{end_plain, text_more}
@@ -29,11 +28,11 @@ use Rattle.replicated_log.specs.declared.log_lines.LogStage.TheVariants.{Unread,
 use Rattle.replicated_log.specs.declared.log_lines.LogStage.TheVariants.{Keeping}
 use Rattle.replicated_log.specs.EntryLength.{entry_length}
 use Rattle.replicated_log.specs.LogSaid.{LogSaid}
-use Rattle.replicated_log.specs.LogPart.{LogSoFar, nothing_read, values_tested, keep_tested}
+use Rattle.replicated_log.specs.LogPart.{LogSoFar, nothing_read_over, values_tested, keep_tested}
 use Rattle.replicated_log.specs.LogPart.{numbers_behind, commands_tested, commands_in, goes_at}
-use Rattle.replicated_log.specs.LogPart.{goes_with, log_step, IsFor}
+use Rattle.replicated_log.specs.LogPart.{goes_with, log_step, IsForNumbers}
 use Rattle.replicated_log.specs.LogTexts.{values_line, keep_line, commands_line, commands_lines}
-use Rattle.replicated_log.specs.LogTexts.{log_text, LogTextIsRead}
+use Rattle.replicated_log.specs.LogTexts.{log_text, LogTextIsReadOver, LogTextIsRead}
 
 log_plain : IsPlain (codes "log")
 log_plain = record { some = omega arith; above = refl }
@@ -57,15 +56,15 @@ commands_pass values v [] some few range = absurd (omega arith)
 commands_pass values v (c ∷ cs) some few range =
     rw (le-ltb 16 (length (c ∷ cs)) few, eq-eqb v v refl, range) refl
 
-module _ (plan : Plan) (accepted : IsAccepted plan) (said : LogSaid) (for : IsFor plan said)
-    (short : All (λ own. length own ≤ 16) said.commands) where
+module _ (numbers : Numbers) (fine : AreNumbers numbers) (said : LogSaid)
+    (for : IsForNumbers numbers said) (short : All (λ own. length own ≤ 16) said.commands) where
   abbrev whole : Bool
-  whole = plan_modulus plan % (plan_nodes plan * entry_length (plan_faults plan)) == 0
+  whole = numbers.modulus % (numbers.nodes * entry_length numbers.faults) == 0
 
   -- a part that was read so far
   abbrev so_far : LogStage → List (List ℕ) → LogSoFar
   so_far stage commands = record {
-    nodes = plan_nodes plan;
+    nodes = numbers.nodes;
     whole = whole;
     stage = stage;
     commands = commands;
@@ -149,11 +148,11 @@ module _ (plan : Plan) (accepted : IsAccepted plan) (said : LogSaid) (for : IsFo
         All-weaker (λ n. n < said.values) (λ n. n ≤ 65536) (λ n lt. omega (arith, most, lt)) own
         in_range.1
 
-    v_below : v < plan_nodes plan
+    v_below : v < numbers.nodes
     v_below = let nodes = for.nodes in omega (arith, nodes, long)
 
     v_small : v ≤ 65536
-    v_small = let most = (plan_sizes plan accepted).most in omega (arith, most, v_below)
+    v_small = let most = fine.few in omega (arith, most, v_below)
 
     words : ArePlain (codes "commands" ∷ decimal v ∷ map decimal own)
     words = (commands_plain, (small_plain v v_small, all_plain own small))
@@ -172,11 +171,11 @@ module _ (plan : Plan) (accepted : IsAccepted plan) (said : LogSaid) (for : IsFo
         (All-weaker (λ a. a < said.values) (λ a. nat_lt a said.values ≡ true)
         (λ a lt. lt-ltb a said.values lt) own in_range.1)
 
-    tested : commands_in said.values (plan_nodes plan) v (commands_line v own) ≡ Ok own
+    tested : commands_in said.values (numbers.nodes) v (commands_line v own) ≡ Ok own
     tested =
         ap (λ (b : Bool). if b then commands_tested said.values v
         (numbers_behind (codes "commands") (words_of (commands_line v own))) else Err Form)
-        (lt-ltb v (plan_nodes plan) v_below)
+        (lt-ltb v (numbers.nodes) v_below)
         ∙ ap (λ (ws : List (List ℕ)). commands_tested said.values v
         (numbers_behind (codes "commands") ws))
         (words_joined (codes "commands") (decimal v ∷ map decimal own) words)
@@ -200,7 +199,7 @@ module _ (plan : Plan) (accepted : IsAccepted plan) (said : LogSaid) (for : IsFo
   end_is =
       let nodes = for.nodes in
       ap (λ (b : Bool). if b then refuses Form else ends said)
-      (le-ltb (length said.commands) (plan_nodes plan) (omega (arith, nodes)))
+      (le-ltb (length said.commands) (numbers.nodes) (omega (arith, nodes)))
 
   end_read : (taken number : ℕ) (rest : List ℕ)
       → read_on (keeping said.commands) taken number (text_of (codes "end" ∷ []) ++ rest)
@@ -240,10 +239,10 @@ module _ (plan : Plan) (accepted : IsAccepted plan) (said : LogSaid) (for : IsFo
 
   -- ---- all lines
 
-  head_is : log_step (nothing_read plan) (codes "log 1") ≡ goes (so_far Begun [])
+  head_is : log_step (nothing_read_over numbers) (codes "log 1") ≡ goes (so_far Begun [])
   head_is =
       ap (λ (b : Bool). goes_at (so_far Unread []) (if b then Ok Begun else Err Slot))
-      (eq-eqb (plan_modulus plan % (plan_nodes plan * entry_length (plan_faults plan))) 0 for.whole)
+      (eq-eqb (numbers.modulus % (numbers.nodes * entry_length numbers.faults)) 0 for.whole)
 
   abbrev fourth : List ℕ → List ℕ
   fourth rest = text_of (commands_lines 0 said.commands ++ codes "end" ∷ []) ++ rest
@@ -263,16 +262,16 @@ module _ (plan : Plan) (accepted : IsAccepted plan) (said : LogSaid) (for : IsFo
       ∙ ap (λ text. values_line said ++ 10 ∷ text) (text_more (keep_line said) last rest))
 
   pub is_read : (number : ℕ) (rest : List ℕ)
-      → read_on (nothing_read plan) 0 number (log_text said ++ rest)
+      → read_on (nothing_read_over numbers) 0 number (log_text said ++ rest)
       ≡ Ok (record {
         value = said;
         taken = 3 + (length said.commands + 1);
         behind = lines_of rest;
       })
   is_read number rest =
-      ap (read_on (nothing_read plan) 0 number) (text_is rest)
+      ap (read_on (nothing_read_over numbers) 0 number) (text_is rest)
       ∙ goes_behind log_step Form (codes "log") (codes "1" ∷ []) (second rest)
-      (log_plain, (one_plain, tt)) (omega arith) refl (nothing_read plan) 0 number
+      (log_plain, (one_plain, tt)) (omega arith) refl (nothing_read_over numbers) 0 number
       (so_far Begun []) head_is
       ∙ goes_behind log_step Form (codes "values") (decimal said.values ∷ []) (third rest)
       values_words (omega (arith, small_short said.values for.few))
@@ -284,6 +283,9 @@ module _ (plan : Plan) (accepted : IsAccepted plan) (said : LogSaid) (for : IsFo
       (number + 1 + 1) (keeping []) keep_step
       ∙ lines_read [] said.commands 3 (number + 1 + 1 + 1) rest refl
 
+pub log_text_is_read_over : LogTextIsReadOver
+log_text_is_read_over = is_read
+
 pub log_text_is_read : LogTextIsRead
-log_text_is_read plan accepted said for short number rest =
-    is_read plan accepted said for short number rest
+log_text_is_read plan accepted =
+    log_text_is_read_over (plan_numbers plan) (plan_numbers_are plan accepted)

@@ -1,20 +1,18 @@
 -- Layers that keep a log: what a node commands may hang on what it keeps, and on its output.
-use Rattle.std.proofs.Common.{◌≡◌, ℕ, ◌+◌, ◌-◌, ◌%◌, ◌<◌, Bool, List, [], ◌∷◌, take, get_or, sym}
-use Rattle.std.proofs.Common.{unwrap_or, ap, ◌∙◌, arith}
+use Rattle.std.proofs.Common.{◌≡◌, ℕ, ◌+◌, ◌-◌, ◌%◌, ◌<◌, Bool, List, [], ◌∷◌, length, take, get_or}
+use Rattle.std.proofs.Common.{unwrap_or, sym, ap, ◌∙◌, arith}
 use Rattle.std.specs.Prelude.{if◌then◌else◌}
 use Rattle.std.proofs.Math.Nat.{add-zero}
 use Rattle.std.proofs.lemmas.Bool.{ne_eqb, eq-eqb}
 use Rattle.sync_types.specs.declared.states.Reg.{Reg}
 use Rattle.sync_types.specs.States.{State, register_at, zero_register}
-use Rattle.construction.specs.Plans.{Plan, plan_nodes, plan_faults, plan_modulus, plan_depth}
-use Rattle.construction.specs.Shown.{shown}
 use Rattle.construction.specs.Steps.{state_of}
-use Rattle.plan_laws.specs.PlanMeaning.{plan_meaning}
+use Rattle.counter_core.specs.Meanings.{Meaning}
 use Rattle.counter_core.specs.Overlays.{Layer, SameNumbers}
 use Rattle.layer_laws.specs.Scenes.{Scene, kept_of}
-use Rattle.layer_laws.specs.LayerRuns.{StepsAs}
+use Rattle.layer_laws.specs.CounterLayers.{StepsAs}
 use Rattle.layer_laws.specs.Slots.{slot_length, agreed_in_turn, HasSlots}
-use Rattle.layer_laws.proofs.CutRuns.{layer_register}
+use Rattle.layer_laws.proofs.CounterCuts.{layer_register}
 use Rattle.consensus_layer.specs.Agreeing.{loaded}
 use Rattle.replicated_log.specs.declared.entries.Entry.{Entry}
 use Rattle.replicated_log.specs.EntryLength.{entry_length, owner_at}
@@ -73,35 +71,36 @@ puts_entry f keep output agreement log rest =
 -- The layer's registers are those of agreement and of commands, and of what a node keeps its log is
 -- a part. What is commanded in the round before configuration t is what is said, where the next
 -- output is that of a slot.
-pub record IsLogging {Kept : Type 0} (plan : Plan) (layer : Layer Kept) (keep : ℕ)
+pub record IsLogging {Kept : Type 0} (counter : Meaning) (layer : Layer Kept) (keep : ℕ)
     (logs : Kept → List Entry) (says : (t v slot : ℕ) → ℕ) (first : ℕ) : Type 0 where
-  pub same : SameNumbers layer (plan_meaning plan)
+  pub same : SameNumbers layer counter
   pub extra : layer.extra ≡ 2
   pub command : (v : ℕ) → Kept → (output : ℕ) → ℕ
   pub begun : (at : ℕ) (kept : Kept) → logs (layer.begun at kept) ≡ logs kept
   pub registers : (v output : ℕ) (kept : Kept) (heard : List State)
       → (layer.next v kept output heard).registers
-      ≡ agreement_after (plan_nodes plan) (plan_faults plan) (plan_depth plan) v output heard
+      ≡ agreement_after counter.nodes counter.faults counter.depth v output heard
       ∷ loaded (command v kept output) ∷ []
   pub kept : (v output : ℕ) (kept : Kept) (heard : List State)
       → logs (layer.next v kept output heard).kept
-      ≡ log_after (plan_faults plan) keep output
-      (agreement_after (plan_nodes plan) (plan_faults plan) (plan_depth plan) v output heard)
+      ≡ log_after counter.faults keep output
+      (agreement_after counter.nodes counter.faults counter.depth v output heard)
       (logs kept)
-  pub meant : (t v output slot : ℕ) (kept : Kept) → (output + 1) % plan_modulus plan ≡ slot
+  pub meant : (t v output slot : ℕ) (kept : Kept) → (output + 1) % counter.modulus ≡ slot
       → command v (layer.begun (first + (t - 1)) kept) output ≡ says t v slot
 
-module _ {Kept : Type 0} (plan : Plan) (layer : Layer Kept) (keep : ℕ) (logs : Kept → List Entry)
+module _ {Kept : Type 0} (counter : Meaning) (layer : Layer Kept) (keep : ℕ)
+    (logs : Kept → List Entry)
     (says : (t v slot : ℕ) → ℕ) (first : ℕ)
-    (logging : IsLogging plan layer keep logs says first) where
+    (logging : IsLogging counter layer keep logs says first) where
   abbrev n : ℕ
-  n = plan_nodes plan
+  n = counter.nodes
 
   abbrev f : ℕ
-  f = plan_faults plan
+  f = counter.faults
 
   abbrev d : ℕ
-  d = plan_depth plan
+  d = counter.depth
 
   pub has_slots : HasSlots layer f (entry_length f) 1 0
   has_slots = record {
@@ -117,9 +116,9 @@ module _ {Kept : Type 0} (plan : Plan) (layer : Layer Kept) (keep : ℕ) (logs :
 
   -- what a node has after its step
   module _ (at v : ℕ) (old new : Scene Kept) (heard : List State)
-      (steps : StepsAs plan layer at old heard v new) where
+      (steps : StepsAs counter layer at old heard v new) where
     abbrev output : ℕ
-    output = shown d (state_of heard v)
+    output = counter.shows v (state_of heard v)
 
     abbrev begun : Kept
     begun = layer.begun at (kept_of layer old v)
@@ -133,17 +132,19 @@ module _ {Kept : Type 0} (plan : Plan) (layer : Layer Kept) (keep : ℕ) (logs :
         ∙ ap (log_after f keep output (agreement_after n f d v output heard))
         (logging.begun at (kept_of layer old v))
 
-    pub agreement_is : register_at d (state_of new.states v)
+    pub agreement_is : length (counter.next v heard).registers ≡ d
+        → register_at d (state_of new.states v)
         ≡ agreement_after n f d v output heard
-    agreement_is =
+    agreement_is deep =
         ap (λ i. register_at i (state_of new.states v)) (sym (add-zero d))
         ∙ ap (register_at (d + 0)) steps.state
-        ∙ layer_register plan layer 0 at (kept_of layer old v) v heard
+        ∙ layer_register counter layer 0 at (kept_of layer old v) v heard deep
         ∙ ap (λ rs. get_or rs 0 zero_register) (logging.registers v output begun heard)
 
-    pub command_is : register_at (d + 1) (state_of new.states v)
+    pub command_is : length (counter.next v heard).registers ≡ d
+        → register_at (d + 1) (state_of new.states v)
         ≡ loaded (logging.command v begun output)
-    command_is =
+    command_is deep =
         ap (register_at (d + 1)) steps.state
-        ∙ layer_register plan layer 1 at (kept_of layer old v) v heard
+        ∙ layer_register counter layer 1 at (kept_of layer old v) v heard deep
         ∙ ap (λ rs. get_or rs 1 zero_register) (logging.registers v output begun heard)

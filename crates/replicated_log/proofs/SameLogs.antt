@@ -8,24 +8,26 @@ use Rattle.std.proofs.Math.Nat.{zero-div}
 use Rattle.std.proofs.lemmas.Nat.Gcd.{dvd_of_mod-eq-zero, mod-eq-zero_of_dvd, dvd_trans}
 use Rattle.std.proofs.lemmas.Bool.{cases_eq}
 use Rattle.std.proofs.lemmas.List.{length-map, take-take}
-use Rattle.construction.specs.Plans.{Plan, plan_nodes, plan_faults, plan_modulus, plan_bound}
-use Rattle.construction.specs.Plans.{plan_depth}
-use Rattle.construction.specs.Shown.{shown}
+use Rattle.sync_types.specs.States.{State}
 use Rattle.construction.specs.Steps.{state_of}
-use Rattle.construction.specs.Runs.{is_in, IsBorne, Counts}
-use Rattle.plan_numbers.specs.Premises.{IsAccepted}
-use Rattle.counter_core.specs.Meanings.{cut}
+use Rattle.construction.specs.Runs.{is_in, IsState}
+use Rattle.plan_laws.specs.PlanMeaning.{plan_meaning}
+use Rattle.counter_core.specs.Meanings.{Meaning, cut}
 use Rattle.counter_core.specs.Overlays.{Layer}
+use Rattle.layer_laws.specs.Counters.{Bears, HasFront, CountsFrom, IsSettling}
+use Rattle.layer_laws.specs.Numbers.{numbers_in}
 use Rattle.layer_laws.specs.Scenes.{Scene, kept_of}
-use Rattle.layer_laws.specs.LayerRuns.{LayerRun, scene, without_layer}
-use Rattle.layer_laws.specs.Slots.{slot_length, AllAre}
-use Rattle.layer_laws.proofs.NodesSteps.{node_steps, common_rest, shown_at}
-use Rattle.layer_laws.proofs.PlanSlots.{quorum_of, few_of, counts_of}
+use Rattle.layer_laws.specs.CounterLayers.{LayerRun, scene, without_layer}
+use Rattle.layer_laws.specs.CounterSlots.{slot_length, AllAre}
+use Rattle.layer_laws.proofs.Settling.{few_of}
+use Rattle.layer_laws.proofs.CounterSteps.{node_steps, common_rest, shown_at}
+use Rattle.layer_laws.proofs.CounterSlots.{counts_of}
+use Rattle.layer_laws.proofs.PlanCounters.{borne_by_counter, plans_settle}
 use Rattle.replicated_log.specs.declared.entries.Entry.{Entry}
 use Rattle.replicated_log.specs.EntryLength.{entry_length}
-use Rattle.replicated_log.specs.Logs.{agreement_after, log_layer}
-use Rattle.replicated_log.specs.PutEntries.{Puts, HasEntries, SameSince, LogsAreOne}
-use Rattle.replicated_log.specs.PutEntries.{commands_in_turn}
+use Rattle.replicated_log.specs.Logs.{agreement_after, log_layer_over}
+use Rattle.replicated_log.specs.PutEntries.{PutsOver, HasEntriesOver, SameSinceOver}
+use Rattle.replicated_log.specs.PutEntries.{commands_in_turn_over, LogsAreOneOver, LogsAreOne}
 use Rattle.replicated_log.proofs.Logging.{IsLogging, keeps_log, log_is}
 use Rattle.replicated_log.proofs.SlotEntries.{puts_one, takes_turns}
 
@@ -53,43 +55,48 @@ none_ends x e short other =
     let parts = div-add-mod x e in
     div-eq_of_lt-le e (omega (arith, parts, short, other)) (omega (arith, parts, short, other))
 
-module _ {Kept : Type 0} (plan : Plan) (accepted : IsAccepted plan) (multiple : HasEntries plan)
+module _ {Kept : Type 0} (counter : Meaning) (is_state : (v : ℕ) → State → Type 0)
+    (settling : IsSettling counter is_state) (multiple : HasEntriesOver counter)
     (layer : Layer Kept) (keep : ℕ) (logs : Kept → List Entry) (says : (t v slot : ℕ) → ℕ)
-    (first : ℕ) (logging : IsLogging plan layer keep logs says first) (faulty : List ℕ)
-    (borne : IsBorne plan faulty) (run : List (Scene Kept))
-    (is : LayerRun plan layer faulty first run) (t : ℕ) (lo : plan_bound plan ≤ t)
+    (first : ℕ) (logging : IsLogging counter layer keep logs says first) (faulty : List ℕ)
+    (borne : Bears counter faulty) (run : List (Scene Kept))
+    (is : LayerRun counter is_state layer faulty first run) (t : ℕ) (lo : counter.bound ≤ t)
     (inside : t < length run)
-    (begins : AllAre plan faulty (scene run t).states (entry_length (plan_faults plan)) 0) where
+    (begins : AllAre counter faulty (scene run t).states (entry_length counter.faults) 0) where
   abbrev e : ℕ
-  e = entry_length (plan_faults plan)
+  e = entry_length counter.faults
 
   abbrev log : Scene Kept → (v : ℕ) → List Entry
   log s v = logs (kept_of layer s v)
 
   abbrev Same : (x : ℕ) → Type 0
-  Same x = SameSince plan keep log says faulty run t x
+  Same x = SameSinceOver counter keep log says faulty run t x
 
-  abbrev counts : Counts plan faulty (without_layer plan run)
-  counts = counts_of plan layer accepted faulty borne first run is
+  front : HasFront counter
+  front = settling.front
 
-  whole : plan_modulus plan % e ≡ 0
+  abbrev counts : CountsFrom counter is_state faulty (without_layer counter run) counter.bound
+  counts = counts_of counter is_state layer settling faulty borne first run is
+
+  whole : counter.modulus % e ≡ 0
   whole = mod-eq-zero_of_dvd e
-      (dvd_trans e (dvd_of_mod-eq-zero e (mul-mod_left (plan_nodes plan) e))
-      (dvd_of_mod-eq-zero (plan_nodes plan * e) multiple))
+      (dvd_trans e (dvd_of_mod-eq-zero e (mul-mod_left counter.nodes e))
+      (dvd_of_mod-eq-zero (counter.nodes * e) multiple))
 
   -- the remainder of each later output
   rest : (x : ℕ) → t + x < length run → counts.output (t + x) % e ≡ x % e
   rest zero lt =
-      let few = few_of plan faulty borne in
-      let quorum = quorum_of plan accepted in
+      let few = few_of counter faulty borne in
+      let quorum = settling.quorum in
       ap (λ y. counts.output y % e) (add-zero t)
-      ∙ (common_rest plan layer faulty first run is counts e t 0 (omega arith) lo inside begins
+      ∙ (common_rest counter is_state layer faulty first run is front counts e t 0
+      (omega (arith, quorum, few)) lo inside begins
       ∙ sym (mod-eq_of_lt (omega arith)))
   rest (suc x) lt =
       let s : t + suc x ≡ t + x + 1 = omega arith in
       let next : x + 1 ≡ suc x = omega arith in
-      let long : length (without_layer plan run) ≡ length run =
-      length-map run (λ (s : Scene Kept). map (cut (plan_depth plan)) s.states) in
+      let long : length (without_layer counter run) ≡ length run =
+      length-map run (λ (s : Scene Kept). map (cut counter.depth) s.states) in
       ap (λ y. counts.output y % e) s
       ∙ (ap (λ y. y % e) (counts.grows (t + x) (omega arith) (omega (arith, lt, long)))
       ∙ (mod-mod_of_dvd e (counts.output (t + x) + 1) (dvd_of_mod-eq-zero e whole)
@@ -97,17 +104,18 @@ module _ {Kept : Type 0} (plan : Plan) (accepted : IsAccepted plan) (multiple : 
       ∙ (ap (λ y. (y + 1) % e) (rest x (omega arith))
       ∙ (mod-add-mod x e 1 ∙ ap (λ y. y % e) next)))))
 
-  node_rest : (x v : ℕ) → t + x < length run → v < plan_nodes plan → is_in faulty v ≡ false
-      → shown (plan_depth plan) (state_of (scene run (t + x)).states v) % e ≡ x % e
+  node_rest : (x v : ℕ) → t + x < length run → v < counter.nodes → is_in faulty v ≡ false
+      → counter.shows v (state_of (scene run (t + x)).states v) % e ≡ x % e
   node_rest x v lt vlt ok =
       ap (λ y. y % e)
-      (shown_at plan layer faulty first run is counts (t + x) v (omega arith) lt vlt ok)
+      (shown_at counter is_state layer faulty first run is front counts (t + x) v (omega arith) lt
+      vlt ok)
       ∙ rest x lt
 
   -- where a slot ends in round t + x, it puts one entry more
   more : (x : ℕ) → t + suc x < length run → x % e + 1 ≡ e → Same x → Same (suc x)
   more x lt end before =
-      let q : ℕ = slot_length (plan_faults plan) in
+      let q : ℕ = slot_length counter.faults in
       let start : ℕ = t + x / e * e in
       let parts = div-add-mod x e in
       let here : start + q ≡ t + x = omega (arith, parts, end) in
@@ -115,14 +123,15 @@ module _ {Kept : Type 0} (plan : Plan) (accepted : IsAccepted plan) (multiple : 
       let number : t + length before.put * e ≡ start = ap (λ m. t + m * e) before.many in
       let begun : (x / e * e) % e ≡ 0 = mul-mod_left (x / e) e in
       let one =
-      puts_one plan accepted multiple layer keep logs says first logging faulty borne run is start
+      puts_one counter is_state settling multiple layer keep logs says first logging faulty borne
+      run is start
       (omega (arith, lo)) (omega (arith, there, lt))
       (λ v vlt ok. node_rest (x / e * e) v (omega (arith, here, lt)) vlt ok ∙ begun) in
       record {
         put = one.entry ∷ before.put;
         many = ap suc before.many ∙ sym (one_ends x e end);
         entries = (
-          subst (λ s. Puts plan keep log says faulty run s one.entry) (sym number) one.is,
+          subst (λ s. PutsOver counter keep log says faulty run s one.entry) (sym number) one.is,
           before.entries,
         );
         each = λ v vlt ok.
@@ -146,17 +155,18 @@ module _ {Kept : Type 0} (plan : Plan) (accepted : IsAccepted plan) (multiple : 
         entries = before.entries;
         each = λ v vlt ok.
             let steps =
-            node_steps plan layer faulty first run is (t + x) v (omega arith) vlt ok in
-            let o : ℕ = shown (plan_depth plan) (state_of steps.heard v) in
+            node_steps counter is_state layer faulty first run is (t + x) v (omega arith) vlt ok in
+            let o : ℕ = counter.shows v (state_of steps.heard v) in
             let here : o % e ≡ x % e =
-            ap (λ st. shown (plan_depth plan) st % e) (steps.honest v vlt ok)
+            ap (λ st. counter.shows v st % e) (steps.honest v vlt ok)
             ∙ node_rest x v (omega arith) vlt ok in
             ap (λ y. take keep (log (scene run y) v)) s
             ∙ ap (take keep)
-            (log_is plan layer keep logs says first logging (first + (t + x)) v (scene run (t + x))
+            (log_is counter layer keep logs says first logging (first + (t + x)) v
+            (scene run (t + x))
             (scene run (t + x + 1)) steps.heard steps.steps
-            ∙ keeps_log (plan_faults plan) keep o (x % e)
-            (agreement_after (plan_nodes plan) (plan_faults plan) (plan_depth plan) v o
+            ∙ keeps_log counter.faults keep o (x % e)
+            (agreement_after counter.nodes counter.faults counter.depth v o
             steps.heard) (log (scene run (t + x)) v) here (omega (arith, below, other)))
             ∙ before.each v vlt ok;
       }
@@ -173,8 +183,14 @@ module _ {Kept : Type 0} (plan : Plan) (accepted : IsAccepted plan) (multiple : 
     | inr other ↦ quiet x lt other (same_since x (omega arith))
   ]
 
+pub logs_are_one_over : (counter : Meaning) (is_state : (v : ℕ) → State → Type 0)
+    → LogsAreOneOver counter is_state
+logs_are_one_over counter is_state settling multiple said faulty borne first run is =
+    same_since counter is_state settling multiple (log_layer_over (numbers_in counter) said)
+    said.keep (λ log. log) (commands_in_turn_over counter said) first
+    (takes_turns counter said first) faulty borne run is
+
 pub logs_are_one : LogsAreOne
-logs_are_one plan accepted multiple said faulty borne first run is t lo inside begins x lt =
-    same_since plan accepted multiple (log_layer plan said) said.keep (λ log. log)
-    (commands_in_turn plan said) first (takes_turns plan said first) faulty borne run is t lo inside
-    begins x lt
+logs_are_one plan accepted multiple said faulty borne =
+    logs_are_one_over (plan_meaning plan) (IsState plan) (plans_settle plan accepted) multiple said
+    faulty (borne_by_counter plan faulty borne)

@@ -10,7 +10,8 @@ use Rattle.texts.specs.Shapes.{numbers_of, numbers_after}
 use Rattle.texts.specs.Parts.{Next, goes, ends, refuses, with_skips, Found, At, part_from}
 use Rattle.sync_types.specs.declared.answers.Rule.{Rule}
 use Rattle.sync_types.specs.declared.answers.Rule.TheVariants.{Form, Limit, Node, Range, Slot}
-use Rattle.construction.specs.Plans.{Plan, plan_nodes, plan_faults, plan_modulus}
+use Rattle.construction.specs.Plans.{Plan}
+use Rattle.layer_laws.specs.Numbers.{Numbers, numbers_of as plan_numbers}
 use Rattle.replicated_log.specs.EntryLength.{entry_length}
 use Rattle.replicated_log.specs.LogSaid.{LogSaid}
 use Rattle.replicated_log.specs.declared.log_lines.LogStage.{LogStage}
@@ -25,11 +26,11 @@ pub record LogSoFar : Type 0 where
   pub stage : LogStage
   pub commands : List (List ℕ)
 
--- a part of which nothing was read
-abbrev pub nothing_read : Plan → LogSoFar
-nothing_read plan = record {
-  nodes = plan_nodes plan;
-  whole = plan_modulus plan % (plan_nodes plan * entry_length (plan_faults plan)) == 0;
+-- a part for a counter of which nothing was read
+abbrev pub nothing_read_over : Numbers → LogSoFar
+nothing_read_over numbers = record {
+  nodes = numbers.nodes;
+  whole = numbers.modulus % (numbers.nodes * entry_length numbers.faults) == 0;
   stage = Unread;
   commands = [];
 }
@@ -101,24 +102,35 @@ step_at (Keeping values keep) s line =
 abbrev pub log_step : LogSoFar → List ℕ → Next LogSoFar LogSaid Rule
 log_step s line = step_at s.stage s line
 
--- The log part at the front of these lines, of which the first has that number: what it says, how
--- many lines it took through `end`, and the lines behind; or the first line that fails, with the
--- first rule that it fails.
+-- The log part for a counter at the front of these lines, of which the first has that number: what
+-- it says, how many lines it took through `end`, and the lines behind; or the first line that
+-- fails, with the first rule that it fails.
+abbrev pub part_over : Numbers → (number : ℕ) → List (List ℕ) → Result (Found LogSaid) (At Rule)
+part_over numbers number lines =
+    part_from (with_skips log_step Form) Form (nothing_read_over numbers) 0 number lines
+
+-- those for the counter of a plan
+abbrev pub nothing_read : Plan → LogSoFar
+nothing_read plan = nothing_read_over (plan_numbers plan)
+
 abbrev pub part_of : Plan → (number : ℕ) → List (List ℕ) → Result (Found LogSaid) (At Rule)
-part_of plan number lines =
-    part_from (with_skips log_step Form) Form (nothing_read plan) 0 number lines
+part_of plan = part_over (plan_numbers plan)
 
 -- each node has a command, and each command is below the values
 abbrev pub AreInRange : (values : ℕ) → List (List ℕ) → Type 0
 AreInRange values commands =
     All (λ own. (0 < length own) × All (λ a. a < values) own) commands
 
--- what a log part says that was read for a plan
-pub record IsFor (plan : Plan) (said : LogSaid) : Type 0 where
-  pub whole : plan_modulus plan % (plan_nodes plan * entry_length (plan_faults plan)) ≡ 0
+-- what a log part says that was read for a counter
+pub record IsForNumbers (numbers : Numbers) (said : LogSaid) : Type 0 where
+  pub whole : numbers.modulus % (numbers.nodes * entry_length numbers.faults) ≡ 0
   pub two : 2 ≤ said.values
   pub few : said.values ≤ 65536
   pub some : 1 ≤ said.keep
   pub short : said.keep ≤ 1024
-  pub nodes : length said.commands ≡ plan_nodes plan
+  pub nodes : length said.commands ≡ numbers.nodes
   pub range : AreInRange said.values said.commands
+
+-- that for the counter of a plan
+abbrev pub IsFor : Plan → LogSaid → Type 0
+IsFor plan = IsForNumbers (plan_numbers plan)

@@ -5,8 +5,9 @@ use Rattle.texts.specs.Lines.{lines_of}
 use Rattle.texts.specs.Words.{joined, text_of}
 use Rattle.construction.specs.Plans.{Plan}
 use Rattle.plan_numbers.specs.Premises.{IsAccepted}
+use Rattle.layer_laws.specs.Numbers.{Numbers, AreNumbers, numbers_of}
 use Rattle.replicated_log.specs.LogSaid.{LogSaid}
-use Rattle.replicated_log.specs.LogPart.{part_of, IsFor}
+use Rattle.replicated_log.specs.LogPart.{part_over, IsForNumbers}
 
 abbrev pub values_line : LogSaid → List ℕ
 values_line said = joined (codes "values" ∷ decimal said.values ∷ [])
@@ -29,14 +30,21 @@ log_text said =
     text_of (codes "log 1" ∷ values_line said ∷ keep_line said
     ∷ (commands_lines 0 said.commands ++ codes "end" ∷ []))
 
--- The text of a log for an accepted plan, whose nodes have at most 16 commands each, is read as
--- this log, whatever text follows.
-abbrev pub LogTextIsRead : Type 0
-LogTextIsRead = (plan : Plan) → IsAccepted plan → (said : LogSaid) → IsFor plan said
+-- The text of a log for a counter, whose nodes have at most 16 commands each, is read as this log,
+-- whatever text follows.
+abbrev pub IsReadBack : Numbers → Type 0
+IsReadBack numbers = (said : LogSaid) → IsForNumbers numbers said
     → All (λ own. length own ≤ 16) said.commands → (number : ℕ) (rest : List ℕ)
-    → part_of plan number (lines_of (log_text said ++ rest))
+    → part_over numbers number (lines_of (log_text said ++ rest))
     ≡ Ok (record {
       value = said;
       taken = 3 + (length said.commands + 1);
       behind = lines_of rest;
     })
+
+abbrev pub LogTextIsReadOver : Type 0
+LogTextIsReadOver = (numbers : Numbers) → AreNumbers numbers → IsReadBack numbers
+
+-- So is that for an accepted plan.
+abbrev pub LogTextIsRead : Type 0
+LogTextIsRead = (plan : Plan) → IsAccepted plan → IsReadBack (numbers_of plan)

@@ -4,11 +4,15 @@ use Rattle.std.specs.Prelude.{ℕ, ◌+◌, ◌-◌, ◌%◌, List, [], ◌∷�
 use Rattle.std.specs.Prelude.{slice_index_or, if◌then◌else◌}
 use Rattle.sync_types.specs.declared.states.Reg.{Reg}
 use Rattle.sync_types.specs.States.{State, register_at}
-use Rattle.construction.specs.Plans.{Plan, plan_nodes, plan_faults, plan_modulus, plan_depth}
+use Rattle.construction.specs.Plans.{Plan}
 use Rattle.construction.specs.Steps.{state_of}
+use Rattle.construction.specs.Runs.{IsState}
+use Rattle.plan_laws.specs.PlanMeaning.{plan_meaning}
+use Rattle.counter_core.specs.Meanings.{Meaning}
 use Rattle.counter_core.specs.Overlays.{Layer}
+use Rattle.layer_laws.specs.Numbers.{Numbers, numbers_in, numbers_of}
 use Rattle.layer_laws.specs.Scenes.{Scene}
-use Rattle.layer_laws.specs.LayerRuns.{LayerRun}
+use Rattle.layer_laws.specs.CounterLayers.{LayerRun}
 use Rattle.layer_laws.specs.Slots.{slot_length, agreed_in_turn}
 use Rattle.consensus_layer.specs.Agreeing.{loaded}
 use Rattle.replicated_log.specs.declared.entries.Entry.{Entry}
@@ -54,16 +58,26 @@ log_layer_of nodes faults modulus depth values keep commands = record {
       };
 }
 
--- that over the counter of a plan, as a log part says
-abbrev pub log_layer : Plan → LogSaid → Layer (List Entry)
-log_layer plan said =
-    log_layer_of (plan_nodes plan) (plan_faults plan) (plan_modulus plan) (plan_depth plan)
-    said.values said.keep said.commands
+-- that over a counter, as a log part says
+abbrev pub log_layer_over : Numbers → LogSaid → Layer (List Entry)
+log_layer_over numbers said =
+    log_layer_of numbers.nodes numbers.faults numbers.modulus numbers.depth said.values said.keep
+    said.commands
 
--- a run with a log, from any states and logs
+-- that over the counter of a plan
+abbrev pub log_layer : Plan → LogSaid → Layer (List Entry)
+log_layer plan = log_layer_over (numbers_of plan)
+
+-- a run of a counter with a log, from any states and logs
+abbrev pub LogRunOver : (counter : Meaning) (is_state : (v : ℕ) → State → Type 0) → LogSaid
+    → (faulty : List ℕ) (first : ℕ) (run : List (Scene (List Entry))) → Type 0
+LogRunOver counter is_state said =
+    LayerRun counter is_state (log_layer_over (numbers_in counter) said)
+
+-- one of a plan
 abbrev pub LogRun : Plan → LogSaid → (faulty : List ℕ) (first : ℕ)
     (run : List (Scene (List Entry))) → Type 0
-LogRun plan said faulty first run = LayerRun plan (log_layer plan said) faulty first run
+LogRun plan = LogRunOver (plan_meaning plan) (IsState plan)
 
 -- the log of node v, by what the nodes keep
 abbrev pub log_in : List (List Entry) → (v : ℕ) → List Entry

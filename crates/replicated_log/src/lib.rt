@@ -1,4 +1,4 @@
-//! A replicated log over the counter of a plan.
+//! A replicated log over a counter.
 #![tactic(auto)]
 
 mod command_lines;
@@ -15,6 +15,6 @@ pub use commands::Commands;
 pub use entries::{Entries, Entry};
 pub use log_lines::{LogLines, entry_length};
 pub use log_parts::LogPart;
-pub use reading::read_log;
+pub use reading::{read_log, read_log_over};
 pub use refusals::{LogError, LogRefusal};
 pub use replica::{Replica, owner_at};

@@ -2,7 +2,7 @@ ghost use Rattle.std.specs.Prelude.{◌≡◌, codes};
 ghost use Rattle.texts.specs.Shapes.{numbers_after};
 ghost use Rattle.texts.specs.Lines.{words_of};
 ghost use Rattle.replicated_log.specs.EntryLength.{entry_length};
-ghost use Rattle.replicated_log.specs.LogPart.{nothing_read, behind_head, values_tested};
+ghost use Rattle.replicated_log.specs.LogPart.{nothing_read_over, behind_head, values_tested};
 ghost use Rattle.replicated_log.specs.LogPart.{keep_tested, end_step};
 
 use crate::command_lines::read_commands;
@@ -10,7 +10,7 @@ use crate::commands::Commands;
 use crate::log_parts::LogPart;
 use consensus_layer::slot_length;
 use edge_io::{LineReader, TakeError, numbers_after};
-use plan_numbers::Plan;
+use layer_laws::CounterNumbers;
 use std::alloc::Global;
 use std::marker::Model;
 use std::mem;
@@ -116,17 +116,17 @@ fn behind_keep(values: u64, line: &[u8]) -> Result<LogStage, Rule>
 impl LogLines {
     ghost use Rattle.edge_io.specs.Taking.{Takes};
 
-    /// A reader of a part of which nothing was read, for the nodes of a plan.
-    pub fn new(alloc: Global, plan: &Plan) -> LogLines
-        ensures { result ≡ nothing_read plan.now }
+    /// A reader of a part of which nothing was read, for the nodes of a counter.
+    pub fn new(alloc: Global, numbers: &CounterNumbers) -> LogLines
+        ensures { result ≡ nothing_read_over numbers.now }
     {
-        plan.tell();
-        let nodes = plan.nodes();
-        let round = u64::from(nodes) * entry_length(plan.faults());
+        numbers.tell();
+        let nodes = numbers.nodes();
+        let round = u64::from(nodes) * entry_length(numbers.faults());
         LogLines {
             alloc,
             nodes,
-            whole: plan.modulus() % round == 0,
+            whole: numbers.modulus() % round == 0,
             stage: LogStage::Unread,
             commands: Vec::new(alloc),
         }

@@ -1,25 +1,44 @@
 ghost use Rattle.std.specs.Prelude.{◌≤◌, ◌<◌, ◌+◌, ◌^◌, length, IfOk};
-ghost use Rattle.replicated_log.specs.LogReadings.{IsAnswer};
+ghost use Rattle.replicated_log.specs.LogReadings.{IsAnswerOver, IsAnswer};
 
 use crate::log_lines::LogLines;
 use crate::refusals::LogError;
 use crate::replica::Replica;
 use edge_io::read_part;
+use layer_laws::CounterNumbers;
 use plan_numbers::Plan;
 use std::alloc::Global;
 use sync_types::Rule;
 
-/// Reads the log part at the front of an input: the log over the plan's counter that it says, with
-/// nothing in it, how many bytes stand through the part's `end` line, that line's newline among
-/// them, and how many lines these are, skipped ones counted. The first line of `bytes` has the
-/// number `first_line`, which is at least 1 and whose sum with the length of `bytes` is below 2^64.
+/// Reads the log part at the front of an input: the log over a counter that it says, with nothing
+/// in it, how many bytes stand through the part's `end` line, that line's newline among them, and
+/// how many lines these are, skipped ones counted. The first line of `bytes` has the number
+/// `first_line`, which is at least 1 and whose sum with the length of `bytes` is below 2^64.
 ///
 /// `Refused` is the first line that fails, with the first rule that it fails: `Form`, `Limit` above
 /// 65536 values, 1024 entries or 16 commands of a node, `Node` where the commands are not those of
 /// the next node, `Range` below two values or one entry, or for a command that is not below the
-/// values, `Slot` on the first line where the plan's modulus is no multiple of an entry of each
+/// values, `Slot` on the first line where the counter's modulus is no multiple of an entry of each
 /// node. A part that lacks its `end` is refused `Form` at the line after the last. `NoMemory` comes
 /// where memory was refused.
+pub fn read_log_over(
+    alloc: Global,
+    numbers: &CounterNumbers,
+    bytes: &[u8],
+    first_line: u64,
+) -> Result<(Replica, usize, u64), LogError>
+    requires first { 1 ≤ first_line }
+    requires count { first_line + length bytes.now < 2 ^ 64 }
+    ensures exact { IsAnswerOver numbers.now first_line bytes.now result }
+    ensures within { IfOk result (λ read. read.1 ≤ length bytes.now) }
+    ensures lines { IfOk result (λ read. read.2 ≤ read.1) }
+{
+    let read = read_part(LogLines::new(alloc, numbers), Rule::Form, bytes, first_line)?;
+    let replica = Replica::new(alloc, numbers, read.value)?;
+    Ok((replica, read.bytes, read.lines))
+}
+
+/// Reads the log part for a plan's counter, as [`read_log_over`] does.
 pub fn read_log(
     alloc: Global,
     plan: &Plan,
@@ -32,7 +51,6 @@ pub fn read_log(
     ensures within { IfOk result (λ read. read.1 ≤ length bytes.now) }
     ensures lines { IfOk result (λ read. read.2 ≤ read.1) }
 {
-    let read = read_part(LogLines::new(alloc, plan), Rule::Form, bytes, first_line)?;
-    let replica = Replica::new(alloc, plan, read.value)?;
-    Ok((replica, read.bytes, read.lines))
+    plan.tell();
+    read_log_over(alloc, &CounterNumbers::of(plan), bytes, first_line)
 }

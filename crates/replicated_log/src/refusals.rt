@@ -18,7 +18,7 @@ pub struct LogRefusal {
 /// Why a log part was not read.
 #[derive(Clone, Copy, Debug, PartialEq, Eq, Error)]
 pub enum LogError {
-    /// The text is no log part for the plan: its first line that fails.
+    /// The text is no log part for the counter: its first line that fails.
     #[error("line {} of the log fails the rule {:?}", .0.line, .0.rule)]
     Refused(LogRefusal),
     /// Memory was refused.

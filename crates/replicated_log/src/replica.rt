@@ -16,13 +16,12 @@ use crate::refusals::LogError;
 use circular_buffer::HeapCircularBuffer;
 use consensus_layer::{agree_at, heeded_at, liar_at, slot_length};
 use counter_core::{Heard, HeardRegister, Overlay, Work};
-use plan_numbers::Plan;
+use layer_laws::CounterNumbers;
 use std::alloc::Global;
 use sync_types::{FaultSet, NodeState, Reg};
 
-/// A replicated log over the counter of a plan. The nodes own slots in turn; in each slot all
-/// correct nodes put one and the same entry into their logs, which is what the owner commands where
-/// that is correct.
+/// A replicated log over a counter. The nodes own slots in turn; in each slot all correct nodes put
+/// one and the same entry into their logs, which is what the owner commands where that is correct.
 #[derive(Drop)]
 pub struct Replica {
     nodes: u32,
@@ -35,7 +34,7 @@ pub struct Replica {
     logs: Vec<HeapCircularBuffer<Entry>>,
     ghost quorum: { 3 * faults < nodes },
     ghost few: { nodes ≤ 256 },
-    ghost shallow: { depth < 256 },
+    ghost room: { depth + 2 < 2 ^ 64 },
     ghost two: { (2 ≤ modulus) × (modulus ≤ 2 ^ 40) },
     ghost commands_of_nodes: { length commands.items ≡ nodes },
     ghost logs_of_nodes: { length logs.items ≡ nodes },
@@ -82,29 +81,29 @@ fn put(logs: &mut [HeapCircularBuffer<Entry>], node: u32, keep: usize, entry: En
 
 impl Replica {
     ghost use Rattle.std.specs.Prelude.{ℕ, IfOk, IfErr, slice_get, Some};
-    ghost use Rattle.construction.specs.Plans.{plan_nodes};
-    ghost use Rattle.replicated_log.specs.LogPart.{IsFor as IsForPlan};
-    ghost use Rattle.replicated_log.specs.Logs.{log_in, log_layer, log_layer_of};
+    ghost use Rattle.replicated_log.specs.LogPart.{IsForNumbers};
+    ghost use Rattle.replicated_log.specs.Logs.{log_in, log_layer_over, log_layer_of};
     ghost use Rattle.replicated_log.specs.LogsSeen.{layer_seen, logs_seen};
 
-    /// A log over the counter of a plan, as it is said of it: for as many nodes, each with a
-    /// command below the values. All logs are empty. `NoMemory` comes where memory was refused, and
-    /// nothing else is an error.
-    pub fn new(alloc: Global, plan: &Plan, said: LogPart) -> Result<Replica, LogError>
-        requires { IsForPlan plan.now said }
-        ensures layer { IfOk result (λ replica. layer_seen replica ≡ log_layer plan.now said) }
+    /// A log over a counter, as it is said of it: for as many nodes, each with a command below the
+    /// values. All logs are empty. `NoMemory` comes where memory was refused, and nothing else is
+    /// an error.
+    pub fn new(alloc: Global, numbers: &CounterNumbers, said: LogPart) -> Result<Replica, LogError>
+        requires said { IsForNumbers numbers.now said }
+        ensures layer { IfOk result
+            (λ replica. layer_seen replica ≡ log_layer_over numbers.now said) }
         ensures kept { IfOk result
-            (λ replica. logs_seen replica ≡ replicate (plan_nodes plan.now) []) }
+            (λ replica. logs_seen replica ≡ replicate numbers.now.nodes []) }
         ensures error { IfErr result (λ error. error ≡ NoMemory) }
     {
-        plan.tell();
-        let nodes = plan.nodes();
+        numbers.tell();
+        let nodes = numbers.nodes();
         let logs = empty_logs(alloc, nodes, said.keep)?;
         Ok(Replica {
             nodes,
-            faults: plan.faults(),
-            modulus: plan.modulus(),
-            depth: plan.depth(),
+            faults: numbers.faults(),
+            modulus: numbers.modulus(),
+            depth: numbers.depth(),
             values: said.values,
             keep: said.keep,
             commands: said.commands,
@@ -126,7 +125,7 @@ impl Replica {
         self.values
     }
 
-    /// The owner of the slot to which an output belongs, as [`owner_at`] has it for the plan.
+    /// The owner of the slot to which an output belongs, as [`owner_at`] has it for the counter.
     pub fn owner(&self, o: u64) -> u32
         ensures owner { (nodes faults modulus depth values keep : ℕ) (commands : List (List ℕ))
             → layer_seen self.now ≡ log_layer_of nodes faults modulus depth values keep commands

@@ -3,7 +3,7 @@ use Rattle.sync_types.specs.declared.states.Reg.{Reg}
 use Rattle.construction.specs.PhaseKing.{locked_at}
 use Rattle.counter_core.specs.Heeding.{HeedsOnly}
 use Rattle.counter_core.proofs.Heeded.{heeds_all}
-use Rattle.layer_laws.specs.Slots.{agreed}
+use Rattle.layer_laws.specs.CounterSlots.{agreed}
 use Rattle.consensus_layer.specs.Heeding.{true_count}
 use Rattle.consensus_layer.proofs.TrueCounts.{counts_shut, king_shut, no_other}
 use Rattle.consensus_layer.proofs.heeding.heeded_at.Goals as goal

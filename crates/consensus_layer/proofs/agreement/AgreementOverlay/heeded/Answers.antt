@@ -4,7 +4,7 @@ use Rattle.sync_types.specs.declared.states.Reg.{Reg}
 use Rattle.counter_core.specs.HeardRegisters.{RegisterHeard}
 use Rattle.counter_core.specs.Heeding.{HeedsOnly}
 use Rattle.counter_core.specs.Overlays.{LayerStep}
-use Rattle.layer_laws.specs.Slots.{agreed_in_turn, slot_length}
+use Rattle.layer_laws.specs.CounterSlots.{agreed_in_turn, slot_length}
 use Rattle.consensus_layer.specs.Agreeing.{turned}
 use Rattle.consensus_layer.specs.AgreementsSeen.{decisions_seen}
 use Rattle.consensus_layer.proofs.agreement.AgreementOverlay.heeded.Goals as goal
