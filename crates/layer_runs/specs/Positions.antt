@@ -9,7 +9,7 @@ use Rattle.adversary_script.specs.Scripts.{Script, IsScript, faulty_sets}
 use Rattle.adversary_script.specs.Eras.{era_of, faulty_at}
 use Rattle.adversary_script.specs.Rounds.{starts}
 use Rattle.run_texts.specs.FirstLocked.{LockTest, first_of, first_locked, era_locked}
-use Rattle.layer_laws.specs.Counters.{IsBorneBy}
+use Rattle.layer_laws.specs.Counters.{Bears}
 use Rattle.layer_laws.specs.Scenes.{Scene}
 use Rattle.layer_runs.specs.Scenes.{next_scene, scene_at}
 
@@ -50,6 +50,10 @@ begun counter locked script layer kept = record {
   locks = begun_locks locked script (starts script);
 }
 
+-- the play is at configuration 0, before its first round
+abbrev pub IsBegun : {Kept : Type 0} → Position Kept → Type 0
+IsBegun p = p ≡ begun p.counter p.locked p.script p.layer p.scene.kept
+
 -- the same play one round later
 abbrev pub advanced : {Kept : Type 0} → Position Kept → Position Kept
 advanced p =
@@ -65,12 +69,26 @@ abbrev pub configuration_in : {Kept : Type 0} → (began : List Kept) → Positi
     → List State
 configuration_in began p t = (scene_at p.counter p.script p.layer began t).states
 
+-- of each era the first locked configuration up to configuration t
+abbrev pub known_locks : LockTest → Script → (config_at : ℕ → List State) → (t : ℕ)
+    → List (Option ℕ)
+known_locks locked script config_at t =
+    map (λ j. first_locked (era_locked locked script config_at j) t)
+    (range_with_len 0 (length script.eras + 1))
+
+-- the same play at configuration t, where the nodes began with these things kept
+abbrev pub played_to : {Kept : Type 0} → (began : List Kept) → Position Kept → (t : ℕ)
+    → Position Kept
+played_to began p t = record p {
+  at = t;
+  scene = scene_at p.counter p.script p.layer began t;
+  locks = known_locks p.locked p.script (configuration_in began p) t;
+}
+
 -- The position is one of the play in which the nodes began with these things kept.
 pub record IsPlayed {Kept : Type 0} (began : List Kept) (p : Position Kept) : Type 0 where
   pub scene : p.scene ≡ scene_at p.counter p.script p.layer began p.at
-  pub locks : p.locks ≡ map (λ j. first_locked
-      (era_locked p.locked p.script (configuration_in began p) j) p.at)
-      (range_with_len 0 (length p.script.eras + 1))
+  pub locks : p.locks ≡ known_locks p.locked p.script (configuration_in began p) p.at
 
 -- The script is one for the counter, which has few enough faulty nodes and counts by 2 at least,
 -- and the layer stands over it.
@@ -79,7 +97,7 @@ pub record IsFitting {Kept : Type 0} (p : Position Kept) : Type 0 where
   pub few : p.counter.nodes ≤ 256
   pub least : 2 ≤ p.counter.modulus
   pub nodes : p.script.nodes ≡ p.counter.nodes
-  pub borne : All (IsBorneBy p.counter) (faulty_sets p.script)
+  pub borne : All (Bears p.counter) (faulty_sets p.script)
   pub whole : IsScript p.script
   pub over : StandsOver p.layer p.counter
   pub within : p.at ≤ p.script.rounds

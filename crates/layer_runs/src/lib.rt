@@ -4,6 +4,8 @@
 //! its layer keeps, and the next round.
 #![tactic(auto)]
 
+mod lowest;
 mod plays;
 
+pub use lowest::lowest_correct;
 pub use plays::Play;

@@ -1,0 +1,140 @@
+-- A node's step: the machine's, and behind it that of a layer that hears what the node hears.
+use Rattle.std.proofs.Common.{◌≡◌, ℕ, ◌<◌, List, length, map, sym, ap, ◌∙◌, subst, arith}
+use Rattle.std.proofs.lemmas.List.{length-map}
+use Rattle.sync_types.specs.States.{State}
+use Rattle.construction.specs.Steps.{state_of}
+use Rattle.counter_core.specs.Meanings.{Meaning, cut, written}
+use Rattle.counter_core.specs.Overlays.{Layer, HasRegisters, HasValues, CanStep, MayHear, AreNew}
+use Rattle.counter_core.specs.Overlays.{KeepsRange, layered}
+use Rattle.state_codec.specs.Shapes.{fields_at}
+use Rattle.state_codec.specs.Ranges.{InRange}
+use Rattle.machines.specs.Machines.{Machine, IsState, IsConfiguration}
+use Rattle.machines.specs.Laws.{IsSound}
+use Rattle.adversary_script.specs.Scripts.{Script}
+use Rattle.adversary_script.specs.Lies.{AreStates}
+use Rattle.adversary_script.specs.Rounds.{heard_at}
+use Rattle.adversary_script.proofs.LiesInRange.{depth_of_node}
+use Rattle.machine_runner.proofs.HeardAt.{heard_long, heard_range}
+use Rattle.machine_runner.proofs.Places.{all_places}
+use Rattle.layer_runs.specs.Scenes.{layer_step, new_state}
+use Rattle.layer_runner.specs.Counters.{machine_counter}
+use Rattle.layer_runner.specs.ReadOver.{IsReadWithLayer}
+use Rattle.layer_runner.proofs.CutStates.{state_of-cut}
+use Rattle.layer_runner.proofs.Layered.{layered_written}
+use Rattle.layer_runner.proofs.ReadOver.{front_is, values_are, joined}
+
+-- a node of a script steps from a configuration of states in range
+pub record CanTurn {Kept : Type 0} (machine : Machine) (layer : Layer Kept) (script : Script)
+    (v : ℕ) (config : List State) : Type 0 where
+  pub sound : IsSound machine
+  pub read : IsReadWithLayer machine layer script
+  pub keeps : KeepsRange layer
+  pub node : v < script.nodes
+  pub range : AreStates script.nodes script.shape config
+
+module _ {Kept : Type 0} (machine : Machine) (layer : Layer Kept) (script : Script) (t v : ℕ)
+    (config : List State) (can : CanTurn machine layer script v config) (kept : List Kept) where
+  abbrev sound : IsSound machine
+  sound = can.sound
+
+  abbrev is : IsReadWithLayer machine layer script
+  is = can.read
+
+  abbrev counter : Meaning
+  counter = machine_counter machine
+
+  abbrev heard : List State
+  heard = heard_at script t config v
+
+  abbrev output : ℕ
+  output = machine.shows v (state_of heard v)
+
+  own : v < machine.nodes
+  own = let nodes = is.right.nodes in (let node = can.node in omega (arith, node, nodes))
+
+  long : length heard ≡ machine.nodes
+  long = heard_long script t config v ∙ is.right.nodes
+
+  ranges : AreStates script.nodes script.shape heard
+  ranges = heard_range script t config v can.node can.range is.whole is.shape.sound
+
+  range_at : (u : ℕ) → u < machine.nodes
+      → InRange (fields_at script.shape u) (state_of heard u)
+  range_at u lt = ranges u (let nodes = is.right.nodes in omega (arith, lt, nodes))
+
+  -- the fronts of what is heard are a configuration of the machine
+  pub fronts_are : IsConfiguration machine (map (cut machine.depth) heard)
+  fronts_are = record {
+    size = length-map heard (cut machine.depth) ∙ long;
+    states = λ u lt. subst (IsState machine u) (sym (state_of-cut machine.depth heard u))
+        (front_is machine layer script sound is u lt (state_of heard u) (range_at u lt));
+  }
+
+  -- by them it shows what it shows, and steps as it does
+  pub shown : machine.shows v (state_of (map (cut machine.depth) heard) v) ≡ output
+  shown = ap (machine.shows v) (state_of-cut machine.depth heard v)
+      ∙ sound.further.shows v own (state_of heard v)
+
+  pub stepped : machine.step v (map (cut machine.depth) heard) ≡ machine.step v heard
+  stepped = sound.further.step v own heard long
+
+  pub deep : length (machine.step v heard).registers ≡ machine.depth
+  deep = (sound.next v own heard).depth ∙ sound.depth v own
+
+  below : output < machine.modulus
+  below = subst (λ (o : ℕ). o < machine.modulus)
+      (sound.further.shows v own (state_of heard v))
+      (sound.shown v own (cut machine.depth (state_of heard v))
+      (front_is machine layer script sound is v own (state_of heard v) (range_at v own)))
+
+  -- what the layer may hear, where it has registers
+  pub may_hear : 0 < layer.extra → MayHear layer v output heard
+  may_hear some =
+      let same = is.over some in
+      let nodes = same.nodes in
+      let modulus = same.modulus in
+      let depth = same.depth in
+      let all = is.shape.depth in
+      record {
+        node = omega (arith, own, nodes);
+        output = omega (arith, below, modulus);
+        size = long ∙ sym nodes;
+        deep = all_places (HasRegisters layer) heard (λ u lt.
+            let regs = depth_of_node script.shape u (state_of heard u)
+            (range_at u (omega (arith, lt, long))) in
+            omega (arith, regs, depth, all));
+        range = all_places (HasValues layer) heard (λ u lt.
+            let inside : u < machine.nodes = omega (arith, lt, long) in
+            values_are machine layer script sound is u inside (state_of heard u)
+            (range_at u inside));
+      }
+
+  pub can_step : (out : State) → length out.registers ≡ script.shape.depth → 0 < layer.extra
+      → CanStep layer v output heard out
+  can_step out room some =
+      let may = may_hear some in
+      let depth = (is.over some).depth in
+      let all = is.shape.depth in
+      record {
+        node = may.node;
+        output = may.output;
+        size = may.size;
+        deep = may.deep;
+        range = may.range;
+        room = omega (arith, room, depth, all);
+      }
+
+  new_are : AreNew layer (layer_step counter layer kept v heard).registers
+  new_are = can.keeps v output _ heard may_hear
+
+  pub new_in_range : InRange (fields_at script.shape v) (new_state counter layer kept v heard)
+  new_in_range = joined machine layer script sound is v own (machine.step v heard) _
+      (sound.next v own heard) new_are.size new_are.range
+
+  -- the layer's registers, written behind the machine's step, make the new state
+  pub out_is : (out : State) → length out.registers ≡ script.shape.depth
+      → layered layer (layer_step counter layer kept v heard).registers
+      (written machine.depth (machine.step v heard) out)
+      ≡ new_state counter layer kept v heard
+  out_is out room = layered_written machine.depth layer (machine.step v heard) out _ deep
+      new_are.size (room ∙ is.shape.depth) (λ some. (is.over some).depth)

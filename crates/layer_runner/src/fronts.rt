@@ -1,0 +1,50 @@
+ghost use Rattle.std.specs.Prelude.{◌≡◌, ◌<◌, ◌≤◌, ℕ, false, length, map, All};
+ghost use Rattle.sync_types.specs.FaultSets.{is_in};
+ghost use Rattle.construction.specs.Steps.{state_of};
+ghost use Rattle.counter_core.specs.Meanings.{cut, written};
+ghost use Rattle.layer_runner.specs.Fronts.{HasFronts};
+
+use state_codec::Packed;
+use sync_types::{FaultSet, NodeState};
+
+/// Takes the number and the first `count` registers of a state, and leaves the registers behind.
+pub fn copy_front(count: usize, state: &NodeState, out: &mut NodeState)
+    requires state { count ≤ length state.now.registers }
+    requires out { count ≤ length out.old.registers }
+    ensures { out.new ≡ written count (cut count state.now) out.old }
+{
+    out.set_x(state.x());
+    for i in 0..count {
+        out.set_reg(i, state.reg(i));
+    }
+}
+
+/// Lays the fronts of the current states, `count` registers of each, into their places.
+pub fn lay_fronts(count: usize, states: &Packed, fronts: &mut [NodeState])
+    requires count { count ≤ states.now.shape.depth }
+    requires room { HasFronts (length states.now.current) count fronts.old }
+    ensures fronts { fronts.new ≡ map (cut count) states.now.current }
+    ensures room { HasFronts (length states.now.current) count fronts.new }
+{
+    states.tell();
+    for v in 0..states.nodes() {
+        copy_front(count, states.state(v), &mut fronts[v as usize]);
+    }
+}
+
+/// Lays the fronts of what is heard of the faulty nodes, `count` registers of each, into their
+/// places. Those of the correct nodes stand there.
+pub fn lay_lies(faulty: &FaultSet, count: usize, heard: &[NodeState], fronts: &mut [NodeState])
+    requires nodes { length heard.now ≡ faulty.now.nodes }
+    requires deep { All (λ s. count ≤ length s.registers) heard.now }
+    requires room { HasFronts (length heard.now) count fronts.old }
+    requires honest { (u : ℕ) → u < length heard.now → is_in faulty.now.ids u ≡ false
+        → state_of fronts.old u ≡ cut count (state_of heard.now u) }
+    ensures { fronts.new ≡ map (cut count) heard.now }
+{
+    faulty.tell();
+    for i in 0..faulty.len() {
+        let u = faulty.at(i) as usize;
+        copy_front(count, &heard[u], &mut fronts[u]);
+    }
+}

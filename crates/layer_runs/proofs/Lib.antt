@@ -1,0 +1,2 @@
+pub mod LowestCorrect
+pub mod Playing
