@@ -29,10 +29,10 @@ use Rattle.outcomes.specs.Answers.{answer_of}
 use Rattle.outcomes.proofs.LayeredRead.{IsToPlay, agreed_layer, decisions_to_play}
 
 -- what is read of consensus is for the plan
-pub said_is_for : {plan : Plan} {number : ℕ} {input : List ℕ} {agreement : Agreement}
+pub said_is_for : (plan : Plan) {number : ℕ} {input : List ℕ} {agreement : Agreement}
     {bytes lines : ℕ} → (h : IsRead plan number input agreement bytes lines)
     → agree.IsFor plan h.said
-said_is_for {plan} {number} {input} h =
+said_is_for plan {number} {input} h =
     subst (λ (r : Result (Found AgreeSaid) (At Rule)). IfOk r (λ f. agree.IsFor plan f.value))
     h.part (inputs_fit plan number (lines_of input))
 

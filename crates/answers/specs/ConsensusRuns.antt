@@ -3,7 +3,7 @@ use Rattle.std.specs.Prelude.{◌≡◌, ℕ, List, Ok}
 use Rattle.round_runner.specs.Runners.{Running}
 use Rattle.consensus_layer.specs.declared.agreement.Agreement.{Agreement}
 use Rattle.consensus_layer.specs.AgreementsSeen.{layer_seen, decisions_seen}
-use Rattle.run_lines.specs.declared.decisions.DecisionLines.{DecisionLines}
+use Rattle.layer_lines.specs.declared.decisions.DecisionLines.{DecisionLines}
 use Rattle.run_lines.specs.DecisionTexts.{decision_wording}
 use Rattle.run_lines.specs.Playing.{IsToPlay, text_of}
 use Rattle.outcomes.specs.declared.commands.Batch.TheVariants as batch

@@ -3,8 +3,8 @@ use Rattle.std.specs.Prelude.{◌≡◌, ℕ, List, Ok}
 use Rattle.round_runner.specs.Runners.{Running}
 use Rattle.firing.specs.declared.firing.Firing.{Firing}
 use Rattle.firing.specs.FiringsSeen.{layer_seen, fires_seen}
-use Rattle.run_lines.specs.declared.fires.Fires.{Fires}
-use Rattle.run_lines.specs.LengthSeen.{fires_length}
+use Rattle.layer_lines.specs.declared.fires.Fires.{Fires}
+use Rattle.layer_lines.specs.LengthSeen.{fires_length}
 use Rattle.run_lines.specs.FireTexts.{fire_wording}
 use Rattle.run_lines.specs.Playing.{IsToPlay, text_of}
 use Rattle.outcomes.specs.declared.commands.Batch.TheVariants as batch

@@ -3,7 +3,7 @@ use Rattle.std.specs.Prelude.{◌≡◌, ℕ, List, Ok}
 use Rattle.round_runner.specs.Runners.{Running}
 use Rattle.replicated_log.specs.declared.replica.Replica.{Replica}
 use Rattle.replicated_log.specs.LogsSeen.{layer_seen, logs_seen}
-use Rattle.run_lines.specs.declared.logged.Logged.{Logged}
+use Rattle.layer_lines.specs.declared.logged.Logged.{Logged}
 use Rattle.run_lines.specs.EntryTexts.{entry_wording}
 use Rattle.run_lines.specs.Playing.{IsToPlay, text_of}
 use Rattle.outcomes.specs.declared.commands.Batch.TheVariants as batch

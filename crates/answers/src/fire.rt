@@ -29,11 +29,12 @@ pub fn read_firing(alloc: Global, input: &[u8]) -> Result<FireRun, Unanswered>
         (λ error. Refuses error (answer_of batch.Fire input.now)) }
 {
     let (plan, bytes, lines) = read_plan(alloc, input)?;
+    plan.tell();
     let behind = &input[bytes..];
     let (firing, part_bytes, part_lines) = read_fire(alloc, &plan, behind, 1 + lines)?;
     let shape = StateShape::with_register(alloc, &plan, 2)?;
     let first = 1 + lines + part_lines;
     let script = read_script(alloc, &plan, &shape, &behind[part_bytes..], first)?;
     let runner = runner_of(alloc, &plan, shape, script, firing)?;
-    Ok((Fires::new(&plan), runner))
+    Ok((Fires::new(plan.faults()), runner))
 }

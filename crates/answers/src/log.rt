@@ -10,6 +10,7 @@ ghost use Rattle.answers.specs.Readings.{Refuses};
 use crate::errors::Unanswered;
 use crate::runners::runner_of;
 use adversary_script::read_script;
+use layer_laws::CounterNumbers;
 use plan_reader::read_plan;
 use replicated_log::{Replica, read_log};
 use round_runner::Runner;
@@ -35,5 +36,5 @@ pub fn read_logging(alloc: Global, input: &[u8]) -> Result<LogRun, Unanswered>
     let first = 1 + lines + part_lines;
     let script = read_script(alloc, &plan, &shape, &behind[part_bytes..], first)?;
     let runner = runner_of(alloc, &plan, shape, script, replica)?;
-    Ok((Logged::new(&plan), runner))
+    Ok((Logged::new(&CounterNumbers::of(&plan)), runner))
 }

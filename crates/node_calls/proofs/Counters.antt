@@ -121,7 +121,10 @@ few_bits (Boosting plan) accepted sound v node =
       sound.depth v node,
       accepted_depth plan.base plan.levels accepted.levels,
     ))
-few_bits (Pulses plan) accepted sound v node = pulses_few_bits plan accepted v
+few_bits (Pulses plan) accepted sound v node =
+    let few : bits_in ((machine_of (Pulses plan)).fields v) ≤ 715 =
+    pulses_few_bits plan accepted v in
+    omega (arith, few)
 
 -- a state of a node fits into a cell
 pub states_fit : (text : List ℕ) (counter : AnyMachine) → counter_answer text ≡ Ok counter

@@ -15,7 +15,7 @@ use Rattle.adversary_script.specs.ScriptPart.{script_of, IsFor}
 use Rattle.adversary_script.proofs.ReadScripts.{script_is_for, script_is_script}
 use Rattle.adversary_script.proofs.OneEra.{read_has_eras}
 use Rattle.round_runner.specs.Laws.{IsReadFor}
-use Rattle.run_certificates.specs.Recorded.{HasItsEras}
+use Rattle.run_checker.specs.Recorded.{HasItsEras}
 use Rattle.outcomes.specs.Inputs.{Scripted, with_script, behind_plan, scripted_of}
 
 -- the script is one that was read for the plan

@@ -6,8 +6,8 @@ use Rattle.std.specs.List.{concat}
 use Rattle.texts.specs.Parts.{At}
 use Rattle.texts.specs.Limits.{Limited, by, beyond}
 use Rattle.sync_types.specs.declared.status.Status.TheVariants as status
-use Rattle.run_certificates.specs.declared.Verdict.{Verdict}
-use Rattle.run_certificates.specs.declared.Verdict.TheVariants as verdict
+use Rattle.run_checker.specs.declared.Verdict.{Verdict}
+use Rattle.run_checker.specs.declared.Verdict.TheVariants as verdict
 use Rattle.run_checker.specs.Checks.{checked_within}
 use Rattle.outcomes.specs.declared.refusals.Refusal.TheVariants as refusal
 use Rattle.outcomes.specs.Outcomes.{Outcome, outcome_of, too_long}

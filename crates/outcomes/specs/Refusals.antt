@@ -5,11 +5,9 @@ use Rattle.sync_types.specs.declared.answers.Premise.{Premise}
 use Rattle.sync_types.specs.declared.answers.Premise.TheVariants as premise
 use Rattle.sync_types.specs.declared.answers.Cause.{Cause}
 use Rattle.sync_types.specs.declared.answers.Cause.TheVariants as cause
-use Rattle.sync_types.specs.declared.answers.Part.{Part}
-use Rattle.sync_types.specs.declared.answers.Part.TheVariants as part
 use Rattle.sync_types.specs.declared.status.Status.{Status}
 use Rattle.sync_types.specs.declared.status.Status.TheVariants as status
-use Rattle.node_words.specs.Rules.{rule_word}
+use Rattle.node_words.specs.Rules.{rule_word, part_word}
 use Rattle.outcomes.specs.declared.refusals.Refusal.{Refusal}
 use Rattle.outcomes.specs.declared.refusals.Refusal.TheVariants as refusal
 
@@ -25,15 +23,6 @@ premise_word premise.Multiple = codes "multiple"
 abbrev pub cause_word : Cause → List ℕ
 cause_word (cause.Premise p) = premise_word p
 cause_word cause.Value = codes "value"
-
-abbrev pub part_word : Part → List ℕ
-part_word part.Script = codes "script"
-part_word part.Node = codes "node"
-part_word part.Agree = codes "agree"
-part_word part.Slots = codes "slots"
-part_word part.Find = codes "find"
-part_word part.Log = codes "log"
-part_word part.Fire = codes "fire"
 
 -- the line of what fails for a reason
 abbrev pub failed_line : (front : List ℕ) → (line : ℕ) → (kind reason : List ℕ) → List ℕ

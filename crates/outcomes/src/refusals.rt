@@ -1,10 +1,10 @@
 ghost use Rattle.std.specs.Prelude.{◌≡◌};
 ghost use Rattle.texts.specs.Growth.{Puts};
-ghost use Rattle.outcomes.specs.Refusals.{cause_word, part_word, premise_word};
+ghost use Rattle.outcomes.specs.Refusals.{cause_word, premise_word};
 ghost use Rattle.outcomes.specs.Refusals.{failed_line, refusal_line, refusal_status};
 
 use edge_io::{Piece, Sink, WriteFault, put_all, put_pieces};
-use node_words::rule_word;
+use node_words::{part_word, rule_word};
 use sync_types::{Cause, Part, Premise, Rule, Status};
 
 /// Why words or an input are refused. Lines are counted from 1 through the whole input.
@@ -42,20 +42,6 @@ fn cause_word(cause: Cause) -> &'static str
     match cause {
         Cause::Premise(premise) => premise_word(premise),
         Cause::Value => "value",
-    }
-}
-
-fn part_word(part: Part) -> &'static str
-    ensures { result.now ≡ part_word part }
-{
-    match part {
-        Part::Script => "script",
-        Part::Node => "node",
-        Part::Agree => "agree",
-        Part::Slots => "slots",
-        Part::Find => "find",
-        Part::Log => "log",
-        Part::Fire => "fire",
     }
 }
 

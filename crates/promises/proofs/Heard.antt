@@ -13,7 +13,7 @@ use Rattle.adversary_script.specs.Lies.{AreStates, lie_of}
 use Rattle.adversary_script.proofs.LiesInRange.{lies_in_range}
 use Rattle.layer_laws.proofs.NodesSteps.{choice_is}
 use Rattle.round_runner.specs.Played.{lies_at, heard_at}
-use Rattle.promises.proofs.Told.{told_is}
+use Rattle.layer_lines.proofs.PlayedScripts.{told_is}
 
 module _ (script : Script) (whole : IsScript script) (sound : IsShape script.shape) (t : ℕ)
     (config : List State) (range : AreStates script.nodes script.shape config) where

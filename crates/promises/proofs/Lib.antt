@@ -1,7 +1,5 @@
-pub mod Counted
 pub mod Lines
 pub mod LockLaws
-pub mod Told
 pub mod Heard
 pub mod States
 pub mod EraRuns

@@ -31,7 +31,7 @@ use Rattle.round_runner.specs.Known.{lowest_correct, CountsOn}
 use Rattle.round_runner.specs.Locks.{IsFirstLocked}
 use Rattle.round_runner.specs.Runners.{Running, IsFor, IsPlaying, configuration_of}
 use Rattle.round_runner.proofs.Firsts.{in_era, era_within}
-use Rattle.round_runner.proofs.LowestCorrect.{lowest_among}
+use Rattle.layer_runs.proofs.LowestCorrect.{lowest_among}
 use Rattle.round_runner.proofs.ScenesLock.{borne, known_first}
 use Rattle.round_runner.proofs.ScenesRun.{states_at, cut_at, cut_run, cut_length, cut_configuration}
 use Rattle.round_runner.proofs.ScenesRun.{scenes_run}

@@ -7,6 +7,7 @@ pub mod CountsOn
 pub mod EraRuns
 pub mod FirstLocked
 pub mod Firsts
+pub mod FitsCounter
 pub mod FewLie
 pub mod Fitting
 pub mod Grown
@@ -25,7 +26,6 @@ pub mod Liars
 pub mod LiesLaid
 pub mod Locked
 pub mod LocksKnown
-pub mod LowestCorrect
 pub mod Own
 pub mod Places
 pub mod PlayedAhead

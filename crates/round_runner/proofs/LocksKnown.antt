@@ -12,7 +12,8 @@ use Rattle.round_runner.specs.Locks.{first_of, first_locked, era_locked, IsFirst
 use Rattle.round_runner.specs.Runners.{Running, IsPlaying, configuration_of}
 use Rattle.round_runner.proofs.FirstLocked.{first_is_locked}
 use Rattle.round_runner.proofs.Firsts.{in_era, era_from}
-use Rattle.round_runner.proofs.Playing.{same_known, other_era}
+use Rattle.layer_runs.proofs.Playing.{same_known, other_era}
+use Rattle.round_runner.specs.Locks.{is_locked}
 use Rattle.round_runner.proofs.ScenesLock.{known_is}
 
 -- where none of the numbers behind one passes, or one up to it did, nothing new is known later
@@ -67,7 +68,8 @@ module _ {O Kept : Type 0} (layer : O → Layer Kept) (kept : O → List Kept) (
         | inl same ↦ (let is : j ≡ era_of r.script r.at = same ∙ sym last in
             absurd (true≢false (sym some
             ∙ (ap (λ i. is_some (slice_index_or r.locks i None)) (sym is) ∙ none))))
-        | inr other ↦ other_era r.plan r.script (configuration_of layer began r) u j _ refl
+        | inr other ↦ other_era (is_locked r.plan) r.script
+            (configuration_of layer began r) u j _ refl
             (λ is. other (is ∙ here))
       ]
 

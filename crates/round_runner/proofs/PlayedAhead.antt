@@ -35,7 +35,9 @@ use Rattle.round_runner.proofs.Grown.{shifted_none, shifted_twice, settled_stays
 use Rattle.round_runner.proofs.HeardAt.{heard_long}
 use Rattle.round_runner.proofs.Layering.{shown_itself}
 use Rattle.round_runner.proofs.LocksKnown.{still_known}
-use Rattle.round_runner.proofs.Playing.{other_era, scene_is, scene_played}
+use Rattle.layer_runs.proofs.Playing.{other_era}
+use Rattle.round_runner.specs.Locks.{is_locked}
+use Rattle.round_runner.proofs.Playing.{scene_is, scene_played}
 use Rattle.round_runner.proofs.ScenesLock.{known_is}
 use Rattle.round_runner.proofs.SettledSteps.{settled_step}
 
@@ -172,7 +174,7 @@ module _ {O : Type 0} (r : Running O) (d : ℕ)
         | inl here ↦ absurd (true≢false (sym some
             ∙ (ap (λ i. is_some (slice_index_or r.locks i None)) (sym here)
             ∙ (ap is_some known ∙ none))))
-        | inr other ↦ other_era r.plan r.script configuration u j _ refl
+        | inr other ↦ other_era (is_locked r.plan) r.script configuration u j _ refl
             (λ is. other (is ∙ same))
       ])
 

@@ -1,15 +1,10 @@
 -- A runner that plays a script goes on to play it, and without a layer its configurations are the
 -- played ones.
-use Rattle.std.proofs.Common.{◌≡◌, ℕ, zero, suc, ◌+◌, ◌<◌, ◌≤◌, inl, inr, List, [], length, map}
-use Rattle.std.proofs.Common.{get_or, set, Bool, true, false, ◌&&◌, eqb, Option, Some, None}
-use Rattle.std.proofs.Common.{unwrap_or, add-one, refl, sym, ap, ap₂, ◌∙◌, subst, arith}
+use Rattle.std.proofs.Common.{◌≡◌, ℕ, zero, suc, ◌+◌, ◌≤◌, List, [], length, map, get_or, set, Bool}
+use Rattle.std.proofs.Common.{Option, None, unwrap_or, refl, sym, ap, ap₂, ◌∙◌, subst, arith}
 use Rattle.std.proofs.Math.Path.{fun_ext}
 use Rattle.std.specs.List.{range_with_len}
-use Rattle.std.proofs.lemmas.Bool.{cases_eq, eq-eqb, eqb-true}
-use Rattle.std.proofs.lemmas.List.{append-nil, get_or_default, length-set, length-replicate}
-use Rattle.std.proofs.lemmas.List.{get_or-set_same, get_or-set_other, get_or-replicate}
-use Rattle.std.proofs.lemmas.List.FromFn.{fill_by_all, length-map-range_with_len}
-use Rattle.std.proofs.lemmas.List.FromFn.{get_or-map-range_with_len}
+use Rattle.std.proofs.lemmas.List.{append-nil, get_or_default}
 use Rattle.sync_types.specs.declared.states.Reg.{Reg}
 use Rattle.sync_types.specs.FaultSets.{FaultIds}
 use Rattle.sync_types.specs.States.{State}
@@ -20,85 +15,30 @@ use Rattle.counter_core.specs.Meanings.{Meaning}
 use Rattle.counter_core.specs.Overlays.{Layer}
 use Rattle.counter_core.specs.NoLayers.{no_layer}
 use Rattle.adversary_script.specs.Scripts.{Script, IsScript}
-use Rattle.adversary_script.specs.Eras.{era_of, faulty_of_era, faulty_at}
+use Rattle.adversary_script.specs.Eras.{era_of, faulty_of_era}
 use Rattle.adversary_script.specs.Lookup.{hit_at}
-use Rattle.round_runner.specs.Locks.{is_locked, first_of, first_locked, era_locked}
+use Rattle.round_runner.specs.Locks.{is_locked, first_of}
 use Rattle.round_runner.specs.Laws.{BareRunnersArePlayed}
 use Rattle.round_runner.specs.Played.{heard_at, played_at}
 use Rattle.layer_laws.specs.Scenes.{Scene}
+use Rattle.layer_runs.specs.Positions.{Position, IsPlayed, advanced}
+use Rattle.layer_runs.proofs.Playing.{first_known, is_played_on}
 use Rattle.round_runner.specs.Scenes.{begun_kept, stepped_scene, next_scene, scene_at, new_state}
-use Rattle.round_runner.specs.Runners.{Running, Advances, IsPlaying, begun, begun_locks, next_locks}
-use Rattle.round_runner.specs.Runners.{scene_of, played_scene, configuration_of}
-use Rattle.round_runner.proofs.Firsts.{begun_era, era_within}
+use Rattle.round_runner.specs.Runners.{Running, Advances, IsPlaying, begun, next_locks}
+use Rattle.round_runner.specs.Runners.{scene_of, configuration_of, position_of}
 
--- what is known stays known
-pub same_known : (known : Option ℕ) (now : ℕ) → first_of known false now ≡ known
-same_known (Some t) now = refl
-same_known None now = refl
-
-pub begun_long : (plan : Plan) (script : Script) (config : List State)
-    → length (begun_locks plan script config) ≡ length script.eras + 1
-begun_long plan script config =
-    let none : Option ℕ = None in
-    let long = length-replicate (length script.eras) none in
-    omega (arith, long)
-
--- the first locked configurations of the eras
-module _ (plan : Plan) (script : Script) (config_at : ℕ → List State) where
-  abbrev known : ℕ → ℕ → Option ℕ
-  known t j = first_locked (era_locked plan script config_at j) t
-
-  abbrev all_known : ℕ → List (Option ℕ)
-  all_known t = map (known t) (range_with_len 0 (length script.eras + 1))
-
-  known_at : (t j : ℕ) → j < length script.eras + 1 → get_or (all_known t) j None ≡ known t j
-  known_at t j lt = get_or-map-range_with_len (known t) 0 (length script.eras + 1) j j None lt
-      (omega arith)
-
-  pub other_era : (t j : ℕ) (same : Bool) → eqb (era_of script t) j ≡ same
-      → (j ≡ era_of script t → ⊥)
-      → era_locked plan script config_at j t ≡ false
-  other_era t j true is other = absurd (other (sym (eqb-true _ _ is)))
-  other_era t j false is other = rw is refl
-
-  -- those of configuration 0
-  one_known : (j : ℕ) → j < length script.eras + 1 → era_of script 0 ≡ 0
-      → get_or (begun_locks plan script (config_at 0)) j None ≡ known 0 j
-  one_known zero lt here = rw here refl
-  one_known (suc j) lt here = get_or-replicate (length script.eras) j None None (omega arith)
-      ∙ sym (ap (λ b. first_of None b 0) (other_era 0 (suc j) (eqb (era_of script 0) (suc j)) refl
-      (λ same. absurd (omega (arith, same, here)))))
-
-  first_known : IsScript script → begun_locks plan script (config_at 0) ≡ all_known 0
-  first_known whole =
-      fill_by_all (known 0) (begun_locks plan script (config_at 0)) (length script.eras + 1) None
-      (begun_long plan script (config_at 0))
-      (λ j lt. one_known j lt (begun_era script whole.formed.rising 0 0 (omega arith) refl))
-
-  -- and those of the next one
-  next_known : (t : ℕ) → next_locks plan script (all_known t) (suc t) (config_at (suc t))
-      ≡ all_known (suc t)
-  next_known t =
-      let era : ℕ = era_of script (suc t) in
-      let here : era < length script.eras + 1 = let within = era_within script (suc t) in
-      omega (arith, within) in
-      let long : length (all_known t) ≡ length script.eras + 1 =
-      length-map-range_with_len (known t) 0 (length script.eras + 1) in
-      let now : Option ℕ = first_of (get_or (all_known t) era None)
-      (is_locked plan (faulty_at script (suc t)) (config_at (suc t))) (suc t) in
-      let own : now ≡ known (suc t) era =
-      ap₂ (λ (o : Option ℕ) (b : Bool). first_of o
-      (b && is_locked plan (faulty_at script (suc t)) (config_at (suc t))) (suc t))
-      (known_at t era here) (sym (eq-eqb era era refl)) in
-      fill_by_all (known (suc t)) (set (all_known t) era now) (length script.eras + 1) None
-      (length-set (all_known t) era now ∙ long) (λ j lt. elim (cases_eq j era) [
-        | inl same ↦ subst (λ i. get_or (set (all_known t) era now) i None ≡ known (suc t) i)
-            (sym same) (get_or-set_same (all_known t) era now None (omega (arith, here, long))
-            ∙ own)
-        | inr other ↦ get_or-set_other (all_known t) era j now None other ∙ known_at t j lt
-            ∙ sym (ap (λ b. first_of (known t j) b (suc t))
-            (other_era (suc t) j (eqb era j) refl other) ∙ same_known (known t j) (suc t))
-      ])
+-- where a play of a plan stands, part by part
+abbrev stands : {Kept : Type 0} → Plan → Script → Layer Kept → (at : ℕ) → Scene Kept
+    → List (Option ℕ) → Position Kept
+stands plan script layer at scene locks = record {
+  counter = plan_meaning plan;
+  locked = is_locked plan;
+  script = script;
+  layer = layer;
+  at = at;
+  scene = scene;
+  locks = locks;
+}
 
 module _ {O Kept : Type 0} (layer : O → Layer Kept) (kept : O → List Kept) where
   -- a runner that has begun plays
@@ -106,41 +46,41 @@ module _ {O Kept : Type 0} (layer : O → Layer Kept) (kept : O → List Kept) w
       → IsPlaying layer kept (kept overlay) (begun plan script overlay)
   begins plan script overlay whole = record {
     scene = refl;
-    locks =
-        first_known plan script (configuration_of layer (kept overlay) (begun plan script overlay))
-        whole;
+    locks = first_known (is_locked plan) script
+        (configuration_of layer (kept overlay) (begun plan script overlay)) whole;
   }
+
+  -- what a round does to it is what a round of a play does
+  pub advances_as : (old new : Running O) → Advances layer kept old new
+      → position_of layer kept new ≡ advanced (position_of layer kept old)
+  advances_as old new step =
+      let next : Scene Kept = next_scene (plan_meaning old.plan) old.script (layer old.overlay)
+      old.at (scene_of kept old) in
+      let locks : new.locks ≡ next_locks old.plan old.script old.locks (old.at + 1) next.states =
+      step.locks ∙ ap₂ (λ (t : ℕ) (scene : Scene Kept).
+      next_locks old.plan old.script old.locks t scene.states) step.at step.scene in
+      ap (λ (plan : Plan). stands plan new.script (layer new.overlay) new.at (scene_of kept new)
+      new.locks) step.plan
+      ∙ (ap₂ (λ (script : Script) (l : Layer Kept). stands old.plan script l new.at
+      (scene_of kept new) new.locks) step.script step.layer
+      ∙ (ap₂ (λ (t : ℕ) (scene : Scene Kept). stands old.plan old.script (layer old.overlay) t scene
+      new.locks) step.at step.scene
+      ∙ ap (stands old.plan old.script (layer old.overlay) (old.at + 1) next) locks))
+
+  -- a runner plays exactly where it stands as a play does
+  pub as_play : (began : List Kept) (r : Running O) → IsPlaying layer kept began r
+      → IsPlayed began (position_of layer kept r)
+  as_play began r is = record { scene = is.scene; locks = is.locks }
+
+  of_play : (began : List Kept) (r : Running O) → IsPlayed began (position_of layer kept r)
+      → IsPlaying layer kept began r
+  of_play began r is = record { scene = is.scene; locks = is.locks }
 
   pub plays_on : (began : List Kept) (old new : Running O) → IsPlaying layer kept began old
       → Advances layer kept old new → IsPlaying layer kept began new
   plays_on began old new is step =
-      let l = layer old.overlay in
-      let next : Scene Kept → Scene Kept = λ s.
-      next_scene (plan_meaning old.plan) old.script l old.at s in
-      let config_at : ℕ → List State = configuration_of layer began old in
-      let at : new.at ≡ suc old.at = step.at ∙ add-one old.at in
-      let scene : scene_of kept new ≡ played_scene layer began old (suc old.at) = step.scene
-      ∙ ap next is.scene in
-      let states : new.states ≡ config_at (suc old.at) = ap (λ (s : Scene Kept). s.states) scene in
-      let locks : new.locks ≡ all_known old.plan old.script config_at (suc old.at) =
-      step.locks
-      ∙ ap (λ locks. next_locks old.plan old.script locks new.at new.states) is.locks
-      ∙ ap (λ t. next_locks old.plan old.script
-      (all_known old.plan old.script config_at old.at) t new.states) at
-      ∙ ap (λ config. next_locks old.plan old.script
-      (all_known old.plan old.script config_at old.at) (suc old.at) config) states
-      ∙ next_known old.plan old.script config_at old.at in
-      let Plays : Plan → Script → Layer Kept → ℕ → Type 0 = λ plan script layer t.
-      (scene_of kept new ≡ scene_at (plan_meaning plan) script layer began t)
-      × (new.locks ≡ all_known plan script
-      (λ u. (scene_at (plan_meaning plan) script layer began u).states) t) in
-      let here : Plays old.plan old.script l (suc old.at) = (scene, locks) in
-      let plays : Plays new.plan new.script (layer new.overlay) new.at =
-      subst (λ p. Plays p new.script (layer new.overlay) new.at) (sym step.plan)
-      (subst (λ s. Plays old.plan s (layer new.overlay) new.at) (sym step.script)
-      (subst (λ l. Plays old.plan old.script l new.at) (sym step.layer)
-      (subst (λ t. Plays old.plan old.script l t) (sym at) here))) in
-      record { scene = plays.0; locks = plays.1 }
+      of_play began new (subst (IsPlayed began) (sym (advances_as old new step))
+      (is_played_on began (position_of layer kept old) (as_play began old is)))
 
 -- without a layer the states of a scene are the played configuration
 pub scene_played : (plan : Plan) (script : Script) (began : List (Unit {0})) (t : ℕ)

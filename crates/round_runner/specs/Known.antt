@@ -1,20 +1,15 @@
 -- What is known of the rounds that are left: what correct nodes show once their era is locked, and
 -- the first locked configurations.
-use Rattle.std.specs.Prelude.{◌≡◌, ◌⊎◌, ℕ, ◌+◌, ◌-◌, ◌%◌, ◌<◌, ◌≤◌, List, length, not, true, None}
-use Rattle.std.specs.Prelude.{is_some, position, unwrap_or, slice_index_or}
-use Rattle.std.specs.List.{range_with_len}
+use Rattle.std.specs.Prelude.{◌≡◌, ◌⊎◌, ℕ, ◌+◌, ◌-◌, ◌%◌, ◌<◌, ◌≤◌, List, length, true, None}
+use Rattle.std.specs.Prelude.{is_some, unwrap_or, slice_index_or}
 use Rattle.sync_types.specs.States.{State}
 use Rattle.construction.specs.Plans.{Plan, plan_modulus}
-use Rattle.construction.specs.Runs.{is_in, AllShow}
+use Rattle.construction.specs.Runs.{AllShow}
 use Rattle.adversary_script.specs.Scripts.{Script}
 use Rattle.adversary_script.specs.Eras.{era_of, end_of_era, faulty_at}
+pub use Rattle.layer_runs.specs.Lowest.{lowest_correct}
 use Rattle.round_runner.specs.Locks.{first_locked, era_locked}
 use Rattle.round_runner.specs.Runners.{Running}
-
--- the lowest id of a correct node
-abbrev pub lowest_correct : (n : ℕ) → (faulty : List ℕ) → ℕ
-lowest_correct n faulty =
-    unwrap_or (position (λ v. not (is_in faulty v)) (range_with_len 0 n)) 0
 
 -- From configuration `at` to the end of its era all nodes that are correct in it show one number:
 -- this value at first, and in each next configuration one more, modulo C.

@@ -13,6 +13,7 @@ use Rattle.adversary_script.specs.Eras.{era_of, faulty_at}
 use Rattle.round_runner.specs.Locks.{is_locked, first_of, first_locked, era_locked}
 use Rattle.round_runner.specs.Played.{starts}
 use Rattle.layer_laws.specs.Scenes.{Scene}
+use Rattle.layer_runs.specs.Positions.{Position}
 use Rattle.round_runner.specs.Scenes.{next_scene, scene_at}
 
 -- A runner: its plan, script and layer, and configuration `at`; of each era the first configuration
@@ -81,6 +82,19 @@ played_scene layer_of began r t = scene_at (plan_meaning r.plan) r.script
 abbrev pub configuration_of : {O Kept : Type 0} → (layer_of : O → Layer Kept) → (began : List Kept)
     → Running O → ℕ → List State
 configuration_of layer_of began r t = (played_scene layer_of began r t).states
+
+-- where it stands, as a play on any counter
+abbrev pub position_of : {O Kept : Type 0} → (layer_of : O → Layer Kept)
+    → (kept_of : O → List Kept) → Running O → Position Kept
+position_of layer_of kept_of r = record {
+  counter = plan_meaning r.plan;
+  locked = is_locked r.plan;
+  script = r.script;
+  layer = layer_of r.overlay;
+  at = r.at;
+  scene = scene_of kept_of r;
+  locks = r.locks;
+}
 
 -- The runner plays the script, with a layer in which the nodes began with these things kept: its
 -- configuration is always the played one.

@@ -1,22 +1,6 @@
-ghost use Rattle.std.specs.Prelude.{◌≡◌, ◌<◌, ◌≤◌};
-ghost use Rattle.round_runner.specs.Known.{lowest_correct};
-
 use crate::runners::Runner;
 use counter_core::Overlay;
-use sync_types::FaultSet;
-
-/// The lowest id below `nodes` of a correct node, 0 where there is none.
-pub fn lowest_correct(nodes: u32, faulty: &FaultSet) -> u32
-    ensures value { result ≡ lowest_correct nodes faulty.now.ids }
-    ensures below { 0 < nodes → result < nodes }
-{
-    for v in 0..nodes {
-        if !faulty.contains(v) {
-            return v;
-        }
-    }
-    0
-}
+use layer_runs::lowest_correct;
 
 impl<O: Overlay> Runner<O> {
     ghost use Rattle.std.specs.Prelude.{◌≡◌, ◌↔◌, ◌≤◌, ◌<◌, ◌+◌, List, None, true, length, is_some};
@@ -25,6 +9,7 @@ impl<O: Overlay> Runner<O> {
     ghost use Rattle.construction.specs.Shown.{shown};
     ghost use Rattle.construction.specs.Steps.{state_of};
     ghost use Rattle.adversary_script.specs.Eras.{era_of, faulty_at, first_of_era, end_of_era};
+    ghost use Rattle.layer_runs.specs.Lowest.{lowest_correct};
     ghost use Rattle.round_runner.specs.Known.{CountsOn, KnowsLocks};
     ghost use Rattle.round_runner.specs.Laws.{IsUpTo};
     ghost use Rattle.round_runner.specs.Locks.{first_locked, era_locked, IsFirstLocked};

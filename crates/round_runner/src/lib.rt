@@ -1,8 +1,9 @@
 //! Plays a script on the counter of a plan, round by round, with a layer above the counter.
 //!
 //! A [`Runner`] is always at the configuration that the script's run has at that round. A round
-//! takes no memory and cannot fail. [`laws`] says what holds of all that it plays. What a
-//! configuration shows, and whether it is locked, can be asked of any.
+//! takes no memory and cannot fail. It is a [`Play`](layer_runs::Play), as what writes lines of it
+//! asks. [`laws`] says what holds of all that it plays. What a configuration shows, and whether it
+//! is locked, can be asked of any.
 #![tactic(auto)]
 
 mod growing;
@@ -11,6 +12,7 @@ mod knowing;
 pub mod laws;
 mod locks;
 mod plays;
+mod positions;
 mod restarting;
 mod rounds;
 mod runners;
@@ -20,7 +22,6 @@ mod telling;
 mod turns;
 mod until_known;
 
-pub use knowing::lowest_correct;
 pub use locks::is_locked;
 pub use rounds::beginning_at;
 pub use runners::Runner;

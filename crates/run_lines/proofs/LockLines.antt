@@ -1,13 +1,17 @@
 -- The lines of the first locked configurations, of a runner that knows them.
-use Rattle.std.proofs.Common.{◌≡◌, ℕ, ◌+◌, List, length, Option, ◌∙◌}
+use Rattle.std.proofs.Common.{◌≡◌, ℕ, ◌≤◌, List, Option, None, ◌∙◌}
+use Rattle.std.specs.Prelude.{slice_index_or}
 use Rattle.sync_types.specs.States.{State}
-use Rattle.texts.specs.Growth.{Told, Wrote}
 use Rattle.counter_core.specs.Overlays.{Layer}
+use Rattle.adversary_script.specs.Scripts.{IsScript}
+use Rattle.round_runner.specs.Known.{KnowsLocks}
 use Rattle.round_runner.specs.Locks.{first_locked, era_locked}
 use Rattle.round_runner.specs.Runners.{Running, IsPlaying, configuration_of}
 pub use Rattle.run_texts.proofs.LockLines.{puts_last}
-use Rattle.run_texts.proofs.WordsSoFar.{words_before}
-use Rattle.run_lines.specs.RunTexts.{lock_of_era, era_line}
+use Rattle.run_texts.specs.RunTexts as texts
+use Rattle.layer_lines.proofs.LockLines.{same_locks}
+use Rattle.run_lines.specs.RunTexts.{lock_of_era, lock_lines}
+use Rattle.round_runner.proofs.LocksKnown.{known_at_end}
 use Rattle.run_lines.proofs.FirstListed.{first_listed}
 
 module _ {O Kept : Type 0} (layer : O → Layer Kept) (kept : O → List Kept) (began : List Kept)
@@ -22,14 +26,13 @@ module _ {O Kept : Type 0} (layer : O → Layer Kept) (kept : O → List Kept) (
   lock_at_end j known is =
       is ∙ first_listed (era_locked r.plan r.script config_at j) r.script.rounds
 
-  -- the lines of the eras before era j are written
-  abbrev ErasBefore : (j : ℕ) (s t : Told) → Type 0
-  ErasBefore j s t =
-      Wrote (words_before (era_line r.plan r.script config_at) (length r.script.eras + 1) j) s t
-
--- so they are, of all that the runner may play
-abbrev pub ErasSoFar : {O Kept : Type 0} (layer : O → Layer Kept) (kept : O → List Kept)
-    (r : Running O) (j : ℕ) (s t : Told)
-    → Type 0
-ErasSoFar {O} {Kept} layer kept r j s t =
-    (began : List Kept) → IsPlaying layer kept began r → ErasBefore layer kept began r j s t
+  -- so the lines of what it knows then are those of what is played
+  pub locks_known : IsScript r.script → r.at ≤ r.script.rounds → IsPlaying layer kept began r
+      → KnowsLocks r
+      → texts.lock_lines r.script (λ j. slice_index_or r.locks j None)
+      ≡ lock_lines r.plan r.script config_at
+  locks_known whole within plays knows =
+      same_locks r.script (λ j. slice_index_or r.locks j None)
+      (lock_of_era r.plan r.script config_at)
+      (λ j among. lock_at_end j (slice_index_or r.locks j None)
+      (known_at_end layer kept r whole within j among began plays knows))

@@ -1,25 +1,15 @@
 -- What the word `consensus` writes: the decisions of each slot that counts and begins in a
--- configuration that is shown.
-use Rattle.std.specs.Prelude.{ℕ, ◌+◌, ◌-◌, List, [], ◌∷◌, ◌++◌, codes, decimal, replicate}
-use Rattle.std.specs.List.{concat}
-use Rattle.construction.specs.Plans.{Plan, plan_nodes, plan_faults, plan_bound}
+-- configuration that is shown. It is what is written on any counter, at that of the plan.
+use Rattle.std.specs.Prelude.{ℕ, List}
+use Rattle.construction.specs.Plans.{Plan, plan_faults}
+use Rattle.plan_laws.specs.PlanMeaning.{plan_meaning}
 use Rattle.adversary_script.specs.Scripts.{Script}
-use Rattle.adversary_script.specs.Eras.{faulty_at}
 use Rattle.layer_laws.specs.Scenes.{Scene}
 use Rattle.layer_laws.specs.Slots.{slot_length}
 use Rattle.consensus_layer.specs.AgreeSaid.{AgreeSaid}
-use Rattle.consensus_layer.specs.Agreements.{agree_layer, decision}
-use Rattle.run_lines.specs.RunTexts.{bound_line, number_word, words_of_nodes, lock_lines}
-use Rattle.run_lines.specs.PlayedTexts.{Wording, scene_in}
-use Rattle.run_lines.specs.SlotTexts.{ends_at, slot_lines}
-
--- a node's word: its decision
-abbrev pub decision_word : Scene ℕ → (v : ℕ) → List ℕ
-decision_word scene v = number_word (decision scene v)
-
--- the front of the line of a slot that begins in configuration t
-abbrev pub slot_front : (t : ℕ) → List ℕ
-slot_front t = codes "slot " ++ decimal t
+use Rattle.round_runner.specs.Locks.{is_locked}
+use Rattle.layer_lines.specs.DecisionTexts as any
+pub use Rattle.layer_lines.specs.DecisionTexts.{decision_word, slot_front, decision_wording}
 
 module _ (plan : Plan) (script : Script) (said : AgreeSaid) where
   abbrev pub slot_of : ℕ
@@ -27,28 +17,12 @@ module _ (plan : Plan) (script : Script) (said : AgreeSaid) where
 
   -- scene c of what is played, where each decision is 0 at first
   abbrev pub agree_scene : (c : ℕ) → Scene ℕ
-  agree_scene c = scene_in plan script (agree_layer plan said.values said.inputs)
-      (replicate (plan_nodes plan) 0) c
+  agree_scene c = any.agree_scene (plan_meaning plan) script said c
 
   -- the line of a slot that begins in configuration t: the decisions where it ends
   abbrev pub decision_line : (t : ℕ) → List ℕ
-  decision_line t =
-      concat (slot_front t
-      ∷ words_of_nodes plan (decision_word (agree_scene (t + slot_of)))
-      (faulty_at script (t + slot_of)) ∷ codes "\n" ∷ [])
+  decision_line t = any.decision_line (plan_meaning plan) script said t
 
   -- all that is written
   abbrev pub decision_text : List ℕ
-  decision_text =
-      concat (bound_line (plan_bound plan)
-      ∷ slot_lines plan script slot_of (λ c. (agree_scene c).states) decision_line
-      ∷ lock_lines plan script (λ c. (agree_scene c).states) ∷ [])
-
--- how it is written while the script is played, where a slot has so many rounds
-abbrev pub decision_wording : (length : ℕ) → Wording ℕ
-decision_wording length = record {
-  label = [];
-  shows = λ plan script c scene. ends_at plan script length c scene.states;
-  front = λ plan script c scene. slot_front (c - length);
-  word = λ plan scene v. decision_word scene v;
-}
+  decision_text = any.decision_text (plan_meaning plan) (is_locked plan) script said

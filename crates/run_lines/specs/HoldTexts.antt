@@ -9,7 +9,8 @@ use Rattle.adversary_script.specs.Scripts.{Script}
 use Rattle.slot_table.specs.declared.lines.SlotLine.{SlotLine}
 pub use Rattle.slot_table.specs.HoldWords.{hold_word_at}
 use Rattle.run_lines.specs.PlayedTexts.{Wording}
-use Rattle.run_lines.specs.ShownTexts.{shown_text, shown_wording}
+use Rattle.run_lines.specs.ShownTexts.{shown_text}
+use Rattle.run_lines.specs.OutputTexts.{output_wording}
 
 -- a node's word: whether it is the holder of the output that it shows
 abbrev pub hold_word : Plan → List SlotLine → List State → (v : ℕ) → List ℕ
@@ -21,4 +22,4 @@ hold_text plan script lines = shown_text (codes "hold ") (λ plan. hold_word pla
 
 -- how it is written while the script is played
 abbrev pub hold_wording : List SlotLine → Wording (Unit {0})
-hold_wording lines = shown_wording (codes "hold ") (λ plan. hold_word plan lines)
+hold_wording lines = output_wording (codes "hold ") (hold_word_at lines)

@@ -6,6 +6,8 @@ use Rattle.construction.specs.Shown.{shown}
 use Rattle.construction.specs.Steps.{state_of}
 use Rattle.construction.specs.Runs.{is_in}
 use Rattle.plan_numbers.specs.Premises.{IsAccepted}
+use Rattle.plan_laws.specs.PlanMeaning.{plan_meaning}
+use Rattle.counter_core.specs.Meanings.{Meaning}
 use Rattle.counter_core.specs.NoLayers.{no_layer}
 use Rattle.state_codec.specs.Shapes.{IsShape}
 use Rattle.adversary_script.specs.Scripts.{Script, IsScript}
@@ -27,10 +29,10 @@ use Rattle.run_lines.specs.DecisionTexts.{decision_text, decision_wording}
 
 -- the lines of configurations that are shown
 abbrev pub ShownAsDefined : Type 0
-ShownAsDefined = (label : List ℕ) (word : Plan → List State → ℕ → List ℕ)
+ShownAsDefined = (label : List ℕ) (word : Meaning → List State → ℕ → List ℕ)
     → (plan : Plan) (script : Script) → script.last ≤ script.rounds
     → played_text plan script no_layer [] (shown_wording label word)
-    ≡ shown_text label word plan script
+    ≡ shown_text label (λ plan. word (plan_meaning plan)) plan script
 
 -- the rows of a run
 abbrev pub RowsAsDefined : Type 0

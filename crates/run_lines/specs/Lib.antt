@@ -9,6 +9,5 @@ pub mod DecisionTexts
 pub mod LayerLaws
 pub mod FireTexts
 pub mod EntryTexts
-pub mod LengthSeen
 pub mod LogLaws
 pub mod OutputTexts

@@ -7,6 +7,8 @@ use Rattle.edge_io.specs.Rising.{Labelled}
 use Rattle.construction.specs.Plans.{Plan, plan_depth}
 use Rattle.construction.specs.Shown.{shown}
 use Rattle.construction.specs.Steps.{state_of}
+use Rattle.counter_core.specs.Meanings.{Meaning}
+use Rattle.layer_lines.specs.SlotTexts.{output_of}
 use Rattle.run_lines.specs.RunTexts.{word_or_star}
 use Rattle.run_lines.specs.PlayedTexts.{Wording, numbered}
 use Rattle.run_lines.specs.ShownTexts.{shown_wording}
@@ -15,10 +17,15 @@ use Rattle.run_lines.specs.ShownTexts.{shown_wording}
 abbrev pub word_of_shown : (word : (output v : ℕ) → List ℕ) → Plan → List State → (v : ℕ) → List ℕ
 word_of_shown word plan config v = word (shown (plan_depth plan) (state_of config v)) v
 
+-- the same on any counter
+abbrev pub word_of_output : (word : (output v : ℕ) → List ℕ) → Meaning → List State → (v : ℕ)
+    → List ℕ
+word_of_output word counter config v = word (output_of counter config v) v
+
 -- such lines, behind this label
 abbrev pub output_wording : (label : List ℕ) → (word : (output v : ℕ) → List ℕ)
     → Wording (Unit {0})
-output_wording label word = shown_wording label (word_of_shown word)
+output_wording label word = shown_wording label (word_of_output word)
 
 -- the line of configuration t, where all nodes that are correct in it show this output
 abbrev pub counted_line : (label : List ℕ) → (word : (output v : ℕ) → List ℕ) → FaultIds

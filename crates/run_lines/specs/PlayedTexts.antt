@@ -1,65 +1,49 @@
--- What a word writes of what is played with a layer: the bound, a line of some configurations, and
--- the first locked configurations.
-use Rattle.std.specs.Prelude.{ℕ, ◌+◌, ◌-◌, List, [], ◌∷◌, Bool, if◌then◌else◌, codes}
-use Rattle.std.specs.List.{concat, flat_map, range_with_len}
+-- What a word writes of what is played with a layer on a plan's counter: the words of any counter,
+-- at that of the plan.
+use Rattle.std.specs.Prelude.{ℕ, List}
 use Rattle.sync_types.specs.States.{State}
-use Rattle.edge_io.specs.Rising.{Labelled}
-use Rattle.construction.specs.Plans.{Plan, plan_bound}
+use Rattle.construction.specs.Plans.{Plan}
 use Rattle.plan_laws.specs.PlanMeaning.{plan_meaning}
 use Rattle.counter_core.specs.Overlays.{Layer}
 use Rattle.adversary_script.specs.Scripts.{Script}
-use Rattle.adversary_script.specs.Eras.{faulty_at}
 use Rattle.layer_laws.specs.Scenes.{Scene}
-use Rattle.round_runner.specs.Scenes.{scene_at}
-use Rattle.run_lines.specs.RunTexts.{bound_line, words_of_nodes, lock_lines}
-
--- a number behind a label
-abbrev pub numbered : (label : List ℕ) → (value : ℕ) → Labelled
-numbered label value = record { label = label; value = value }
-
--- The lines of a word: what stands before the number of a configuration, where a front is that
--- number; of which configurations a line is written, each by the plan, the script, its number and
--- its scene; the front of a line; and in it the word of a node that is correct there.
-pub record Wording (Kept : Type 0) : Type 0 where
-  pub label : List ℕ
-  pub shows : Plan → Script → (c : ℕ) → Scene Kept → Bool
-  pub front : Plan → Script → (c : ℕ) → Scene Kept → List ℕ
-  pub word : Plan → Scene Kept → (v : ℕ) → List ℕ
+use Rattle.round_runner.specs.Locks.{is_locked}
+use Rattle.layer_lines.specs.PlayedTexts as any
+pub use Rattle.layer_lines.specs.PlayedTexts.{Wording, numbered}
 
 -- the line of a configuration
 abbrev pub line_of : {Kept : Type 0} → Wording Kept → Plan → Script → (c : ℕ) → Scene Kept → List ℕ
-line_of wording plan script c scene =
-    concat (wording.front plan script c scene
-    ∷ words_of_nodes plan (wording.word plan scene) (faulty_at script c) ∷ codes "\n" ∷ [])
+line_of wording plan script c scene = any.line_of wording (plan_meaning plan) script c scene
 
 -- that line, where there is one
 abbrev pub line_if_shown : {Kept : Type 0} → Wording Kept → Plan → Script → (c : ℕ) → Scene Kept
     → List ℕ
 line_if_shown wording plan script c scene =
-    if wording.shows plan script c scene then line_of wording plan script c scene else []
+    any.line_if_shown wording (plan_meaning plan) script c scene
 
 module _ {Kept : Type 0} (plan : Plan) (script : Script) (layer : Layer Kept)
     (began : List Kept) where
   -- scene c of what is played, where the nodes began with these things kept
   abbrev pub scene_in : (c : ℕ) → Scene Kept
-  scene_in c = scene_at (plan_meaning plan) script layer began c
+  scene_in c = any.scene_in (plan_meaning plan) script layer began c
 
   abbrev pub configuration_in : (c : ℕ) → List State
-  configuration_in c = (scene_in c).states
+  configuration_in c = any.configuration_in (plan_meaning plan) script layer began c
 
   -- the line of configuration c, where there is one
   abbrev pub line_in : Wording Kept → (c : ℕ) → List ℕ
-  line_in wording c = line_if_shown wording plan script c (scene_in c)
+  line_in wording c = any.line_in (plan_meaning plan) script layer began wording c
 
   -- the lines of configurations 0 to the last
   abbrev pub lines_text : Wording Kept → List ℕ
-  lines_text wording = flat_map (line_in wording) (range_with_len 0 (script.rounds + 1))
+  lines_text wording = any.lines_text (plan_meaning plan) script layer began wording
 
   -- those of configuration c and of the ones behind it before that end
   abbrev pub lines_between : Wording Kept → (c end : ℕ) → List ℕ
-  lines_between wording c end = flat_map (line_in wording) (range_with_len c (end - c))
+  lines_between wording c end =
+      any.lines_between (plan_meaning plan) script layer began wording c end
 
   -- all that is written
   abbrev pub played_text : Wording Kept → List ℕ
-  played_text wording = concat (bound_line (plan_bound plan) ∷ lines_text wording
-      ∷ lock_lines plan script configuration_in ∷ [])
+  played_text wording =
+      any.played_text (plan_meaning plan) (is_locked plan) script layer began wording

@@ -1,20 +1,12 @@
 -- A runner that plays a script with a layer, from the first configuration to the last.
 use Rattle.std.specs.Prelude.{◌≡◌, ℕ, List}
-use Rattle.plan_numbers.specs.Premises.{IsAccepted}
-use Rattle.plan_laws.specs.PlanMeaning.{plan_meaning}
-use Rattle.counter_core.specs.Overlays.{Layer, StandsOver}
+use Rattle.counter_core.specs.Overlays.{Layer}
 use Rattle.round_runner.specs.Runners.{Running, IsPlaying}
 use Rattle.run_lines.specs.PlayedTexts.{Wording, played_text}
-
--- the runner's plan is accepted, and its layer stands over the plan's counter
-pub record IsOver {O Kept : Type 0} (layer_of : O → Layer Kept) (r : Running O) : Type 0 where
-  pub accepted : IsAccepted r.plan
-  pub over : StandsOver (layer_of r.overlay) (plan_meaning r.plan)
 
 module _ {O Kept : Type 0} (layer_of : O → Layer Kept) (kept_of : O → List Kept) where
   -- the runner plays its script, and is at configuration 0
   pub record IsToPlay (r : Running O) : Type 0 where
-    pub over : IsOver layer_of r
     pub at : r.at ≡ 0
     pub plays : IsPlaying layer_of kept_of (kept_of r.overlay) r
 

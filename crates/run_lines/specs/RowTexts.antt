@@ -8,7 +8,8 @@ use Rattle.adversary_script.specs.Scripts.{Script}
 use Rattle.round_runner.specs.Played.{played_at}
 use Rattle.run_lines.specs.RunTexts.{number_word, word_or_star, lock_of_era}
 use Rattle.run_lines.specs.PlayedTexts.{Wording}
-use Rattle.run_lines.specs.ShownTexts.{shown_text, shown_wording}
+use Rattle.run_lines.specs.ShownTexts.{shown_text}
+use Rattle.run_lines.specs.OutputTexts.{output_wording}
 
 -- what a node shows
 abbrev pub shown_word : Plan → List State → (v : ℕ) → List ℕ
@@ -28,4 +29,4 @@ run_text plan script = shown_text (codes "row ") shown_word plan script
 
 -- how it is written while the script is played
 abbrev pub row_wording : Wording (Unit {0})
-row_wording = shown_wording (codes "row ") shown_word
+row_wording = output_wording (codes "row ") (λ output v. number_word output)

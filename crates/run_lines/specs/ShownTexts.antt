@@ -3,6 +3,7 @@ use Rattle.std.specs.Prelude.{ℕ, ◌+◌, ◌-◌, ◌&&◌, nat_le, List, [],
 use Rattle.std.specs.List.{concat, flat_map, range_with_len}
 use Rattle.sync_types.specs.States.{State}
 use Rattle.construction.specs.Plans.{Plan, plan_bound}
+use Rattle.counter_core.specs.Meanings.{Meaning}
 use Rattle.adversary_script.specs.Scripts.{Script}
 use Rattle.adversary_script.specs.Eras.{faulty_at}
 use Rattle.round_runner.specs.Played.{played_at}
@@ -29,11 +30,12 @@ module _ (label : List ℕ) (word : Plan → List State → (v : ℕ) → List �
       concat (bound_line (plan_bound plan) ∷ shown_lines plan script
       ∷ lock_lines plan script (played_at plan script) ∷ [])
 
-  -- how it is written while the script is played
-  abbrev pub shown_wording : Wording (Unit {0})
-  shown_wording = record {
-    label = label;
-    shows = λ plan script c scene. nat_le script.first c && nat_le c script.last;
-    front = λ plan script c scene. label ++ decimal c;
-    word = λ plan scene v. word plan scene.states v;
-  }
+-- how it is written while the script is played, by words on any counter
+abbrev pub shown_wording : (label : List ℕ) → (word : Meaning → List State → (v : ℕ) → List ℕ)
+    → Wording (Unit {0})
+shown_wording label word = record {
+  label = label;
+  shows = λ counter script c scene. nat_le script.first c && nat_le c script.last;
+  front = λ counter script c scene. label ++ decimal c;
+  word = λ counter scene v. word counter scene.states v;
+}

@@ -1,47 +1,26 @@
--- Lines that are written of slots: each when its slot ends, of those that begin in a configuration
--- that is shown, later than the bound, and end in the same era.
-use Rattle.std.specs.Prelude.{ℕ, ◌+◌, ◌-◌, ◌%◌, List, [], Bool, ◌&&◌, nat_le, nat_lt, ◌==◌}
-use Rattle.std.specs.Prelude.{if◌then◌else◌}
-use Rattle.std.specs.List.{flat_map, range_with_len}
+-- Lines that are written of slots on a plan's counter: the words of any counter, at that of the
+-- plan.
+use Rattle.std.specs.Prelude.{ℕ, List, Bool}
 use Rattle.sync_types.specs.States.{State}
-use Rattle.construction.specs.Plans.{Plan, plan_nodes, plan_bound, plan_depth}
-use Rattle.construction.specs.Shown.{shown}
-use Rattle.construction.specs.Steps.{state_of}
+use Rattle.construction.specs.Plans.{Plan}
+use Rattle.plan_laws.specs.PlanMeaning.{plan_meaning}
 use Rattle.adversary_script.specs.Scripts.{Script}
-use Rattle.adversary_script.specs.Eras.{era_of, first_of_era, faulty_at}
-use Rattle.round_runner.specs.Known.{lowest_correct}
+use Rattle.layer_lines.specs.SlotTexts as any
+pub use Rattle.layer_lines.specs.SlotTexts.{counts_at, may_end_at}
 
 -- what the correct node of the lowest id shows in configuration c
 abbrev pub lead_output : Plan → Script → (c : ℕ) → List State → ℕ
-lead_output plan script c config =
-    shown (plan_depth plan)
-    (state_of config (lowest_correct (plan_nodes plan) (faulty_at script c)))
-
--- Whether a slot of q rounds that begins in configuration t counts: it begins later than the bound
--- after the begin of its era, and ends in that era and within the rounds.
-abbrev pub counts_at : (bound : ℕ) → Script → (q t : ℕ) → Bool
-counts_at bound script q t =
-    nat_lt (first_of_era script (era_of script t) + bound) t
-    && era_of script (t + q) == era_of script t && nat_le (t + q) script.rounds
-
--- whether such a slot that begins in a configuration that is shown ends in configuration c
-abbrev pub may_end_at : (bound : ℕ) → Script → (q c : ℕ) → Bool
-may_end_at bound script q c =
-    nat_le (script.first + q) c && nat_le c (script.last + q) && counts_at bound script q (c - q)
+lead_output plan script c config = any.lead_output (plan_meaning plan) script c config
 
 module _ (plan : Plan) (script : Script) (q : ℕ) where
-  -- whether such a slot begins in configuration t
+  -- whether a slot of q rounds that counts begins in configuration t
   abbrev pub begins_at : (t : ℕ) → List State → Bool
-  begins_at t config =
-      counts_at (plan_bound plan) script q t && lead_output plan script t config % q == 0
+  begins_at t config = any.begins_at (plan_meaning plan) script q t config
 
   -- a line of each such slot that begins in a configuration that is shown
   abbrev pub slot_lines : (config_at : ℕ → List State) → (line : ℕ → List ℕ) → List ℕ
-  slot_lines config_at line =
-      flat_map (λ t. if begins_at t (config_at t) then line t else [])
-      (range_with_len script.first (script.last + 1 - script.first))
+  slot_lines config_at line = any.slot_lines (plan_meaning plan) script q config_at line
 
   -- whether one of these ends in configuration c, by the output there
   abbrev pub ends_at : (c : ℕ) → List State → Bool
-  ends_at c config =
-      may_end_at (plan_bound plan) script q c && lead_output plan script c config % q == 0
+  ends_at c config = any.ends_at (plan_meaning plan) script q c config

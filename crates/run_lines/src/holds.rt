@@ -1,7 +1,7 @@
 use crate::{Lines, Output, OutputLines};
 use counter_core::NoOverlay;
 use edge_io::{RisingText, TextSink, WriteFault};
-use round_runner::Runner;
+use layer_runs::Play;
 use slot_table::SlotTable;
 
 /// The lines of a slot table: of each configuration that is shown, which nodes hold at the outputs
@@ -21,27 +21,27 @@ impl Lines<NoOverlay> for HoldLines {
         b"hold "
     }
 
-    fn shows(&self, runner: &Runner<NoOverlay>) -> bool {
-        let (first, last) = runner.script().shown();
-        first <= runner.at() && runner.at() <= last
+    fn shows<P: Play<NoOverlay>>(&self, play: &P) -> bool {
+        let (first, last) = play.script().shown();
+        first <= play.at() && play.at() <= last
     }
 
-    fn put_front<K: TextSink>(
+    fn put_front<K: TextSink, P: Play<NoOverlay>>(
         &self,
         sink: &mut K,
-        _runner: &Runner<NoOverlay>,
+        _play: &P,
         number: &RisingText,
     ) -> Result<(), WriteFault> {
         sink.rising(number)
     }
 
-    fn put_word<K: TextSink>(
+    fn put_word<K: TextSink, P: Play<NoOverlay>>(
         &self,
         sink: &mut K,
-        runner: &Runner<NoOverlay>,
+        play: &P,
         v: u32,
     ) -> Result<(), WriteFault> {
-        if self.table.holder(runner.output(v)) == Some(v) {
+        if self.table.holder(play.output(v)) == Some(v) {
             sink.text(b" 1")
         } else {
             sink.text(b" .")

@@ -1,7 +1,7 @@
 use crate::{Lines, Output, OutputLines};
 use counter_core::NoOverlay;
 use edge_io::{RisingText, TextSink, WriteFault};
-use round_runner::Runner;
+use layer_runs::Play;
 
 /// The rows of the word `run`: of each configuration that is shown, what its nodes show.
 #[derive(Clone, Copy, Debug, Drop)]
@@ -16,27 +16,27 @@ impl Lines<NoOverlay> for Rows {
         b"row "
     }
 
-    fn shows(&self, runner: &Runner<NoOverlay>) -> bool {
-        let (first, last) = runner.script().shown();
-        first <= runner.at() && runner.at() <= last
+    fn shows<P: Play<NoOverlay>>(&self, play: &P) -> bool {
+        let (first, last) = play.script().shown();
+        first <= play.at() && play.at() <= last
     }
 
-    fn put_front<K: TextSink>(
+    fn put_front<K: TextSink, P: Play<NoOverlay>>(
         &self,
         sink: &mut K,
-        _runner: &Runner<NoOverlay>,
+        _play: &P,
         number: &RisingText,
     ) -> Result<(), WriteFault> {
         sink.rising(number)
     }
 
-    fn put_word<K: TextSink>(
+    fn put_word<K: TextSink, P: Play<NoOverlay>>(
         &self,
         sink: &mut K,
-        runner: &Runner<NoOverlay>,
+        play: &P,
         v: u32,
     ) -> Result<(), WriteFault> {
-        sink.labelled(b" ", runner.output(v))
+        sink.labelled(b" ", play.output(v))
     }
 }
 

@@ -6,15 +6,15 @@ ghost use Rattle.adversary_script.specs.Eras.{era_of, end_of_era};
 ghost use Rattle.round_runner.specs.Known.{CountsOn, KnowsLocks};
 ghost use Rattle.round_runner.specs.Runners.{IsPlaying, configuration_of};
 ghost use Rattle.run_lines.specs.PlayedTexts.{lines_text, lines_between};
-ghost use Rattle.run_lines.specs.Playing.{IsOver, IsToPlay, HasPlayed, text_of};
+ghost use Rattle.run_lines.specs.Playing.{IsToPlay, HasPlayed, text_of};
 
 use crate::counted::put_counted_lines;
 use crate::lines::OutputLines;
 use crate::locks::put_locks;
 use crate::outputs::Output;
-use crate::words::put_if_shown;
 use counter_core::NoOverlay;
 use edge_io::{Gathered, RisingText, Sink, TextSink, WriteFault};
+use layer_lines::put_if_shown;
 use round_runner::Runner;
 use run_texts::put_bound;
 
@@ -62,7 +62,6 @@ fn put_known<K: TextSink, L: OutputLines>(
     lines: &L,
     end: u64,
 ) -> Result<(), WriteFault>
-    requires over { IsOver (λ o. no_layer) runner.now }
     requires era { end ≤ end_of_era runner.now.script (era_of runner.now.script runner.now.at) }
     requires own { is_some (slice_index_or runner.now.locks
         (era_of runner.now.script runner.now.at) None) ≡ false → end ≡ runner.now.at + 1 }

@@ -18,14 +18,14 @@ use Rattle.answers.proofs.consensus.read_agreed.Goals as goal
 pub with_register-requires-clause-least : goal.with_register-requires-clause-least
 with_register-requires-clause-least c =
     let read = c.in_ok-agreement.ensures.exact in
-    let fit = said_is_for read in
+    let fit = said_is_for c.in_ok-plan.plan read in
     subst (λ (n : ℕ). 2 ≤ n)
     (sym (c.values.ensures ∙ ap (λ (l : Layer ℕ). l.values) read.fresh.layer)) fit.two
 
 pub with_register-requires-clause-most : goal.with_register-requires-clause-most
 with_register-requires-clause-most c =
     let read = c.in_ok-agreement.ensures.exact in
-    let fit = said_is_for read in
+    let fit = said_is_for c.in_ok-plan.plan read in
     subst (λ (n : ℕ). n ≤ 65536)
     (sym (c.values.ensures ∙ ap (λ (l : Layer ℕ). l.values) read.fresh.layer)) fit.few
 

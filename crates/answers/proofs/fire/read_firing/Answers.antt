@@ -2,6 +2,7 @@ use Rattle.std.proofs.Common.{◌++◌, replicate, refl, ap, ◌∙◌}
 use Rattle.sync_types.specs.declared.answers.Part.TheVariants as part
 use Rattle.state_codec.specs.Shapes.{moduli_of, shape_nodes}
 use Rattle.state_codec.proofs.Plans.{nodes_of_shape}
+use Rattle.layer_laws.specs.Slots.{slot_length}
 use Rattle.firing.specs.FirePart.{part_of}
 use Rattle.firing.specs.FiringsSeen.{layer_seen, fires_seen}
 use Rattle.outcomes.specs.Layered.{fire_shape}
@@ -27,5 +28,6 @@ returns c =
       text = fire_text_is c.args.input.now c.in_ok-plan.plan _ c.in_ok-script.script _
           read.requests _ _ _ said begun.plan_is begun.script_is
           (ap layer_seen begun.overlay_is ∙ read.fresh.layer)
-          (ap fires_seen begun.overlay_is ∙ read.fresh.kept) c.new.ensures;
+          (ap fires_seen begun.overlay_is ∙ read.fresh.kept)
+          (c.new.ensures ∙ ap slot_length c.faults.ensures);
     }

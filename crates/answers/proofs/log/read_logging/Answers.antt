@@ -1,10 +1,13 @@
-use Rattle.std.proofs.Common.{◌++◌, replicate, ℕ, List, refl, ap, ◌∙◌}
+use Rattle.std.proofs.Common.{◌≡◌, ◌*◌, ◌%◌, ◌++◌, replicate, ℕ, List, refl, sym, ap, ◌∙◌}
+use Rattle.std.proofs.Common.{subst}
 use Rattle.sync_types.specs.declared.answers.Part.TheVariants as part
 use Rattle.counter_core.specs.Overlays.{Layer}
+use Rattle.layer_laws.specs.Numbers.{Numbers}
 use Rattle.state_codec.specs.Shapes.{shape_with}
 use Rattle.state_codec.specs.Shapes.{moduli_of, shape_nodes}
 use Rattle.state_codec.proofs.Plans.{nodes_of_shape}
 use Rattle.replicated_log.specs.declared.entries.Entry.{Entry}
+use Rattle.replicated_log.specs.EntryLength.{entry_length}
 use Rattle.replicated_log.specs.LogPart.{part_of}
 use Rattle.replicated_log.specs.LogsSeen.{layer_seen, logs_seen}
 use Rattle.run_lines.specs.EntryTexts.{log_text}
@@ -17,12 +20,12 @@ use Rattle.answers.proofs.log.read_logging.Goals as goal
 
 pub with_registers-requires-clause-least : goal.with_registers-requires-clause-least
 with_registers-requires-clause-least c =
-    let range = log_values _ _ _ _ _ _ c.in_ok-replica.ensures.exact in
+    let range = log_values c.in_ok-plan.plan _ _ _ _ _ c.in_ok-replica.ensures.exact in
     rw c.values.ensures range.0
 
 pub with_registers-requires-clause-most : goal.with_registers-requires-clause-most
 with_registers-requires-clause-most c =
-    let range = log_values _ _ _ _ _ _ c.in_ok-replica.ensures.exact in
+    let range = log_values c.in_ok-plan.plan _ _ _ _ _ c.in_ok-replica.ensures.exact in
     rw c.values.ensures range.1
 
 pub read_script-requires-clause-shape : goal.read_script-requires-clause-shape
@@ -43,7 +46,9 @@ returns-in_err-script c =
     c.in_err-script.ensures.exact c.from_residual-in_err-script.ensures.1
 
 pub new-requires : goal.new-requires
-new-requires c = (log_is_for _ _ _ _ _ _ c.in_ok-replica.ensures.exact).whole
+new-requires c =
+    subst (λ (n : Numbers). n.modulus % (n.nodes * entry_length n.faults) ≡ 0) (sym c.of.ensures)
+    (log_is_for c.in_ok-plan.plan _ _ _ _ _ c.in_ok-replica.ensures.exact).whole
 
 pub returns : goal.returns
 returns c =
@@ -63,5 +68,7 @@ returns c =
           read.said _ _ _ _ _ said begun.plan_is begun.script_is
           (ap layer_seen begun.overlay_is ∙ read.fresh.layer)
           (ap logs_seen begun.overlay_is ∙ read.fresh.kept)
-          lines.nodes lines.faults lines.modulus;
+          (lines.nodes ∙ ap (λ (n : Numbers). n.nodes) c.of.ensures)
+          (lines.faults ∙ ap (λ (n : Numbers). n.faults) c.of.ensures)
+          (lines.modulus ∙ ap (λ (n : Numbers). n.modulus) c.of.ensures);
     }

@@ -1,6 +1,5 @@
 use Rattle.std.proofs.Common.{◌≡◌, ◌∙◌}
-use Rattle.node_words.specs.Rules.{rule_word}
-use Rattle.outcomes.specs.Refusals.{part_word}
+use Rattle.node_words.specs.Rules.{rule_word, part_word}
 use Rattle.outcomes.proofs.refusals.put_refusal.Goals as goal
 
 pub returns-in-Plan : goal.returns-in-Plan

@@ -1,59 +1,8 @@
-use Rattle.std.proofs.Common.{◌+◌, length, ap, ◌∙◌, arith}
-use Rattle.texts.proofs.Growth.{wrote_none}
-use Rattle.adversary_script.specs.Scripts.{Script}
-use Rattle.round_runner.specs.Runners.{configuration_of}
-use Rattle.run_texts.proofs.WordsSoFar.{words_more, words_cut, words_all}
-use Rattle.run_texts.proofs.LockLines.{puts_locked, puts_one, cut_of_many, wrote_many}
-use Rattle.run_lines.specs.RunTexts.{lock_of_era, era_line}
-use Rattle.run_lines.proofs.LockLines.{lock_at_end}
+use Rattle.run_lines.proofs.LockLines.{locks_known}
+use Rattle.run_lines.proofs.RestBehind.{puts_as}
 use Rattle.run_lines.proofs.locks.put_locks.Goals as goal
-
-pub returns-then-version-eq1 : goal.returns-then-version-eq1
-returns-then-version-eq1 g c began plays =
-    let r = c.args.runner.now in
-    let lock = lock_of_era r.plan r.script (configuration_of g.O.Overlay.layer began r) in
-    let version = c.version.ensures ∙ ap (λ (s : Script). s.version) c.script.ensures in
-    let known = lock_at_end g.O.Overlay.layer g.O.Overlay.kept began r 0 c.locked_in.result
-    (c.locked_in.ensures.at_end began plays c.requires) in
-    puts_one r.script lock _ version _ _ _
-    c.if-version-eq1.true (puts_locked _ _ _ _ _ known c.put_locked.ensures)
-
-pub loop-era-init : goal.loop-era-init
-loop-era-init g c began plays = wrote_none _
-
-pub returns-in-Err : goal.returns-in-Err
-returns-in-Err g c began plays =
-    let r = c.args.runner.now in
-    let lock = lock_of_era r.plan r.script (configuration_of g.O.Overlay.layer began r) in
-    let version = c.version.ensures ∙ ap (λ (s : Script). s.version) c.script.ensures in
-    let size = c.eras-era-end.ensures.value
-    ∙ ap (λ (s : Script). length s.eras + 1) c.script-2.ensures in
-    cut_of_many r.script lock _ version _ _
-    c.if-version-eq1.false
-    (words_cut (era_line r.plan r.script (configuration_of g.O.Overlay.layer began r))
-    (length r.script.eras + 1) c.loop-era.era _ _ _
-    (omega (arith, c.loop-era-test.true, size)) (c.loop-era.invariant began plays)
-    (c.in-Err.ensures began plays))
-
-pub loop-era-preserved : goal.loop-era-preserved
-loop-era-preserved g c began plays =
-    let r = c.args.runner.now in
-    let size = c.eras-era-end.ensures.value
-    ∙ ap (λ (s : Script). length s.eras + 1) c.script-2.ensures in
-    words_more (era_line r.plan r.script (configuration_of g.O.Overlay.layer began r))
-    (length r.script.eras + 1) c.loop-era.era _ _ _
-    (omega (arith, c.loop-era-test.true, size)) (c.loop-era.invariant began plays)
-    (c.in-Ok.ensures began plays)
 
 pub returns : goal.returns
 returns g c began plays =
-    let r = c.args.runner.now in
-    let lock = lock_of_era r.plan r.script (configuration_of g.O.Overlay.layer began r) in
-    let version = c.version.ensures ∙ ap (λ (s : Script). s.version) c.script.ensures in
-    let size = c.eras-era-end.ensures.value
-    ∙ ap (λ (s : Script). length s.eras + 1) c.script-2.ensures in
-    wrote_many r.script lock _ version _ _
-    c.if-version-eq1.false
-    (words_all (era_line r.plan r.script (configuration_of g.O.Overlay.layer began r))
-    (length r.script.eras + 1) c.loop-era.era _ _
-    (omega (arith, c.loop-era-test.false, size)) (c.loop-era.invariant began plays))
+    puts_as _ _ _ _ _ (locks_known g.O.Overlay.layer g.O.Overlay.kept began c.args.runner.now
+    c.tell.ensures.whole c.tell.ensures.within plays c.requires) c.put_locks.ensures

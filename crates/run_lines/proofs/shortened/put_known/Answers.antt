@@ -4,8 +4,8 @@ use Rattle.run_lines.specs.PlayedTexts.{numbered}
 use Rattle.run_lines.proofs.RestBehind.{own_line, puts_as}
 use Rattle.run_lines.proofs.shortened.put_known.Goals as goal
 
-pub put_if_shown-requires-clause-number : goal.put_if_shown-requires-clause-number
-put_if_shown-requires-clause-number g c =
+pub put_if_shown-requires : goal.put_if_shown-requires
+put_if_shown-requires g c =
     c.new.ensures ∙ ap₂ numbered c.label.ensures.value c.at.ensures
 
 pub returns-in-None : goal.returns-in-None

@@ -1,7 +1,8 @@
 use Rattle.std.proofs.Common.{ℕ, [], sym, ap, ◌∙◌, subst, arith}
 use Rattle.counter_core.specs.NoLayers.{no_layer}
 use Rattle.adversary_script.specs.Scripts.{Script, IsScript}
-use Rattle.run_lines.proofs.Played.{LinesSoFar, lines_begin, over_still, on_ok}
+use Rattle.run_lines.proofs.Played.{LinesSoFar, lines_begin}
+use Rattle.layer_lines.proofs.Played.{on_ok}
 use Rattle.run_lines.proofs.RestBehind.{round_left, lines_on, lines_short, rest_behind, era_to_end}
 use Rattle.run_lines.proofs.RestBehind.{own_is_last}
 use Rattle.run_lines.proofs.shortened.put_lines.Goals as goal
@@ -19,10 +20,6 @@ pub known_end-end-requires : goal.known_end-end-requires
 known_end-end-requires g c =
     let is = c.loop-runner.invariant in
     round_left _ _ _ _ _ is.so_far is.within _ c.knows_locks.ensures c.loop-runner-test.true
-
-pub put_known-requires-clause-over : goal.put_known-requires-clause-over
-put_known-requires-clause-over g c =
-    over_still _ _ _ _ _ _ _ _ c.loop-runner.invariant.so_far c.requires.over
 
 pub returns-in-Err-clause-lines : goal.returns-in-Err-clause-lines
 returns-in-Err-clause-lines g c =
@@ -54,10 +51,6 @@ loop-runner-smaller g c =
     let skipped = c.skip_to.ensures.skipped in
     let rounds = ap (λ (s : Script). s.rounds) is.so_far.played.script in
     omega (arith, end.later, end.within, rounds, skipped.at)
-
-pub put_known-requires-2-clause-over : goal.put_known-requires-2-clause-over
-put_known-requires-2-clause-over g c =
-    over_still _ _ _ _ _ _ _ _ c.loop-runner.invariant.so_far c.requires.over
 
 pub put_known-requires-2-clause-era : goal.put_known-requires-2-clause-era
 put_known-requires-2-clause-era g c =

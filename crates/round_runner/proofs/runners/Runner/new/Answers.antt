@@ -12,7 +12,9 @@ use Rattle.round_runner.specs.Hearing.{HasRoom, AreOfNodes}
 use Rattle.round_runner.specs.Runners.{Running, IsPlaying, begun_locks}
 use Rattle.round_runner.proofs.Firsts.{begun_era}
 use Rattle.round_runner.proofs.Fitting.{layer_fits}
-use Rattle.round_runner.proofs.Playing.{begins, begun_long}
+use Rattle.layer_runs.proofs.Playing.{begun_long}
+use Rattle.round_runner.specs.Locks.{is_locked}
+use Rattle.round_runner.proofs.Playing.{begins}
 use Rattle.round_runner.proofs.runners.Runner.new.Goals as goal
 
 pub invariant_of-play : goal.invariant_of-play
@@ -73,7 +75,7 @@ invariant_of-result g c =
       here = sym (begun_era c.args.script c.rounds-rounds.ensures.script.formed.rising 0 0
           (omega (arith)) refl);
       eras = ap (λ (locks : List (Option ℕ)). length locks) c.in_ok-locks.ensures
-          ∙ begun_long c.args.tower c.args.script c.start_all.new.states.current;
+          ∙ begun_long (is_locked c.args.tower) c.args.script c.start_all.new.states.current;
     }
 
 pub returns-clause-begun : goal.returns-clause-begun

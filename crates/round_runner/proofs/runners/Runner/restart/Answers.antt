@@ -6,7 +6,9 @@ use Rattle.adversary_script.specs.Scripts.{Script, IsScript}
 use Rattle.round_runner.specs.declared.stepping.Room.{Room}
 use Rattle.round_runner.specs.Kept.{IsKept}
 use Rattle.round_runner.specs.Runners.{Running, IsPlaying}
-use Rattle.round_runner.proofs.Playing.{begins, begun_long}
+use Rattle.layer_runs.proofs.Playing.{begun_long}
+use Rattle.round_runner.specs.Locks.{is_locked}
+use Rattle.round_runner.proofs.Playing.{begins}
 use Rattle.round_runner.proofs.Rekeyed.{rekeyed, whole_still, kept_anew, begun_anew}
 use Rattle.round_runner.proofs.runners.Runner.restart.Goals as goal
 
@@ -42,7 +44,7 @@ invariant_of-self g c =
     ∙ length-map-range_with_len (start_of now) 0 now.nodes
     ∙ ap (λ (s : Script). s.nodes) c.set_key.ensures)
     (ap (λ (locks : List (Option ℕ)). length locks) c.begin_locks.ensures
-    ∙ begun_long c.self.inside.tower now c.start_all.new.states.current
+    ∙ begun_long (is_locked c.self.inside.tower) now c.start_all.new.states.current
     ∙ ap (λ (s : Script). length s.eras + 1) c.set_key.ensures ∙ sym c.self.invariant.eras))
 
 pub returns-clause-begun : goal.returns-clause-begun

@@ -1,0 +1,11 @@
+use Rattle.std.proofs.Common.{ap, ◌∙◌}
+use Rattle.adversary_script.specs.Scripts.{Script}
+use Rattle.adversary_script.specs.Eras.{first_of_era}
+use Rattle.run_texts.proofs.LockLines.{puts_era}
+use Rattle.layer_lines.proofs.locks.put_era.Goals as goal
+
+pub returns : goal.returns
+returns g c =
+    let first = c.era_start-first.ensures
+    ∙ ap (λ (s : Script). first_of_era s c.args.era) c.script.ensures in
+    puts_era _ _ _ _ _ _ _ first c.lock_of.ensures c.put_era.ensures

@@ -1,0 +1,13 @@
+pub mod LockTexts
+pub mod PlayedTexts
+pub mod SlotTexts
+pub mod DecisionTexts
+pub mod FireTexts
+pub mod EntryTexts
+pub mod LengthSeen
+pub mod Counting
+pub mod Laws
+pub mod PlayedEras
+pub mod CountedSlots
+pub mod LinePromises
+pub mod PlayedScripts

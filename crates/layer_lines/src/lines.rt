@@ -1,0 +1,51 @@
+ghost use Rattle.std.specs.Prelude.{◌≡◌, ◌<◌, ◌≤◌, true, length};
+ghost use Rattle.texts.specs.Growth.{Puts};
+ghost use Rattle.layer_lines.specs.PlayedTexts.{Wording, numbered};
+
+use counter_core::Overlay;
+use edge_io::{RisingText, TextSink, WriteFault};
+use layer_runs::Play;
+
+/// What a word writes while a script is played with a layer: lines of some configurations, each
+/// with a front and a word of each node.
+pub trait Lines<O: Overlay>: Drop {
+    ghost wording: { Self → Wording O.Kept };
+
+    /// What stands before the number of a configuration, in lines whose front is that number: at
+    /// most 12 bytes.
+    fn label(&self) -> &'static [u8]
+        ensures value { result.now ≡ (wording self.now).label }
+        ensures short { length result.now ≤ 12 };
+
+    /// Whether there is a line of the play's configuration.
+    fn shows<P: Play<O>>(&self, play: &P) -> bool
+        ensures { result ≡ (wording self.now).shows (P.position play.now).counter
+            (P.position play.now).script (P.position play.now).at (P.position play.now).scene };
+
+    /// Writes the front of its line. `number` is that of the configuration, behind the label.
+    fn put_front<K: TextSink, P: Play<O>>(
+        &self,
+        sink: &mut K,
+        play: &P,
+        number: &RisingText,
+    ) -> Result<(), WriteFault>
+        requires shown { (wording self.now).shows (P.position play.now).counter
+            (P.position play.now).script (P.position play.now).at (P.position play.now).scene
+            ≡ true }
+        requires number { number.now
+            ≡ numbered (wording self.now).label (P.position play.now).at }
+        ensures { Puts result ((wording self.now).front (P.position play.now).counter
+            (P.position play.now).script (P.position play.now).at (P.position play.now).scene)
+            (K.Sink.told sink.old) (K.Sink.told sink.new) };
+
+    /// Writes the word of node `v`, which is correct there.
+    fn put_word<K: TextSink, P: Play<O>>(
+        &self,
+        sink: &mut K,
+        play: &P,
+        v: u32,
+    ) -> Result<(), WriteFault>
+        requires { v < (P.position play.now).counter.nodes }
+        ensures { Puts result ((wording self.now).word (P.position play.now).counter
+            (P.position play.now).scene v) (K.Sink.told sink.old) (K.Sink.told sink.new) };
+}
