@@ -25,5 +25,5 @@ pub use errors::NodeError;
 pub use header_lines::NodeHeader;
 pub use headers::{HeaderError, HeaderRead, HeaderRefusal, read_header, read_header_by};
 pub use plan_lines::PlanReader;
-pub use rules::rule_word;
+pub use rules::{part_word, rule_word};
 pub use serving::serve_node;

@@ -1,10 +1,10 @@
 ghost use Rattle.std.specs.Prelude.{◌≡◌};
 ghost use Rattle.texts.specs.Growth.{Puts};
-ghost use Rattle.node_words.specs.Rules.{rule_word, node_refusal, header_line};
+ghost use Rattle.node_words.specs.Rules.{rule_word, part_word, node_refusal, header_line};
 
 use crate::{Construction, HeaderRefusal};
 use edge_io::{Piece, Sink, WriteFault, put_pieces};
-use sync_types::Rule;
+use sync_types::{Part, Rule};
 
 /// The word of a rule that a node part can fail, or any other part.
 pub fn rule_word(rule: Rule) -> &'static str
@@ -21,6 +21,21 @@ pub fn rule_word(rule: Rule) -> &'static str
         Rule::Name => "name",
         Rule::Slot => "slot",
         Rule::Overlap => "overlap",
+    }
+}
+
+/// The word of a part that is no plan.
+pub fn part_word(part: Part) -> &'static str
+    ensures { result.now ≡ part_word part }
+{
+    match part {
+        Part::Script => "script",
+        Part::Node => "node",
+        Part::Agree => "agree",
+        Part::Slots => "slots",
+        Part::Find => "find",
+        Part::Log => "log",
+        Part::Fire => "fire",
     }
 }
 

@@ -100,7 +100,7 @@ highest : halving_height (halving_of 85 0) ≡ 9
 highest = refl
 
 pub few_bits : (plan : PulseNumbers) → IsAccepted plan → (v : ℕ)
-    → bits_in (all_fields (tree_of plan) plan.modulus v) ≤ 1024
+    → bits_in (all_fields (tree_of plan) plan.modulus v) ≤ 715
 few_bits plan is v =
     let quorum = is.quorum in
     let few = is.most_nodes in

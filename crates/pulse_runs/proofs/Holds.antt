@@ -15,7 +15,9 @@ use Rattle.pulse_plan.proofs.Sound.{accepted_are_sound}
 use Rattle.pulse_runs.specs.RunPromises.{RunKeepsPromise}
 use Rattle.pulse_runs.specs.HoldPromises.{output_shown, LinesHold}
 use Rattle.pulse_runs.specs.HoldPromises.{SlotsKeepPromise}
-use Rattle.pulse_runs.proofs.Scripts.{IsRead, HasTable, has_table}
+use Rattle.pulse_runs.specs.LayerInputs.{slots_shape}
+use Rattle.pulse_runs.specs.ScriptInputs.{FitsTable}
+use Rattle.pulse_runs.proofs.Scripts.{IsRead, IsLayered, has_table, read_for}
 
 module _ (exact : WordsAreExact) (holds : HolderHolds) (is_one : HolderIsOne)
     (law : AtMostOneInALine) where
@@ -47,10 +49,12 @@ module _ (exact : WordsAreExact) (holds : HolderHolds) (is_one : HolderIsOne)
   pub slots_keep : ((plan : PulseNumbers) (script : Script) → IsRead plan script
       → RunKeepsPromise plan script) → SlotsKeepPromise
   slots_keep runs input s is =
-      let has : HasTable s.plan s.table s.script = has_table input s is in
+      let has : IsLayered slots_shape FitsTable s = has_table input s is in
+      let for : IsReadFor (machine_in s.plan) s.script =
+      read_for s.plan has.accepted s.script has.script in
       record {
-        run = runs s.plan s.script has.read;
+        run = runs s.plan s.script (record { accepted = has.accepted; for = for });
         fits = has.fits;
-        lines = lines_hold (machine_in s.plan) s.script s.table has.fits.apart
-            (accepted_are_sound s.plan has.read.accepted) has.read.for;
+        lines = lines_hold (machine_in s.plan) s.script s.said has.fits.apart
+            (accepted_are_sound s.plan has.accepted) for;
       }

@@ -1,7 +1,14 @@
 pub mod ReadParts
+pub mod LayerShaped
 pub mod Scripts
 pub mod Kept
 pub mod Holds
+pub mod ReadOver
+pub mod Playable
+pub mod LayerKept
+pub mod LayerPlays
 pub mod Read
+pub mod ReadLayers
+pub mod LayersRead
 pub mod ScriptInputs
 pub mod Written

@@ -7,6 +7,7 @@ use Rattle.std.proofs.lemmas.Result.{err_from_is_err_and}
 use Rattle.std.proofs.lemmas.List.{take_all, length-drop}
 use Rattle.texts.specs.Lines.{lines_of}
 use Rattle.texts.specs.Parts.{At, Found}
+use Rattle.sync_types.specs.declared.answers.Part.{Part}
 use Rattle.sync_types.specs.declared.answers.Rule.{Rule}
 use Rattle.state_codec.specs.Shapes.{Shape, shape_nodes}
 use Rattle.adversary_script.specs.declared.refusals.ScriptError.{ScriptError}
@@ -14,25 +15,16 @@ use Rattle.adversary_script.specs.declared.refusals.ScriptError.TheVariants as s
 use Rattle.adversary_script.specs.Scripts.{Script}
 use Rattle.adversary_script.specs.ScriptPart.{script_for}
 use Rattle.adversary_script.specs.ScriptRefusals as scripts
-use Rattle.slot_table.specs.declared.lines.SlotLine.{SlotLine}
-use Rattle.slot_table.specs.declared.refusals.SlotError.{SlotError}
-use Rattle.slot_table.specs.declared.refusals.SlotError.TheVariants as slot
-use Rattle.slot_table.specs.SlotPart.{part_for}
-use Rattle.slot_table.specs.SlotRefusals as slots
-use Rattle.pulse_plan.specs.Plans.{PulseNumbers, IsAccepted}
+use Rattle.pulse_plan.specs.Plans.{PulseNumbers}
 use Rattle.pulse_texts.specs.PulsesPart.{pulses_of, found_in}
 use Rattle.pulse_nodes.specs.PulseShapes.{shape_of}
-use Rattle.pulse_nodes.proofs.Shaped as shaped
 use Rattle.pulse_runs.specs.declared.errors.RunRefusal.{RunRefusal}
 use Rattle.pulse_runs.specs.declared.errors.PlayError.{PlayError}
 use Rattle.pulse_runs.specs.declared.errors.PlayError.TheVariants as error
-use Rattle.pulse_runs.specs.RunInputs.{in_plan, in_slots, in_script, then_read, script_behind}
-use Rattle.pulse_runs.specs.RunInputs.{with_script, scripted_behind, scripted_of, with_table}
-use Rattle.pulse_runs.specs.RunInputs.{behind_table, slotted_behind, slotted_of}
-use Rattle.pulse_runs.specs.Readings.{slots_error, script_error, Refuses, IsReadBehind}
-use Rattle.pulse_runs.specs.Readings.{FailsBehind, IsReadAs, IsSlotted}
-use Rattle.pulse_runs.proofs.ReadParts.{holds_at}
-use Rattle.pulse_runs.proofs.Scripts.{script_read}
+use Rattle.pulse_runs.specs.RunInputs.{in_plan, in_part, in_script, then_read, script_behind}
+use Rattle.pulse_runs.specs.RunInputs.{with_script, scripted_behind, scripted_of, with_said}
+use Rattle.pulse_runs.specs.RunInputs.{Layered, behind_part, layered_behind, layered_of}
+use Rattle.pulse_runs.specs.Readings.{script_error, Refuses, IsReadBehind, FailsBehind}
 
 -- all that is left of a text behind its front
 all_left : (text : List ℕ) (bytes : ℕ)
@@ -49,39 +41,27 @@ module _ {T E V : Type 0} (P : T → Type 0) (defined : Result V RunRefusal) (gi
 
 -- ---- the script behind a plan
 
-module _ (plan : PulseNumbers) (accepted : IsAccepted plan) (number : ℕ)
-    (lines : List (List ℕ)) (shape : Shape) (same : shape ≡ shape_of plan) (faults : ℕ)
-    (few : faults ≡ plan.faults) where
-  -- the script, by the shape that was made
+module _ (plan : PulseNumbers) (number : ℕ) (lines : List (List ℕ)) (shape : Shape)
+    (size : shape_nodes shape ≡ plan.nodes) (faults : ℕ) (few : faults ≡ plan.faults) where
+  -- the script, by the shape's nodes
   abbrev pub said : Result Script (At Rule)
   said = script_for (shape_nodes shape) faults shape number lines
 
-  said_is : said ≡ script_behind plan number lines
+  said_is : said ≡ script_behind plan shape number lines
   said_is =
-      ap (λ (s : Shape). script_for (shape_nodes s) faults s number lines) same
-      ∙ ap (λ (f : ℕ). script_for (shape_nodes (shape_of plan)) f (shape_of plan) number lines) few
-      ∙ ap (λ (n : ℕ). script_for n plan.faults (shape_of plan) number lines)
-      (shaped.nodes_are plan accepted)
+      ap (λ (f : ℕ). script_for (shape_nodes shape) f shape number lines) few
+      ∙ ap (λ (n : ℕ). script_for n plan.faults shape number lines) size
 
   pub script_fails : (e : ScriptError) → scripts.FailsAsDefined e said
-      → FailsBehind plan number lines (script_error e)
+      → FailsBehind plan shape number lines (script_error e)
   script_fails script.NoMemory defined = tt
   script_fails (script.Refused refused) defined =
       ap (then_read in_script (λ (s : Script). Ok s)) (sym said_is ∙ defined)
 
   pub read_behind : (machine : PulseNumbers) → machine ≡ plan → (s : Script) → said ≡ Ok s
-      → s.shape ≡ shape → IsReadBehind plan number lines (machine, shape, s)
-  read_behind machine is s read states =
-      let behind = sym said_is ∙ read in
-      record {
-        same = is;
-        is = behind;
-        plays = record {
-          for = rw is (holds_at _ (script_behind plan number lines) s behind
-              (script_read plan accepted number lines));
-          shape = states;
-        };
-      }
+      → IsReadBehind plan shape number lines (machine, shape, s)
+  read_behind machine is s read =
+      record { same = is; states = refl; is = sym said_is ∙ read }
 
 same_error : {V : Type 0} (r : Result V RunRefusal) (a b : RunRefusal) → r ≡ Err a → r ≡ Err b
     → a ≡ b
@@ -117,59 +97,80 @@ module _ (input : List ℕ) (plan : PulseNumbers) (bytes lines : ℕ)
         behind = lines_of text;
       })) (sym (all_left input bytes))
 
-  pub scripted_is : (s : PulseNumbers × Shape × Script)
-      → IsReadBehind plan (1 + lines) (lines_of rest) s → IsReadAs input s
-  scripted_is s is = record {
-    is = by_plan scripted_behind ∙ ap (then_read in_script (with_script plan)) is.is
-        ∙ ap (λ (p : PulseNumbers). with_script p s.2) (sym is.same);
-    plays = is.plays;
-  }
+  module _ (shape : Shape) (own : shape ≡ shape_of plan) where
+    scripted_is : then_read in_plan scripted_behind (pulses_of input)
+        ≡ then_read in_script (with_script plan)
+        (script_behind plan shape (1 + lines) (lines_of rest))
+    scripted_is =
+        by_plan scripted_behind
+        ∙ ap (λ (s : Shape). then_read in_script (with_script plan)
+        (script_behind plan s (1 + lines) (lines_of rest))) (sym own)
 
-  pub scripted_fails : (e : PlayError) → FailsBehind plan (1 + lines) (lines_of rest) e
-      → Refuses e (scripted_of input)
-  scripted_fails e fails =
-      subst (Refuses e) (sym (by_plan scripted_behind))
-      (behind_fails (with_script plan) (script_behind plan (1 + lines) (lines_of rest)) e fails)
+    pub is_scripted : (s : PulseNumbers × Shape × Script)
+        → IsReadBehind plan shape (1 + lines) (lines_of rest) s
+        → scripted_of input ≡ Ok (record { plan = s.0; script = s.2 })
+    is_scripted s is =
+        scripted_is ∙ ap (then_read in_script (with_script plan)) is.is
+        ∙ ap (λ (p : PulseNumbers). with_script p s.2) (sym is.same)
 
-  pub table_fails : (e : SlotError)
-      → slots.FailsAsDefined e (part_for plan.nodes plan.modulus (1 + lines) (lines_of rest))
-      → Refuses (slots_error e) (slotted_of input)
-  table_fails slot.NoMemory defined = tt
-  table_fails (slot.Refused refused) defined =
-      by_plan slotted_behind
-      ∙ ap (then_read in_slots (behind_table plan (1 + lines))) defined
+    pub scripted_fails : (e : PlayError)
+        → FailsBehind plan shape (1 + lines) (lines_of rest) e → Refuses e (scripted_of input)
+    scripted_fails e fails =
+        subst (Refuses e) (sym scripted_is)
+        (behind_fails (with_script plan)
+        (script_behind plan shape (1 + lines) (lines_of rest)) e fails)
 
-  -- with a slot table behind the plan
-  module _ (table : List SlotLine) (taken part_lines : ℕ)
-      (part : part_for plan.nodes plan.modulus (1 + lines) (lines_of rest)
-      ≡ Ok (record { value = table; taken = part_lines; behind = lines_of (drop taken rest) }))
-    where
+  -- with a part of that name behind the plan
+  module _ {Said : Type 0} (name : Part)
+      (part_of : PulseNumbers → (number : ℕ) → List (List ℕ) → Result (Found Said) (At Rule))
+      (shape_for : PulseNumbers → Said → Shape) where
+    abbrev defined : Result (Layered Said) RunRefusal
+    defined = layered_of name part_of shape_for input
+
+    by_part : defined
+        ≡ then_read (in_part name) (behind_part name part_of shape_for plan (1 + lines))
+        (part_of plan (1 + lines) (lines_of rest))
+    by_part = by_plan (layered_behind name part_of shape_for)
+
+    pub part_fails : (at : At Rule) → part_of plan (1 + lines) (lines_of rest) ≡ Err at
+        → defined ≡ Err (in_part name at)
+    part_fails at is =
+        by_part
+        ∙ ap (then_read (in_part name) (behind_part name part_of shape_for plan (1 + lines))) is
+
+    module _ (value : Said) (taken part_lines : ℕ)
+        (part : part_of plan (1 + lines) (lines_of rest)
+        ≡ Ok (record { value = value; taken = part_lines; behind = lines_of (drop taken rest) }))
+        (shape : Shape) (own : shape ≡ shape_for plan value) where
       abbrev pub behind : List ℕ
       behind = take (length rest - taken) (drop taken rest)
 
       abbrev script_number : ℕ
       script_number = 1 + lines + part_lines
 
-      by_table : slotted_of input
-          ≡ then_read in_script (with_table plan table)
-          (script_behind plan script_number (lines_of behind))
-      by_table =
-          by_plan slotted_behind
-          ∙ ap (then_read in_slots (behind_table plan (1 + lines))) part
-          ∙ ap (λ (text : List ℕ). then_read in_script (with_table plan table)
-          (script_behind plan script_number (lines_of text))) (sym (all_left rest taken))
+      abbrev script_by : Shape → List ℕ → Result (Layered Said) RunRefusal
+      script_by s text =
+          then_read in_script (with_said plan value)
+          (script_behind plan s script_number (lines_of text))
 
-      pub slotted_is : (s : PulseNumbers × Shape × Script)
-          → IsReadBehind plan script_number (lines_of behind) s → IsSlotted input (table, s)
-      slotted_is s is = record {
-        is = by_table ∙ ap (then_read in_script (with_table plan table)) is.is
-            ∙ ap (λ (p : PulseNumbers). with_table p table s.2) (sym is.same);
-        plays = is.plays;
-      }
+      by_script : defined ≡ script_by shape behind
+      by_script =
+          by_part
+          ∙ ap (then_read (in_part name) (behind_part name part_of shape_for plan (1 + lines))) part
+          ∙ ap (λ (text : List ℕ). script_by (shape_for plan value) text)
+          (sym (all_left rest taken))
+          ∙ ap (λ (s : Shape). script_by s behind) (sym own)
 
-      pub slotted_fails : (e : PlayError)
-          → FailsBehind plan script_number (lines_of behind) e → Refuses e (slotted_of input)
-      slotted_fails e fails =
-          subst (Refuses e) (sym by_table)
-          (behind_fails (with_table plan table)
-          (script_behind plan script_number (lines_of behind)) e fails)
+      pub is_layered : (s : PulseNumbers × Shape × Script)
+          → IsReadBehind plan shape script_number (lines_of behind) s
+          → defined ≡ Ok (record { plan = s.0; said = value; script = s.2 })
+      is_layered s is =
+          by_script ∙ ap (then_read in_script (with_said plan value)) is.is
+          ∙ ap (λ (p : PulseNumbers). with_said p value s.2) (sym is.same)
+
+      pub layered_fails : (e : PlayError)
+          → FailsBehind plan shape script_number (lines_of behind) e → Refuses e defined
+      layered_fails e fails =
+          subst (Refuses e) (sym by_script)
+          (behind_fails (with_said plan value)
+          (script_behind plan shape script_number (lines_of behind)) e fails)

@@ -1,19 +1,22 @@
 -- Inputs with a script, as texts of their parts, are read as what these say.
-use Rattle.std.proofs.Common.{◌≡◌, ℕ, ◌+◌, ◌≤◌, List, ◌++◌, length, Result, Ok, ap, ◌∙◌, arith}
+use Rattle.std.proofs.Common.{◌≡◌, ℕ, ◌+◌, ◌<◌, ◌≤◌, List, ◌++◌, length, Result, Ok, ap, ◌∙◌, arith}
 use Rattle.std.specs.Prelude.{IfOk}
 use Rattle.texts.specs.Lines.{lines_of}
-use Rattle.texts.specs.Parts.{Found}
-use Rattle.state_codec.specs.Shapes.{Fields, fields_at, bits_in}
+use Rattle.texts.specs.Parts.{At, Found}
+use Rattle.sync_types.specs.declared.answers.Part.{Part}
+use Rattle.sync_types.specs.declared.answers.Part.TheVariants as part
+use Rattle.sync_types.specs.declared.answers.Rule.{Rule}
+use Rattle.state_codec.specs.Shapes.{Shape, IsShape, Fields, fields_at, bits_in}
 use Rattle.state_codec.proofs.Lows.{depth_at, fields_limited}
 use Rattle.adversary_script.specs.Scripts.{Script}
 use Rattle.adversary_script.specs.ScriptTexts.{script_text}
 use Rattle.adversary_script.specs.Writable.{FitsLines, IsWritableFor}
 use Rattle.adversary_script.specs.ScriptLaws.{ScriptTextIsWhole, ReadIsWritable}
 use Rattle.node_words.proofs.StateDigits.{most_bits}
-use Rattle.slot_table.specs.declared.lines.SlotLine.{SlotLine}
-use Rattle.slot_table.specs.SlotPart.{part_for, IsTable}
 use Rattle.slot_table.specs.SlotTexts.{slots_text, TableTextIsRead}
 use Rattle.slot_table.proofs.FitLines.{tables_fit}
+use Rattle.consensus_layer.specs.AgreeTexts.{agree_text, AgreeTextIsReadOver}
+use Rattle.consensus_layer.proofs.FitInputs.{inputs_fit_over}
 use Rattle.pulse_plan.specs.Plans.{PulseNumbers, IsAccepted}
 use Rattle.pulse_texts.specs.PulsesPart.{pulses_of}
 use Rattle.pulse_texts.specs.PulsesTexts.{PulsesTextIsRead}
@@ -22,118 +25,170 @@ use Rattle.pulse_nodes.specs.PulseShapes.{shape_of}
 use Rattle.pulse_nodes.proofs.PlanBits.{some_bits_at, few_registers}
 use Rattle.pulse_nodes.proofs.Shaped as shaped
 use Rattle.pulse_runs.specs.declared.errors.RunRefusal.{RunRefusal}
-use Rattle.pulse_runs.specs.RunInputs.{in_plan, in_slots, in_script, then_read, script_behind}
+use Rattle.pulse_runs.specs.RunInputs.{in_plan, in_part, in_script, then_read, script_behind}
 use Rattle.pulse_runs.specs.RunInputs.{Scripted, with_script, scripted_behind, scripted_of}
-use Rattle.pulse_runs.specs.RunInputs.{Slotted, with_table, behind_table, slotted_behind}
-use Rattle.pulse_runs.specs.RunInputs.{slotted_of}
-use Rattle.pulse_runs.specs.ScriptInputs.{scripted_text, slotted_text, ScriptInputsAreRead}
+use Rattle.pulse_runs.specs.RunInputs.{Layered, with_said, behind_part, layered_behind}
+use Rattle.pulse_runs.specs.RunInputs.{layered_of}
+use Rattle.pulse_runs.specs.LayerInputs.{slots_part, slots_shape, slotted_of}
+use Rattle.pulse_runs.specs.LayerInputs.{numbers_of, agree_part, agree_shape, agreed_of}
+use Rattle.pulse_runs.specs.LayerShapes.{shape_with}
+use Rattle.pulse_runs.specs.LayerReadings.{FitsAgreed}
+use Rattle.pulse_runs.specs.ScriptInputs.{scripted_text, layered_text, LayeredAreRead}
+use Rattle.pulse_runs.specs.ScriptInputs.{FitsTable, ScriptInputsAreRead}
 use Rattle.pulse_runs.proofs.ReadParts.{then_holds}
+use Rattle.pulse_runs.proofs.ReadLayers.{are_numbers}
+use Rattle.pulse_runs.proofs.LayerShaped as shaped_with
 
--- the digits of each state of a plan fit a line
-fits : (plan : PulseNumbers) → IsAccepted plan → FitsLines plan.nodes (shape_of plan)
-fits plan accepted v lt =
-    let own : Fields = fields_at (shape_of plan) v in
-    let some : 1 ≤ bits_in own = omega (arith, some_bits_at plan accepted v lt) in
-    let most = most_bits own (fields_limited (shape_of plan) v (shaped.is_shape plan accepted)) in
-    let bits : bits_in own ≤ 14321 =
-    omega (arith, most, depth_at (shape_of plan) v, few_registers plan accepted) in
+-- A shape whose states have digits that fit a line: it has few registers, and each node's state
+-- takes some bits.
+record HasText (nodes : ℕ) (shape : Shape) : Type 0 where
+  sound : IsShape shape
+  few : shape.depth ≤ 342
+  some : (v : ℕ) → v < nodes → 0 < bits_in (fields_at shape v)
+
+fits : (nodes : ℕ) (shape : Shape) → HasText nodes shape → FitsLines nodes shape
+fits nodes shape has v lt =
+    let own : Fields = fields_at shape v in
+    let some = has.some v lt in
+    let few = has.few in
+    let most = most_bits own (fields_limited shape v has.sound) in
+    let bits : bits_in own ≤ 14405 = omega (arith, most, depth_at shape v, few) in
     (omega (arith, some), omega (arith, bits))
 
--- ---- the texts of parts
+-- the plan's own
+own_has : (plan : PulseNumbers) → IsAccepted plan → HasText plan.nodes (shape_of plan)
+own_has plan accepted = record {
+  sound = shaped.is_shape plan accepted;
+  few = let few = few_registers plan accepted in omega (arith, few);
+  some = some_bits_at plan accepted;
+}
 
-module _ (fronts : PulsesTextIsRead) (whole : ScriptTextIsWhole) (tables : TableTextIsRead)
-    (plan : PulseNumbers) (accepted : IsAccepted plan) where
-  abbrev Writes : Script → Type 0
-  Writes = IsWritableFor plan.nodes plan.faults (shape_of plan)
+-- that with registers of a layer behind
+more_has : (plan : PulseNumbers) → IsAccepted plan → (values count : ℕ) → 2 ≤ values
+    → values ≤ 65536 → count ≤ 2 → HasText plan.nodes (shape_with plan values count)
+more_has plan accepted values count least most few = record {
+  sound = shaped_with.is_shape plan accepted values count least most;
+  few = shaped_with.few_more plan accepted values count least most few;
+  some = shaped_with.some_bits plan accepted values count least most;
+}
 
+module _ (fronts : PulsesTextIsRead) (whole : ScriptTextIsWhole) where
   -- a script, and what is made of it
-  script_is : {W : Type 0} (make : Script → Result W RunRefusal) (number : ℕ) (script : Script)
-      → Writes script
-      → then_read in_script make (script_behind plan number (lines_of (script_text script)))
-      ≡ make script
-  script_is make number script is =
-      ap (then_read in_script make) (whole plan.nodes plan.faults accepted.most_nodes
-      (shape_of plan) (shaped.is_shape plan accepted) (fits plan accepted) script is number)
+  script_is : {W : Type 0} (plan : PulseNumbers) → IsAccepted plan → (shape : Shape)
+      → HasText plan.nodes shape → (make : Script → Result W RunRefusal) (number : ℕ)
+      (script : Script) → IsWritableFor plan.nodes plan.faults shape script
+      → then_read in_script make
+      (script_behind plan shape number (lines_of (script_text script))) ≡ make script
+  script_is plan accepted shape has make number script is =
+      ap (then_read in_script make)
+      (whole plan.nodes plan.faults accepted.most_nodes shape has.sound
+      (fits plan.nodes shape has) script is number)
 
-  run_read : (script : Script) → Writes script
+  run_read : (plan : PulseNumbers) → IsAccepted plan → (script : Script)
+      → IsWritableFor plan.nodes plan.faults (shape_of plan) script
       → scripted_of (scripted_text plan script) ≡ Ok (record { plan = plan; script = script })
-  run_read script is =
+  run_read plan accepted script is =
       ap (then_read in_plan scripted_behind) (fronts plan (script_text script) accepted)
-      ∙ script_is (with_script plan) 4 script is
+      ∙ script_is plan accepted (shape_of plan) (own_has plan accepted) (with_script plan) 4 script
+      is
 
-  slots_read : (table : List SlotLine) → IsTable plan.nodes plan.modulus table
-      → (script : Script) → Writes script
-      → slotted_of (slotted_text plan table script)
-      ≡ Ok (record { plan = plan; table = table; script = script })
-  slots_read table for script is =
-      ap (then_read in_plan slotted_behind)
-      (fronts plan (slots_text table ++ script_text script) accepted)
-      ∙ ap (then_read in_slots (behind_table plan 4))
-      (tables plan.nodes plan.modulus (omega (arith, accepted.most_nodes)) accepted.most_modulus
-      table for 4 (script_text script))
-      ∙ script_is (with_table plan table) (4 + (length table + 2)) script is
+  module _ (writable : ReadIsWritable) where
+    abbrev RunIsRead : Scripted → Type 0
+    RunIsRead read = scripted_of (scripted_text read.plan read.script) ≡ Ok read
 
--- ---- what any input is read as
+    run_again : (input : List ℕ) → IfOk (scripted_of input) RunIsRead
+    run_again input =
+        then_holds in_plan scripted_behind (λ found. IsAccepted found.value) RunIsRead
+        (pulses_of input) (read_is_accepted input)
+        (λ found accepted.
+        let plan : PulseNumbers = found.value in
+        then_holds in_script (with_script plan)
+        (IsWritableFor plan.nodes plan.faults (shape_of plan)) RunIsRead
+        (script_behind plan (shape_of plan) (1 + found.taken) found.behind)
+        (writable plan.nodes plan.faults (shape_of plan) (shaped.is_shape plan accepted)
+        (1 + found.taken) found.behind)
+        (run_read plan accepted))
 
-module _ (fronts : PulsesTextIsRead) (whole : ScriptTextIsWhole) (tables : TableTextIsRead)
-    (writable : ReadIsWritable) where
-  abbrev AcceptedIn : Found PulseNumbers → Type 0
-  AcceptedIn found = IsAccepted found.value
+    -- a part of that name, whose text has so many lines and is read as what it says
+    module _ {Said : Type 0} (name : Part)
+        (part_of : PulseNumbers → (number : ℕ) → List (List ℕ) → Result (Found Said) (At Rule))
+        (shape_for : PulseNumbers → Said → Shape) (Fits : PulseNumbers → Said → Type 0)
+        (text : Said → List ℕ) (size : Said → ℕ)
+        (part_read : (plan : PulseNumbers) → IsAccepted plan → (said : Said) → Fits plan said
+        → (number : ℕ) (rest : List ℕ) → part_of plan number (lines_of (text said ++ rest))
+        ≡ Ok (record { value = said; taken = size said; behind = lines_of rest }))
+        (fit : (plan : PulseNumbers) → IsAccepted plan → (number : ℕ) (lines : List (List ℕ))
+        → IfOk (part_of plan number lines) (λ found. Fits plan found.value))
+        (has : (plan : PulseNumbers) → IsAccepted plan → (said : Said) → Fits plan said
+        → HasText plan.nodes (shape_for plan said)) where
+      text_read : (plan : PulseNumbers) → IsAccepted plan → (said : Said) → Fits plan said
+          → (script : Script) → IsWritableFor plan.nodes plan.faults (shape_for plan said) script
+          → layered_of name part_of shape_for (layered_text text plan said script)
+          ≡ Ok (record { plan = plan; said = said; script = script })
+      text_read plan accepted said for script is =
+          ap (then_read in_plan (layered_behind name part_of shape_for))
+          (fronts plan (text said ++ script_text script) accepted)
+          ∙ ap (then_read (in_part name) (behind_part name part_of shape_for plan 4))
+          (part_read plan accepted said for 4 (script_text script))
+          ∙ script_is plan accepted (shape_for plan said) (has plan accepted said for)
+          (with_said plan said) (4 + size said) script is
 
-  module _ (plan : PulseNumbers) (accepted : IsAccepted plan) where
-    -- the script behind a part can be written
-    can_write : (number : ℕ) (lines : List (List ℕ))
-        → IfOk (script_behind plan number lines) (Writes fronts whole tables plan accepted)
-    can_write number lines =
-        writable plan.nodes plan.faults (shape_of plan) (shaped.is_shape plan accepted) number
-        lines
+      abbrev IsReadAgain : Layered Said → Type 0
+      IsReadAgain read =
+          layered_of name part_of shape_for (layered_text text read.plan read.said read.script)
+          ≡ Ok read
 
-  abbrev RunIsRead : Scripted → Type 0
-  RunIsRead read = scripted_of (scripted_text read.plan read.script) ≡ Ok read
+      part_again : (plan : PulseNumbers) → IsAccepted plan → (number : ℕ) (found : Found Said)
+          → Fits plan found.value
+          → IfOk (behind_part name part_of shape_for plan number found) IsReadAgain
+      part_again plan accepted number found for =
+          let shape = shape_for plan found.value in
+          then_holds in_script (with_said plan found.value)
+          (IsWritableFor plan.nodes plan.faults shape) IsReadAgain
+          (script_behind plan shape (number + found.taken) found.behind)
+          (writable plan.nodes plan.faults shape (has plan accepted found.value for).sound
+          (number + found.taken) found.behind)
+          (text_read plan accepted found.value for)
 
-  run_again : (input : List ℕ) → IfOk (scripted_of input) RunIsRead
-  run_again input =
-      then_holds in_plan scripted_behind AcceptedIn RunIsRead (pulses_of input)
-      (read_is_accepted input)
-      (λ found accepted.
-      let plan : PulseNumbers = found.value in
-      then_holds in_script (with_script plan) (Writes fronts whole tables plan accepted) RunIsRead
-      (script_behind plan (1 + found.taken) found.behind)
-      (can_write plan accepted (1 + found.taken) found.behind)
-      (run_read fronts whole tables plan accepted))
+      read_again : (input : List ℕ)
+          → IfOk (layered_of name part_of shape_for input) IsReadAgain
+      read_again input =
+          then_holds in_plan (layered_behind name part_of shape_for)
+          (λ found. IsAccepted found.value) IsReadAgain (pulses_of input) (read_is_accepted input)
+          (λ found accepted.
+          let plan : PulseNumbers = found.value in
+          let number : ℕ = 1 + found.taken in
+          then_holds (in_part name) (behind_part name part_of shape_for plan number)
+          (λ f. Fits plan f.value) IsReadAgain (part_of plan number found.behind)
+          (fit plan accepted number found.behind) (part_again plan accepted number))
 
-  abbrev SlotsAreRead : Slotted → Type 0
-  SlotsAreRead read = slotted_of (slotted_text read.plan read.table read.script) ≡ Ok read
+      layered_are_read : LayeredAreRead (layered_of name part_of shape_for) text shape_for Fits
+      layered_are_read = record { read = text_read; others = read_again }
 
-  module _ (plan : PulseNumbers) (accepted : IsAccepted plan) (number : ℕ) where
-    abbrev FitsIn : Found (List SlotLine) → Type 0
-    FitsIn found = IsTable plan.nodes plan.modulus found.value
+    slots_are_read : TableTextIsRead
+        → LayeredAreRead slotted_of slots_text slots_shape FitsTable
+    slots_are_read tables =
+        layered_are_read part.Slots slots_part slots_shape FitsTable slots_text
+        (λ table. length table + 2)
+        (λ plan accepted table for.
+        tables plan.nodes plan.modulus (omega (arith, accepted.most_nodes)) accepted.most_modulus
+        table for)
+        (λ plan accepted. tables_fit plan.nodes plan.modulus)
+        (λ plan accepted table for. own_has plan accepted)
 
-    table_again : (found : Found (List SlotLine)) → FitsIn found
-        → IfOk (behind_table plan number found) SlotsAreRead
-    table_again found for =
-        then_holds in_script (with_table plan found.value)
-        (Writes fronts whole tables plan accepted) SlotsAreRead
-        (script_behind plan (number + found.taken) found.behind)
-        (can_write plan accepted (number + found.taken) found.behind)
-        (slots_read fronts whole tables plan accepted found.value for)
+    agreed_are_read : AgreeTextIsReadOver
+        → LayeredAreRead agreed_of agree_text agree_shape FitsAgreed
+    agreed_are_read texts =
+        layered_are_read part.Agree agree_part agree_shape FitsAgreed agree_text (λ said. 4)
+        (λ plan accepted said for. texts (numbers_of plan) (are_numbers plan accepted) said for)
+        (λ plan accepted. inputs_fit_over (numbers_of plan))
+        (λ plan accepted said for.
+        more_has plan accepted said.values 1 for.two for.few (omega arith))
 
-  slots_again : (input : List ℕ) → IfOk (slotted_of input) SlotsAreRead
-  slots_again input =
-      then_holds in_plan slotted_behind AcceptedIn SlotsAreRead (pulses_of input)
-      (read_is_accepted input)
-      (λ found accepted.
-      let plan : PulseNumbers = found.value in
-      let number : ℕ = 1 + found.taken in
-      then_holds in_slots (behind_table plan number) (FitsIn plan accepted number) SlotsAreRead
-      (part_for plan.nodes plan.modulus number found.behind)
-      (tables_fit plan.nodes plan.modulus number found.behind)
-      (table_again plan accepted number))
-
-  pub script_inputs_read : ScriptInputsAreRead
-  script_inputs_read = record {
-    run = run_read fronts whole tables;
-    others = run_again;
-    slots = slots_read fronts whole tables;
-    other_slots = slots_again;
-  }
+    pub script_inputs_read : TableTextIsRead → AgreeTextIsReadOver → ScriptInputsAreRead
+    script_inputs_read tables inputs = record {
+      run = run_read;
+      others = run_again;
+      slots = slots_are_read tables;
+      consensus = agreed_are_read inputs;
+    }

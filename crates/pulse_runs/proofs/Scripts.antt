@@ -1,16 +1,18 @@
--- An input that is read: its plan is accepted, its slot table is one for the plan, and its script
--- is one for the plan's machine.
-use Rattle.std.proofs.Common.{◌≡◌, ℕ, ◌+◌, List, Ok, refl, sym, ◌∙◌, subst, arith}
+-- An input that is read: its plan is accepted, a part behind it fits it, and the script is one for
+-- the plan's machine.
+use Rattle.std.proofs.Common.{◌≡◌, ℕ, ◌+◌, List, Result, Ok, refl, sym, ◌∙◌, subst, arith}
 use Rattle.std.specs.Prelude.{IfOk}
-use Rattle.texts.specs.Parts.{Found}
-use Rattle.state_codec.specs.Shapes.{shape_nodes}
+use Rattle.texts.specs.Parts.{At, Found}
+use Rattle.sync_types.specs.declared.answers.Part.{Part}
+use Rattle.sync_types.specs.declared.answers.Part.TheVariants as part
+use Rattle.sync_types.specs.declared.answers.Rule.{Rule}
+use Rattle.state_codec.specs.Shapes.{Shape, IsShape, shape_nodes}
 use Rattle.adversary_script.specs.Scripts.{Script, IsScript}
 use Rattle.adversary_script.specs.ScriptPart.{IsScriptFor}
 use Rattle.adversary_script.proofs.ReadScripts.{script_fits, script_is_script}
 use Rattle.machine_runner.specs.Laws.{IsShapeOf, IsReadFor}
 use Rattle.machine_runner.proofs.ReadFor.{readers_fit}
 use Rattle.slot_table.specs.declared.lines.SlotLine.{SlotLine}
-use Rattle.slot_table.specs.SlotPart.{part_for, IsTable}
 use Rattle.slot_table.proofs.FitLines.{tables_fit}
 use Rattle.pulse_plan.specs.Halvings.{halving_faults}
 use Rattle.pulse_plan.proofs.Numbers.{faults_of_halving}
@@ -21,10 +23,12 @@ use Rattle.pulse_texts.specs.PulsesPart.{pulses_of}
 use Rattle.pulse_texts.proofs.Rewritten.{read_is_accepted}
 use Rattle.pulse_nodes.specs.PulseShapes.{shape_of}
 use Rattle.pulse_nodes.proofs.Shaped as shaped
-use Rattle.pulse_runs.specs.RunInputs.{in_plan, in_slots, in_script, script_behind}
-use Rattle.pulse_runs.specs.RunInputs.{Scripted, with_script, scripted_behind, scripted_of}
-use Rattle.pulse_runs.specs.RunInputs.{Slotted, with_table, behind_table, slotted_behind}
-use Rattle.pulse_runs.specs.RunInputs.{slotted_of}
+use Rattle.pulse_runs.specs.RunInputs.{in_plan, in_part, in_script, script_behind, Scripted}
+use Rattle.pulse_runs.specs.RunInputs.{with_script, scripted_behind, scripted_of, Layered}
+use Rattle.pulse_runs.specs.RunInputs.{with_said, behind_part, layered_behind, layered_of}
+use Rattle.pulse_runs.specs.LayerInputs.{slots_part, slots_shape, slotted_of}
+use Rattle.pulse_runs.specs.Readings.{IsFor}
+use Rattle.pulse_runs.specs.ScriptInputs.{FitsTable}
 use Rattle.pulse_runs.proofs.ReadParts.{then_holds, both_hold, holds_at}
 
 -- the plan is accepted, and the script is one for its machine
@@ -32,13 +36,24 @@ pub record IsRead (plan : PulseNumbers) (script : Script) : Type 0 where
   pub accepted : IsAccepted plan
   pub for : IsReadFor (machine_in plan) script
 
--- and the table is one of the plan's nodes and outputs
-pub record HasTable (plan : PulseNumbers) (table : List SlotLine) (script : Script)
-    : Type 0 where
-  pub read : IsRead plan script
-  pub fits : IsTable plan.nodes plan.modulus table
+-- the plan is accepted, what is said fits it, and the script is one for both
+pub record IsLayered {Said : Type 0} (shape_for : PulseNumbers → Said → Shape)
+    (Fits : PulseNumbers → Said → Type 0) (read : Layered Said) : Type 0 where
+  pub accepted : IsAccepted read.plan
+  pub fits : Fits read.plan read.said
+  pub script : IsFor read.plan (shape_for read.plan read.said) read.script
 
--- ---- a script for the plan's numbers and shape is one for its machine
+-- a script that is read behind a plan is one for the shape by which it is read
+pub script_is_for : (plan : PulseNumbers) (shape : Shape) → IsShape shape → (number : ℕ)
+    (lines : List (List ℕ)) → IfOk (script_behind plan shape number lines) (IsFor plan shape)
+script_is_for plan shape sound number lines =
+    both_hold (IsScriptFor plan.nodes plan.faults shape) IsScript (IsFor plan shape)
+    (script_behind plan shape number lines)
+    (script_fits plan.nodes plan.faults shape sound number lines)
+    (script_is_script plan.nodes plan.faults shape sound number lines)
+    (λ script right whole. record { right = right; whole = whole })
+
+-- ---- a script for the plan's own shape is one for its machine
 
 module _ (plan : PulseNumbers) (accepted : IsAccepted plan) where
   is_shape_of : IsShapeOf (machine_in plan) (shape_of plan)
@@ -50,7 +65,7 @@ module _ (plan : PulseNumbers) (accepted : IsAccepted plan) where
         shaped.fields_are plan accepted v (omega (arith, lt, nodes_are plan accepted));
   }
 
-  faults_are : halving_faults (tree_of plan) ≡ plan.faults
+  pub faults_are : halving_faults (tree_of plan) ≡ plan.faults
   faults_are = faults_of_halving plan.faults _
 
   fits_machine : (script : Script) → IsScriptFor plan.nodes plan.faults (shape_of plan) script
@@ -61,21 +76,11 @@ module _ (plan : PulseNumbers) (accepted : IsAccepted plan) where
       (subst (λ n. IsScriptFor n plan.faults (shape_of plan) script)
       (sym (shaped.nodes_are plan accepted)) for)
 
-  read_for : (script : Script) → IsScriptFor plan.nodes plan.faults (shape_of plan) script
-      → IsScript script → IsReadFor (machine_in plan) script
-  read_for script for whole =
-      readers_fit (machine_in plan) (shape_of plan) script is_shape_of (fits_machine script for)
-      whole
-
-  -- a script that is read behind the plan
-  pub script_read : (number : ℕ) (lines : List (List ℕ))
-      → IfOk (script_behind plan number lines) (IsReadFor (machine_in plan))
-  script_read number lines =
-      let sound = shaped.is_shape plan accepted in
-      both_hold (IsScriptFor plan.nodes plan.faults (shape_of plan)) IsScript
-      (IsReadFor (machine_in plan)) (script_behind plan number lines)
-      (script_fits plan.nodes plan.faults (shape_of plan) sound number lines)
-      (script_is_script plan.nodes plan.faults (shape_of plan) sound number lines) read_for
+  pub read_for : (script : Script) → IsFor plan (shape_of plan) script
+      → IsReadFor (machine_in plan) script
+  read_for script for =
+      readers_fit (machine_in plan) (shape_of plan) script is_shape_of
+      (fits_machine script for.right) for.whole
 
 -- ---- of an input
 
@@ -89,41 +94,63 @@ scripted_read : (input : List ℕ) → IfOk (scripted_of input) ScriptedRead
 scripted_read input =
     then_holds in_plan scripted_behind AcceptedIn ScriptedRead (pulses_of input)
     (read_is_accepted input)
-    (λ found accepted. then_holds in_script (with_script found.value)
-    (IsReadFor (machine_in found.value)) ScriptedRead
-    (script_behind found.value (1 + found.taken) found.behind)
-    (script_read found.value accepted (1 + found.taken) found.behind)
-    (λ script for. record { accepted = accepted; for = for }))
+    (λ found accepted.
+    let plan : PulseNumbers = found.value in
+    then_holds in_script (with_script plan) (IsFor plan (shape_of plan)) ScriptedRead
+    (script_behind plan (shape_of plan) (1 + found.taken) found.behind)
+    (script_is_for plan (shape_of plan) (shaped.is_shape plan accepted) (1 + found.taken)
+    found.behind)
+    (λ script for. record { accepted = accepted; for = read_for plan accepted script for }))
 
 pub is_read : (input : List ℕ) (s : Scripted) → scripted_of input ≡ Ok s → IsRead s.plan s.script
 is_read input s is = holds_at ScriptedRead (scripted_of input) s is (scripted_read input)
 
-abbrev SlottedRead : Slotted → Type 0
-SlottedRead s = HasTable s.plan s.table s.script
+-- a part of that name, where what is said fits its plan, and the shape is one
+module _ {Said : Type 0} (name : Part)
+    (part_of : PulseNumbers → (number : ℕ) → List (List ℕ) → Result (Found Said) (At Rule))
+    (shape_for : PulseNumbers → Said → Shape) (Fits : PulseNumbers → Said → Type 0)
+    (fit : (plan : PulseNumbers) → IsAccepted plan → (number : ℕ) (lines : List (List ℕ))
+    → IfOk (part_of plan number lines) (λ found. Fits plan found.value))
+    (sound : (plan : PulseNumbers) → IsAccepted plan → (said : Said) → Fits plan said
+    → IsShape (shape_for plan said)) where
+  abbrev FitsIn : PulseNumbers → Found Said → Type 0
+  FitsIn plan found = Fits plan found.value
 
-module _ (plan : PulseNumbers) (accepted : IsAccepted plan) where
-  abbrev FitsIn : Found (List SlotLine) → Type 0
-  FitsIn found = IsTable plan.nodes plan.modulus found.value
+  part_read : (plan : PulseNumbers) → IsAccepted plan → (number : ℕ) (found : Found Said)
+      → FitsIn plan found
+      → IfOk (behind_part name part_of shape_for plan number found) (IsLayered shape_for Fits)
+  part_read plan accepted number found fits =
+      let shape = shape_for plan found.value in
+      then_holds in_script (with_said plan found.value) (IsFor plan shape)
+      (IsLayered shape_for Fits)
+      (script_behind plan shape (number + found.taken) found.behind)
+      (script_is_for plan shape (sound plan accepted found.value fits) (number + found.taken)
+      found.behind)
+      (λ script for. record { accepted = accepted; fits = fits; script = for })
 
-  table_read : (number : ℕ) (found : Found (List SlotLine)) → FitsIn found
-      → IfOk (behind_table plan number found) SlottedRead
-  table_read number found fits =
-      then_holds in_script (with_table plan found.value) (IsReadFor (machine_in plan)) SlottedRead
-      (script_behind plan (number + found.taken) found.behind)
-      (script_read plan accepted (number + found.taken) found.behind)
-      (λ script for. record { read = record { accepted = accepted; for = for }; fits = fits })
+  input_read : (input : List ℕ)
+      → IfOk (layered_of name part_of shape_for input) (IsLayered shape_for Fits)
+  input_read input =
+      then_holds in_plan (layered_behind name part_of shape_for) AcceptedIn
+      (IsLayered shape_for Fits) (pulses_of input) (read_is_accepted input)
+      (λ found accepted.
+      let plan : PulseNumbers = found.value in
+      let number : ℕ = 1 + found.taken in
+      then_holds (in_part name) (behind_part name part_of shape_for plan number) (FitsIn plan)
+      (IsLayered shape_for Fits) (part_of plan number found.behind)
+      (fit plan accepted number found.behind) (part_read plan accepted number))
 
-slotted_read : (input : List ℕ) → IfOk (slotted_of input) SlottedRead
-slotted_read input =
-    then_holds in_plan slotted_behind AcceptedIn SlottedRead (pulses_of input)
-    (read_is_accepted input)
-    (λ found accepted.
-    let plan : PulseNumbers = found.value in
-    let number : ℕ = 1 + found.taken in
-    then_holds in_slots (behind_table plan number) (FitsIn plan accepted) SlottedRead
-    (part_for plan.nodes plan.modulus number found.behind)
-    (tables_fit plan.nodes plan.modulus number found.behind) (table_read plan accepted number))
+  pub layered_read : (input : List ℕ) (l : Layered Said)
+      → layered_of name part_of shape_for input ≡ Ok l → IsLayered shape_for Fits l
+  layered_read input l is =
+      holds_at (IsLayered shape_for Fits) (layered_of name part_of shape_for input) l is
+      (input_read input)
 
-pub has_table : (input : List ℕ) (s : Slotted) → slotted_of input ≡ Ok s
-    → HasTable s.plan s.table s.script
-has_table input s is = holds_at SlottedRead (slotted_of input) s is (slotted_read input)
+-- ---- with a slot table
+
+pub has_table : (input : List ℕ) (l : Layered (List SlotLine)) → slotted_of input ≡ Ok l
+    → IsLayered slots_shape FitsTable l
+has_table =
+    layered_read part.Slots slots_part slots_shape FitsTable
+    (λ plan accepted. tables_fit plan.nodes plan.modulus)
+    (λ plan accepted table fits. shaped.is_shape plan accepted)

@@ -13,7 +13,8 @@ use Rattle.slot_table.specs.SlotPart.{IsTable}
 use Rattle.slot_table.specs.Tables.{holder_of}
 use Rattle.pulse_plan.specs.Plans.{PulseNumbers}
 use Rattle.pulse_plan.specs.Laws.{machine_in}
-use Rattle.pulse_runs.specs.RunInputs.{Slotted, slotted_of}
+use Rattle.pulse_runs.specs.RunInputs.{Layered}
+use Rattle.pulse_runs.specs.LayerInputs.{slotted_of}
 use Rattle.pulse_runs.specs.RunPromises.{RunKeepsPromise}
 
 module _ (machine : Machine) (script : Script) (table : List SlotLine) where
@@ -48,5 +49,6 @@ pub record HoldsKeepPromise (plan : PulseNumbers) (table : List SlotLine) (scrip
 
 -- So it is with each input that is read as a plan, a slot table and a script.
 abbrev pub SlotsKeepPromise : Type 0
-SlotsKeepPromise = (input : List ℕ) (slotted : Slotted) → slotted_of input ≡ Ok slotted
-    → HoldsKeepPromise slotted.plan slotted.table slotted.script
+SlotsKeepPromise = (input : List ℕ) (slotted : Layered (List SlotLine))
+    → slotted_of input ≡ Ok slotted
+    → HoldsKeepPromise slotted.plan slotted.said slotted.script

@@ -1,6 +1,10 @@
 pub mod RunInputs
+pub mod LayerShapes
+pub mod LayerInputs
 pub mod Readings
+pub mod LayerReadings
 pub mod RunTexts
 pub mod RunPromises
 pub mod HoldPromises
+pub mod LayerPromises
 pub mod ScriptInputs

@@ -1,13 +1,23 @@
 -- What was read of an input, and what an error of reading says of it. Want of memory says nothing.
 use Rattle.std.specs.Prelude.{◌≡◌, ℕ, List, Result, Ok, Err}
+use Rattle.sync_types.specs.declared.answers.Part.{Part}
+use Rattle.sync_types.specs.declared.answers.Part.TheVariants as part
+use Rattle.sync_types.specs.declared.answers.Rule.{Rule}
 use Rattle.state_codec.specs.Shapes.{Shape}
 use Rattle.adversary_script.specs.declared.refusals.ScriptError.{ScriptError}
 use Rattle.adversary_script.specs.declared.refusals.ScriptError.TheVariants as script
-use Rattle.adversary_script.specs.Scripts.{Script}
+use Rattle.adversary_script.specs.Scripts.{Script, IsScript}
+use Rattle.adversary_script.specs.ScriptPart.{IsScriptFor}
 use Rattle.machine_runner.specs.Laws.{IsReadFor}
 use Rattle.slot_table.specs.declared.lines.SlotLine.{SlotLine}
 use Rattle.slot_table.specs.declared.refusals.SlotError.{SlotError}
 use Rattle.slot_table.specs.declared.refusals.SlotError.TheVariants as slot
+use Rattle.consensus_layer.specs.declared.refusals.AgreeError.{AgreeError}
+use Rattle.consensus_layer.specs.declared.refusals.AgreeError.TheVariants as agree
+use Rattle.firing.specs.declared.refusals.FireError.{FireError}
+use Rattle.firing.specs.declared.refusals.FireError.TheVariants as fire
+use Rattle.replicated_log.specs.declared.refusals.LogError.{LogError}
+use Rattle.replicated_log.specs.declared.refusals.LogError.TheVariants as log
 use Rattle.pulse_plan.specs.Plans.{PulseNumbers}
 use Rattle.pulse_plan.specs.Laws.{machine_in}
 use Rattle.pulse_texts.specs.declared.refusals.PulsesError.{PulsesError}
@@ -16,7 +26,8 @@ use Rattle.pulse_runs.specs.declared.errors.RunRefusal.{RunRefusal}
 use Rattle.pulse_runs.specs.declared.errors.RunRefusal.TheVariants as refusal
 use Rattle.pulse_runs.specs.declared.errors.PlayError.{PlayError}
 use Rattle.pulse_runs.specs.declared.errors.PlayError.TheVariants as error
-use Rattle.pulse_runs.specs.RunInputs.{in_script, then_read, script_behind, scripted_of, slotted_of}
+use Rattle.pulse_runs.specs.RunInputs.{in_script, then_read, script_behind, scripted_of}
+use Rattle.pulse_runs.specs.LayerInputs.{slotted_of}
 
 -- ---- the errors of parts, as errors of an input
 
@@ -24,13 +35,28 @@ abbrev pub plan_error : PulsesError → PlayError
 plan_error pulses.NoMemory = error.NoMemory
 plan_error (pulses.Refused refused) = error.Refused (refusal.Plan refused.line refused.premise)
 
+abbrev pub part_refused : Part → (line : ℕ) → Rule → PlayError
+part_refused name line rule = error.Refused (refusal.Part name line rule)
+
 abbrev pub slots_error : SlotError → PlayError
 slots_error slot.NoMemory = error.NoMemory
-slots_error (slot.Refused refused) = error.Refused (refusal.Slots refused.line refused.rule)
+slots_error (slot.Refused refused) = part_refused part.Slots refused.line refused.rule
+
+abbrev pub agree_error : AgreeError → PlayError
+agree_error agree.NoMemory = error.NoMemory
+agree_error (agree.Refused refused) = part_refused part.Agree refused.line refused.rule
+
+abbrev pub fire_error : FireError → PlayError
+fire_error fire.NoMemory = error.NoMemory
+fire_error (fire.Refused refused) = part_refused part.Fire refused.line refused.rule
+
+abbrev pub log_error : LogError → PlayError
+log_error log.NoMemory = error.NoMemory
+log_error (log.Refused refused) = part_refused part.Log refused.line refused.rule
 
 abbrev pub script_error : ScriptError → PlayError
 script_error script.NoMemory = error.NoMemory
-script_error (script.Refused refused) = error.Refused (refusal.Script refused.line refused.rule)
+script_error (script.Refused refused) = part_refused part.Script refused.line refused.rule
 
 -- a refusal is exactly the one that is defined; no reading fails to write
 abbrev pub Refuses : {V : Type 0} → PlayError → Result V RunRefusal → Type 0
@@ -38,22 +64,31 @@ Refuses (error.Refused refused) defined = defined ≡ Err refused
 Refuses error.NoMemory defined = Unit {0}
 Refuses error.WriteFault defined = ⊥
 
--- ---- what was read: a plan, the shape of its states, and a script for the plan's machine
+-- ---- what was read: a plan, the shape of its states, and a script
 
+-- the script is the one of these lines, the first of which has that number, for states of that
+-- shape
+pub record IsReadBehind (plan : PulseNumbers) (shape : Shape) (number : ℕ) (lines : List (List ℕ))
+    (read : PulseNumbers × Shape × Script) : Type 0 where
+  pub same : read.0 ≡ plan
+  pub states : read.1 ≡ shape
+  pub is : script_behind plan shape number lines ≡ Ok read.2
+
+abbrev pub FailsBehind : (plan : PulseNumbers) (shape : Shape) (number : ℕ) → List (List ℕ)
+    → PlayError → Type 0
+FailsBehind plan shape number lines error =
+    Refuses error
+    (then_read in_script (λ (s : Script). Ok s) (script_behind plan shape number lines))
+
+-- a script for a plan's nodes and faults, and for states of that shape
+pub record IsFor (plan : PulseNumbers) (shape : Shape) (script : Script) : Type 0 where
+  pub right : IsScriptFor plan.nodes plan.faults shape script
+  pub whole : IsScript script
+
+-- the script is for the plan's machine, and states of that shape
 pub record CanPlay (read : PulseNumbers × Shape × Script) : Type 0 where
   pub for : IsReadFor (machine_in read.0) read.2
   pub shape : read.2.shape ≡ read.1
-
--- the script is the one of these lines, the first of which has that number
-pub record IsReadBehind (plan : PulseNumbers) (number : ℕ) (lines : List (List ℕ))
-    (read : PulseNumbers × Shape × Script) : Type 0 where
-  pub same : read.0 ≡ plan
-  pub is : script_behind plan number lines ≡ Ok read.2
-  pub plays : CanPlay read
-
-abbrev pub FailsBehind : (plan : PulseNumbers) (number : ℕ) → List (List ℕ) → PlayError → Type 0
-FailsBehind plan number lines error =
-    Refuses error (then_read in_script (λ (s : Script). Ok s) (script_behind plan number lines))
 
 -- the plan and the script of an input
 pub record IsReadAs (input : List ℕ) (read : PulseNumbers × Shape × Script) : Type 0 where
@@ -68,5 +103,5 @@ FailsToRead input error = Refuses error (scripted_of input)
 pub record IsSlotted (input : List ℕ) (read : List SlotLine × (PulseNumbers × Shape × Script))
     : Type 0 where
   pub is : slotted_of input
-      ≡ Ok (record { plan = read.1.0; table = read.0; script = read.1.2 })
+      ≡ Ok (record { plan = read.1.0; said = read.0; script = read.1.2 })
   pub plays : CanPlay read.1

@@ -3,10 +3,19 @@
 use Rattle.std.specs.Prelude.{◌≡◌, ℕ, List, [], ◌∷◌, Result, Ok, Err, codes, decimal}
 use Rattle.std.specs.List.{concat}
 use Rattle.texts.specs.Growth.{Told, Wrote, Cut}
-use Rattle.sync_types.specs.declared.answers.Rule.{Rule}
+use Rattle.machines.specs.Machines.{Machine}
+use Rattle.machine_runner.specs.Locks.{is_locked}
 use Rattle.machine_lines.specs.RunTexts.{run_text}
 use Rattle.machine_lines.specs.HoldTexts.{hold_text}
-use Rattle.node_words.specs.Rules.{rule_word}
+use Rattle.slot_table.specs.declared.lines.SlotLine.{SlotLine}
+use Rattle.layer_runner.specs.Counters.{machine_counter}
+use Rattle.layer_lines.specs.DecisionTexts.{decision_text}
+use Rattle.layer_lines.specs.FireTexts.{fire_text}
+use Rattle.layer_lines.specs.EntryTexts.{log_text}
+use Rattle.consensus_layer.specs.AgreeSaid.{AgreeSaid}
+use Rattle.firing.specs.declared.requests.Request.{Request}
+use Rattle.replicated_log.specs.LogSaid.{LogSaid}
+use Rattle.node_words.specs.Rules.{rule_word, part_word}
 use Rattle.pulse_plan.specs.Laws.{machine_in}
 use Rattle.pulse_nodes.specs.PulseWords as pulses
 use Rattle.pulse_runs.specs.declared.shown.Shown.{Shown}
@@ -15,22 +24,18 @@ use Rattle.pulse_runs.specs.declared.errors.RunRefusal.{RunRefusal}
 use Rattle.pulse_runs.specs.declared.errors.RunRefusal.TheVariants as refusal
 use Rattle.pulse_runs.specs.declared.errors.PlayError.{PlayError}
 use Rattle.pulse_runs.specs.declared.errors.PlayError.TheVariants as error
-use Rattle.pulse_runs.specs.RunInputs.{Scripted, scripted_of, Slotted, slotted_of}
+use Rattle.pulse_runs.specs.RunInputs.{Scripted, scripted_of, Layered}
+use Rattle.pulse_runs.specs.LayerInputs.{slotted_of, agreed_of, firing_of, logging_of}
 
 -- ---- the line of a refusal
 
--- of a line of the part with that name
-abbrev pub part_refusal : (name : List ℕ) → (line : ℕ) → Rule → List ℕ
-part_refusal name line rule = concat (
-    codes "refused " ∷ name
+abbrev pub refusal_line : RunRefusal → List ℕ
+refusal_line (refusal.Plan line premise) = pulses.refusal_line line premise
+refusal_line (refusal.Part part line rule) = concat (
+    codes "refused " ∷ part_word part
     ∷ codes " line " ∷ decimal line
     ∷ codes " rule " ∷ rule_word rule
     ∷ codes "\n" ∷ [])
-
-abbrev pub refusal_line : RunRefusal → List ℕ
-refusal_line (refusal.Plan line premise) = pulses.refusal_line line premise
-refusal_line (refusal.Slots line rule) = part_refusal (codes "slots") line rule
-refusal_line (refusal.Script line rule) = part_refusal (codes "script") line rule
 
 -- ---- the run of a script on its plan's machine
 
@@ -39,8 +44,26 @@ abbrev pub rows_of : Scripted → List ℕ
 rows_of scripted = run_text (machine_in scripted.plan) scripted.script
 
 -- which nodes hold in each of them
-abbrev pub holds_of : Slotted → List ℕ
-holds_of slotted = hold_text slotted.table (machine_in slotted.plan) slotted.script
+abbrev pub holds_of : Layered (List SlotLine) → List ℕ
+holds_of slotted = hold_text slotted.said (machine_in slotted.plan) slotted.script
+
+-- what is decided in each slot that counts
+abbrev pub decisions_of : Layered AgreeSaid → List ℕ
+decisions_of read =
+    let machine : Machine = machine_in read.plan in
+    decision_text (machine_counter machine) (is_locked machine) read.script read.said
+
+-- which nodes fire at the end of each of them
+abbrev pub fires_of : Layered (List Request) → List ℕ
+fires_of read =
+    let machine : Machine = machine_in read.plan in
+    fire_text (machine_counter machine) (is_locked machine) read.script read.said
+
+-- the entry that each of them puts into the logs
+abbrev pub entries_of : Layered LogSaid → List ℕ
+entries_of read =
+    let machine : Machine = machine_in read.plan in
+    log_text (machine_counter machine) (is_locked machine) read.script read.said
 
 -- what is written of that which was read
 abbrev pub told_by : {V : Type 0} → (V → List ℕ) → Result V RunRefusal
@@ -52,6 +75,9 @@ told_by text (Err refused) = Err refused
 abbrev pub run_of : Shown → List ℕ → Result (List ℕ) RunRefusal
 run_of shown.Rows input = told_by rows_of (scripted_of input)
 run_of shown.Holds input = told_by holds_of (slotted_of input)
+run_of shown.Decisions input = told_by decisions_of (agreed_of input)
+run_of shown.Fires input = told_by fires_of (firing_of input)
+run_of shown.Entries input = told_by entries_of (logging_of input)
 
 -- ---- what is written, and what was
 

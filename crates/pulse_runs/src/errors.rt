@@ -1,10 +1,14 @@
 ghost use Rattle.std.specs.Prelude.{◌≡◌};
+ghost use Rattle.pulse_runs.specs.Readings.{part_refused};
 
 use adversary_script::ScriptError;
+use consensus_layer::AgreeError;
 use edge_io::WriteFault;
+use firing::FireError;
 use pulse_texts::{LinePremise, PulsesError};
+use replicated_log::LogError;
 use slot_table::SlotError;
-use sync_types::{NoMemory, Rule};
+use sync_types::{NoMemory, Part, Rule};
 use thiserror::Error;
 
 /// The line of an input that is refused, and why. It is the first that fails.
@@ -17,15 +21,10 @@ pub enum RunRefusal {
         /// The first premise that the line fails.
         premise: LinePremise,
     },
-    /// A line of the slot table.
-    Slots {
-        /// The line's number, from 1 through the whole input.
-        line: u64,
-        /// The first rule that the line fails.
-        rule: Rule,
-    },
-    /// A line of the script.
-    Script {
+    /// A line of a part behind the plan.
+    Part {
+        /// The part.
+        part: Part,
         /// The line's number, from 1 through the whole input.
         line: u64,
         /// The first rule that the line fails.
@@ -83,6 +82,13 @@ impl From<PulsesError> for PlayError {
     }
 }
 
+/// The refusal of a line of a part.
+fn part_refused(part: Part, line: u64, rule: Rule) -> PlayError
+    ensures { result ≡ part_refused part line rule }
+{
+    PlayError::Refused(RunRefusal::Part { part, line, rule })
+}
+
 impl From<SlotError> for PlayError {
     ghost use Rattle.pulse_runs.specs.Readings.{slots_error};
 
@@ -90,11 +96,47 @@ impl From<SlotError> for PlayError {
 
     fn from(error: SlotError) -> Self {
         match error {
-            SlotError::Refused(refused) => PlayError::Refused(RunRefusal::Slots {
-                line: refused.line,
-                rule: refused.rule,
-            }),
+            SlotError::Refused(refused) => part_refused(Part::Slots, refused.line, refused.rule),
             SlotError::NoMemory => PlayError::NoMemory,
+        }
+    }
+}
+
+impl From<AgreeError> for PlayError {
+    ghost use Rattle.pulse_runs.specs.Readings.{agree_error};
+
+    ghost from_gives = { λ error e. e ≡ agree_error error };
+
+    fn from(error: AgreeError) -> Self {
+        match error {
+            AgreeError::Refused(refused) => part_refused(Part::Agree, refused.line, refused.rule),
+            AgreeError::NoMemory => PlayError::NoMemory,
+        }
+    }
+}
+
+impl From<FireError> for PlayError {
+    ghost use Rattle.pulse_runs.specs.Readings.{fire_error};
+
+    ghost from_gives = { λ error e. e ≡ fire_error error };
+
+    fn from(error: FireError) -> Self {
+        match error {
+            FireError::Refused(refused) => part_refused(Part::Fire, refused.line, refused.rule),
+            FireError::NoMemory => PlayError::NoMemory,
+        }
+    }
+}
+
+impl From<LogError> for PlayError {
+    ghost use Rattle.pulse_runs.specs.Readings.{log_error};
+
+    ghost from_gives = { λ error e. e ≡ log_error error };
+
+    fn from(error: LogError) -> Self {
+        match error {
+            LogError::Refused(refused) => part_refused(Part::Log, refused.line, refused.rule),
+            LogError::NoMemory => PlayError::NoMemory,
         }
     }
 }
@@ -106,10 +148,7 @@ impl From<ScriptError> for PlayError {
 
     fn from(error: ScriptError) -> Self {
         match error {
-            ScriptError::Refused(refused) => PlayError::Refused(RunRefusal::Script {
-                line: refused.line,
-                rule: refused.rule,
-            }),
+            ScriptError::Refused(refused) => part_refused(Part::Script, refused.line, refused.rule),
             ScriptError::NoMemory => PlayError::NoMemory,
         }
     }

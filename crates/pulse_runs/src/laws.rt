@@ -3,9 +3,11 @@
 
 ghost use Rattle.pulse_runs.specs.RunPromises.{RunsKeepPromise};
 ghost use Rattle.pulse_runs.specs.HoldPromises.{SlotsKeepPromise};
+ghost use Rattle.pulse_runs.specs.LayerPromises.{LayersKeepPromise};
 ghost use Rattle.pulse_runs.specs.ScriptInputs.{ScriptInputsAreRead};
 
 use adversary_script::laws::{read_scripts_have_texts, script_texts_read_back};
+use consensus_layer::laws::agree_texts_read_back_over;
 use machine_lines::laws::at_most_one_in_a_line;
 use machine_runner::laws::{
     eras_are_runs, eras_count, eras_lock, eras_stay_locked, firsts_are_locked, scripts_are_played,
@@ -24,9 +26,17 @@ use slot_table::laws::{hold_words, one_holder, slot_texts_read_back};
 /// and outputs. In each line of it a node's word is 1 exactly where the table gives it the output
 /// that it shows; from T rounds into an era to its end that is one correct node at most, the holder
 /// of the output that all correct ones show.
+///
+/// So it is with a layer above, where a part between plan and script says one: what is played is
+/// the script's, and each era is a run with the layer. In each slot that begins later than T rounds
+/// into an era and ends in it all correct nodes decide one value, their common input where they
+/// have one; or fire together, or none does; or put one entry into their logs, and so the same ones
+/// since the first such slot. Just these slots have a line, where they begin in a configuration
+/// that is shown, and the words of the correct nodes in it are that value, or who fires.
 pub fn runs_keep_promise()
     ensures runs { RunsKeepPromise }
     ensures slots { SlotsKeepPromise }
+    ensures layers { LayersKeepPromise }
 {
     eras_are_runs();
     eras_count();
@@ -40,13 +50,14 @@ pub fn runs_keep_promise()
 }
 
 /// The texts of an accepted plan and of a script for it, one behind the other, are read as these,
-/// and so they are with the text of a slot table between them. What any input is read as has such
-/// texts.
+/// and so they are with the text of a slot table, or of inputs to agree on, between them. What any
+/// input is read as has such texts.
 pub fn script_inputs_read_back()
     ensures { ScriptInputsAreRead }
 {
     pulses_texts_read_back();
     script_texts_read_back();
     slot_texts_read_back();
+    agree_texts_read_back_over();
     read_scripts_have_texts();
 }

@@ -5,6 +5,8 @@
 
 mod errors;
 pub mod laws;
+mod layer_playing;
+mod layer_shapes;
 mod playing;
 mod reading;
 mod refusals;

@@ -6,6 +6,7 @@ ghost use Rattle.pulse_runs.specs.RunTexts.{IsPlayed, FailsToPlay, IsWritten, Ke
 ghost use Rattle.pulse_runs.specs.declared.shown.Shown.TheVariants as shown;
 
 use crate::errors::PlayError;
+use crate::layer_playing::{play_decisions, play_entries, play_fires};
 use crate::reading::{read_scripted, read_slotted};
 use crate::refusals::tell;
 use crate::shown::Shown;
@@ -91,5 +92,8 @@ pub fn play<K: Sink>(
     match shown {
         Shown::Rows => play_rows(alloc, input, sink),
         Shown::Holds => play_holds(alloc, input, sink),
+        Shown::Decisions => play_decisions(alloc, input, sink),
+        Shown::Fires => play_fires(alloc, input, sink),
+        Shown::Entries => play_entries(alloc, input, sink),
     }
 }

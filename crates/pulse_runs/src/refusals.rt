@@ -2,36 +2,12 @@ ghost use Rattle.std.specs.Prelude.{◌≡◌, ℕ, List, Result};
 ghost use Rattle.texts.specs.Growth.{Puts};
 ghost use Rattle.pulse_runs.specs.declared.errors.RunRefusal.{RunRefusal};
 ghost use Rattle.pulse_runs.specs.Readings.{Refuses};
-ghost use Rattle.pulse_runs.specs.RunTexts.{part_refusal, refusal_line, FailsToPlay, KeepsSink};
+ghost use Rattle.pulse_runs.specs.RunTexts.{refusal_line, FailsToPlay, KeepsSink};
 
 use crate::errors::{PlayError, RunRefusal};
 use edge_io::{Piece, Sink, WriteFault, put_pieces};
-use node_words::rule_word;
+use node_words::{part_word, rule_word};
 use pulse_texts::PulsesRefusal;
-use sync_types::Rule;
-
-/// Writes the line of a part of this name that is refused.
-fn put_part_refusal<K: Sink>(
-    sink: &mut K,
-    name: &[u8],
-    line: u64,
-    rule: Rule,
-) -> Result<(), WriteFault>
-    ensures { Puts result (part_refusal name.now line rule) (K.told sink.old) (K.told sink.new) }
-{
-    put_pieces(
-        sink,
-        &[
-            Piece::Text(b"refused "),
-            Piece::Text(name),
-            Piece::Text(b" line "),
-            Piece::Number(line),
-            Piece::Text(b" rule "),
-            Piece::Text(rule_word(rule).as_bytes()),
-            Piece::Text(b"\n"),
-        ],
-    )
-}
 
 /// Writes the line of a refusal.
 pub fn put_refusal<K: Sink>(sink: &mut K, refusal: RunRefusal) -> Result<(), WriteFault>
@@ -41,8 +17,18 @@ pub fn put_refusal<K: Sink>(sink: &mut K, refusal: RunRefusal) -> Result<(), Wri
         RunRefusal::Plan { line, premise } => {
             pulse_nodes::put_refusal(sink, PulsesRefusal { line, premise })
         }
-        RunRefusal::Slots { line, rule } => put_part_refusal(sink, b"slots", line, rule),
-        RunRefusal::Script { line, rule } => put_part_refusal(sink, b"script", line, rule),
+        RunRefusal::Part { part, line, rule } => put_pieces(
+            sink,
+            &[
+                Piece::Text(b"refused "),
+                Piece::Text(part_word(part).as_bytes()),
+                Piece::Text(b" line "),
+                Piece::Number(line),
+                Piece::Text(b" rule "),
+                Piece::Text(rule_word(rule).as_bytes()),
+                Piece::Text(b"\n"),
+            ],
+        ),
     }
 }
 

@@ -10,7 +10,8 @@ use Rattle.state_codec.specs.Writing.{bits_of_registers}
 use Rattle.adversary_script.specs.Lies.{start_of, lie_of}
 use Rattle.adversary_script.specs.ScriptPart.{script_for}
 use Rattle.pulselab.specs.Worked.{PlansAreSpelled, RunsAreSpelled, LinesAreRefused, WordsAskFor}
-use Rattle.pulselab.specs.Worked.{SlotsAreSpelled, NodesAreServed, WorkedValues}
+use Rattle.pulselab.specs.Worked.{SlotsAreSpelled, LayersAreSpelled, NodesAreServed}
+use Rattle.pulselab.specs.Worked.{WorkedValues}
 
 plans_are_spelled : PlansAreSpelled
 unfolding digits width
@@ -50,6 +51,26 @@ slots_are_spelled = record {
   lacking = refl;
 }
 
+layers_are_spelled : LayersAreSpelled
+unfolding
+    digits width script_for start_of lie_of number_of bits registers_from registers_bits
+    decode_pairs
+layers_are_spelled = record {
+  decided = refl;
+  fired = refl;
+  logged = refl;
+  early = refl;
+  form = refl;
+  limit = refl;
+  range = refl;
+  slot = refl;
+  node = refl;
+  turn = refl;
+  script = refl;
+  plan = refl;
+  lacking = refl;
+}
+
 nodes_are_served : NodesAreServed
 unfolding
     digits width number_of bits bytes_of_bits registers_from registers_bits bits_of_registers
@@ -76,6 +97,7 @@ worked_values = record {
   plans = plans_are_spelled;
   runs = runs_are_spelled;
   slots = slots_are_spelled;
+  layers = layers_are_spelled;
   nodes = nodes_are_served;
   refused = lines_are_refused;
   words = words_ask_for;

@@ -15,9 +15,7 @@ use Rattle.pulselab.specs.declared.requests.Request.TheVariants as request
 -- the exit code: 1 for a refused plan, and else that of `counterlab`'s status for the same cause
 abbrev pub code_of : LabError → ℕ
 code_of (error.Refused refusal) = 1
-code_of (error.SlotsRefused line rule) = codes.code_of (status.PartRefused part.Slots line rule)
-code_of (error.ScriptRefused line rule) = codes.code_of (status.PartRefused part.Script line rule)
-code_of (error.NodeRefused line rule) = codes.code_of (status.PartRefused part.Node line rule)
+code_of (error.PartRefused part line rule) = codes.code_of (status.PartRefused part line rule)
 code_of error.Usage = codes.code_of status.Usage
 code_of error.ReadFault = codes.code_of status.ReadFault
 code_of error.TooLong = codes.code_of status.TooLong
@@ -29,7 +27,7 @@ code_of error.NoMemory = codes.code_of status.NoMemory
 abbrev pub error_of : NodeError LinePremise → LabError
 error_of (node.Refused (header.Plan line premise)) =
     error.Refused (record { line = line; premise = premise })
-error_of (node.Refused (header.Node line rule)) = error.NodeRefused line rule
+error_of (node.Refused (header.Node line rule)) = error.PartRefused part.Node line rule
 error_of node.ReadFault = error.ReadFault
 error_of node.WriteFault = error.WriteFault
 error_of node.TooLong = error.TooLong
@@ -58,9 +56,7 @@ UnmetAt before now other = Unit {0}
 -- the answer says it
 abbrev pub IsAnswered : LabError → Type 0
 IsAnswered (error.Refused refusal) = Unit {0}
-IsAnswered (error.SlotsRefused line rule) = Unit {0}
-IsAnswered (error.ScriptRefused line rule) = Unit {0}
-IsAnswered (error.NodeRefused line rule) = Unit {0}
+IsAnswered (error.PartRefused part line rule) = Unit {0}
 IsAnswered error.Usage = ⊥
 IsAnswered error.ReadFault = ⊥
 IsAnswered error.TooLong = ⊥

@@ -6,6 +6,9 @@ abbrev pub help_text : List ℕ
 help_text = concat (
     codes "usage: pulselab plan < PLAN, pulselab run < PLAN_AND_SCRIPT,\n"
     ∷ codes "pulselab slots < PLAN_SLOTS_AND_SCRIPT,\n"
+    ∷ codes "pulselab consensus < PLAN_INPUTS_AND_SCRIPT,\n"
+    ∷ codes "pulselab fire < PLAN_REQUESTS_AND_SCRIPT,\n"
+    ∷ codes "pulselab log < PLAN_LOG_AND_SCRIPT,\n"
     ∷ codes "or pulselab node < HEADER_AND_PACKETS\n"
     ∷ codes "plan: reads a pulse plan, the lines `pulses 1`, `group N F C` and\n"
     ∷ codes "`end`, and writes its table: its numbers and bound, what a state\n"
@@ -15,6 +18,10 @@ help_text = concat (
     ∷ codes "that is shown, and which configuration is the first locked one.\n"
     ∷ codes "slots: the same with a slot table between plan and script, and with a\n"
     ∷ codes "line of which nodes hold in place of a row.\n"
+    ∷ codes "consensus, fire, log: the same with what is to be agreed on between plan\n"
+    ∷ codes "and script, and in place of rows a line of each slot that begins later\n"
+    ∷ codes "than the bound in its era and ends in it: what the nodes decided, which\n"
+    ∷ codes "of them fire, or the slot's owner and what they put into their logs.\n"
     ∷ codes "node: reads a pulse plan and the lines `node 1`, `id V`, `state H` and\n"
     ∷ codes "`end`, and then packets, and writes the state of node V at the start\n"
     ∷ codes "and behind each packet, as bytes.\n" ∷ [])

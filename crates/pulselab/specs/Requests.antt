@@ -1,6 +1,8 @@
--- What the words ask for: `plan`, `run`, `slots`, `node`, `--help` or `--version`.
+-- What the words ask for: `plan`, `run`, `slots`, `consensus`, `fire`, `log`, `node`, `--help` or
+-- `--version`.
 use Rattle.std.specs.Prelude.{ℕ, List, [], ◌∷◌, Option, Some, None, codes, if◌then◌else◌}
 use Rattle.std.specs.Str.{bytes_eq}
+use Rattle.pulse_runs.specs.declared.shown.Shown.TheVariants as shown
 use Rattle.pulselab.specs.declared.requests.Request.{Request}
 use Rattle.pulselab.specs.declared.requests.Request.TheVariants as request
 use Rattle.pulselab.specs.declared.requests.Whole.TheVariants as whole
@@ -11,8 +13,11 @@ asked_alone word =
     if bytes_eq word (codes "--help") then Some request.Help
     else if bytes_eq word (codes "--version") then Some request.Version
     else if bytes_eq word (codes "plan") then Some (request.Whole whole.Plan)
-    else if bytes_eq word (codes "run") then Some (request.Whole whole.Run)
-    else if bytes_eq word (codes "slots") then Some (request.Whole whole.Slots)
+    else if bytes_eq word (codes "run") then Some (request.Whole (whole.Play shown.Rows))
+    else if bytes_eq word (codes "slots") then Some (request.Whole (whole.Play shown.Holds))
+    else if bytes_eq word (codes "consensus") then Some (request.Whole (whole.Play shown.Decisions))
+    else if bytes_eq word (codes "fire") then Some (request.Whole (whole.Play shown.Fires))
+    else if bytes_eq word (codes "log") then Some (request.Whole (whole.Play shown.Entries))
     else if bytes_eq word (codes "node") then Some request.Node
     else None
 

@@ -1,5 +1,4 @@
--- What the words `run` and `slots` do with an input: they play the script on the plan, and write
--- the run.
+-- What the words that play do with an input: they play the script on the plan, and write the run.
 use Rattle.std.specs.Prelude.{◌≡◌, ℕ, List, Result, Err}
 use Rattle.texts.specs.Growth.{Told, Wrote, Cut}
 use Rattle.pulse_runs.specs.declared.errors.RunRefusal.{RunRefusal}
@@ -16,10 +15,8 @@ IsRefused defined refused old new = (defined ≡ Err refused) × Wrote (refusal_
 abbrev pub FailsOn : (defined : Result (List ℕ) RunRefusal) (old new : Told) → LabError → Type 0
 FailsOn defined old new (error.Refused refused) =
     IsRefused defined (refusal.Plan refused.line refused.premise) old new
-FailsOn defined old new (error.SlotsRefused line rule) =
-    IsRefused defined (refusal.Slots line rule) old new
-FailsOn defined old new (error.ScriptRefused line rule) =
-    IsRefused defined (refusal.Script line rule) old new
+FailsOn defined old new (error.PartRefused part line rule) =
+    IsRefused defined (refusal.Part part line rule) old new
 FailsOn defined old new error.WriteFault = Cut (text_of defined) old new
 FailsOn defined old new error.NoMemory = new ≡ old
 FailsOn defined old new other = ⊥

@@ -34,7 +34,6 @@ pub record FailsAfter (FailsOn : (input : List ℕ) (old new : Told) → LabErro
 abbrev pub WholeFails : (FailsOn : (input : List ℕ) (old new : Told) → LabError → Type 0)
     → (left left' : Option (List ℕ)) (before now : ℕ) (old new : Told) → LabError → Type 0
 WholeFails FailsOn left left' before now old new error.Usage = ⊥
-WholeFails FailsOn left left' before now old new (error.NodeRefused line rule) = ⊥
 WholeFails FailsOn left left' before now old new (error.Cut packet sender) = ⊥
 WholeFails FailsOn left left' before now old new error.ReadFault =
     LosesWithin (2 ^ 20) left left' × Counted before now × (new ≡ old)
@@ -46,7 +45,5 @@ WholeFails FailsOn left left' before now old new error.WriteFault =
     FailsAfter FailsOn left left' before now old new error.WriteFault
 WholeFails FailsOn left left' before now old new (error.Refused refusal) =
     FailsAfter FailsOn left left' before now old new (error.Refused refusal)
-WholeFails FailsOn left left' before now old new (error.SlotsRefused line rule) =
-    FailsAfter FailsOn left left' before now old new (error.SlotsRefused line rule)
-WholeFails FailsOn left left' before now old new (error.ScriptRefused line rule) =
-    FailsAfter FailsOn left left' before now old new (error.ScriptRefused line rule)
+WholeFails FailsOn left left' before now old new (error.PartRefused part line rule) =
+    FailsAfter FailsOn left left' before now old new (error.PartRefused part line rule)

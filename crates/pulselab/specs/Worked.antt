@@ -1,5 +1,5 @@
--- Worked values: plans with their texts and tables, runs, lines of who holds, texts with their
--- refusals, cells of nodes, and the words of the command line, letter by letter.
+-- Worked values: plans with their texts and tables, runs, lines of who holds and of slots, texts
+-- with their refusals, cells of nodes, and the words of the command line, letter by letter.
 use Rattle.std.specs.Prelude.{◌≡◌, ℕ, List, [], ◌∷◌, ◌++◌, map, Some, None, Result, Ok, Err}
 use Rattle.std.specs.Prelude.{codes}
 use Rattle.sync_types.specs.declared.answers.Rule.TheVariants as rule
@@ -128,6 +128,58 @@ pub record SlotsAreSpelled : Type 0 where
   pub lacking : IsHeldAs (codes "pulses 1\ngroup 1 0 3\nend\nscript 1\n")
       (codes "refused slots line 4 rule form\n")
 
+-- what the words `consensus`, `fire` and `log` write of a text
+abbrev pub IsDecidedAs : (text answer : List ℕ) → Type 0
+IsDecidedAs text answer = run.text_of (run.run_of shown.Decisions text) ≡ answer
+
+abbrev pub IsFiredAs : (text answer : List ℕ) → Type 0
+IsFiredAs text answer = run.text_of (run.run_of shown.Fires text) ≡ answer
+
+abbrev pub IsLoggedAs : (text answer : List ℕ) → Type 0
+IsLoggedAs text answer = run.text_of (run.run_of shown.Entries text) ≡ answer
+
+-- The lines of slots of a node alone, with skipped lines: it decides its own input, fires where it
+-- requested in the round before the slot, and puts its commands into its log in turn. Four nodes
+-- that are not at the bound have no line. And parts that are refused: by each rule, a script behind
+-- one, and no part.
+pub record LayersAreSpelled : Type 0 where
+  pub decided : IsDecidedAs
+      (codes "pulses 1\ngroup 1 0 3\nend\n# on what\nagree 1\nvalues 4\ninputs 2\n\nend\n"
+      ++ codes "script 1\nfaulty\nstart zero\nrounds 9\nshow 0 9\nend\n")
+      (codes "bound 0\nslot 3 2\nslot 6 2\nlocked 0\n")
+  pub fired : IsFiredAs
+      (codes "pulses 1\ngroup 1 0 3\nend\nfire 1\nrequest 0 2 2\nend\nscript 1\nfaulty\n"
+      ++ codes "start zero\nrounds 9\nshow 0 9\nend\n")
+      (codes "bound 0\nfire 3 1\nfire 6 .\nlocked 0\n")
+  pub logged : IsLoggedAs
+      (codes "pulses 1\ngroup 1 0 8\nend\nlog 1\nvalues 3\nkeep 1\ncommands 0 1 2\nend\n"
+      ++ codes "script 1\nfaulty\nstart zero\nrounds 12\nshow 0 12\nend\n")
+      (codes "bound 0\nentry 4 owner 0 2\nentry 8 owner 0 1\nlocked 0\n")
+  pub early : IsDecidedAs
+      (codes "pulses 1\ngroup 4 1 6\nend\nagree 1\nvalues 2\ninputs 1 0 1 0\nend\nscript 1\n"
+      ++ codes "faulty 3\nstart zero\nrounds 0\nshow 0 0\nend\n")
+      (codes "bound 41\nlocked none\n")
+  pub form : IsDecidedAs (codes "pulses 1\ngroup 1 0 3\nend\nagree 1\nvalues 02\n")
+      (codes "refused agree line 5 rule form\n")
+  pub limit : IsDecidedAs (codes "pulses 1\ngroup 1 0 3\nend\nagree 1\nvalues 65537\n")
+      (codes "refused agree line 5 rule limit\n")
+  pub range : IsDecidedAs (codes "pulses 1\ngroup 1 0 3\nend\nagree 1\nvalues 2\ninputs 2\n")
+      (codes "refused agree line 6 rule range\n")
+  pub slot : IsDecidedAs (codes "pulses 1\ngroup 1 0 4\nend\nagree 1\n")
+      (codes "refused agree line 4 rule slot\n")
+  pub node : IsFiredAs (codes "pulses 1\ngroup 1 0 3\nend\nfire 1\nrequest 1 0 0\n")
+      (codes "refused fire line 5 rule node\n")
+  pub turn : IsLoggedAs (codes "pulses 1\ngroup 1 0 6\nend\nlog 1\n")
+      (codes "refused log line 4 rule slot\n")
+  pub script : IsDecidedAs
+      (codes "pulses 1\ngroup 1 0 3\nend\nagree 1\nvalues 2\ninputs 0\nend\nscript 1\n"
+      ++ codes "faulty 0\n")
+      (codes "refused script line 9 rule faults\n")
+  pub plan : IsDecidedAs (codes "pulses 1\ngroup 3 1 10\nend\nagree 1\n")
+      (codes "refused pulses line 2 premise quorum\n")
+  pub lacking : IsDecidedAs (codes "pulses 1\ngroup 1 0 3\nend\nscript 1\n")
+      (codes "refused agree line 4 rule form\n")
+
 -- The first line of a plan that fails, by its number and its premise, each premise; and a line of
 -- the node part of a header.
 pub record LinesAreRefused : Type 0 where
@@ -180,10 +232,13 @@ pub record NodesAreServed : Type 0 where
 -- Each word asks for what it says, and nothing else asks for anything.
 pub record WordsAskFor : Type 0 where
   pub single : map (λ w. request_of (w ∷ []))
-      (codes "plan" ∷ codes "run" ∷ codes "slots" ∷ codes "node" ∷ codes "--help"
-      ∷ codes "--version" ∷ codes "plan " ∷ [])
-      ≡ Some (request.Whole whole.Plan) ∷ Some (request.Whole whole.Run)
-      ∷ Some (request.Whole whole.Slots) ∷ Some request.Node ∷ Some request.Help
+      (codes "plan" ∷ codes "run" ∷ codes "slots" ∷ codes "consensus" ∷ codes "fire" ∷ codes "log"
+      ∷ codes "node" ∷ codes "--help" ∷ codes "--version" ∷ codes "plan " ∷ [])
+      ≡ Some (request.Whole whole.Plan) ∷ Some (request.Whole (whole.Play shown.Rows))
+      ∷ Some (request.Whole (whole.Play shown.Holds))
+      ∷ Some (request.Whole (whole.Play shown.Decisions))
+      ∷ Some (request.Whole (whole.Play shown.Fires))
+      ∷ Some (request.Whole (whole.Play shown.Entries)) ∷ Some request.Node ∷ Some request.Help
       ∷ Some request.Version ∷ None ∷ []
   pub two : request_of (codes "plan" ∷ codes "node" ∷ []) ≡ None
   pub none : request_of [] ≡ None
@@ -193,6 +248,7 @@ pub record WorkedValues : Type 0 where
   pub plans : PlansAreSpelled
   pub runs : RunsAreSpelled
   pub slots : SlotsAreSpelled
+  pub layers : LayersAreSpelled
   pub nodes : NodesAreServed
   pub refused : LinesAreRefused
   pub words : WordsAskFor

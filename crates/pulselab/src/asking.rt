@@ -14,6 +14,9 @@ pub fn write_help<K: Sink>(sink: &mut K) -> Result<(), WriteFault>
         &[
             Piece::Text(b"usage: pulselab plan < PLAN, pulselab run < PLAN_AND_SCRIPT,\n"),
             Piece::Text(b"pulselab slots < PLAN_SLOTS_AND_SCRIPT,\n"),
+            Piece::Text(b"pulselab consensus < PLAN_INPUTS_AND_SCRIPT,\n"),
+            Piece::Text(b"pulselab fire < PLAN_REQUESTS_AND_SCRIPT,\n"),
+            Piece::Text(b"pulselab log < PLAN_LOG_AND_SCRIPT,\n"),
             Piece::Text(b"or pulselab node < HEADER_AND_PACKETS\n"),
             Piece::Text(b"plan: reads a pulse plan, the lines `pulses 1`, `group N F C` and\n"),
             Piece::Text(b"`end`, and writes its table: its numbers and bound, what a state\n"),
@@ -23,6 +26,16 @@ pub fn write_help<K: Sink>(sink: &mut K) -> Result<(), WriteFault>
             Piece::Text(b"that is shown, and which configuration is the first locked one.\n"),
             Piece::Text(b"slots: the same with a slot table between plan and script, and with a\n"),
             Piece::Text(b"line of which nodes hold in place of a row.\n"),
+            Piece::Text(
+                b"consensus, fire, log: the same with what is to be agreed on between plan\n",
+            ),
+            Piece::Text(
+                b"and script, and in place of rows a line of each slot that begins later\n",
+            ),
+            Piece::Text(
+                b"than the bound in its era and ends in it: what the nodes decided, which\n",
+            ),
+            Piece::Text(b"of them fire, or the slot's owner and what they put into their logs.\n"),
             Piece::Text(
                 b"node: reads a pulse plan and the lines `node 1`, `id V`, `state H` and\n",
             ),

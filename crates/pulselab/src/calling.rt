@@ -9,6 +9,7 @@ ghost use Rattle.pulse_nodes.specs.NodePromises.{PulseNodesKeepPromise, PulseCal
 ghost use Rattle.pulse_nodes.specs.NodePromises.{AnyPulseInputs};
 ghost use Rattle.pulse_runs.specs.RunPromises.{RunsKeepPromise};
 ghost use Rattle.pulse_runs.specs.HoldPromises.{SlotsKeepPromise};
+ghost use Rattle.pulse_runs.specs.LayerPromises.{LayersKeepPromise};
 ghost use Rattle.pulse_runs.specs.ScriptInputs.{ScriptInputsAreRead};
 ghost use Rattle.pulselab.specs.Faults.{KeptAt, UnmetAt};
 ghost use Rattle.pulselab.specs.Requests.{request_of};
@@ -34,18 +35,21 @@ use std::alloc::Global;
 /// for it, of at most 2^20 bytes together, plays the script, and writes the bound, a row of each
 /// configuration that is shown, and the first locked configuration of each era. `slots` does so
 /// with an input that has a slot table between them, and writes which nodes hold in place of what
-/// they show. `node` reads a header, which has at most 2^20 bytes, and then packets, and writes the
-/// node's cell when the header has been read, and one behind each packet before it reads on.
-/// `--help` and `--version` read nothing, and write what they say.
+/// they show. `consensus`, `fire` and `log` do so with an input that has between them inputs to
+/// agree on, requests to fire or what a log has, and in place of rows write a line of each slot
+/// that counts: what its nodes decide, which of them fire, or the entry that they put. `node` reads
+/// a header, which has at most 2^20 bytes, and then packets, and writes the node's cell when the
+/// header has been read, and one behind each packet before it reads on. `--help` and `--version`
+/// read nothing, and write what they say.
 ///
 /// `Usage` comes exactly where the words ask for nothing; nothing was read or written then.
-/// `Refused`, `SlotsRefused`, `ScriptRefused` and `NodeRefused` name the first line of the input
-/// that fails, and why; the line of the refusal was written. At `NoMemory` nothing was written; of
-/// `plan`, `run` and `slots`, nor at `ReadFault` and `TooLong`. Of `node`, at `ReadFault` the cells
-/// of the whole packets that were read were written; `TooLong` comes where the header is too long,
-/// and nothing was written, or at the first byte of packet 1,000,001, and all cells were. `Cut`
-/// comes of `node` alone, exactly where the input ends inside a packet. `WriteFault` comes only
-/// where the sink counted a fault; a prefix of the answer was then taken.
+/// `Refused` and `PartRefused` name the first line of the input that fails, and why; the line of
+/// the refusal was written. At `NoMemory` nothing was written; of words that read all of their
+/// input, nor at `ReadFault` and `TooLong`. Of `node`, at `ReadFault` the cells of the whole
+/// packets that were read were written; `TooLong` comes where the header is too long, and nothing
+/// was written, or at the first byte of packet 1,000,001, and all cells were. `Cut` comes of `node`
+/// alone, exactly where the input ends inside a packet. `WriteFault` comes only where the sink
+/// counted a fault; a prefix of the answer was then taken.
 pub fn pulselab<S: Source, K: Sink>(
     alloc: Global,
     words: &[String],
@@ -78,8 +82,8 @@ pub fn pulselab<S: Source, K: Sink>(
     ensures worked { WorkedValues }
 
     // The texts of a plan that is accepted and of a script for it are read as these, and so they
-    // are with that of a slot table between them. There are no other inputs of `run` and `slots`:
-    // what any input is read as, such texts are read as.
+    // are with that of a slot table, or of inputs to agree on, between them. There are no other
+    // inputs of `run`, `slots` and `consensus`: what any input is read as, such texts are read as.
     ensures scripts { ScriptInputsAreRead }
 
     // An input that is read as a plan and a script is an accepted plan, and a script for it. What
@@ -94,6 +98,16 @@ pub fn pulselab<S: Source, K: Sink>(
     // into an era to its end that is one correct node at most, the holder of the output that all
     // correct ones show.
     ensures slots { SlotsKeepPromise }
+
+    // So it is with a layer above the plan's counter, where inputs to agree on, requests to fire or
+    // what a log has are read with them. What is played is the script's, and each era is a run with
+    // the layer. In each slot that begins later than T rounds into an era and ends in it all
+    // correct nodes decide one value, which is their common input where they have one; all of them
+    // fire or none does, as they requested in the round before the slot where they did the same; or
+    // they put one entry into their logs, which its owner commands where it is correct, so that
+    // since such a slot they all have put the same. Just these slots have a line, where they begin
+    // in a configuration that is shown, and its words say so.
+    ensures layers { LayersKeepPromise }
 
     // N calls of `node`, over a window of rounds that begins in each at a packet of its own: where
     // each is given the cells that the correct ones write, and any bytes as those of few faulty

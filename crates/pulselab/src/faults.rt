@@ -2,40 +2,26 @@ ghost use Rattle.std.specs.Prelude.{◌≡◌, ◌↔◌, IsTrue};
 ghost use Rattle.pulselab.specs.Faults.{code_of, IsAnswered};
 
 use edge_io::WriteFault;
-use node_words::{HeaderRefusal, NodeError, rule_word};
+use node_words::{HeaderRefusal, NodeError, part_word, rule_word};
 use pulse_texts::{LinePremise, PulsesRefusal};
 use std::alloc::AllocError;
-use sync_types::Rule;
+use sync_types::{Part, Rule};
 use thiserror::Error;
 
 /// Why what the words ask for was not written, or not all of it.
 #[derive(Clone, Copy, Debug, PartialEq, Eq, Error)]
 pub enum LabError {
     /// The words ask for nothing.
-    #[error("usage: pulselab plan, run, slots or node, or pulselab --help")]
+    #[error("usage: pulselab plan, run, slots, consensus, fire, log or node, or pulselab --help")]
     Usage,
     /// The plan is refused, and a line that says so was written.
     #[error("refused pulses line {} premise {}", .0.line, .0.premise.word())]
     Refused(PulsesRefusal),
-    /// The slot table after the plan is refused, and a line that says so was written.
-    #[error("refused slots line {line} rule {}", rule_word(*rule))]
-    SlotsRefused {
-        /// The line's number, from 1 through the whole input.
-        line: u64,
-        /// The first rule that the line fails.
-        rule: Rule,
-    },
-    /// The script after the plan is refused, and a line that says so was written.
-    #[error("refused script line {line} rule {}", rule_word(*rule))]
-    ScriptRefused {
-        /// The line's number, from 1 through the whole input.
-        line: u64,
-        /// The first rule that the line fails.
-        rule: Rule,
-    },
-    /// The node part behind the plan is refused, and a line that says so was written.
-    #[error("refused node line {line} rule {}", rule_word(*rule))]
-    NodeRefused {
+    /// A part behind the plan is refused, and a line that says so was written.
+    #[error("refused {} line {line} rule {}", part_word(*part), rule_word(*rule))]
+    PartRefused {
+        /// The part.
+        part: Part,
         /// The line's number, from 1 through the whole input.
         line: u64,
         /// The first rule that the line fails.
@@ -72,8 +58,7 @@ impl LabError {
         match self {
             LabError::Refused(_) => 1,
             LabError::Usage => 2,
-            LabError::SlotsRefused { .. } => 3,
-            LabError::ScriptRefused { .. } | LabError::NodeRefused { .. } => 3,
+            LabError::PartRefused { .. } => 3,
             LabError::ReadFault => 6,
             LabError::WriteFault => 7,
             LabError::TooLong => 8,
@@ -87,8 +72,7 @@ impl LabError {
         ensures { IsTrue result ↔ IsAnswered self }
     {
         match self {
-            LabError::Refused(_) | LabError::SlotsRefused { .. } => true,
-            LabError::ScriptRefused { .. } | LabError::NodeRefused { .. } => true,
+            LabError::Refused(_) | LabError::PartRefused { .. } => true,
             _ => false,
         }
     }
@@ -124,9 +108,11 @@ impl From<NodeError<LinePremise>> for LabError {
             NodeError::Refused(HeaderRefusal::Plan { line, premise }) => {
                 LabError::Refused(PulsesRefusal { line, premise })
             }
-            NodeError::Refused(HeaderRefusal::Node { line, rule }) => {
-                LabError::NodeRefused { line, rule }
-            }
+            NodeError::Refused(HeaderRefusal::Node { line, rule }) => LabError::PartRefused {
+                part: Part::Node,
+                line,
+                rule,
+            },
             NodeError::ReadFault => LabError::ReadFault,
             NodeError::WriteFault => LabError::WriteFault,
             NodeError::TooLong => LabError::TooLong,

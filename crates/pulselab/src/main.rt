@@ -2,14 +2,16 @@
 //! its table: its numbers, from which round on its nodes count, what their states take, and a line
 //! for each group of the tree of halves. `pulselab run` reads such a plan and a script for it,
 //! plays the script, and writes what the nodes show; `pulselab slots` reads a slot table between
-//! them, and writes which nodes hold. `pulselab node` is a node of such a plan: it reads a header,
-//! which has the plan, the node's id and its state, and then packets, and writes the node's cell at
-//! the start and behind each packet. `--help` and `--version` write what they say.
+//! them, and writes which nodes hold. `pulselab consensus`, `fire` and `log` read what is to be
+//! agreed on between them, and write what comes of each slot. `pulselab node` is a node of such a
+//! plan: it reads a header, which has the plan, the node's id and its state, and then packets, and
+//! writes the node's cell at the start and behind each packet. `--help` and `--version` write what
+//! they say.
 //!
-//! A plan that is refused is answered by one line, `refused pulses line L premise P`, a slot table
-//! by `refused slots line L rule R`, a script by `refused script line L rule R`, and a node part by
-//! `refused node line L rule R`. What else fails is said in one line on standard error. The exit
-//! codes are those of `counterlab`.
+//! A plan that is refused is answered by one line, `refused pulses line L premise P`, and a part
+//! behind it by `refused PART line L rule R`, which names `slots`, `agree`, `fire`, `log`, `script`
+//! or `node`. What else fails is said in one line on standard error. The exit codes are those of
+//! `counterlab`.
 //!
 //! What is written is proved, of [`calling::pulselab`]. That `main` hands on words and streams,
 //! ends with the code of the status and writes the line on standard error is tried, and not

@@ -3,15 +3,15 @@
 ghost use Rattle.std.specs.Prelude.{◌≡◌, map, string_bytes};
 ghost use Rattle.pulselab.specs.Requests.{asked_alone, request_of};
 
+use pulse_runs::Shown;
+
 /// A word that reads all of the input, and answers it.
 #[derive(Clone, Copy, Debug, PartialEq, Eq)]
 pub enum Whole {
     /// The table of the plan that is read.
     Plan,
-    /// What the nodes of the plan that is read show while the script after it is played.
-    Run,
-    /// Which nodes hold meanwhile, by the slot table between plan and script.
-    Slots,
+    /// The run of the plan and the script that are read, with lines of this kind.
+    Play(Shown),
 }
 
 /// What is asked for.
@@ -38,9 +38,15 @@ fn asked_alone(word: &str) -> Option<Request>
     } else if word == "plan" {
         Some(Request::Whole(Whole::Plan))
     } else if word == "run" {
-        Some(Request::Whole(Whole::Run))
+        Some(Request::Whole(Whole::Play(Shown::Rows)))
     } else if word == "slots" {
-        Some(Request::Whole(Whole::Slots))
+        Some(Request::Whole(Whole::Play(Shown::Holds)))
+    } else if word == "consensus" {
+        Some(Request::Whole(Whole::Play(Shown::Decisions)))
+    } else if word == "fire" {
+        Some(Request::Whole(Whole::Play(Shown::Fires)))
+    } else if word == "log" {
+        Some(Request::Whole(Whole::Play(Shown::Entries)))
     } else if word == "node" {
         Some(Request::Node)
     } else {

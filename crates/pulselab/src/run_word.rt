@@ -1,4 +1,4 @@
-//! What is shown of the nodes of a plan while the script after it is played.
+//! What is written of the nodes of a plan while the script behind it is played.
 
 ghost use Rattle.std.specs.Prelude.{◌≡◌, ◌≤◌, ◌^◌, MatchResult, IfErr, length};
 ghost use Rattle.pulse_runs.specs.RunTexts.{run_of, IsPlayed};
@@ -32,11 +32,8 @@ pub fn play_script<K: Sink>(
         Err(PlayError::Refused(RunRefusal::Plan { line, premise })) => {
             Err(LabError::Refused(PulsesRefusal { line, premise }))
         }
-        Err(PlayError::Refused(RunRefusal::Slots { line, rule })) => {
-            Err(LabError::SlotsRefused { line, rule })
-        }
-        Err(PlayError::Refused(RunRefusal::Script { line, rule })) => {
-            Err(LabError::ScriptRefused { line, rule })
+        Err(PlayError::Refused(RunRefusal::Part { part, line, rule })) => {
+            Err(LabError::PartRefused { part, line, rule })
         }
         Err(PlayError::NoMemory) => Err(LabError::NoMemory),
         Err(PlayError::WriteFault) => Err(LabError::WriteFault),

@@ -12,7 +12,6 @@ use crate::plan_word::table_plan;
 use crate::requests::Whole;
 use crate::run_word::play_script;
 use edge_io::{InputFault, Sink, Source, read_all};
-use pulse_runs::Shown;
 use std::alloc::Global;
 
 /// How many bytes an input may have.
@@ -29,8 +28,7 @@ fn answer<K: Sink>(alloc: Global, word: Whole, input: &[u8], sink: &mut K) -> Re
 {
     match word {
         Whole::Plan => table_plan(input, sink),
-        Whole::Run => play_script(alloc, Shown::Rows, input, sink),
-        Whole::Slots => play_script(alloc, Shown::Holds, input, sink),
+        Whole::Play(shown) => play_script(alloc, shown, input, sink),
     }
 }
 

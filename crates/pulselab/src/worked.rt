@@ -3,8 +3,8 @@
 ghost use Rattle.pulselab.specs.Worked.{WorkedValues};
 
 /// Plans have these texts and these tables, a plan and a script this run, with a slot table these
-/// lines of who holds, texts that fail by each premise these refusals, a node writes these cells,
-/// and words ask for this.
+/// lines of who holds, with a layer's part these lines of its slots, texts that fail by each
+/// premise these refusals, a node writes these cells, and words ask for this.
 pub fn worked_values()
     ensures { WorkedValues }
 {}

@@ -32,8 +32,7 @@ error_line error.NoMemory = codes "out of memory\n"
 -- the code of a refused plan, and of a refused part after it
 abbrev pub pulses_code : RunRefusal → ℕ
 pulses_code (pulses_refusal.Plan line premise) = 1
-pulses_code (pulses_refusal.Slots line rule) = 3
-pulses_code (pulses_refusal.Script line rule) = 3
+pulses_code (pulses_refusal.Part part line rule) = 3
 
 -- the code is that of `run` for the same cause, and of a script without noise that of a refused one
 abbrev pub error_code : SweepError → ℕ

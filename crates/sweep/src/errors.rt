@@ -39,8 +39,7 @@ fn pulses_code(refusal: RunRefusal) -> u8
 {
     match refusal {
         RunRefusal::Plan { .. } => 1,
-        RunRefusal::Slots { .. } => 3,
-        RunRefusal::Script { .. } => 3,
+        RunRefusal::Part { .. } => 3,
     }
 }
 

@@ -24,8 +24,7 @@ is_first (Some first) line = first == line
 -- it is refused as a pulse plan for its first line that counts
 abbrev pub fails_at_first : Option ℕ → RunRefusal → Bool
 fails_at_first first (refusal.Plan line premise) = is_first first line
-fails_at_first first (refusal.Slots line rule) = false
-fails_at_first first (refusal.Script line rule) = false
+fails_at_first first (refusal.Part part line rule) = false
 
 module _ (want : Want) (words : List (List ℕ)) where
   -- of a plan of levels over blocks and a script: the words are refused where the last wanted

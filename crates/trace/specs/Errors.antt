@@ -1,7 +1,6 @@
 -- The line that an error writes, and the exit code.
 use Rattle.std.specs.Prelude.{ℕ, List, codes}
 use Rattle.sync_types.specs.Codes.{code_of}
-use Rattle.sync_types.specs.declared.answers.Part.TheVariants as part
 use Rattle.sync_types.specs.declared.status.Status.TheVariants as status
 use Rattle.outcomes.specs.Refusals.{refusal_line, refusal_status}
 use Rattle.pulse_runs.specs.declared.errors.RunRefusal.{RunRefusal}
@@ -30,8 +29,7 @@ error_line error.NoMemory = codes "out of memory\n"
 -- that of an input of a pulse plan that is refused: 1 where its plan is, and else that of its part
 abbrev pub pulses_code : RunRefusal → ℕ
 pulses_code (refusal.Plan line premise) = 1
-pulses_code (refusal.Slots line rule) = code_of (status.PartRefused part.Slots line rule)
-pulses_code (refusal.Script line rule) = code_of (status.PartRefused part.Script line rule)
+pulses_code (refusal.Part part line rule) = code_of (status.PartRefused part line rule)
 
 -- the code is that of `run` for the same cause
 abbrev pub error_code : TraceError → ℕ

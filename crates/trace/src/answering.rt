@@ -30,7 +30,11 @@ fn fails_at_first(first: Option<u64>, refusal: RunRefusal) -> bool
 {
     match refusal {
         RunRefusal::Plan { line, premise: _ } => is_first(first, line),
-        RunRefusal::Slots { line: _, rule: _ } | RunRefusal::Script { line: _, rule: _ } => false,
+        RunRefusal::Part {
+            part: _,
+            line: _,
+            rule: _,
+        } => false,
     }
 }
 

@@ -8,7 +8,7 @@ use edge_io::{InputFault, Sink, WriteFault, put_all};
 use outcomes::{Refusal, put_refusal};
 use pulse_runs::RunRefusal;
 use std::process::ExitCode;
-use sync_types::{NoMemory, Part, Status};
+use sync_types::{NoMemory, Status};
 
 /// Why a trace was not written, or not all of it.
 #[derive(Clone, Copy, Debug, PartialEq, Eq)]
@@ -43,18 +43,7 @@ fn pulses_code(refusal: RunRefusal) -> u8
             line: _,
             premise: _,
         } => 1,
-        RunRefusal::Slots { line, rule } => Status::PartRefused {
-            part: Part::Slots,
-            line,
-            rule,
-        }
-        .code(),
-        RunRefusal::Script { line, rule } => Status::PartRefused {
-            part: Part::Script,
-            line,
-            rule,
-        }
-        .code(),
+        RunRefusal::Part { part, line, rule } => Status::PartRefused { part, line, rule }.code(),
     }
 }
 

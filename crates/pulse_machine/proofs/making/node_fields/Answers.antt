@@ -23,4 +23,5 @@ new-requires-clause-few c =
     let same =
     same_fields plan v c.base_of.result c.in_ok-moduli.moduli.items c.base_of.ensures
     c.in_ok-moduli.ensures in
-    subst (λ fields. bits_in fields ≤ 1024) (sym same) (few_bits plan c.tell.ensures v)
+    subst (λ fields. bits_in fields ≤ 1024) (sym same)
+    (omega (arith, few_bits plan c.tell.ensures v))

@@ -1,0 +1,79 @@
+-- Inputs of a pulse plan, a part that says what stands above its counter, and a script.
+use Rattle.std.specs.Prelude.{ℕ, List, Result}
+use Rattle.texts.specs.Parts.{At, Found}
+use Rattle.sync_types.specs.declared.answers.Part.TheVariants as part
+use Rattle.sync_types.specs.declared.answers.Rule.{Rule}
+use Rattle.state_codec.specs.Shapes.{Shape}
+use Rattle.slot_table.specs.declared.lines.SlotLine.{SlotLine}
+use Rattle.slot_table.specs.SlotPart as slots
+use Rattle.layer_laws.specs.Numbers.{Numbers}
+use Rattle.consensus_layer.specs.AgreeSaid.{AgreeSaid}
+use Rattle.consensus_layer.specs.AgreePart as agree
+use Rattle.firing.specs.declared.requests.Request.{Request}
+use Rattle.firing.specs.FirePart as fire
+use Rattle.replicated_log.specs.LogSaid.{LogSaid}
+use Rattle.replicated_log.specs.LogPart as log
+use Rattle.pulse_plan.specs.Halvings.{halving_nodes, halving_faults}
+use Rattle.pulse_plan.specs.Steps.{halving_depth}
+use Rattle.pulse_plan.specs.Plans.{PulseNumbers, tree_of}
+use Rattle.pulse_nodes.specs.PulseShapes.{shape_of}
+use Rattle.pulse_runs.specs.declared.errors.RunRefusal.{RunRefusal}
+use Rattle.pulse_runs.specs.RunInputs.{Layered, layered_of}
+use Rattle.pulse_runs.specs.LayerShapes.{shape_with}
+
+-- the numbers of a plan's counter
+abbrev pub numbers_of : PulseNumbers → Numbers
+numbers_of plan = record {
+  nodes = halving_nodes (tree_of plan);
+  faults = halving_faults (tree_of plan);
+  modulus = plan.modulus;
+  depth = halving_depth (tree_of plan);
+}
+
+-- ---- a slot table of the plan's nodes, and of the outputs that it counts by: it has no registers
+
+abbrev pub slots_part : PulseNumbers → (number : ℕ) → List (List ℕ)
+    → Result (Found (List SlotLine)) (At Rule)
+slots_part plan number lines = slots.part_for plan.nodes plan.modulus number lines
+
+abbrev pub slots_shape : PulseNumbers → List SlotLine → Shape
+slots_shape plan table = shape_of plan
+
+abbrev pub slotted_of : List ℕ → Result (Layered (List SlotLine)) RunRefusal
+slotted_of input = layered_of part.Slots slots_part slots_shape input
+
+-- ---- consensus: one register of the values that are said, behind those of the plan
+
+abbrev pub agree_part : PulseNumbers → (number : ℕ) → List (List ℕ)
+    → Result (Found AgreeSaid) (At Rule)
+agree_part plan number lines = agree.part_over (numbers_of plan) number lines
+
+abbrev pub agree_shape : PulseNumbers → AgreeSaid → Shape
+agree_shape plan said = shape_with plan said.values 1
+
+abbrev pub agreed_of : List ℕ → Result (Layered AgreeSaid) RunRefusal
+agreed_of input = layered_of part.Agree agree_part agree_shape input
+
+-- ---- requests to fire: one register of two values
+
+abbrev pub fire_part : PulseNumbers → (number : ℕ) → List (List ℕ)
+    → Result (Found (List Request)) (At Rule)
+fire_part plan number lines = fire.part_over (numbers_of plan) number lines
+
+abbrev pub fire_shape : PulseNumbers → List Request → Shape
+fire_shape plan requests = shape_with plan 2 1
+
+abbrev pub firing_of : List ℕ → Result (Layered (List Request)) RunRefusal
+firing_of input = layered_of part.Fire fire_part fire_shape input
+
+-- ---- a log: two registers of its values
+
+abbrev pub log_part : PulseNumbers → (number : ℕ) → List (List ℕ)
+    → Result (Found LogSaid) (At Rule)
+log_part plan number lines = log.part_over (numbers_of plan) number lines
+
+abbrev pub log_shape : PulseNumbers → LogSaid → Shape
+log_shape plan said = shape_with plan said.values 2
+
+abbrev pub logging_of : List ℕ → Result (Layered LogSaid) RunRefusal
+logging_of input = layered_of part.Log log_part log_shape input

@@ -1,0 +1,16 @@
+-- The shape of the states of a pulse plan with the registers of a layer behind the plan's.
+use Rattle.std.specs.Prelude.{ℕ, ◌+◌, map}
+use Rattle.std.specs.List.{range_with_len}
+use Rattle.state_codec.specs.Shapes.{Shape, with_further}
+use Rattle.pulse_plan.specs.Steps.{halving_depth}
+use Rattle.pulse_plan.specs.Runs.{all_fields}
+use Rattle.pulse_plan.specs.Plans.{PulseNumbers, tree_of}
+
+-- every node has so many further registers of one modulus
+abbrev pub shape_with : PulseNumbers → (values count : ℕ) → Shape
+shape_with plan values count = record {
+  depth = halving_depth (tree_of plan) + count;
+  fields =
+      map (λ v. with_further (all_fields (tree_of plan) plan.modulus v) values count)
+      (range_with_len 0 plan.nodes);
+}
