@@ -47,6 +47,7 @@ class Plan:
             if key == "level":
                 self.put_level(*(int(number) for number in numbers if number != "spare"))
         self.depth = len(self.levels)
+        self.top = self.depth - 1 if self.depth else None
         self.moduli = [level.modulus for level in self.levels] + list(behind)
         self.lows = [self.low(v) for v in range(self.nodes)]
 
@@ -114,6 +115,24 @@ class Plan:
                 bits += f"{value:0{width(modulus + 1)}b}{int(mark)}"
         size = self.bytes(v)
         return int(bits.ljust(8 * size, "0"), 2).to_bytes(size, "big")
+
+    def fitted(self, v, state):
+        """Of a state what node v has."""
+        has_number, has_registers = self.has(v)
+        kept = [r if h else ZERO for r, h in zip(state.registers, has_registers)]
+        return State(state.number if has_number else 0, kept)
+
+    def shifted(self, v, state, later):
+        """A state of node v so many numbers later."""
+        has_number, has_registers = self.has(v)
+        number = (state.number + later) % self.base if has_number else 0
+        registers = []
+        for register, modulus, is_there in zip(state.registers, self.moduli, has_registers):
+            value, mark = register
+            if is_there and value is not None:
+                value = (value + later) % modulus
+            registers.append((value, mark))
+        return State(number, registers)
 
     def shown(self, state):
         return shown(self.depth, state)

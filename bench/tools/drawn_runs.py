@@ -1,17 +1,19 @@
 """Draws inputs of a word, and writes beside each what on_the_counter.py answers to it.
 
-    python3 drawn_runs.py WORD COUNT FOLDER [SEED]
+    python3 bench/tools/drawn_runs.py WORD COUNT FOLDER [SEED]
+    python3 bench/tools/drawn_runs.py pulses WORD COUNT FOLDER [SEED]
 
-WORD is run, slots, consensus, fire or log. FOLDER gets COUNT files NAME, each an input that the
-program accepts, and NAME.stdout. The plans have one to three levels, some with spare nodes; the
-scripts have up to three eras, and lies of every kind. They are the same each time.
+WORD is run, slots, consensus, fire or log. FOLDER gets COUNT files NAME, each an input that
+`counterlab` accepts, or by `pulses` one of `pulselab`, and NAME.stdout. The boosting plans have one
+to three levels, some with spare nodes, the pulse plans one to sixteen nodes; the scripts have up to
+three eras, and lies of every kind. They are the same each time.
 """
 
 import os
 import sys
 
-from counter import Plan
 from on_the_counter import answer
+from pulse_counter import plan_of
 from vectors import Draws
 
 # levels as blocks, faults and spares, from the lowest up; each tenth plan has three of them
@@ -26,6 +28,8 @@ SHAPES = [
     [(3, 1, 1), (3, 3, 1)],
     [(3, 1, 2)],
 ]
+# the nodes and faults of pulse plans
+GROUPS = [(4, 1), (7, 2), (5, 1), (10, 3), (4, 1), (13, 4), (1, 0), (8, 2), (16, 5), (6, 1)]
 LARGE = [
     [(3, 0, 0), (3, 1, 0), (3, 2, 0)],
     [(3, 0, 0), (3, 1, 1), (3, 3, 1)],
@@ -47,17 +51,29 @@ def slot_of(word, faults):
     return 3 * (faults + 1) + (1 if word == "log" else 0)
 
 
+def drawn_modulus(draws, word, nodes, faults):
+    """A multiple of what the word asks for."""
+    return slot_of(word, faults) * (nodes if word == "log" else 1) * (1 + draws.below(3))
+
+
+def drawn_pulses(draws, group, word):
+    """A pulse plan of so many nodes and faults."""
+    nodes, faults = group
+    modulus = drawn_modulus(draws, word, nodes, faults)
+    return plan_of(["pulses 1", f"group {nodes} {faults} {modulus}", "end"])
+
+
 def drawn_plan(draws, shape, word):
-    """A plan of a shape, whose modulus is a multiple of what the word asks for."""
+    """A plan of a shape."""
     nodes = 1
     for blocks, faults, spares in shape:
         nodes = nodes * blocks + spares
-    modulus = slot_of(word, faults) * (nodes if word == "log" else 1) * (1 + draws.below(3))
+    modulus = drawn_modulus(draws, word, nodes, faults)
     moduli = [span(blocks, faults) for blocks, faults, _ in shape] + [modulus]
     lines = ["plan 2", f"base {moduli[0] * (1 + draws.below(2))}"]
     for (blocks, faults, spares), count in zip(shape, moduli[1:]):
         lines.append(f"level {blocks} {faults} {count} spare {spares}")
-    return Plan([*lines, "end"])
+    return plan_of([*lines, "end"])
 
 
 def ids(draws, nodes, count):
@@ -185,21 +201,26 @@ def script_lines(draws, plan, firsts, rounds):
     return [*lines, f"rounds {rounds}", f"show {draws.below(3)} {rounds}", "end"]
 
 
-def drawn_input(draws, word, shape):
-    plan = drawn_plan(draws, shape, word)
+def drawn_input(draws, word, plan):
     firsts, rounds = drawn_times(draws, plan, word)
     between, values = input_lines(draws, plan, word, rounds)
-    script = script_lines(draws, Plan(plan.lines, values), firsts, rounds)
+    script = script_lines(draws, plan_of(plan.lines, values), firsts, rounds)
     return "".join(f"{line}\n" for line in [*plan.lines, *between, *script])
 
 
 def main():
-    word, count, folder = sys.argv[1], int(sys.argv[2]), sys.argv[3]
-    seed = sys.argv[4] if len(sys.argv) > 4 else "1"
+    given = sys.argv[1:]
+    is_pulses = given[0] == "pulses"
+    word, count, folder, *seeds = given[1:] if is_pulses else given
+    seed = seeds[0] if seeds else "1"
     os.makedirs(folder, exist_ok=True)
-    for place in range(count):
+    for place in range(int(count)):
         draws = Draws(f"{word} {seed} {place}")
-        text = drawn_input(draws, word, shape_at(place))
+        if is_pulses:
+            plan = drawn_pulses(draws, GROUPS[place % len(GROUPS)], word)
+        else:
+            plan = drawn_plan(draws, shape_at(place), word)
+        text = drawn_input(draws, word, plan)
         path = os.path.join(folder, f"{word}{place:03}")
         with open(path, "w") as out:
             out.write(text)

@@ -1,14 +1,18 @@
-"""Consensus, firing and the log on a counter, by docs/ON_THE_COUNTER.md.
+#!/usr/bin/env python3
+"""Plays a script over a plan of either construction, and writes what is to be written of it: of the
+counter alone, or with consensus, firing or a log on it, by docs/ON_THE_COUNTER.md.
 
-    python3 on_the_counter.py WORD < INPUT
+    python3 bench/tools/on_the_counter.py WORD < INPUT
 
-WORD is run, slots, consensus, fire or log. INPUT is what `counterlab WORD` reads, and what is
-written is what that writes for an accepted input. It is no part of the proved program.
+WORD is run, slots, consensus, fire or log. INPUT is what `counterlab WORD` reads, or of a pulse plan
+`pulselab WORD`, and what is written is what that writes for an accepted input. It is written from
+the documents by the other scripts of this folder, shares no code with the proved programs, and is no
+part of them.
 """
 
 import sys
 
-from counter import instructed, shown
+from counter import instructed
 from scripts import NoLayer, is_locked, lock_lines, play, read_input
 
 
@@ -38,7 +42,7 @@ class Slots(Agreement):
         self.kept = [0] * plan.nodes
 
     def step(self, t, v, heard):
-        x = shown(self.plan.depth, heard[v]) % self.length
+        x = self.plan.shown(heard[v]) % self.length
         register = self.turn(x, v, heard)
         if x < self.length - 1:
             self.kept[v] = self.between(v)
@@ -105,7 +109,7 @@ class Log(Agreement):
         return own[output // (self.plan.nodes * self.length) % len(own)]
 
     def step(self, t, v, heard):
-        output = shown(self.plan.depth, heard[v])
+        output = self.plan.shown(heard[v])
         p = output % self.length
         if p == 0:
             value, _mark = heard[self.owner(output)].registers[self.plan.depth + 1]
@@ -191,9 +195,9 @@ def answer(word, text):
     yield f"bound {plan.bound}"
     outputs, locked = [], {}
     for c, config in enumerate(play(script, layer)):
-        outputs.append([shown(plan.depth, state) for state in config])
+        outputs.append([plan.shown(state) for state in config])
         era = script.era(c)
-        if plan.depth == 0 or is_locked(plan, config, era.faulty):
+        if is_locked(plan, config, era.faulty):
             locked.setdefault(era.first, c)
         written = line(script, layer, outputs, c)
         if written is not None:

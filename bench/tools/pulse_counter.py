@@ -135,15 +135,17 @@ def level_after(group, v, heard):
 
 
 class Plan:
-    """A plan from the lines of its text, `pulses 1`, `group N F C` and `end`."""
+    """A plan from the lines of its text, `pulses 1`, `group N F C` and `end`; after it the values of
+    each register of a layer."""
 
-    def __init__(self, lines):
-        self.lines = lines
+    def __init__(self, lines, behind=()):
+        self.lines, self.behind = lines, list(behind)
         numbers = next(line for line in lines if line.startswith("group")).split()[1:]
         self.nodes, self.faults, self.modulus = map(int, numbers)
         self.bound = bound_of(self.faults)
         self.depth = REGISTERS * height_of(self.faults)
         self.whole = Group(0, self.nodes, self.faults, self.modulus, 0)
+        self.top = 0 if self.faults > 0 else None
 
     def groups(self, v):
         """The groups of node v, from the whole down."""
@@ -154,26 +156,29 @@ class Plan:
             group = next((half for half in halves if is_in(half, v)), None)
 
     def fields(self, v):
-        """The modulus of the number of node v, 1 if it lacks it, and those of its registers."""
-        moduli = []
+        """The modulus of the number of node v, 1 if it lacks it, and those of all registers, 0 of
+        one that it lacks."""
+        base, moduli = 1, []
         for group in self.groups(v):
             if group.faults == 0:
-                return group.modulus, moduli
-            moduli += [group.modulus, instructions_of(group), left_period_of(group), 1]
-        return 1, moduli
+                base = group.modulus
+            else:
+                moduli += [group.modulus, instructions_of(group), left_period_of(group), 1]
+        return base, moduli + [0] * (self.depth - len(moduli)) + self.behind
 
     def bits(self, v):
         base, moduli = self.fields(v)
-        return width(base) + sum(width(modulus + 1) + 1 for modulus in moduli)
+        return width(base) + sum(width(modulus + 1) + 1 for modulus in moduli if modulus > 0)
 
     def bytes(self, v):
         """How many bytes a state of node v takes."""
         return (self.bits(v) + 7) // 8
 
     def zero(self):
-        return State(0, [ZERO] * self.depth)
+        return State(0, [ZERO] * (self.depth + len(self.behind)))
 
     def filled(self, number, registers):
+        """A state of these registers of the plan, and none of a layer."""
         return State(number, registers + [ZERO] * (self.depth - len(registers)))
 
     def read(self, v, data):
@@ -191,9 +196,12 @@ class Plan:
         number = take(width(base))
         registers = []
         for modulus in moduli:
-            value = take(width(modulus + 1))
-            registers.append((value if value < modulus else None, take(1) == 1))
-        return self.filled(number if number < base else 0, registers)
+            register = ZERO
+            if modulus > 0:
+                value = take(width(modulus + 1))
+                register = (value if value < modulus else None, take(1) == 1)
+            registers.append(register)
+        return State(number if number < base else 0, registers)
 
     def write(self, v, state):
         """The bytes of a state of node v."""
@@ -201,9 +209,28 @@ class Plan:
         bits = f"{state.number:0{width(base)}b}" if width(base) > 0 else ""
         for modulus, (value, mark) in zip(moduli, state.registers):
             value = modulus if value is None else value
-            bits += f"{value:0{width(modulus + 1)}b}{int(mark)}"
+            bits += f"{value:0{width(modulus + 1)}b}{int(mark)}" if modulus > 0 else ""
         size = self.bytes(v)
         return int(bits.ljust(8 * size, "0"), 2).to_bytes(size, "big")
+
+    def fitted(self, v, state):
+        """Of a state what node v has: 0 for a number that is too large, infinity for a value."""
+        base, moduli = self.fields(v)
+        said = []
+        for modulus, (value, mark) in zip(moduli, state.registers):
+            value = value if value is not None and value < modulus else None
+            said.append((value, mark) if modulus > 0 else ZERO)
+        return State(state.number if state.number < base else 0, said)
+
+    def shifted(self, v, state, later):
+        """A state of node v so many numbers later."""
+        base, moduli = self.fields(v)
+        said = []
+        for modulus, (value, mark) in zip(moduli, state.registers):
+            if modulus > 0 and value is not None:
+                value = (value + later) % modulus
+            said.append((value, mark) if modulus > 0 else ZERO)
+        return State((state.number + later) % base, said)
 
     def shown(self, state):
         return shown(self.whole, state)
@@ -218,6 +245,7 @@ class Plan:
         return self.filled(0, new)
 
 
-def plan_of(lines):
-    """The plan of a text, of either construction."""
-    return Plan(lines) if lines[0].split()[0] == "pulses" else counter.Plan(lines)
+def plan_of(lines, behind=()):
+    """The plan of a text, of either construction; after it the values of a layer's registers."""
+    is_pulses = lines[0].split()[0] == "pulses"
+    return Plan(lines, behind) if is_pulses else counter.Plan(lines, behind)

@@ -1,5 +1,6 @@
 #!/usr/bin/env python3
-"""Draws scripts on pulse plans, and compares what a program writes of each with `pulse_runs.py`.
+"""Draws scripts on pulse plans, and compares what a program writes of each with what
+`on_the_counter.py` writes.
 
     gcc -O2 -o pulse_run bench/c/pulse_run.c
     python3 bench/tools/pulse_draws.py FIRST COUNT ./pulse_run
@@ -14,9 +15,8 @@ import random
 import subprocess
 import sys
 
+from on_the_counter import answer
 from pulse_counter import Plan
-from pulse_runs import PulseScript, lines_of_run
-from scripts import parts_of
 
 PLANS = [(1, 0), (4, 1), (5, 1), (7, 2), (8, 2), (10, 3), (13, 4), (16, 5), (22, 7)]
 MODULI = [2, 3, 10, 1000, 1 << 40]
@@ -83,8 +83,7 @@ class Draw:
 def main(first, count, program):
     for number in range(first, first + count):
         text = Draw(number).text()
-        plan, script = parts_of(text)
-        wanted = "".join(line + "\n" for line in lines_of_run(PulseScript(Plan(plan), script)))
+        wanted = "".join(line + "\n" for line in answer("run", text))
         said = subprocess.run(program, input=text.encode(), stdout=subprocess.PIPE).stdout.decode()
         if said != wanted:
             print(text, end="")

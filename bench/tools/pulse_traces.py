@@ -10,8 +10,7 @@ no code with the proved program. Inputs and words are taken as accepted ones.
 import sys
 
 from pulse_counter import Plan, instructions_of, left_period_of, level_state
-from pulse_runs import PulseScript, configurations
-from scripts import parts_of
+from scripts import Script, parts_of, play
 
 KINDS = ("keep", "mark", "king")
 
@@ -80,9 +79,9 @@ def lines_of_node(script, t, v, config):
 
 def main():
     plan, script = parts_of(sys.stdin.read())
-    script = PulseScript(Plan(plan), script)
+    script = Script(Plan(plan), script)
     first, last, *nodes = map(int, sys.argv[1:])
-    for t, config in enumerate(configurations(script)):
+    for t, config in enumerate(play(script)):
         if first <= t <= last:
             for v in sorted(set(nodes)) or range(script.plan.nodes):
                 print("\n".join(lines_of_node(script, t, v, config)))

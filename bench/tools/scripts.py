@@ -6,7 +6,8 @@ accepted ones.
 
 import struct
 
-from counter import Plan, State, step
+from counter import State
+from pulse_counter import plan_of
 
 
 def lines_of(text):
@@ -118,23 +119,13 @@ class Script:
 
     def meant(self, t, u, v, config, kind, word=""):
         plan = self.plan
-        has_number, has_registers = plan.has(u)
         if kind == "noise":
             return plan.read(u, noise(self.key, 256 * u + v, t, plan.bytes(u)))
         if kind == "hex":
             return plan.read(u, bytes.fromhex(word))
         if kind == "copy":
-            state = config[int(word)]
-            kept = [r if h else (0, False) for r, h in zip(state.registers, has_registers)]
-            return State(state.number if has_number else 0, kept)
-        number = (config[u].number + int(word)) % plan.base if has_number else 0
-        registers = []
-        for register, modulus, is_there in zip(config[u].registers, plan.moduli, has_registers):
-            value, mark = register
-            if is_there and value is not None:
-                value = (value + int(word)) % modulus
-            registers.append((value, mark))
-        return State(number, registers)
+            return plan.fitted(u, config[int(word)])
+        return plan.shifted(u, config[u], int(word))
 
     def heard(self, t, v, config):
         """What node v hears of all nodes in round t."""
@@ -162,7 +153,7 @@ def play(script, layer=NoLayer()):
         new = []
         for v in range(plan.nodes):
             heard = script.heard(t, v, config)
-            state = step(plan, v, heard)
+            state = plan.step(v, heard)
             new.append(State(state.number, state.registers + layer.step(t, v, heard)))
         for era in script.eras:
             if era.first == t + 1:
@@ -174,7 +165,9 @@ def play(script, layer=NoLayer()):
 
 def is_locked(plan, config, faulty):
     """Whether the top registers of all correct nodes are one, finite and marked."""
-    tops = {config[v].registers[plan.depth - 1] for v in range(plan.nodes) if v not in faulty}
+    if plan.top is None:  # nodes that count alone
+        return True
+    tops = {config[v].registers[plan.top] for v in range(plan.nodes) if v not in faulty}
     return len(tops) == 1 and all(mark and value is not None for value, mark in tops)
 
 
@@ -189,5 +182,5 @@ def read_input(text, layer_values):
     """The plan, the parts between, and the script of a text; a function says the values of the
     layer's registers by the parts between."""
     plan, *between, script = parts_of(text)
-    plan = Plan(plan, layer_values(between))
+    plan = plan_of(plan, layer_values(between))
     return plan, between, Script(plan, script)

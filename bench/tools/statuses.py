@@ -110,10 +110,41 @@ HELD_BY_ONE = (
     b"script 1\nfaulty\nstart zero\nrounds 4\nshow 1 4\nend\n"
 )
 HOLDS_OF_ONE = b"bound 0\nhold 1 1\nhold 2 1\nhold 3 .\nhold 4 1\nlocked 0\n"
+# one node that counts modulo 4 or 3, with a layer, and what it decides, fires or logs
+SCRIPT_OF_ONE = b"script 1\nfaulty\nstart zero\nrounds 8\nshow 0 8\nend\n"
+ONE_BY_THREE, ONE_BY_FOUR = (b"pulses 1\ngroup 1 0 %d\nend\n" % count for count in (3, 4))
+AGREE_OF_ONE = b"agree 1\nvalues 5\ninputs 4\nend\n"
+FIRE_OF_ONE = b"fire 1\nrequest 0 2 2\nend\n"
+LOG_OF_ONE = b"log 1\nvalues 9\nkeep 1\ncommands 0 7\nend\n"
+# of each word with a layer: the plan, the part, what is written, a line that fails and why
+LAYERS_OF_ONE = {
+    "consensus": (ONE_BY_THREE, AGREE_OF_ONE, b"bound 0\nslot 3 4\nlocked 0\n",
+                  b"agree 1\nvalues 1\n", b"refused agree line 5 rule range\n"),
+    "fire": (ONE_BY_THREE, FIRE_OF_ONE, b"bound 0\nfire 3 1\nlocked 0\n",
+             b"fire 1\nrequest 1 2 2\n", b"refused fire line 5 rule node\n"),
+    "log": (ONE_BY_FOUR, LOG_OF_ONE, b"bound 0\nentry 4 owner 0 7\nlocked 0\n",
+            b"log 1\nvalues 9\nkeep 0\n", b"refused log line 6 rule range\n"),
+}
 TABLE_OF_ONE = (
     b"table pulses 1\nplan nodes 1 faults 0 modulus 10\nbound 0 levels 0 bits 4 bytes 1\n"
     b"group 0 nodes 1 faults 0 modulus 10\nend\n"
 )
+
+
+def layer_cases(word):
+    """Those of a word of `pulselab` that plays a script with a layer."""
+    plan, part, answer, wrong, refusal = LAYERS_OF_ONE[word]
+    lines = (plan + part).count(b"\n")
+    late_liar = b"refused script line %d rule node\n" % (lines + 2)
+    no_slot = plan.replace(plan.split()[-2], b"5") + part
+    return [
+        (0, [word], plan + part + SCRIPT_OF_ONE, answer, b""),
+        (1, [word], b"pulses 1\ngroup 3 1 10\nend\n", b"refused pulses line 2 premise quorum\n", b""),
+        (3, [word], plan + wrong, refusal, b""),
+        (3, [word], no_slot, refusal[: refusal.index(b"line")] + b"line 4 rule slot\n", b""),
+        (3, [word], plan + part + b"script 1\nfaulty 1\n", late_liar, b""),
+        told(8, [word], TOO_LONG, b"the input is too long"),
+    ]
 
 
 def pulselab_cases():
@@ -138,6 +169,7 @@ def pulselab_cases():
         (1, ["slots"], too_few, refused, b""),
         (3, ["slots"], beyond, no_range, b""),
         (3, ["slots"], SLOTS_OF_FOUR + b"script 1\nfaulty 0 1\n", late_liars, b""),
+        *(case for word in LAYERS_OF_ONE for case in layer_cases(word)),
         (3, ["node"], no_such, b"refused node line 5 rule node\n", b""),
         told(8, ["plan"], TOO_LONG, b"the input is too long"),
         told(8, ["run"], TOO_LONG, b"the input is too long"),

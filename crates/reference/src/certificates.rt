@@ -2,8 +2,10 @@
 
 use crate::input_texts::write_levels;
 use crate::layers::Part;
+use crate::numbers::Numbers;
 use crate::plans::Plan;
-use crate::runs::Run;
+use crate::plays::{Play, write_words};
+use crate::runs::{Run, played_of};
 use crate::scripts::Script;
 use crate::states::written;
 use crate::texts::Text;
@@ -36,7 +38,8 @@ fn write_config(out: &mut Text, plan: &Plan, script: &Script, run: &Run) {
             out.word("\n");
         }
     }
-    run.write_line(out, run.at());
+    out.put("row", &[run.at()]);
+    write_words(out, &Numbers::of(plan), Part::Rows, run);
 }
 
 /// Writes what each faulty node tells each correct one in the coming round of a run.
@@ -71,7 +74,7 @@ pub fn certificate<'a>(
     plan: &'a Plan,
     script: &'a Script,
 ) -> Result<String, AllocError> {
-    let mut run = Run::new(alloc, plan, script, Part::Rows)?;
+    let mut run = Run::new(alloc, plan, played_of(plan, script, Part::Rows))?;
     let mut text = String::new(alloc);
     let mut out = Text::behind(&mut text);
     write_head(&mut out, plan, script);

@@ -6,12 +6,13 @@ use crate::lines::Lines;
 use crate::plan_texts::read_plan;
 use crate::plans::{Level, Plan, quotient, remainder};
 use crate::refusals::Stop;
-use crate::runs::Run;
+use crate::runs::{Run, played_of};
 use crate::script_texts::read_script;
 use crate::scripts::Script;
 use crate::sizes::Sizes;
 use crate::steps::shown;
 use crate::texts::Text;
+use crate::writing::Writing;
 use std::alloc::{AllocError, Global};
 
 /// A plan with levels: how many nodes it has, how many a block of the top level has, and how many
@@ -152,19 +153,22 @@ impl Shown<'_> {
     }
 }
 
-/// What the nodes show below the top level, in each configuration of a run, which is played.
+/// What the nodes show below the top level, in each configuration of a run, which is played and
+/// seen.
 fn outputs_of(
     alloc: Global,
-    plan: &Plan,
-    script: &Script,
+    depth: usize,
+    rounds: u64,
     run: &mut Run,
+    writing: &mut Writing,
 ) -> Result<Vec<u64>, AllocError> {
-    let below = plan.levels.len().saturating_sub(1);
+    let below = depth.saturating_sub(1);
     let mut outputs = Vec::new(alloc);
-    for at in 0..=script.rounds {
+    for at in 0..=rounds {
         if at > 0 {
             run.round();
         }
+        writing.see(run);
         for state in &run.config {
             outputs.push(shown(state, below))?;
         }
@@ -196,13 +200,16 @@ fn write_why(out: &mut Text, plan: &Plan, script: &Script, outputs: &[u64]) {
 
 /// What `explain` writes of a plan and a script.
 pub fn answer<'a>(alloc: Global, plan: &'a Plan, script: &'a Script) -> Result<String, AllocError> {
-    let mut run = Run::new(alloc, plan, script, Part::Rows)?;
-    let outputs = outputs_of(alloc, plan, script, &mut run)?;
+    let played = played_of(plan, script, Part::Rows);
+    let mut run = Run::new(alloc, plan, played)?;
+    let mut writing = Writing::of(alloc, played)?;
+    let depth = plan.levels.len();
+    let outputs = outputs_of(alloc, depth, script.rounds, &mut run, &mut writing)?;
     let mut text = String::new(alloc);
     let mut out = Text::behind(&mut text);
     out.line("bound", &[plan.bound()]);
     write_why(&mut out, plan, script, &outputs);
-    run.write_locks(&mut out);
+    writing.write_locks(&mut out);
     out.end()?;
     Ok(text)
 }

@@ -1,4 +1,4 @@
-//! The texts of plans and scripts.
+//! The texts of boosting plans, of scripts, and of the parts that stand between.
 
 use crate::plans::{Level, Plan};
 use crate::scripts::{Lie, Receivers, Rule, Script, Start};
@@ -37,12 +37,57 @@ pub fn write_plan(text: &mut String, plan: &Plan) -> Result<(), AllocError> {
     out.end()
 }
 
+/// Writes the lines of a part of spans, each behind a word.
+fn write_spans(
+    text: &mut String,
+    part: &str,
+    word: &str,
+    spans: &[Span],
+) -> Result<(), AllocError> {
+    let mut out = Text::behind(text);
+    out.line(part, &[1]);
+    for span in spans {
+        out.line(word, &[span.node, span.first, span.last]);
+    }
+    out.line("end", &[]);
+    out.end()
+}
+
 /// Writes the lines of slots.
 pub fn write_slots(text: &mut String, slots: &[Span]) -> Result<(), AllocError> {
+    write_spans(text, "slots", "slot", slots)
+}
+
+/// Writes the lines of requests.
+pub fn write_requests(text: &mut String, requests: &[Span]) -> Result<(), AllocError> {
+    write_spans(text, "fire", "request", requests)
+}
+
+/// Writes the lines of an agreement on values below some number, with the input of each node.
+pub fn write_agreement(text: &mut String, values: u64, inputs: &[u64]) -> Result<(), AllocError> {
     let mut out = Text::behind(text);
-    out.line("slots", &[1]);
-    for slot in slots {
-        out.line("slot", &[slot.node, slot.first, slot.last]);
+    out.line("agree", &[1]);
+    out.line("values", &[values]);
+    out.line("inputs", inputs);
+    out.line("end", &[]);
+    out.end()
+}
+
+/// Writes the lines of a log of values below some number, of which so many entries are kept, with
+/// the commands of each node.
+pub fn write_log(
+    text: &mut String,
+    values: u64,
+    keep: u64,
+    commands: &[Vec<u64>],
+) -> Result<(), AllocError> {
+    let mut out = Text::behind(text);
+    out.line("log", &[1]);
+    out.line("values", &[values]);
+    out.line("keep", &[keep]);
+    for (node, own) in commands.iter().enumerate() {
+        out.put("commands", &[node as u64]);
+        out.line("", own);
     }
     out.line("end", &[]);
     out.end()

@@ -1,10 +1,11 @@
-//! Layers above the counter, whose nodes have registers behind those of the levels and keep
-//! something beside, and slot tables.
+//! Layers above the counter, whose nodes have registers behind those of the plan and keep something
+//! beside, and slot tables.
 
-use crate::plans::{Plan, quotient, remainder};
+use crate::numbers::Numbers;
+use crate::plans::{quotient, remainder};
 use crate::spans::{Span, cover};
 use crate::states::{Register, State, state_of};
-use crate::steps::{agreed, register, shown};
+use crate::steps::{agreed, register};
 use crate::texts::Text;
 
 /// What is made of the outputs of the counter: nothing; who holds, by the slots; agreement on the
@@ -18,6 +19,17 @@ pub enum Part<'a> {
     Log(&'a [Vec<u64>]),
 }
 
+/// What a node hears in round `at`, in which it shows an output: states of all nodes, its own among
+/// them, whose registers from a depth on are those of a layer.
+#[derive(Clone, Copy)]
+pub struct Heard<'a> {
+    pub at: u64,
+    pub node: u64,
+    pub output: u64,
+    pub states: &'a [State],
+    pub depth: usize,
+}
+
 /// A register that was loaded.
 fn loaded(value: u64) -> Register {
     Register {
@@ -26,23 +38,17 @@ fn loaded(value: u64) -> Register {
     }
 }
 
-/// How many rounds belong to an entry of a log.
-pub fn length_of_entry(plan: &Plan) -> u64 {
-    plan.slot().wrapping_add(1)
-}
-
 /// The node to whose entry an output belongs.
-fn owner(plan: &Plan, output: u64) -> u64 {
-    remainder(quotient(output, length_of_entry(plan)), plan.nodes())
+fn owner(numbers: &Numbers, output: u64) -> u64 {
+    remainder(quotient(output, numbers.entry()), numbers.nodes)
 }
 
 /// What a node commands behind an output.
-fn command(plan: &Plan, commands: &[Vec<u64>], node: u64, output: u64) -> u64 {
-    let next = remainder(output.wrapping_add(1), plan.modulus());
-    let all = plan.nodes().wrapping_mul(length_of_entry(plan));
+fn command(numbers: &Numbers, commands: &[Vec<u64>], node: u64, output: u64) -> u64 {
+    let next = remainder(output.wrapping_add(1), numbers.modulus);
     match commands.get(node as usize) {
         Some(own) => {
-            let turn = remainder(quotient(next, all), own.len() as u64);
+            let turn = remainder(quotient(next, numbers.turn()), own.len() as u64);
             own.get(turn as usize).copied().unwrap_or(0)
         }
         None => 0,
@@ -56,68 +62,65 @@ impl Part<'_> {
     }
 
     /// How many rounds belong to a slot.
-    pub fn period(self, plan: &Plan) -> u64 {
+    pub fn period(self, numbers: &Numbers) -> u64 {
         match self {
-            Part::Log(_) => length_of_entry(plan),
-            _ => plan.slot(),
+            Part::Log(_) => numbers.entry(),
+            _ => numbers.slot(),
         }
     }
 
-    /// What is loaded into the register of agreement of a node that showed an output in round `at`,
-    /// if anything is: at the end of a slot an input, and at the front of an entry what its owner
-    /// proposes.
-    fn input(self, plan: &Plan, at: u64, output: u64, node: u64, heard: &[State]) -> Option<u64> {
-        let place = remainder(output, self.period(plan));
-        let is_last = place.wrapping_add(1) == self.period(plan);
+    /// What is loaded into the register of agreement of a node in a round, if anything is: at the
+    /// end of a slot an input, and at the front of an entry what its owner proposes.
+    fn input(self, numbers: &Numbers, heard: &Heard) -> Option<u64> {
+        let place = remainder(heard.output, self.period(numbers));
+        let is_last = place.wrapping_add(1) == self.period(numbers);
         match self {
-            Part::Agreement(inputs) if is_last => inputs.get(node as usize).copied(),
-            Part::Firing(requests) if is_last => Some(u64::from(cover(requests, node, at))),
+            Part::Agreement(inputs) if is_last => inputs.get(heard.node as usize).copied(),
+            Part::Firing(requests) if is_last => {
+                Some(u64::from(cover(requests, heard.node, heard.at)))
+            }
             Part::Log(_) if place == 0 => {
-                let owner = state_of(heard, owner(plan, output));
-                let proposed = register(&owner, plan.levels.len().wrapping_add(1));
+                let owner = state_of(heard.states, owner(numbers, heard.output));
+                let proposed = register(&owner, heard.depth.wrapping_add(1));
                 Some(proposed.value.unwrap_or(0))
             }
             _ => None,
         }
     }
 
-    /// The register of agreement of a node that showed an output, after a round in which it hears
-    /// these states.
-    fn result(self, plan: &Plan, output: u64, node: u64, heard: &[State]) -> Register {
-        let place = remainder(output, self.period(plan));
-        let depth = plan.levels.len();
-        let own = register(&state_of(heard, node), depth);
+    /// The register of agreement of a node after a turn of a slot.
+    fn result(self, numbers: &Numbers, heard: &Heard) -> Register {
+        let place = remainder(heard.output, self.period(numbers));
+        let own = register(&state_of(heard.states, heard.node), heard.depth);
         let turn = match self {
             Part::Log(_) => place.wrapping_sub(1),
             _ => place,
         };
-        agreed(own, heard, depth, plan.faults(), turn)
+        agreed(own, heard.states, heard.depth, numbers.faults, turn)
     }
 
-    /// Puts a node's new registers of the layer behind those of the levels, after round `at`, in
-    /// which it hears these states, its own among them.
-    pub fn step(self, plan: &Plan, at: u64, node: u64, heard: &[State], state: &mut State) {
-        let depth = plan.levels.len();
-        let output = shown(&state_of(heard, node), depth);
-        let result = self.result(plan, output, node, heard);
-        if remainder(output.wrapping_add(1), self.period(plan)) == 0 {
+    /// Puts a node's new registers of the layer into its state, and what it keeps now, after a
+    /// round in which it hears this.
+    pub fn step(self, numbers: &Numbers, heard: &Heard, state: &mut State) {
+        let result = self.result(numbers, heard);
+        if remainder(heard.output.wrapping_add(1), self.period(numbers)) == 0 {
             state.kept = result.value.unwrap_or(0);
         } else if matches!(self, Part::Firing(_)) {
             state.kept = 0;
         }
-        match self.input(plan, at, output, node, heard) {
-            Some(input) => state.put(depth, loaded(input)),
-            None => state.put(depth, result),
+        match self.input(numbers, heard) {
+            Some(input) => state.put(heard.depth, loaded(input)),
+            None => state.put(heard.depth, result),
         }
         if let Part::Log(commands) = self {
-            let command = command(plan, commands, node, output);
-            state.put(depth.wrapping_add(1), loaded(command));
+            let command = command(numbers, commands, heard.node, heard.output);
+            state.put(heard.depth.wrapping_add(1), loaded(command));
         }
     }
 
     /// Writes the front of a line of configuration `at`, in which the lowest correct node showed an
     /// output.
-    pub fn write_front(self, out: &mut Text, plan: &Plan, at: u64, output: u64) {
+    pub fn write_front(self, out: &mut Text, numbers: &Numbers, at: u64, output: u64) {
         let word = match self {
             Part::Rows => "row",
             Part::Slots(_) => "hold",
@@ -127,17 +130,17 @@ impl Part<'_> {
         };
         out.put(word, &[at]);
         if let Part::Log(_) = self {
-            out.put(" owner", &[owner(plan, output)]);
+            out.put(" owner", &[owner(numbers, output)]);
         }
     }
 
-    /// Writes the word of a correct node in a state, which shows an output.
-    pub fn write_word(self, out: &mut Text, node: u64, output: u64, state: &State) {
+    /// Writes the word of a correct node, which shows an output and keeps something.
+    pub fn write_word(self, out: &mut Text, node: u64, output: u64, kept: u64) {
         let is_marked = match self {
             Part::Rows => return out.put("", &[output]),
-            Part::Agreement(_) | Part::Log(_) => return out.put("", &[state.kept]),
+            Part::Agreement(_) | Part::Log(_) => return out.put("", &[kept]),
             Part::Slots(slots) => cover(slots, node, output),
-            Part::Firing(_) => state.kept == 1,
+            Part::Firing(_) => kept == 1,
         };
         out.word(if is_marked { " 1" } else { " ." });
     }

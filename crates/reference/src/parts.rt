@@ -1,14 +1,17 @@
-//! The words that play a script, most of which read a part between the plan and it.
+//! The words that play a script over a plan of either construction, most of which read a part
+//! between the two.
 
-use crate::layers::{Part, length_of_entry};
+use crate::layers::Part;
 use crate::lines::Lines;
+use crate::numbers::Numbers;
 use crate::plan_texts::{read_plan, want_none_broken};
-use crate::plans::{Plan, remainder};
+use crate::plans::remainder;
+use crate::pulse_texts::read_pulses;
 use crate::refusals::Stop;
-use crate::runs::answer;
 use crate::script_texts::read_script;
 use crate::sizes::Sizes;
-use crate::spans::{Limits, Span, read_spans};
+use crate::spans::{Span, read_spans};
+use crate::{pulse_runs, runs};
 use std::alloc::Global;
 
 /// The most values that the registers of a layer may have.
@@ -42,8 +45,8 @@ impl Drop for Parts {
 }
 
 /// Refuses the line, unless the nodes count by a multiple of so many rounds.
-fn want_slots(plan: &Plan, lines: &mut Lines, rounds: u64) {
-    lines.want(remainder(plan.modulus(), rounds) == 0, "slot");
+fn want_slots(numbers: &Numbers, lines: &mut Lines, rounds: u64) {
+    lines.want(remainder(numbers.modulus, rounds) == 0, "slot");
 }
 
 /// Takes the line of a part that says a number, from `least` to `most`.
@@ -56,9 +59,9 @@ fn read_number(lines: &mut Lines, part: &'static str, word: &str, least: u64, mo
 }
 
 /// Takes the lines of an agreement: below what the inputs are, and the input of each node.
-fn read_agreement(plan: &Plan, lines: &mut Lines, inputs: &mut Vec<u64>) -> u64 {
+fn read_agreement(numbers: &Numbers, lines: &mut Lines, inputs: &mut Vec<u64>) -> u64 {
     lines.take_first("agree");
-    want_slots(plan, lines, plan.slot());
+    want_slots(numbers, lines, numbers.slot());
     let values = read_number(lines, "agree", "values", 2, MOST_VALUES);
     lines.take("agree");
     let is_named = lines.is(0, "inputs");
@@ -69,7 +72,7 @@ fn read_agreement(plan: &Plan, lines: &mut Lines, inputs: &mut Vec<u64>) -> u64 
         are_below &= input < values;
         lines.put(inputs, input);
     }
-    lines.want(inputs.len() as u64 == plan.nodes(), "form");
+    lines.want(inputs.len() as u64 == numbers.nodes, "form");
     lines.want(are_below, "range");
     lines.take_end("agree");
     values
@@ -106,16 +109,17 @@ fn commands_of(alloc: Global, lines: &mut Lines, node: u64, values: u64) -> Vec<
 
 /// Takes the lines of a log: below what the commands are, how many entries are kept, and the
 /// commands of each node.
-fn read_log(alloc: Global, plan: &Plan, lines: &mut Lines, commands: &mut Vec<Vec<u64>>) -> u64 {
+fn read_log(
+    alloc: Global,
+    numbers: &Numbers,
+    lines: &mut Lines,
+    commands: &mut Vec<Vec<u64>>,
+) -> u64 {
     lines.take_first("log");
-    want_slots(
-        plan,
-        lines,
-        plan.nodes().wrapping_mul(length_of_entry(plan)),
-    );
+    want_slots(numbers, lines, numbers.turn());
     let values = read_number(lines, "log", "values", 2, MOST_VALUES);
     let _kept = read_number(lines, "log", "keep", 1, MOST_KEPT);
-    for node in 0..plan.nodes() {
+    for node in 0..numbers.nodes {
         let own = commands_of(alloc, lines, node, values);
         lines.put(commands, own);
     }
@@ -123,46 +127,85 @@ fn read_log(alloc: Global, plan: &Plan, lines: &mut Lines, commands: &mut Vec<Ve
     values
 }
 
+/// So many registers of a layer behind those of a plan, with values below `values`.
+#[derive(Clone, Copy)]
+struct Behind {
+    registers: usize,
+    values: u64,
+}
+
+impl Behind {
+    /// So many registers, with values below `values`.
+    fn of(registers: usize, values: u64) -> Behind {
+        Behind { registers, values }
+    }
+}
+
+/// What stands behind the registers of a plan where there is no layer.
+const NOTHING_BEHIND: Behind = Behind {
+    registers: 0,
+    values: 0,
+};
+
 impl Parts {
-    /// Takes the lines of the part of a word, if it has one, and puts its layer on the plan.
-    fn read(&mut self, alloc: Global, word: &str, plan: &mut Plan, lines: &mut Lines) -> Part<'_> {
+    /// The parts of an input that is not yet read.
+    fn none(alloc: Global) -> Parts {
+        Parts {
+            spans: Vec::new(alloc),
+            inputs: Vec::new(alloc),
+            commands: Vec::new(alloc),
+        }
+    }
+
+    /// Takes the lines of the part of a word, if it has one, and says what registers it has.
+    fn read(
+        &mut self,
+        alloc: Global,
+        word: &str,
+        numbers: &Numbers,
+        lines: &mut Lines,
+    ) -> (Part<'_>, Behind) {
         match word {
             "slots" => {
                 lines.take_first("slots");
-                read_spans(Limits::of(plan), lines, "slots", &mut self.spans);
-                Part::Slots(&self.spans)
+                read_spans(numbers, lines, "slots", &mut self.spans);
+                (Part::Slots(&self.spans), NOTHING_BEHIND)
             }
             "fire" => {
                 lines.take_first("fire");
-                want_slots(plan, lines, plan.slot());
-                read_spans(Limits::of(plan), lines, "fire", &mut self.spans);
-                plan.set_layer(1, 2);
-                Part::Firing(&self.spans)
+                want_slots(numbers, lines, numbers.slot());
+                read_spans(numbers, lines, "fire", &mut self.spans);
+                (Part::Firing(&self.spans), Behind::of(1, 2))
             }
             "consensus" => {
-                let values = read_agreement(plan, lines, &mut self.inputs);
-                plan.set_layer(1, values);
-                Part::Agreement(&self.inputs)
+                let values = read_agreement(numbers, lines, &mut self.inputs);
+                (Part::Agreement(&self.inputs), Behind::of(1, values))
             }
             "log" => {
-                let values = read_log(alloc, plan, lines, &mut self.commands);
-                plan.set_layer(2, values);
-                Part::Log(&self.commands)
+                let values = read_log(alloc, numbers, lines, &mut self.commands);
+                (Part::Log(&self.commands), Behind::of(2, values))
             }
-            _ => Part::Rows,
+            _ => (Part::Rows, NOTHING_BEHIND),
         }
     }
 }
 
-/// What a word writes that plays a script.
+/// What a word writes that plays a script over a boosting plan.
 pub fn play(alloc: Global, word: &str, lines: &mut Lines) -> Result<String, Stop> {
     let mut plan = read_plan(alloc, lines)?;
-    let mut parts = Parts {
-        spans: Vec::new(alloc),
-        inputs: Vec::new(alloc),
-        commands: Vec::new(alloc),
-    };
-    let part = parts.read(alloc, word, &mut plan, lines);
+    let mut parts = Parts::none(alloc);
+    let (part, behind) = parts.read(alloc, word, &Numbers::of(&plan), lines);
+    plan.set_layer(behind.registers, behind.values);
     let script = read_script(alloc, &Sizes::of(&plan), lines)?;
-    Ok(answer(alloc, &plan, &script, part)?)
+    Ok(runs::answer(alloc, &plan, &script, part)?)
+}
+
+/// What a word writes that plays a script over a pulse plan.
+pub fn play_pulses(alloc: Global, word: &str, lines: &mut Lines) -> Result<String, Stop> {
+    let mut plan = read_pulses(lines)?;
+    let mut parts = Parts::none(alloc);
+    let (part, behind) = parts.read(alloc, word, &Numbers::of_pulses(&plan), lines);
+    plan.set_layer(behind.registers, behind.values);
+    let script = read_script(alloc, &Sizes::of_pulses(&plan), lines)?;
+    Ok(pulse_runs::answer(alloc, &plan, &script, part)?)
 }

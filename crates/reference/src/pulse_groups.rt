@@ -10,19 +10,40 @@ pub const MOST_LEVELS: usize = 9;
 const FAULTS: usize = 86;
 
 /// So many nodes from a first one on, of which so many may be faulty, and what they count by. A
-/// group that tolerates none is one node.
+/// group that tolerates none is one node. Behind the registers of its groups each node of a plan
+/// has those of a layer, whose values are below `values`.
 #[derive(Clone, Copy)]
 pub struct Group {
     pub first: u64,
     pub nodes: u64,
     pub faults: u64,
     pub modulus: u64,
+    pub behind: usize,
+    pub values: u64,
 }
 
 /// The groups with halves in which a node is, from the whole down.
 pub type Levels = [Option<Group>; MOST_LEVELS];
 
 impl Group {
+    /// A plan without a layer.
+    pub fn of(nodes: u64, faults: u64, modulus: u64) -> Group {
+        Group {
+            first: 0,
+            nodes,
+            faults,
+            modulus,
+            behind: 0,
+            values: 0,
+        }
+    }
+
+    /// Puts so many registers of a layer behind those of the groups, with values below `values`.
+    pub fn set_layer(&mut self, behind: usize, values: u64) {
+        self.behind = behind;
+        self.values = values;
+    }
+
     /// Whether the group is one node, which has no halves.
     pub fn is_single(&self) -> bool {
         self.faults == 0
@@ -42,9 +63,7 @@ impl Group {
     fn fewest(first: u64, faults: u64, modulus: u64) -> Group {
         Group {
             first,
-            nodes: faults.wrapping_mul(3).wrapping_add(1),
-            faults,
-            modulus,
+            ..Group::of(faults.wrapping_mul(3).wrapping_add(1), faults, modulus)
         }
     }
 
@@ -133,6 +152,12 @@ impl Group {
         bits
     }
 
+    /// How many bits the registers of a layer take.
+    fn bits_behind(&self) -> u64 {
+        let register = width(self.values.wrapping_add(1)).wrapping_add(1);
+        register.wrapping_mul(self.behind as u64)
+    }
+
     /// How many bits a state of one of its nodes has.
     pub fn bits(&self, node: u64) -> u64 {
         let mut bits = width(self.base_of(node).unwrap_or(1));
@@ -141,7 +166,7 @@ impl Group {
                 bits = bits.wrapping_add(group.level_bits());
             }
         }
-        bits
+        bits.wrapping_add(self.bits_behind())
     }
 
     /// How many bytes a state of one of its nodes has.

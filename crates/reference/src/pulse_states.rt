@@ -3,7 +3,8 @@
 use crate::bits::{Bits, NO_BITS, number};
 use crate::plans::{remainder, width};
 use crate::pulse_groups::{Group, MOST_LEVELS};
-use crate::states::{Register, ZERO};
+use crate::states::{Register, State as Kept, ZERO, ZERO_STATE as NOTHING_KEPT};
+use crate::steps::register as register_at;
 
 /// The registers of a level: that of the king; the instruction that comes, infinite where the node
 /// waits, and whether the left half began these; the age of the left pulse, infinite from a period
@@ -11,11 +12,12 @@ use crate::states::{Register, ZERO};
 pub type Level = [Register; 4];
 
 /// A number, and the registers of each level, from the whole down. What a node lacks is 0, with no
-/// mark.
+/// mark. Behind them, the registers of a layer and what a node of it keeps.
 #[derive(Clone, Copy)]
 pub struct State {
     pub x: u64,
     pub levels: [Level; MOST_LEVELS],
+    pub layer: Kept,
 }
 
 /// A level that a node lacks, or that it starts with.
@@ -25,6 +27,7 @@ pub const ZERO_LEVEL: Level = [ZERO; 4];
 pub const ZERO_STATE: State = State {
     x: 0,
     levels: [ZERO_LEVEL; MOST_LEVELS],
+    layer: NOTHING_KEPT,
 };
 
 impl State {
@@ -51,16 +54,22 @@ fn value_of(number: u64, modulus: u64) -> Option<u64> {
     if number < modulus { Some(number) } else { None }
 }
 
-/// The registers of a level of a group that stand in some bytes behind so many bits.
-fn read_level(group: &Group, bytes: &[u8], first: u64) -> Level {
+/// The register of a modulus that stands in some bytes behind `at` bits, which are then those
+/// through it.
+fn read_register(bytes: &[u8], at: &mut u64, modulus: u64) -> Register {
+    let bits = width(modulus.wrapping_add(1));
+    let value = value_of(number(bytes, *at, bits), modulus);
+    *at = at.wrapping_add(bits);
+    let mark = number(bytes, *at, 1) == 1;
+    *at = at.wrapping_add(1);
+    Register { value, mark }
+}
+
+/// The registers of a level of a group that stand in some bytes behind `at` bits.
+fn read_level(group: &Group, bytes: &[u8], at: &mut u64) -> Level {
     let mut level = ZERO_LEVEL;
-    let mut at = first;
     for (register, modulus) in level.iter_mut().zip(&group.moduli()) {
-        let bits = width(modulus.wrapping_add(1));
-        register.value = value_of(number(bytes, at, bits), *modulus);
-        at = at.wrapping_add(bits);
-        register.mark = number(bytes, at, 1) == 1;
-        at = at.wrapping_add(1);
+        *register = read_register(bytes, at, *modulus);
     }
     level
 }
@@ -77,23 +86,23 @@ pub fn read(plan: &Group, node: u64, bytes: &[u8]) -> State {
     state.x = value_of(number(bytes, 0, at), base).unwrap_or(0);
     for (depth, level) in plan.levels_of(node).iter().enumerate() {
         if let Some(group) = level {
-            state.put(depth, read_level(group, bytes, at));
-            at = at.wrapping_add(group.level_bits());
+            state.put(depth, read_level(group, bytes, &mut at));
         }
+    }
+    for register in state.layer.registers.iter_mut().take(plan.behind) {
+        *register = read_register(bytes, &mut at, plan.values);
     }
     state
 }
 
-/// Puts the registers of a level of a group behind some bits: an infinite value stands as the first
-/// that is too large.
-fn write_level(bits: &mut Bits, group: &Group, level: &Level) {
-    for (register, modulus) in level.iter().zip(&group.moduli()) {
-        bits.put(
-            register.value.unwrap_or(*modulus),
-            width(modulus.wrapping_add(1)),
-        );
-        bits.put(u64::from(register.mark), 1);
-    }
+/// Puts a register of a modulus behind some bits: an infinite value stands as the first that is too
+/// large.
+fn write_register(bits: &mut Bits, register: &Register, modulus: u64) {
+    bits.put(
+        register.value.unwrap_or(modulus),
+        width(modulus.wrapping_add(1)),
+    );
+    bits.put(u64::from(register.mark), 1);
 }
 
 /// The bits of a state of a node of a plan.
@@ -102,10 +111,26 @@ pub fn written(plan: &Group, node: u64, state: &State) -> Bits {
     bits.put(state.x, width(plan.base_of(node).unwrap_or(1)));
     for (depth, level) in plan.levels_of(node).iter().enumerate() {
         if let Some(group) = level {
-            write_level(&mut bits, group, &state.level(depth));
+            for (register, modulus) in state.level(depth).iter().zip(&group.moduli()) {
+                write_register(&mut bits, register, *modulus);
+            }
         }
     }
+    for register in state.layer.registers.iter().take(plan.behind) {
+        write_register(&mut bits, register, plan.values);
+    }
     bits
+}
+
+/// A register whose value is infinite where it is too large.
+fn fitted(register: &Register, modulus: u64) -> Register {
+    Register {
+        value: match register.value {
+            Some(value) => value_of(value, modulus),
+            None => None,
+        },
+        mark: register.mark,
+    }
 }
 
 /// Of a state whose number and finite values are all raised by `by`, each in its modulus, what a
@@ -121,14 +146,15 @@ pub fn shifted(plan: &Group, node: u64, state: &State, by: u64) -> State {
         if let Some(group) = level {
             let mut raised = state.level(depth);
             for (register, modulus) in raised.iter_mut().zip(&group.moduli()) {
-                register.value = match register.value {
-                    Some(value) => value_of(value, *modulus),
-                    None => None,
-                };
-                *register = register.raised(by, *modulus);
+                *register = fitted(register, *modulus).raised(by, *modulus);
             }
             shifted.put(depth, raised);
         }
+    }
+    for register in 0..plan.behind {
+        let own = register_at(&state.layer, register);
+        let raised = fitted(&own, plan.values).raised(by, plan.values);
+        shifted.layer.put(register, raised);
     }
     shifted
 }

@@ -1,6 +1,7 @@
 //! What a script has to know of a plan.
 
 use crate::plans::Plan;
+use crate::pulse_groups::Group;
 
 /// How many nodes a plan has at most.
 const MOST_NODES: usize = 256;
@@ -31,10 +32,19 @@ impl Sizes {
         }
     }
 
-    /// Those of a plan.
+    /// Those of a boosting plan.
     pub fn of(plan: &Plan) -> Sizes {
         let mut sizes = Sizes::new(plan.nodes(), plan.faults());
         for node in 0..sizes.nodes.min(MOST_NODES as u64) {
+            sizes.put(node, plan.bytes(node));
+        }
+        sizes
+    }
+
+    /// Those of a pulse plan.
+    pub fn of_pulses(plan: &Group) -> Sizes {
+        let mut sizes = Sizes::new(plan.nodes, plan.faults);
+        for node in 0..plan.nodes.min(MOST_NODES as u64) {
             sizes.put(node, plan.bytes(node));
         }
         sizes

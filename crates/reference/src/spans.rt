@@ -1,6 +1,7 @@
 //! Spans of numbers that are a node's: the outputs of its slots, and the rounds of its requests.
 
 use crate::lines::Lines;
+use crate::numbers::Numbers;
 use crate::plan_texts::want_none_broken;
 use crate::plans::Plan;
 
@@ -32,23 +33,6 @@ pub fn cover(spans: &[Span], node: u64, number: u64) -> bool {
     false
 }
 
-/// How many nodes there are, and below which number the outputs are that slots give them.
-#[derive(Clone, Copy)]
-pub struct Limits {
-    pub nodes: u64,
-    pub modulus: u64,
-}
-
-impl Limits {
-    /// Those of a plan.
-    pub fn of(plan: &Plan) -> Limits {
-        Limits {
-            nodes: plan.nodes(),
-            modulus: plan.modulus(),
-        }
-    }
-}
-
 /// The first rule that a request fails.
 pub fn broken_request(plan: &Plan, request: &Span) -> Option<&'static str> {
     broken_span(plan.nodes(), request)
@@ -66,12 +50,12 @@ fn broken_span(nodes: u64, span: &Span) -> Option<&'static str> {
 }
 
 /// The first rule that the line of a slot behind those of others fails.
-pub fn broken_slot(limits: Limits, slot: &Span, others: &[Span]) -> Option<&'static str> {
-    let broken = broken_span(limits.nodes, slot);
+pub fn broken_slot(numbers: &Numbers, slot: &Span, others: &[Span]) -> Option<&'static str> {
+    let broken = broken_span(numbers.nodes, slot);
     if broken.is_some() {
         return broken;
     }
-    if slot.last >= limits.modulus {
+    if slot.last >= numbers.modulus {
         return Some("range");
     }
     for other in others {
@@ -83,7 +67,7 @@ pub fn broken_slot(limits: Limits, slot: &Span, others: &[Span]) -> Option<&'sta
 }
 
 /// Takes the lines of the spans of a part, which is one of slots or else of requests.
-pub fn read_spans(limits: Limits, lines: &mut Lines, part: &'static str, spans: &mut Vec<Span>) {
+pub fn read_spans(numbers: &Numbers, lines: &mut Lines, part: &'static str, spans: &mut Vec<Span>) {
     let are_slots = part == "slots";
     for _ in 0..=lines.most() {
         lines.take(part);
@@ -98,9 +82,9 @@ pub fn read_spans(limits: Limits, lines: &mut Lines, part: &'static str, spans: 
         };
         lines.want(spans.len() < MOST_SPANS, "limit");
         let broken = if are_slots {
-            broken_slot(limits, &span, spans)
+            broken_slot(numbers, &span, spans)
         } else {
-            broken_span(limits.nodes, &span)
+            broken_span(numbers.nodes, &span)
         };
         want_none_broken(lines, broken);
         lines.put(spans, span);

@@ -2,9 +2,9 @@
 
 use crate::cases::{Case, refusal_or_script};
 use crate::draws::Draws;
+use reference::input_texts::write_agreement;
 use reference::layers::Part;
 use reference::plans::{Plan, remainder};
-use reference::texts::Text;
 use std::alloc::AllocError;
 
 /// Agreement on values below some number, and the input of each node.
@@ -48,16 +48,6 @@ fn broken(plan: &Plan, agreement: &Agreement) -> Option<(u64, &'static str)> {
     }
 }
 
-/// Writes the lines of an agreement.
-fn write_agreement(text: &mut String, agreement: &Agreement) -> Result<(), AllocError> {
-    let mut out = Text::behind(text);
-    out.line("agree", &[1]);
-    out.line("values", &[agreement.values]);
-    out.line("inputs", &agreement.inputs);
-    out.line("end", &[]);
-    out.end()
-}
-
 impl Draws {
     /// How many values there are: two, or more.
     pub fn values(&mut self) -> u64 {
@@ -97,7 +87,7 @@ impl Draws {
         plan.set_layer(1, agreement.values);
         let script = self.long_script(plan, version);
         let mut input = self.plan_text(plan);
-        self.note(write_agreement(&mut input, &agreement));
+        self.note(write_agreement(&mut input, agreement.values, &agreement.inputs));
         let part = Part::Agreement(&agreement.inputs);
         self.played("consensus", input, plan, &script, part)
     }
@@ -107,7 +97,7 @@ impl Draws {
         let mut agreement = self.agreement(plan);
         self.spoil_agreement(&mut agreement);
         let mut input = self.plan_text(plan);
-        self.note(write_agreement(&mut input, &agreement));
+        self.note(write_agreement(&mut input, agreement.values, &agreement.inputs));
         let refusal = refusal_or_script(plan, "agree", broken(plan, &agreement), 4);
         Case::refused(self.alloc, "consensus", input.into_bytes(), refusal)
     }

@@ -3,10 +3,10 @@
 
 use crate::cases::{Case, refusal_or_script};
 use crate::draws::Draws;
+use reference::input_texts::write_requests;
 use reference::layers::Part;
 use reference::plans::{Plan, remainder};
 use reference::spans::{Span, broken_request};
-use reference::texts::Text;
 use std::alloc::AllocError;
 
 /// The first rule that a request fails, and on which line behind that of `fire 1`.
@@ -28,17 +28,6 @@ fn broken(plan: &Plan, requests: &[Span]) -> Option<(u64, &'static str)> {
     } else {
         broken_of_all(plan, requests)
     }
-}
-
-/// Writes the lines of requests.
-fn write_requests(text: &mut String, requests: &[Span]) -> Result<(), AllocError> {
-    let mut out = Text::behind(text);
-    out.line("fire", &[1]);
-    for request in requests {
-        out.line("request", &[request.node, request.first, request.last]);
-    }
-    out.line("end", &[]);
-    out.end()
 }
 
 impl Draws {

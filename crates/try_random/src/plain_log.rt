@@ -2,10 +2,11 @@
 
 use crate::cases::{Case, refusal_or_script};
 use crate::draws::Draws;
-use reference::layers::{Part, length_of_entry};
+use reference::input_texts::write_log;
+use reference::layers::Part;
+use reference::numbers::Numbers;
 use reference::parts::broken_commands;
 use reference::plans::{Plan, remainder};
-use reference::texts::Text;
 use std::alloc::AllocError;
 
 /// What the lines of a log say: below what values are, how many entries are kept, and the commands
@@ -42,8 +43,7 @@ fn broken_of_nodes(lines: &Commands) -> Option<(u64, &'static str)> {
 
 /// The first rule that fails, and on which line behind that of `log 1`.
 fn broken(plan: &Plan, lines: &Commands) -> Option<(u64, &'static str)> {
-    let all = plan.nodes().wrapping_mul(length_of_entry(plan));
-    if remainder(plan.modulus(), all) != 0 {
+    if remainder(plan.modulus(), Numbers::of(plan).turn()) != 0 {
         Some((0, "slot"))
     } else if lines.values > 65536 {
         Some((1, "limit"))
@@ -58,20 +58,9 @@ fn broken(plan: &Plan, lines: &Commands) -> Option<(u64, &'static str)> {
     }
 }
 
-/// Writes the lines of a log.
-fn write_log(text: &mut String, lines: &Commands) -> Result<(), AllocError> {
-    let mut out = Text::behind(text);
-    out.line("log", &[1]);
-    out.line("values", &[lines.values]);
-    out.line("keep", &[lines.keep]);
-    let mut node = 0u64;
-    for own in &lines.commands {
-        out.put("commands", &[node]);
-        out.line("", own);
-        node = node.wrapping_add(1);
-    }
-    out.line("end", &[]);
-    out.end()
+/// Writes them.
+fn write_lines(text: &mut String, lines: &Commands) -> Result<(), AllocError> {
+    write_log(text, lines.values, lines.keep, &lines.commands)
 }
 
 impl Draws {
@@ -128,7 +117,7 @@ impl Draws {
         plan.set_layer(2, lines.values);
         let script = self.long_script(plan, version);
         let mut input = self.plan_text(plan);
-        self.note(write_log(&mut input, &lines));
+        self.note(write_lines(&mut input, &lines));
         self.played("log", input, plan, &script, Part::Log(&lines.commands))
     }
 
@@ -137,7 +126,7 @@ impl Draws {
         let mut lines = self.log(plan);
         self.spoil_log(&mut lines);
         let mut input = self.plan_text(plan);
-        self.note(write_log(&mut input, &lines));
+        self.note(write_lines(&mut input, &lines));
         let behind = plan.nodes().wrapping_add(4);
         let refusal = refusal_or_script(plan, "log", broken(plan, &lines), behind);
         Case::refused(self.alloc, "log", input.into_bytes(), refusal)

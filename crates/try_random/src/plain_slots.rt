@@ -4,15 +4,16 @@ use crate::cases::{Case, refusal_of};
 use crate::draws::Draws;
 use reference::input_texts::{write_script, write_slots};
 use reference::layers::Part;
+use reference::numbers::Numbers;
 use reference::plans::Plan;
-use reference::spans::{Limits, Span, broken_slot};
+use reference::spans::{Span, broken_slot};
 use std::alloc::AllocError;
 
 /// The first rule that a slot fails, and on which line behind that of `slots 1`.
 fn broken(plan: &Plan, slots: &[Span]) -> Option<(u64, &'static str)> {
     for (place, slot) in slots.iter().enumerate() {
         let others = slots.get(..place).unwrap_or(&[]);
-        if let Some(rule) = broken_slot(Limits::of(plan), slot, others) {
+        if let Some(rule) = broken_slot(&Numbers::of(plan), slot, others) {
             return Some(((place as u64).wrapping_add(1), rule));
         }
     }

@@ -27,12 +27,7 @@ impl Draws {
         } else {
             self.between(0, room)
         };
-        Group {
-            first: 0,
-            nodes: fewest.wrapping_add(spares),
-            faults,
-            modulus: self.modulus(),
-        }
+        Group::of(fewest.wrapping_add(spares), faults, self.modulus())
     }
 
     /// An accepted plan with at most so many nodes.
@@ -56,11 +51,6 @@ impl Draws {
         };
         let faults = (nodes / 3).wrapping_add(self.below(3)).saturating_sub(1);
         let place = self.below(8) as usize;
-        Group {
-            first: 0,
-            nodes,
-            faults,
-            modulus: MODULI.get(place).copied().unwrap_or(2),
-        }
+        Group::of(nodes, faults, MODULI.get(place).copied().unwrap_or(2))
     }
 }

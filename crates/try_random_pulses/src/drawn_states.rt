@@ -61,7 +61,10 @@ impl Draws {
         let mut states = Vec::new(self.alloc);
         let centre = self.near_state(&ZERO_STATE, 1);
         for node in 0..plan.nodes {
-            let state = self.near_state(&centre, 10);
+            let mut state = self.near_state(&centre, 10);
+            for register in 0..plan.behind {
+                state.layer.put(register, self.register());
+            }
             states.push(shifted(plan, node, &state, 0))?;
         }
         Ok(states)

@@ -3,11 +3,11 @@
 use crate::calling::{Node, bytes_of};
 use crate::drawn_states::Lies;
 use crate::draws::Draws;
-use crate::plain_texts::text_of;
 use reference::nodes::put_cell;
 use reference::pulse_groups::Group;
 use reference::pulse_states::{State, read, state_of};
 use reference::pulse_steps::{locked_at, stepped};
+use reference::pulse_texts::text_of;
 use std::alloc::{AllocError, Global};
 
 /// A run of a plan: which nodes are faulty and how they lie, the state of each node, and what it

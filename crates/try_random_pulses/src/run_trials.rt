@@ -54,10 +54,10 @@ fn try_run(rt: &HostRuntime, draws: &mut Draws, plan: &Group, lies: Lies) -> any
     let played = play(draws, &mut run)?;
     let right = run.right_nodes(rt.alloc())?;
     let Group {
-        first: _,
         nodes,
         faults,
         modulus,
+        ..
     } = *plan;
     let bound = plan.bound();
     let kind = match lies {
@@ -82,12 +82,7 @@ fn try_plan(rt: &HostRuntime, draws: &mut Draws, plan: &Group) -> anyhow::Result
 /// Tries runs.
 pub fn try_runs(rt: &HostRuntime, draws: &mut Draws) -> anyhow::Result<()> {
     for faults in 1..=MOST_FAULTS {
-        let plan = Group {
-            first: 0,
-            nodes: faults * 3 + 1,
-            faults,
-            modulus: 10,
-        };
+        let plan = Group::of(faults * 3 + 1, faults, 10);
         try_plan(rt, draws, &plan)?;
     }
     for _ in 0..DRAWN {

@@ -2,11 +2,11 @@
 
 use crate::calling::{Node, bytes_of};
 use crate::draws::Draws;
-use crate::plain_texts::text_of;
 use reference::nodes::put_cell;
 use reference::pulse_groups::Group;
 use reference::pulse_states::{State, state_of};
 use reference::pulse_steps::{has_fired, stepped};
+use reference::pulse_texts::text_of;
 use std::alloc::{AllocError, Global};
 
 /// How many steps are tried with a plan.
@@ -82,10 +82,10 @@ fn try_plan(rt: &HostRuntime, draws: &mut Draws, plan: &Group) -> anyhow::Result
         try_step(draws, plan, &mut steps)?;
     }
     let Group {
-        first: _,
         nodes,
         faults,
         modulus,
+        ..
     } = *plan;
     let Steps { right, fires } = steps;
     print!(rt; "{nodes} nodes, {faults} faults, modulus {modulus}: ")?;
@@ -96,12 +96,7 @@ fn try_plan(rt: &HostRuntime, draws: &mut Draws, plan: &Group) -> anyhow::Result
 /// Tries steps.
 pub fn try_steps(rt: &HostRuntime, draws: &mut Draws) -> anyhow::Result<()> {
     for (nodes, faults, modulus) in &PLANS {
-        let plan = Group {
-            first: 0,
-            nodes: *nodes,
-            faults: *faults,
-            modulus: *modulus,
-        };
+        let plan = Group::of(*nodes, *faults, *modulus);
         try_plan(rt, draws, &plan)?;
     }
     for _ in 0..DRAWN {

@@ -3,13 +3,13 @@
 
 use crate::draws::Draws;
 use crate::plain_tables::table_of;
-use crate::plain_texts::{plan_of, text_of};
 use edge_io::MemSink;
 use machines::Machine;
 use pulse_machine::PulseMachine;
 use pulse_plan::PulsePlan;
 use pulse_texts::{PulsesError, read_table, read_whole_pulses, write_table};
 use reference::pulse_groups::Group;
+use reference::pulse_texts::{pulses_of, text_of};
 use reference::refusals::Stop;
 use std::alloc::{AllocError, Global};
 use sync_types::NoMemory;
@@ -105,7 +105,7 @@ pub fn try_texts(rt: &HostRuntime, draws: &mut Draws) -> anyhow::Result<()> {
     let mut same = 0u64;
     for _ in 0..TEXTS {
         let text = drawn_text(draws)?;
-        let wanted = plan_of(&text);
+        let wanted = pulses_of(&text);
         counts.count(&wanted);
         if is_read(rt.alloc(), &text, &wanted)? {
             same = same.wrapping_add(1);
