@@ -1,12 +1,26 @@
-//! Pictures, in SVG, of what `run`, `trace`, `sweep` or `choose` writes: of a run a column for each
-//! configuration and a line of cells for each node; the others are those of `trace_pictures`,
-//! `pulse_pictures` and `survey_pictures`.
+//! Pictures, in SVG, of what `run`, `trace`, `sweep` or `choose` writes: of a run a column for
+//! each configuration and a line of cells for each node, of a sweep a band for each era, with bars
+//! of how many runs lock when, and of a choice a point for each plan; those of traces stand in
+//! `trace_pictures` and `pulse_pictures`.
 //!
-//! That each picture is the defined one of a chart, a trace, a sweep or a choice, whose own text is
-//! just what was read, is proved ([`draw`]), and that what is drawn stands where it belongs: of a
-//! chart that its words stand row by row and node by node; of the others it is said there. That all
-//! that `run` writes is read, how wide columns are, and who is found hit, is not.
+//! That each picture is the defined one of a chart, a trace, a sweep or a choice, whose own text
+//! is just what was read, is proved ([`draw`]), and that what is drawn stands where it belongs: of
+//! a chart that its words stand row by row and node by node, of a sweep that its lines stand in
+//! the bars of their configurations, as high as their runs are of those of the highest bar
+//! ([`is_sweep_laid`]), and of a choice that its plans get better, and stand by their nodes and
+//! their bounds ([`are_plotted`]). That all that these programs write is read, how wide columns
+//! and bars are, and who is found hit, is not.
 #![tactic(auto)]
+
+// As `?` behind a part of a text that is written, but with no call of its own.
+macro_rules! written {
+    ($part:expr) => {
+        match $part {
+            Ok(()) => {}
+            Err(WriteFault) => return Err(WriteFault),
+        }
+    };
+}
 
 mod cells;
 mod charts;
@@ -37,23 +51,3 @@ pub use sweep_laid::is_sweep_laid;
 pub use sweep_pictures::put_sweep_picture;
 pub use sweep_printing::put_sweep;
 pub use sweep_reading::{is_sweep, read_sweep};
-
-// As `?` behind a part of a text that is written, but with no call of its own.
-macro_rules! written {
-    ($part:expr) => {
-        match $part {
-            Ok(()) => {}
-            Err(WriteFault) => return Err(WriteFault),
-        }
-    };
-}
-
-// As `?` behind a part of a text that is written, but with no call of its own.
-macro_rules! written {
-    ($part:expr) => {
-        match $part {
-            Ok(()) => {}
-            Err(WriteFault) => return Err(WriteFault),
-        }
-    };
-}
