@@ -26,15 +26,17 @@ mod fronts;
 mod fronts_of_both;
 mod laws;
 mod most_faults;
+mod reasons;
 mod requests;
 mod searching;
 mod shortages;
 mod writing;
 mod writing_both;
 
-use crate::choosing::{ChooseError, choose, explain_none};
+use crate::choosing::{choose, explain_none};
+use crate::reasons::ChooseError;
 use edge_io::StdSink;
-use program_words::{arguments, exit_code, words};
+use program_words::{arguments, end, words};
 use std::io;
 use std::process::ExitCode;
 
@@ -51,12 +53,5 @@ fn run(rt: &HostRuntime) -> Result<(), ChooseError> {
 }
 
 fn main(rt: HostRuntime) -> ExitCode {
-    match run(&rt) {
-        Ok(()) => ExitCode::SUCCESS,
-        Err(error) => {
-            // Where standard error is closed, the code alone says it.
-            let _ = eprintln!(rt; "{error}");
-            exit_code(error.status())
-        }
-    }
+    end(&rt, run(&rt))
 }

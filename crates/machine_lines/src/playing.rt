@@ -1,5 +1,6 @@
-ghost use Rattle.std.specs.Prelude.{◌≡◌, OnOk};
+ghost use Rattle.std.specs.Prelude.{◌≡◌};
 ghost use Rattle.texts.specs.Growth.{Puts};
+ghost use Rattle.edge_io.specs.Writing.{Writes};
 ghost use Rattle.machine_lines.specs.RunTexts.{shown_lines, shown_text, run_text};
 ghost use Rattle.machine_lines.specs.HoldTexts.{hold_text};
 
@@ -9,63 +10,63 @@ use crate::lines::ShownLines;
 use crate::locks::put_locks;
 use crate::rows::Rows;
 use crate::words::put_line;
-use edge_io::{Gathered, Sink, TextSink, WriteFault};
-use machine_runner::Runner;
+use edge_io::{Sink, WriteFault, Writer};
+use machine_runner::{Runner, put_bound};
 use machines::Machine;
-use run_texts::put_bound;
 
 /// Plays a script, to the last configuration that is shown or until its correct nodes count, and
-/// writes the lines.
-fn put_lines<K: TextSink, M: Machine, L: ShownLines>(
-    sink: &mut K,
+/// writes the lines. It stops where a write failed.
+fn put_lines<K: Sink, M: Machine, L: ShownLines>(
+    writer: &mut Writer<'_, K>,
     runner: &mut Runner<'_, M>,
     lines: &L,
-) -> Result<(), WriteFault>
+)
     requires { runner.old.at ≡ 0 }
-    ensures lines { Puts result
+    ensures lines { Writes K.told
         (shown_lines (L.front lines.now) (L.word lines.now) (M.machine runner.old.machine)
-        runner.old.script) (K.Sink.told sink.old) (K.Sink.told sink.new) }
-    ensures played { OnOk result
-        (runner.new ≡ record runner.old { at = runner.new.at }) }
+        runner.old.script) writer.old writer.new }
+    ensures played { runner.new ≡ record runner.old { at = runner.new.at } }
 {
     let script = runner.script();
     let _rounds = script.rounds();
     let (first, last) = script.shown();
     for t in first..last + 1 {
-        play_to(runner, t);
-        match put_line(sink, runner, lines, t) {
-            Ok(()) => {}
-            Err(WriteFault) => return Err(WriteFault),
+        if writer.has_failed() {
+            return;
         }
+        play_to(runner, t);
+        put_line(writer, runner, lines, t);
     }
-    Ok(())
 }
 
 /// Plays a script, to its end or until its correct nodes count, and writes the bound, the lines and
-/// the first locked configurations.
-fn put_all<K: TextSink, M: Machine, L: ShownLines>(
-    sink: &mut K,
+/// the first locked configurations. It stops where a write failed.
+fn put_all<K: Sink, M: Machine, L: ShownLines>(
+    writer: &mut Writer<'_, K>,
     runner: &mut Runner<'_, M>,
     lines: &L,
-) -> Result<(), WriteFault>
+)
     requires { runner.old.at ≡ 0 }
-    ensures { Puts result
+    ensures { Writes K.told
         (shown_text (L.front lines.now) (L.word lines.now) (M.machine runner.old.machine)
-        runner.old.script) (K.Sink.told sink.old) (K.Sink.told sink.new) }
+        runner.old.script) writer.old writer.new }
 {
-    put_bound(sink, runner.machine().bound())?;
-    put_lines(sink, runner, lines)?;
-    runner.tell();
+    put_bound(writer, runner.machine().bound());
+    put_lines(writer, runner, lines);
+    if writer.has_failed() {
+        return;
+    }
+    runner.facts();
     let rounds = runner.script().rounds();
     play_to(runner, rounds);
-    put_locks(sink, runner)
+    put_locks(writer, runner);
 }
 
 /// Plays a script, and writes the machine's bound, the line of each configuration that is shown,
 /// and the first locked configuration of each era. It takes no memory, and plays no more rounds
 /// than it must: once the last era is locked its correct nodes count to the end.
 ///
-/// The runner is at configuration 0. `WriteFault` comes where the sink counted one; a front of the
+/// The runner is at configuration 0. `WriteFault` comes where the sink counted one; a prefix of the
 /// text was then taken.
 pub fn put_shown<K: Sink, M: Machine, L: ShownLines>(
     sink: &mut K,
@@ -77,15 +78,15 @@ pub fn put_shown<K: Sink, M: Machine, L: ShownLines>(
         (shown_text (L.front lines.now) (L.word lines.now) (M.machine runner.old.machine)
         runner.old.script) (K.told sink.old) (K.told sink.new) }
 {
-    let mut gathered = Gathered::new(sink);
-    let written = put_all(&mut gathered, runner, lines);
-    gathered.finish(written)
+    let mut writer = Writer::new(sink);
+    put_all(&mut writer, runner, lines);
+    writer.finish()
 }
 
 /// Plays a script, and writes the machine's bound, a row of each configuration that is
 /// shown, and the first locked configuration of each era. It takes no memory.
 ///
-/// The runner is at configuration 0. `WriteFault` comes where the sink counted one; a front of the
+/// The runner is at configuration 0. `WriteFault` comes where the sink counted one; a prefix of the
 /// text was then taken.
 pub fn put_run<K: Sink, M: Machine>(
     sink: &mut K,
@@ -102,7 +103,7 @@ pub fn put_run<K: Sink, M: Machine>(
 /// which nodes hold by a slot table, and the first locked configuration of each era. It takes no
 /// memory.
 ///
-/// The runner is at configuration 0. `WriteFault` comes where the sink counted one; a front of the
+/// The runner is at configuration 0. `WriteFault` comes where the sink counted one; a prefix of the
 /// text was then taken.
 pub fn put_holds<K: Sink, M: Machine>(
     sink: &mut K,

@@ -11,7 +11,6 @@ mod hearing;
 mod knowing;
 pub mod laws;
 mod locks;
-mod plays;
 mod positions;
 mod restarting;
 mod rounds;

@@ -10,7 +10,6 @@
 #![tactic(auto)]
 
 mod groups;
-pub mod laws;
 mod registers;
 mod rows;
 mod settled;

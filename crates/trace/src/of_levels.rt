@@ -10,8 +10,7 @@ use crate::naming::named_nodes;
 use answers::read_scripted;
 use edge_io::Sink;
 use std::alloc::Global;
-use trace_words::Want;
-use traces::{Desk, put_trace};
+use traces::{TraceBuffers, Want, put_trace};
 
 /// Writes the trace of an input that is read as such a plan and a script: that of the wanted
 /// configurations and of the nodes that the words name, or of all where there is no word.
@@ -36,7 +35,7 @@ pub fn write_levels_trace<K: Sink>(
         return Err(TraceError::NoNode);
     };
     let depth = runner.shape().depth();
-    let mut desk = Desk::new(alloc, &plan, depth)?;
+    let mut desk = TraceBuffers::new(alloc, &plan, depth)?;
     put_trace(sink, &mut runner, want, &nodes, &mut desk)?;
     Ok(())
 }

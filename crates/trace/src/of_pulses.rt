@@ -8,10 +8,9 @@ use crate::errors::TraceError;
 use crate::naming::named_nodes;
 use edge_io::Sink;
 use machine_runner::Runner;
-use pulse_machine::PulseMachine;
-use pulse_traces::{Desk, put_trace};
+use pulse_plan::PulseMachine;
 use std::alloc::Global;
-use trace_words::Want;
+use traces::{PulseBuffers, Want, put_pulse_trace};
 
 /// Writes the trace of the wanted configurations and of the nodes that the words name, or of all
 /// where there is no word. The runner is at configuration 0.
@@ -34,7 +33,7 @@ pub fn write_pulses_trace<K: Sink>(
     let Some(nodes) = named_nodes(alloc, words, runner.machine().plan().nodes())? else {
         return Err(TraceError::NoNode);
     };
-    let mut desk = Desk::new(alloc, runner)?;
-    put_trace(sink, runner, want, &nodes, &mut desk)?;
+    let mut desk = PulseBuffers::new(alloc, runner)?;
+    put_pulse_trace(sink, runner, want, &nodes, &mut desk)?;
     Ok(())
 }

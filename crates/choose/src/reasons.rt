@@ -1,0 +1,39 @@
+use edge_io::{Sink, WriteFault};
+use program_words::{ProgramError, Reason, TOO_LONG};
+
+/// Why the program refuses what it is given: it never does.
+#[derive(Clone, Copy, Debug, PartialEq, Eq)]
+pub enum ChooseReason {}
+
+/// Why what the words ask for was not written, or not all of it.
+pub type ChooseError = ProgramError<ChooseReason>;
+
+impl Reason for ChooseReason {
+    ghost use Rattle.program_words.specs.Errors.{too_long_line};
+    ghost use Rattle.choose.specs.Reasons.{usage_text, reason_text, code_for};
+
+    ghost usage_line = { usage_text };
+
+    ghost long_line = { too_long_line };
+
+    ghost reason_line = { reason_text };
+
+    ghost reason_code = { code_for };
+
+    fn usage() -> &'static [u8] {
+        b"usage: choose [boosting] FAULTS MODULUS [MOST_NODES] [plan], \
+        choose within NODES BOUND MODULUS [plan], or choose --help\n"
+    }
+
+    fn too_long() -> &'static [u8] {
+        TOO_LONG
+    }
+
+    fn code(&self) -> u8 {
+        match *self {}
+    }
+
+    fn put_line<K: Sink>(&self, _sink: &mut K) -> Result<(), WriteFault> {
+        match *self {}
+    }
+}
