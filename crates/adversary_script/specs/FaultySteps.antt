@@ -7,8 +7,7 @@ use Rattle.std.specs.Str.{bytes_eq}
 use Rattle.texts.specs.Numbers.{number_of}
 use Rattle.sync_types.specs.declared.answers.Rule.{Rule}
 use Rattle.sync_types.specs.declared.answers.Rule.TheVariants.{Form, Limit, Node, Order, Faults}
-use Rattle.adversary_script.specs.WordTests.{are_below, is_rising}
-use Rattle.texts.specs.Shapes.{all_numbers}
+use Rattle.adversary_script.specs.WordTests.{numbers_in, are_below, is_rising}
 use Rattle.adversary_script.specs.Scripts.{Era, Script}
 
 -- `faulty` and ids, of which there are f at most
@@ -30,7 +29,7 @@ era_front other = None
 -- a number, and the ids that the words behind it are
 abbrev pub with_ids : Option (ℕ × List (List ℕ)) → Option (ℕ × List ℕ)
 with_ids None = None
-with_ids (Some front) = option_map (λ ids. (front.0, ids)) (all_numbers front.1)
+with_ids (Some front) = option_map (λ ids. (front.0, ids)) (numbers_in front.1)
 
 -- `A faulty` and ids
 abbrev pub era_words : List (List ℕ) → Option (ℕ × List ℕ)

@@ -10,12 +10,12 @@ use Rattle.construction.specs.Plans.{Plan, plan_nodes, plan_faults}
 use Rattle.construction.specs.Runs.{IsBorne}
 use Rattle.state_codec.specs.Shapes.{Shape}
 use Rattle.plan_reader.specs.Skipped.{first_unskipped}
-use Rattle.edge_io.specs.declared.taking.PartError.{PartError}
+use Rattle.adversary_script.specs.declared.refusals.ScriptError.{ScriptError}
 use Rattle.adversary_script.specs.declared.kinds.Kind.{Kind}
 use Rattle.adversary_script.specs.declared.kinds.Kind.TheVariants as kind
 use Rattle.adversary_script.specs.Kinds.{kind_of, may_follow}
 use Rattle.adversary_script.specs.Scripts.{Script, empty_script, faulty_sets, AreWithin}
-use Rattle.edge_io.specs.Taking.{FailsAsDefined}
+use Rattle.adversary_script.specs.ScriptRefusals.{FailsAsDefined}
 use Rattle.adversary_script.specs.Steps.{line_step}
 
 -- how many ids may be faulty, the kind of the last line, and what was said so far
@@ -97,14 +97,14 @@ pub record IsFor (plan : Plan) (shape : Shape) (script : Script) : Type 0 where
 
 -- reading these lines answers the script that is defined, or fails as defined
 abbrev pub IsAnswerFor : (nodes faults : ℕ) → Shape → (number : ℕ) → List (List ℕ)
-    → Result Script (PartError Rule) → Type 0
+    → Result Script ScriptError → Type 0
 IsAnswerFor nodes faults shape number lines (Ok script) =
     script_for nodes faults shape number lines ≡ Ok script
 IsAnswerFor nodes faults shape number lines (Err error) =
     FailsAsDefined error (script_for nodes faults shape number lines)
 
 -- it does so for a plan
-abbrev pub IsAnswer : Plan → Shape → (number : ℕ) → List (List ℕ) → Result Script (PartError Rule)
+abbrev pub IsAnswer : Plan → Shape → (number : ℕ) → List (List ℕ) → Result Script ScriptError
     → Type 0
 IsAnswer plan = IsAnswerFor (plan_nodes plan) (plan_faults plan)
 

@@ -102,7 +102,7 @@ impl<'a> Draft<'a> {
         requires { faulty.nodes ≡ self.old.nodes }
         ensures { self.new ≡ record self.old { faulty = faulty.ids } }
     {
-        faulty.facts();
+        faulty.tell();
         drop(self.faulty.replace(faulty));
     }
 
@@ -139,7 +139,7 @@ impl<'a> Draft<'a> {
         requires nodes { faulty.nodes ≡ self.old.nodes }
         ensures { IfOk result (λ _. self.new ≡ with_era self.old first faulty.ids) }
     {
-        faulty.facts();
+        faulty.tell();
         self.parts.eras.push(Era {
             first,
             faulty,

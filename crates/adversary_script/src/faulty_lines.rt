@@ -1,11 +1,11 @@
 ghost use Rattle.adversary_script.specs.Answers.{Adds, ReadsFront};
-ghost use Rattle.texts.specs.Shapes.{all_numbers};
+ghost use Rattle.adversary_script.specs.WordTests.{numbers_in};
 ghost use Rattle.adversary_script.specs.FaultySteps.{faulty_tested, era_front, era_step};
 
 use crate::drafts::Draft;
 use crate::id_sets::id_set;
-use crate::word_tests::{are_below, is_rising};
-use edge_io::{TakeError, Words, all_numbers, number};
+use crate::word_tests::{are_below, is_rising, numbers};
+use edge_io::{TakeError, Words, number};
 use std::alloc::Global;
 use sync_types::Rule;
 
@@ -31,9 +31,9 @@ impl<'a> Draft<'a> {
         words: Words,
         faults: u32,
     ) -> Result<(), TakeError<Rule>>
-        ensures { Adds (faulty_tested faults self.old (all_numbers words.entry)) self.new result }
+        ensures { Adds (faulty_tested faults self.old (numbers_in words.entry)) self.new result }
     {
-        let Some(ids) = all_numbers(alloc, words)? else {
+        let Some(ids) = numbers(alloc, words)? else {
             return Err(TakeError::Refused(Rule::Form));
         };
         if !are_below(self.nodes(), &ids) {
@@ -63,7 +63,7 @@ impl<'a> Draft<'a> {
         let Some(first) = era_front(&mut words) else {
             return Err(TakeError::Refused(Rule::Form));
         };
-        let Some(ids) = all_numbers(alloc, words)? else {
+        let Some(ids) = numbers(alloc, words)? else {
             return Err(TakeError::Refused(Rule::Form));
         };
         if self.version() == 1 {

@@ -31,6 +31,7 @@ mod lying;
 mod noise;
 mod parts;
 mod reading;
+mod refusals;
 mod script_lines;
 mod scripts;
 mod shifting;
@@ -40,6 +41,7 @@ mod stretches;
 mod word_tests;
 
 pub use noise::Noise;
-pub use reading::{ScriptError, ScriptRefusal, read_script, read_script_for};
+pub use reading::{read_script, read_script_for};
+pub use refusals::{ScriptError, ScriptRefusal};
 pub use scripts::Script;
 pub use shifting::shift_into;

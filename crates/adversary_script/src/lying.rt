@@ -32,7 +32,7 @@ impl Script {
             Some(state) => out.copy_from(state),
             None => match self.parts.common {
                 CommonStart::Zero => {
-                    self.shape.facts();
+                    self.shape.tell();
                     zero_into(out);
                 }
                 CommonStart::Noise => {
@@ -72,7 +72,7 @@ impl Script {
         ensures range { InRange (fields_at self.now.shape u) out.new }
         ensures noise { noise.new ≡ noise.old }
     {
-        config.facts();
+        config.tell();
         let _few = config.nodes();
         match self.lie_for(t, u, v) {
             Some(lie) => match &lie.what {

@@ -5,7 +5,7 @@ ghost use Rattle.adversary_script.specs.Noise.{key_in, words_in, noise_bytes, no
 
 use crate::draws::Draw;
 use crate::scripts::Script;
-use crate::stretches::KeystreamBlock;
+use crate::stretches::Stretch;
 use rand_chacha::ChaCha8Rng;
 use rand_core::SeedableRng;
 use std::alloc::Global;
@@ -22,7 +22,7 @@ const NONE: u32 = u32::MAX;
 pub struct Noise {
     generator: ChaCha8Rng,
     // Those of pairs, in the order in which they were first asked for.
-    stretches: Vec<KeystreamBlock>,
+    stretches: Vec<Stretch>,
     // Where the stretch of a pair stands among these.
     places: Vec<u32>,
     // The first pair of each node that is faulty in some era, by id. Its others stand behind it.
@@ -156,7 +156,7 @@ impl Noise {
     }
 
     /// Keeps a stretch as that of its pair, if it is one of a pair and there is room.
-    fn keep(&mut self, stretch: KeystreamBlock)
+    fn keep(&mut self, stretch: Stretch)
         requires { stretch.key ≡ self.old }
         ensures { self.new ≡ self.old }
     {
@@ -174,13 +174,13 @@ impl Noise {
     }
 
     /// Makes the words of a stream from the block of a place on.
-    fn make(&mut self, stream: u64, place: u64) -> KeystreamBlock
+    fn make(&mut self, stream: u64, place: u64) -> Stretch
         ensures key { result.key ≡ self.old }
         ensures stream { result.stream ≡ stream }
         ensures place { result.first + place % 16 ≡ place }
         ensures same { self.new ≡ self.old }
     {
-        let stretch = KeystreamBlock::at(&mut self.generator, self.key, stream, place);
+        let stretch = Stretch::at(&mut self.generator, self.key, stream, place);
         self.keep(stretch);
         stretch
     }

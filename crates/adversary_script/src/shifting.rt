@@ -82,7 +82,7 @@ impl Source<'_> {
             (state_of self.now.config.now.current self.now.w) }
         ensures range { InRange (fields_at self.now.config.now.shape self.now.v) out.new }
     {
-        self.config.facts();
+        self.config.tell();
         let modulus = Modulus {
             value: self.config.shape().base_of(self.v),
         };
@@ -114,7 +114,7 @@ impl Source<'_> {
             (state_of self.now.config.now.current self.now.w) }
         ensures range { InRange (fields_at self.now.config.now.shape self.now.v) out.new }
     {
-        self.config.facts();
+        self.config.tell();
         let x = self.config.x(self.w);
         out.set_x(if x < self.config.shape().base_of(self.v) {
             x

@@ -16,7 +16,7 @@ const ROOM: usize = 264;
 
 /// Words of a stream from a place on, as bytes: as many as are made at once.
 #[derive(Clone, Copy)]
-pub struct KeystreamBlock {
+pub struct Stretch {
     pub key: [u8; 32],
     pub stream: u64,
     pub first: u64,
@@ -34,9 +34,9 @@ fn set_at(generator: &mut ChaCha8Rng, stream: u64, place: u64)
     generator.set_word_pos(u128::from(place));
 }
 
-impl KeystreamBlock {
+impl Stretch {
     /// The words of a stream from the block of a place on, by a generator of the key.
-    pub fn at(generator: &mut ChaCha8Rng, key: [u8; 32], stream: u64, place: u64) -> KeystreamBlock
+    pub fn at(generator: &mut ChaCha8Rng, key: [u8; 32], stream: u64, place: u64) -> Stretch
         requires { generator.old.key ≡ key_in key }
         ensures key { result.key ≡ key }
         ensures stream { result.stream ≡ stream }
@@ -47,7 +47,7 @@ impl KeystreamBlock {
         set_at(generator, stream, first);
         let mut bytes = [0; ROOM];
         fill_bytes_via_u32(generator, &mut bytes[..BYTES]);
-        KeystreamBlock {
+        Stretch {
             key,
             stream,
             first,

@@ -1,7 +1,7 @@
 -- How a command ends, by what it wrote.
 use Rattle.std.proofs.Common.{◌≡◌, ℕ, List, Result, Ok, Err, refl, sym, subst}
 use Rattle.std.specs.Prelude.{MatchResult}
-use Rattle.texts.specs.Growth.{SinkState, Wrote, Cut}
+use Rattle.texts.specs.Growth.{Told, Wrote, Cut}
 use Rattle.sync_types.specs.declared.status.Status.{Status}
 use Rattle.sync_types.specs.declared.status.Status.TheVariants as status
 use Rattle.outcomes.specs.declared.refusals.Refusal.{Refusal}
@@ -10,7 +10,7 @@ use Rattle.outcomes.specs.Refusals.{refusal_line, refusal_status}
 use Rattle.outcomes.specs.Outcomes.{outcome_of}
 use Rattle.answers.specs.Ends.{Ends}
 
-module _ {K : Type 0} (told : K → SinkState) where
+module _ {K : Type 0} (told : K → Told) where
   -- what follows of each way to end follows of the status
   pub ends_by : (P : Status → Type 0) (answer : Result (List ℕ) Refusal) (s t : K)
       → (Cut (outcome_of answer).text (told s) (told t) → P status.WriteFault)

@@ -1,6 +1,10 @@
 pub mod Unwritten
 pub mod ReadLayers
-pub mod LayeredPlays
+pub mod ReadSlots
 pub mod ReadScripted
+pub mod RefusedScripts
+pub mod ReadConsensus
+pub mod ReadFire
+pub mod ReadLog
 pub mod Explained
 pub mod Ended

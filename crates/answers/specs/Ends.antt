@@ -1,6 +1,6 @@
 -- How a command ends that has its input.
 use Rattle.std.specs.Prelude.{◌≡◌, ℕ, List, Result, Ok, Err, MatchResult}
-use Rattle.texts.specs.Growth.{SinkState, Wrote, Cut}
+use Rattle.texts.specs.Growth.{Told, Wrote, Cut}
 use Rattle.sync_types.specs.declared.status.Status.{Status}
 use Rattle.sync_types.specs.declared.status.Status.TheVariants as status
 use Rattle.outcomes.specs.declared.refusals.Refusal.{Refusal}
@@ -9,7 +9,7 @@ use Rattle.answers.specs.declared.errors.Unanswered.{Unanswered}
 use Rattle.answers.specs.declared.errors.Unanswered.TheVariants as end
 
 -- a sink, which tells what it took
-module _ {K : Type 0} (told : K → SinkState) where
+module _ {K : Type 0} (told : K → Told) where
   -- The text of the answer was written; or there is none, since the input is refused; or memory was
   -- refused, before the sink was touched; or a front of the text was taken.
   abbrev pub Answers : {T : Type 0} → Result T Unanswered → (answer : Result (List ℕ) Refusal)

@@ -6,11 +6,14 @@
 #![tactic(auto)]
 
 mod answering;
+mod consensus;
 mod errors;
 mod explaining;
-mod layered;
+mod fire;
+mod log;
 mod runners;
 mod scripted;
+mod slots;
 mod words;
 
 pub use answering::answer;

@@ -2,7 +2,7 @@
 use Rattle.std.proofs.Common.{◌≡◌, ℕ, List, sym, subst}
 use Rattle.std.specs.Prelude.{Result, Ok, Err}
 use Rattle.std.specs.Result.{IsErrAnd}
-use Rattle.texts.specs.Growth.{SinkState, Cut}
+use Rattle.texts.specs.Growth.{Told, Cut}
 use Rattle.attack.specs.declared.errors.AttackError.{AttackError}
 use Rattle.attack.specs.declared.errors.AttackError.TheVariants as error
 use Rattle.attack.specs.declared.finding.Found.{Found}
@@ -11,7 +11,7 @@ use Rattle.attack.specs.Conduct.{Attacks, IsAttackedSome}
 
 -- a text that was cut, where the error says that a write failed
 pub faulted : (numbers : Numbers) (words : List (List ℕ)) (input : List ℕ)
-    (result : Result Found AttackError) (old new : SinkState)
+    (result : Result Found AttackError) (old new : Told)
     → IsErrAnd result (λ e. e ≡ error.WriteFault)
     → IsAttackedSome numbers words input (λ text. Cut text old new)
     → Attacks numbers words input result old new

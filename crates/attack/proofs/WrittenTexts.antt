@@ -14,10 +14,10 @@ use Rattle.pulse_plan.specs.Halvings.{halving_faults}
 use Rattle.pulse_plan.proofs.Numbers.{faults_of_halving}
 use Rattle.pulse_plan.specs.Plans.{PulseNumbers, tree_of, IsAccepted as IsAcceptedPulses}
 use Rattle.pulse_plan.specs.Laws.{machine_in}
-use Rattle.pulse_texts.specs.PulseShapes as pulses
-use Rattle.pulse_texts.proofs.Shaped as shaped
+use Rattle.pulse_nodes.specs.PulseShapes as pulses
+use Rattle.pulse_nodes.proofs.Shaped as shaped
 use Rattle.pulse_texts.specs.PulsesTexts.{PulsesTextIsRead}
-use Rattle.attack.specs.Tried.{script_in}
+use Rattle.attacks.specs.Tried.{script_in}
 use Rattle.attack.specs.declared.plans.AnyPlan.TheVariants as plan
 use Rattle.attack.specs.PlanTexts.{text_of}
 use Rattle.attack.specs.ReadBack.{ReadsAs, WrittenIsRead}

@@ -1,6 +1,6 @@
 -- What `attack` did to its source and its sink.
 use Rattle.std.specs.Prelude.{◌≡◌, ℕ, List, Option, Some, None, Result, Ok, Err}
-use Rattle.texts.specs.Growth.{SinkState, Wrote, Cut}
+use Rattle.texts.specs.Growth.{Told, Wrote, Cut}
 use Rattle.attack.specs.Conduct.{Does}
 use Rattle.attack.specs.declared.errors.AttackError.{AttackError}
 use Rattle.attack.specs.declared.errors.AttackError.TheVariants as error
@@ -11,7 +11,7 @@ use Rattle.attack.specs.HelpText.{help_text, version_text}
 
 -- The source was not read, nothing is said, and the text was written, or a front of it.
 abbrev pub Tells : Result (Option Found) AttackError → (text : List ℕ)
-    → (left left' : Option (List ℕ)) (before now : ℕ) (old new : SinkState) → Type 0
+    → (left left' : Option (List ℕ)) (before now : ℕ) (old new : Told) → Type 0
 Tells (Ok (Some found)) text left left' before now old new = ⊥
 Tells (Ok None) text left left' before now old new =
     (left' ≡ left) × (now ≡ before) × Wrote text old new
@@ -21,7 +21,7 @@ Tells (Err other) text left left' before now old new = ⊥
 
 -- Words that ask for nothing are answered by the error alone; nothing was read or written.
 abbrev pub IsUsage : Result (Option Found) AttackError
-    → (left left' : Option (List ℕ)) (before now : ℕ) (old new : SinkState) → Type 0
+    → (left left' : Option (List ℕ)) (before now : ℕ) (old new : Told) → Type 0
 IsUsage result left left' before now old new =
     (result ≡ Err error.Usage) × (left' ≡ left) × (now ≡ before) × (new ≡ old)
 
@@ -35,7 +35,7 @@ Searches (Err e) does = does (Err e)
 -- what was done for a request, by how it ended
 abbrev pub DoesAsked : Option Request → (kinds : List (List ℕ))
     → Result (Option Found) AttackError
-    → (left left' : Option (List ℕ)) (before now : ℕ) (old new : SinkState) → Type 0
+    → (left left' : Option (List ℕ)) (before now : ℕ) (old new : Told) → Type 0
 DoesAsked None kinds result left left' before now old new =
     IsUsage result left left' before now old new
 DoesAsked (Some request.Help) kinds result left left' before now old new =

@@ -2,7 +2,7 @@
 use Rattle.std.specs.Prelude.{◌≡◌, ℕ, ◌^◌, ◌<◌, List, ◌++◌, length, Option, Result, Ok, Err, IfSome}
 use Rattle.std.specs.Io.KnownBytes.{Consumes, IsAtEnd}
 use Rattle.texts.specs.Causes.{Counted}
-use Rattle.texts.specs.Growth.{SinkState, Wrote, Cut}
+use Rattle.texts.specs.Growth.{Told, Wrote, Cut}
 use Rattle.edge_io.specs.Reading.{LosesWithin, LosesMore}
 use Rattle.attack.specs.declared.errors.AttackError.{AttackError}
 use Rattle.attack.specs.declared.errors.AttackError.TheVariants as error
@@ -39,7 +39,7 @@ module _ (numbers : Numbers) (words : List (List ℕ)) (input : List ℕ) where
 
   -- What was written of an input: the texts of its plan and of the attack on it; or nothing, since
   -- the input is refused, no attack is a script, or memory was refused; or a front of the texts.
-  abbrev pub Attacks : Result Found AttackError → (old new : SinkState) → Type 0
+  abbrev pub Attacks : Result Found AttackError → (old new : Told) → Type 0
   Attacks (Ok found) old new = IsAttacked found (λ text. Wrote text old new)
   Attacks (Err error.WriteFault) old new = IsAttackedSome (λ text. Cut text old new)
   Attacks (Err (error.PlanRefused refusal)) old new =
@@ -54,7 +54,7 @@ module _ (numbers : Numbers) (words : List (List ℕ)) (input : List ℕ) where
 
 -- all of the input was read, and this was written of it
 pub record Answered (result : Result Found AttackError) (numbers : Numbers)
-    (words : List (List ℕ)) (left left' : Option (List ℕ)) (before now : ℕ) (old new : SinkState)
+    (words : List (List ℕ)) (left left' : Option (List ℕ)) (before now : ℕ) (old new : Told)
     : Type 0 where
   pub input : List ℕ
   pub read : Consumes left left' input
@@ -65,7 +65,7 @@ pub record Answered (result : Result Found AttackError) (numbers : Numbers)
 -- What a search did that ended so: the bytes that its source has left, the source's count of
 -- faults, and what its sink tells, each before and after.
 abbrev pub Does : Result Found AttackError → (numbers : Numbers) → (words : List (List ℕ))
-    → (left left' : Option (List ℕ)) (before now : ℕ) (old new : SinkState) → Type 0
+    → (left left' : Option (List ℕ)) (before now : ℕ) (old new : Told) → Type 0
 Does (Err error.ReadFault) numbers words left left' before now old new =
     LosesWithin (2 ^ 20) left left' × Counted before now × (new ≡ old)
 Does (Err error.TooLong) numbers words left left' before now old new =

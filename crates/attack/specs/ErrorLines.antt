@@ -3,7 +3,7 @@ use Rattle.std.specs.Prelude.{ℕ, List, [], ◌∷◌, codes, decimal}
 use Rattle.std.specs.List.{concat}
 use Rattle.sync_types.specs.declared.answers.Premise.{Premise}
 use Rattle.sync_types.specs.declared.answers.Premise.TheVariants as premise
-use Rattle.pulse_texts.specs.PulseWords as pulses
+use Rattle.pulse_nodes.specs.PulseWords as pulses
 use Rattle.attack.specs.declared.errors.AttackError.{AttackError}
 use Rattle.attack.specs.declared.errors.AttackError.TheVariants as error
 

@@ -1,12 +1,12 @@
 -- The attack that is found on a plan.
 use Rattle.std.specs.Prelude.{◌≡◌, ℕ, List, Option, Some, None}
-use Rattle.attack.specs.Attacks.{Attack}
-use Rattle.attack.specs.AttackTexts.{attack_text}
-use Rattle.attack.specs.Drawings.{drawing_for, made_by}
-use Rattle.attack.specs.Searches.{searched}
-use Rattle.attack.specs.SearchLaws.{IsBest, IsBestOf}
-use Rattle.attack.specs.declared.kinds.Kind.{Kind}
-use Rattle.attack.specs.declared.searching.Best.{Best}
+use Rattle.attacks.specs.Attacks.{Attack}
+use Rattle.attacks.specs.AttackTexts.{attack_text}
+use Rattle.attacks.specs.Drawings.{drawing_for, made_by}
+use Rattle.attacks.specs.Searches.{searched}
+use Rattle.attacks.specs.SearchLaws.{IsBest, IsBestOf}
+use Rattle.attacks.specs.declared.kinds.Kind.{Kind}
+use Rattle.attacks.specs.declared.searching.Best.{Best}
 use Rattle.attack.specs.declared.errors.AttackError.{AttackError}
 use Rattle.attack.specs.declared.errors.AttackError.TheVariants as error
 use Rattle.attack.specs.declared.finding.Found.{Found}

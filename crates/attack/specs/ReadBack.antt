@@ -7,9 +7,9 @@ use Rattle.plan_reader.specs.PlanPart.{plan_of}
 use Rattle.state_codec.specs.Shapes as boosting
 use Rattle.adversary_script.specs.Scripts.{Script}
 use Rattle.adversary_script.specs.ScriptPart.{script_for}
-use Rattle.pulse_texts.specs.PulseShapes as pulses
+use Rattle.pulse_nodes.specs.PulseShapes as pulses
 use Rattle.pulse_texts.specs.PulsesPart.{pulses_of}
-use Rattle.attack.specs.Tried.{script_in}
+use Rattle.attacks.specs.Tried.{script_in}
 use Rattle.attack.specs.declared.plans.AnyPlan.{AnyPlan}
 use Rattle.attack.specs.declared.plans.AnyPlan.TheVariants as plan
 use Rattle.attack.specs.PlanTexts.{IsAcceptedPlan, machine_in, shape_in, text_of, first_line_of}

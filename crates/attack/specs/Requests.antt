@@ -5,8 +5,8 @@ use Rattle.std.specs.List.{list_all}
 use Rattle.std.specs.Option.{is_some, option_map}
 use Rattle.std.specs.Str.{bytes_eq}
 use Rattle.texts.specs.Numbers.{number_of}
-use Rattle.attack.specs.Kinds.{kind_of}
-use Rattle.attack.specs.declared.kinds.Kind.{Kind}
+use Rattle.attacks.specs.Kinds.{kind_of}
+use Rattle.attacks.specs.declared.kinds.Kind.{Kind}
 use Rattle.attack.specs.declared.requests.Numbers.{Numbers}
 use Rattle.attack.specs.declared.requests.Request.{Request}
 use Rattle.attack.specs.declared.requests.Request.TheVariants as request

@@ -6,14 +6,14 @@ ghost use Rattle.attack.specs.Asked.{DoesAsked, LeavesUnread};
 ghost use Rattle.attack.specs.HelpText.{help_text, version_text};
 ghost use Rattle.attack.specs.ReadBack.{WrittenIsRead};
 ghost use Rattle.attack.specs.Requests.{kind_words, request_of};
-ghost use Rattle.attack.specs.DrawsWorked.{DrawsAreWorked};
+ghost use Rattle.attacks.specs.DrawsWorked.{DrawsAreWorked};
 
 use crate::calling::attack_input;
 use crate::errors::AttackError;
 use crate::finding::Found;
 use crate::laws::written_is_read;
 use crate::requests::{Request, kind_words, request_of};
-use crate::search_laws::draws_are_worked;
+use attacks::laws::draws_are_worked;
 use edge_io::{Piece, Sink, Source, WriteFault, put_all, put_pieces};
 use std::alloc::Global;
 

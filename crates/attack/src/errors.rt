@@ -97,7 +97,7 @@ pub fn put_error<K: Sink>(sink: &mut K, error: AttackError) -> Result<(), WriteF
             b"usage: attack SEED RUNS [KIND ..], or attack --help\n",
         ),
         AttackError::PlanRefused(refusal) => put_plan_line(sink, refusal),
-        AttackError::PulsesRefused(refusal) => pulse_texts::put_refusal(sink, refusal),
+        AttackError::PulsesRefused(refusal) => pulse_nodes::put_refusal(sink, refusal),
         AttackError::NoScript => put_all(sink, b"no attack that was tried is a script\n"),
         AttackError::ReadFault => put_all(sink, b"the input could not be read\n"),
         AttackError::WriteFault => put_all(sink, b"the answer could not be written\n"),

@@ -3,13 +3,11 @@
 ghost use Rattle.std.specs.Prelude.{MatchResult};
 ghost use Rattle.attack.specs.Found.{Finds, FailsToFind};
 
-use crate::drawing::Drawing;
 use crate::errors::AttackError;
-use crate::kinds::Kind;
 use crate::plans::AnyPlan;
 use crate::requests::Numbers;
-use crate::search_laws::searches_find_best;
-use crate::targets::Target;
+use attacks::laws::searches_find_best;
+use attacks::{Drawing, Kind, Target};
 use machines::Machine;
 use std::alloc::Global;
 
@@ -41,7 +39,7 @@ pub fn find(
     let machine = plan.machine(alloc)?;
     let shape = plan.shape(alloc)?;
     let target = Target::new(&machine, &shape, plan.first_line());
-    target.facts();
+    target.tell();
     let maker = Drawing::new(alloc, &machine, numbers.seed, numbers.runs, kinds)?;
     match target.search(alloc, &maker, numbers.runs)? {
         Some(best) => {

@@ -27,7 +27,7 @@ fn read_boosting(alloc: Global, text: &[u8]) -> Result<AnyPlan, AttackError>
     ensures accepted { IfOk result IsAcceptedPlan }
 {
     let plan = read_whole_plan(alloc, text)?;
-    plan.facts();
+    plan.tell();
     Ok(AnyPlan::Boosting(plan))
 }
 
@@ -42,7 +42,7 @@ pub fn read_any_plan(alloc: Global, text: &[u8]) -> Result<AnyPlan, AttackError>
 {
     match read_whole_pulses(text) {
         Ok(plan) => {
-            plan.facts();
+            plan.tell();
             Ok(AnyPlan::Pulses(plan))
         }
         Err(PulsesError::NoMemory) => Err(AttackError::NoMemory),

@@ -4,7 +4,7 @@ ghost use Rattle.std.specs.Prelude.{◌≡◌, map, string_bytes, IfOk};
 ghost use Rattle.attack.specs.Requests.{are_kinds, asked_alone, kind_words, named_kinds};
 ghost use Rattle.attack.specs.Requests.{numbers_by, numbers_with, request_of};
 
-use crate::kinds::Kind;
+use attacks::Kind;
 use edge_io::number;
 use std::alloc::Global;
 use sync_types::NoMemory;

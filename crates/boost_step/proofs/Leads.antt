@@ -26,6 +26,10 @@ times_no numbers x n ne =
     ∙ ap (λ (b : Bool). times_of numbers x + (if b then 1 else 0)) (ne_eqb x n ne)
     ∙ omega arith
 
+-- of no numbers any leads by none
+pub begins : (number : ℕ) → Leads [] number 0
+begins number = record { there = omega arith; itself = omega arith; others = λ x ne. omega arith }
+
 -- where none leads, no number is most
 half_at_most : (numbers : List ℕ) (number x : ℕ) → Leads numbers number 0
     → 2 * times_of numbers x ≤ length numbers

@@ -1,5 +1,5 @@
 -- What the words ask for: `[boosting] FAULTS MODULUS [MOST_NODES] [plan]`,
--- `within NODES BOUND MODULUS [plan]`.
+-- `within NODES BOUND MODULUS [plan]`, `--help` or `--version`.
 use Rattle.std.specs.Prelude.{ℕ, ◌^◌, ◌≤◌, List, [], ◌∷◌, ◌||◌, nat_lt, Option, Some, None, codes}
 use Rattle.std.specs.Prelude.{if◌then◌else◌}
 use Rattle.std.specs.Option.{option_map}
@@ -23,6 +23,13 @@ want_with f c most =
 abbrev pub want_by : (f c most : Option ℕ) → Option Want
 want_by (Some f) (Some c) (Some most) = want_with f c most
 want_by f c most = None
+
+-- what a single word asks for
+abbrev pub asked_alone : List ℕ → Option Request
+asked_alone word =
+    if bytes_eq word (codes "--help") then Some request.Help
+    else if bytes_eq word (codes "--version") then Some request.Version
+    else None
 
 -- The wants of `FAULTS MODULUS [MOST_NODES] [plan]`, in these constructions. The most nodes are 256
 -- where they are left out.
@@ -68,7 +75,7 @@ within_of (n ∷ t ∷ c ∷ last ∷ more ∷ words) = None
 -- With `boosting` before them it is the plans of that construction alone.
 abbrev pub request_of : List (List ℕ) → Option Request
 request_of [] = None
-request_of (word ∷ []) = None
+request_of (word ∷ []) = asked_alone word
 request_of (first ∷ second ∷ words) =
     if bytes_eq first (codes "boosting") then search_of scope.Boosting (second ∷ words)
     else if bytes_eq first (codes "within") then within_of (second ∷ words)
@@ -82,6 +89,8 @@ pub record IsRoom (room : Room) : Type 0 where
 
 -- the wants of a request keep the limits
 abbrev pub HasFitWant : Request → Type 0
+HasFitWant request.Help = Unit {0}
+HasFitWant request.Version = Unit {0}
 HasFitWant (request.Front scope want) = IsFit want
 HasFitWant (request.LastPlan scope want) = IsFit want
 HasFitWant (request.Most room) = IsRoom room

@@ -26,17 +26,15 @@ mod fronts;
 mod fronts_of_both;
 mod laws;
 mod most_faults;
-mod reasons;
 mod requests;
 mod searching;
 mod shortages;
 mod writing;
 mod writing_both;
 
-use crate::choosing::{choose, explain_none};
-use crate::reasons::ChooseError;
+use crate::choosing::{ChooseError, choose, explain_none};
 use edge_io::StdSink;
-use program_words::{arguments, end, words};
+use program_words::{arguments, exit_code, words};
 use std::io;
 use std::process::ExitCode;
 
@@ -53,5 +51,12 @@ fn run(rt: &HostRuntime) -> Result<(), ChooseError> {
 }
 
 fn main(rt: HostRuntime) -> ExitCode {
-    end(&rt, run(&rt))
+    match run(&rt) {
+        Ok(()) => ExitCode::SUCCESS,
+        Err(error) => {
+            // Where standard error is closed, the code alone says it.
+            let _ = eprintln!(rt; "{error}");
+            exit_code(error.status())
+        }
+    }
 }

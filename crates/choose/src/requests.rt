@@ -3,7 +3,7 @@
 ghost use Rattle.std.specs.Prelude.{◌≡◌, map, string_bytes, IfSome};
 ghost use Rattle.texts.specs.Numbers.{number_of};
 ghost use Rattle.plan_finder.specs.FindPart.{IsFit};
-ghost use Rattle.choose.specs.Requests.{want_with, want_by, search_of, request_of};
+ghost use Rattle.choose.specs.Requests.{want_with, want_by, asked_alone, search_of, request_of};
 ghost use Rattle.choose.specs.Requests.{room_with, room_by, within_of, IsRoom, HasFitWant};
 
 use edge_io::number;
@@ -32,6 +32,10 @@ pub struct Room {
 /// What is asked for.
 #[derive(Clone, Copy, Debug, PartialEq, Eq)]
 pub enum Request {
+    /// How the program is used.
+    Help,
+    /// Its name and version.
+    Version,
     /// The lines of a front for these wants.
     Front(Scope, Want),
     /// The text of the last plan of a front for these wants.
@@ -77,6 +81,20 @@ fn wanted(faults: &str, modulus: &str, most: Option<u64>) -> Option<Want>
     ensures fits { IfSome result IsFit }
 {
     want_by(number(faults.as_bytes()), number(modulus.as_bytes()), most)
+}
+
+/// What a single word asks for.
+fn asked_alone(word: &str) -> Option<Request>
+    ensures value { result ≡ asked_alone word.now }
+    ensures fits { IfSome result HasFitWant }
+{
+    if word == "--help" {
+        Some(Request::Help)
+    } else if word == "--version" {
+        Some(Request::Version)
+    } else {
+        None
+    }
 }
 
 /// What words without a construction before them search.
@@ -158,14 +176,14 @@ fn within_of(words: &[String]) -> Option<Request>
     }
 }
 
-/// What these words ask for: None exactly where they ask for no plan.
+/// What these words ask for: None exactly where they ask for nothing.
 pub fn request_of(words: &[String]) -> Option<Request>
     ensures value { result ≡ request_of (map string_bytes words.now) }
     ensures fits { IfSome result HasFitWant }
 {
     match words {
         [] => None,
-        [_] => None,
+        [word] => asked_alone(word.as_str()),
         [first, ..] => {
             if first.as_str() == "boosting" {
                 search_of(Scope::Boosting, &words[1..])

@@ -18,7 +18,7 @@ use Rattle.construction.specs.Steps.{state_of}
 use Rattle.phase_king.proofs.Closed.{infinite_stays, zero_closed, one_closed, two_closed}
 use Rattle.phase_king.proofs.Closed.{marked_stays}
 use Rattle.counter_core.specs.HeardRegisters.{RegisterHeard, heard_at}
-use Rattle.counter_core.specs.Heeding.{HearsTruth, DependsOnlyOn}
+use Rattle.counter_core.specs.Heeding.{HearsTruth, HeedsOnly}
 use Rattle.counter_core.proofs.ListsAndPlaces.{places_of_ids}
 use Rattle.counter_core.proofs.Quorum.{quorum_is_least}
 use Rattle.layer_laws.specs.CounterSlots.{agreed}
@@ -147,7 +147,7 @@ module _ (h : RegisterHeard) (faulty : List ℕ) (v : ℕ) (quorum : 3 * h.fault
       same = true_count faulty h own
 
       zero_shut : (own ≡ None) ⊎ ((need ≤ same) ⊎ (same + length faulty < need))
-          → DependsOnlyOn (step 0 king) faulty v h.states from to
+          → HeedsOnly (step 0 king) faulty v h.states from to
       zero_shut (inl none) heard told first second alike = through 0 king heard told first second
           (infinite_stays (length h.states) h.faults (λ a. a) (heard_at h v) (map value heard)
           (map value told) king none
@@ -157,7 +157,7 @@ module _ (h : RegisterHeard) (faulty : List ℕ) (v : ℕ) (quorum : 3 * h.fault
           (zero_closed (length h.states) h.faults (λ a. a) (heard_at h v) (map value heard)
           (map value told) king (tests heard told first second need own shut))
 
-      one_shut : need ≤ same → DependsOnlyOn (step 1 king) faulty v h.states from to
+      one_shut : need ≤ same → HeedsOnly (step 1 king) faulty v h.states from to
       one_shut enough heard told first second alike = through 1 king heard told first second
           (one_closed (length h.states) h.faults (λ a. a) (heard_at h v) (map value heard)
           (map value told) king (tests heard told first second need own (inl enough))
@@ -166,7 +166,7 @@ module _ (h : RegisterHeard) (faulty : List ℕ) (v : ℕ) (quorum : 3 * h.fault
       -- the instructions of kinds 0 and 1, where no lie can change a count
       pub counts_shut : (kind : ℕ) → kind ≤ 1
           → (need ≤ same) ⊎ ((kind ≡ 0) × ((own ≡ None) ⊎ (same + length faulty < need)))
-          → DependsOnlyOn (step kind king) faulty v h.states from to
+          → HeedsOnly (step kind king) faulty v h.states from to
       counts_shut zero le (inl enough) = zero_shut (inr (inl enough))
       counts_shut zero le (inr (is, inl none)) = zero_shut (inl none)
       counts_shut zero le (inr (is, inr few)) = zero_shut (inr (inr few))
@@ -176,7 +176,7 @@ module _ (h : RegisterHeard) (faulty : List ℕ) (v : ℕ) (quorum : 3 * h.fault
 
       -- that of kind 2, where the own value is finite and marked
       marked_shut : (z : ℕ) × (heard_at h v ≡ locked_at z)
-          → DependsOnlyOn (step 2 king) faulty v h.states from to
+          → HeedsOnly (step 2 king) faulty v h.states from to
       marked_shut (z, is) heard told first second alike =
           let finite = ap (λ (r : Reg). r.a) is in
           let marked = ap (λ (r : Reg). r.d) is in
@@ -188,8 +188,8 @@ module _ (h : RegisterHeard) (faulty : List ℕ) (v : ℕ) (quorum : 3 * h.fault
 
       -- and else, where what is heard of the king hangs on these lies
       pub king_shut : king < length h.states
-          → DependsOnlyOn (λ heard. state_of heard king) faulty v h.states from to
-          → DependsOnlyOn (step 2 king) faulty v h.states from to
+          → HeedsOnly (λ heard. state_of heard king) faulty v h.states from to
+          → HeedsOnly (step 2 king) faulty v h.states from to
       king_shut lt kings heard told first second alike =
           through 2 king heard told first second
           (two_closed (length h.states) h.faults (λ a. a) (heard_at h v) (map value heard)
@@ -198,13 +198,13 @@ module _ (h : RegisterHeard) (faulty : List ℕ) (v : ℕ) (quorum : 3 * h.fault
           ∙ sym (at told second king lt))))
 
       own_king : king < length h.states → king ≡ v
-          → DependsOnlyOn (step 2 king) faulty v h.states from to
+          → HeedsOnly (step 2 king) faulty v h.states from to
       own_king lt is = king_shut lt (λ heard told first second alike.
           ap (state_of heard) is ∙ (first.own ∙ (sym second.own ∙ sym (ap (state_of told) is))))
 
       -- or the node is its own king
       pub no_other : king < length h.states
           → ((z : ℕ) × (heard_at h v ≡ locked_at z)) ⊎ (king ≡ v)
-          → DependsOnlyOn (step 2 king) faulty v h.states from to
+          → HeedsOnly (step 2 king) faulty v h.states from to
       no_other lt (inl locked) = marked_shut locked
       no_other lt (inr same) = own_king lt same

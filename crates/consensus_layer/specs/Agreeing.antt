@@ -70,3 +70,12 @@ pub record SlotDecidesOver {Kept : Type 0} (counter : Meaning) (layer : Layer Ke
   pub valid : (common : ℕ)
       → ((v : ℕ) → v < counter.nodes → is_in faulty v ≡ false
       → input_in layer input first run before v ≡ common) → value ≡ common
+
+-- those over the counter of a plan
+module _ {Kept : Type 0} (plan : Plan) (layer : Layer Kept) (input : ℕ → Kept → ℕ) where
+  abbrev pub NodeDecides : (first : ℕ) (run : List (Scene Kept)) (t v value : ℕ) → Type 0
+  NodeDecides = NodeDecidesOver (plan_meaning plan) layer input
+
+  abbrev pub SlotDecides : (faulty : List ℕ) (first : ℕ) (run : List (Scene Kept)) (before : ℕ)
+      → Type 0
+  SlotDecides = SlotDecidesOver (plan_meaning plan) layer input

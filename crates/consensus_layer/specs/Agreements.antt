@@ -82,6 +82,9 @@ module _ (plan : Plan) where
       (run : List (Scene ℕ)) → Type 0
   AgreeRun = AgreeRunOver (plan_meaning plan) (IsState plan)
 
+  abbrev pub OneDecision : (inputs : List ℕ) (faulty : List ℕ) → Scene ℕ → Type 0
+  OneDecision = OneDecisionOver (plan_meaning plan)
+
   abbrev pub Decides : (inputs : List ℕ) (faulty : List ℕ) (run : List (Scene ℕ)) → Type 0
   Decides = DecidesOver (plan_meaning plan)
 

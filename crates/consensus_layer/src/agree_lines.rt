@@ -1,11 +1,12 @@
-ghost use Rattle.std.specs.Prelude.{◌≡◌};
-ghost use Rattle.consensus_layer.specs.AgreePart.{nothing_read_over};
+ghost use Rattle.std.specs.Prelude.{◌≡◌, codes};
+ghost use Rattle.texts.specs.Shapes.{numbers_after};
+ghost use Rattle.texts.specs.Lines.{words_of};
+ghost use Rattle.consensus_layer.specs.AgreePart.{nothing_read_over, behind_head, values_tested};
 
 use crate::agree_parts::AgreePart;
 use crate::agreeing::slot_length;
 use crate::input_lines::read_inputs;
-use crate::part_lines::{head_tested, number_within};
-use edge_io::{LineReader, TakeError};
+use edge_io::{LineReader, TakeError, numbers_after};
 use layer_laws::CounterNumbers;
 use std::alloc::Global;
 use std::marker::Model;
@@ -51,6 +52,36 @@ impl Model for AgreeLines {
     } };
 }
 
+/// The stage behind the first line, where the modulus is a multiple of a slot's length.
+fn behind_head(whole: bool, line: &[u8]) -> Result<AgreeStage, Rule>
+    ensures { result ≡ behind_head whole line.now }
+{
+    if line != b"agree 1".as_slice() {
+        return Err(Rule::Form);
+    }
+    if !whole {
+        return Err(Rule::Slot);
+    }
+    Ok(AgreeStage::Begun)
+}
+
+/// The stage behind a line of values.
+fn behind_values(line: &[u8]) -> Result<AgreeStage, Rule>
+    ensures { result ≡ values_tested (numbers_after (codes "values") 1 (words_of line.now)) }
+{
+    let Some(numbers) = numbers_after::<1>(line, b"values") else {
+        return Err(Rule::Form);
+    };
+    let values = numbers[0];
+    if values > MOST_VALUES {
+        return Err(Rule::Limit);
+    }
+    if values < 2 {
+        return Err(Rule::Range);
+    }
+    Ok(AgreeStage::Valued(values))
+}
+
 impl AgreeLines {
     /// A reader of a part of which nothing was read, for a counter of these numbers.
     pub fn new(alloc: Global, numbers: &CounterNumbers) -> AgreeLines
@@ -78,14 +109,10 @@ impl LineReader for AgreeLines {
     fn take(&mut self, line: &[u8]) -> Result<Option<AgreePart>, TakeError<Rule>> {
         match self.stage {
             AgreeStage::Unread => {
-                head_tested(b"agree 1", self.whole, line).map_err(TakeError::Refused)?;
-                self.stage = AgreeStage::Begun;
+                self.stage = behind_head(self.whole, line).map_err(TakeError::Refused)?;
             }
             AgreeStage::Begun => {
-                let values = number_within(b"values", 2, MOST_VALUES, line).map_err(
-                    TakeError::Refused,
-                )?;
-                self.stage = AgreeStage::Valued(values);
+                self.stage = behind_values(line).map_err(TakeError::Refused)?;
             }
             AgreeStage::Valued(values) => {
                 self.inputs = read_inputs(self.alloc, line, values, self.nodes)?;

@@ -3,7 +3,7 @@ ghost use Rattle.std.specs.Prelude.{length};
 ghost use Rattle.sync_types.specs.States.{State};
 ghost use Rattle.construction.specs.PhaseKing.{locked_at};
 ghost use Rattle.construction.specs.Steps.{state_of};
-ghost use Rattle.counter_core.specs.Heeding.{DependsOnlyOn};
+ghost use Rattle.counter_core.specs.Heeding.{HeedsOnly};
 ghost use Rattle.layer_laws.specs.CounterSlots.{agreed, agreed_in_turn, slot_length};
 ghost use Rattle.consensus_layer.specs.Heeding.{has_truly, true_count};
 
@@ -56,7 +56,7 @@ fn is_count_open(values: &HeardRegister<'_>, kind: u64, own: Option<u64>, faulty
 pub fn liar_at(faulty: &FaultSet, node: u32) -> (usize, usize)
     ensures within { result.1 ≤ length faulty.now.ids }
     ensures enough { (v : ℕ) (config : List State) → node < length config
-        → DependsOnlyOn (λ heard. state_of heard node) faulty.now.ids v config result.0 result.1 }
+        → HeedsOnly (λ heard. state_of heard node) faulty.now.ids v config result.0 result.1 }
 {
     if faulty.contains(node) {
         for j in 0..faulty.len() {
@@ -96,7 +96,7 @@ pub fn heeded_at(
     requires node { node < length values.now.states }
     requires king { king < length values.now.states }
     ensures within { result.1 ≤ length faulty.now.ids }
-    ensures enough { DependsOnlyOn (agreed (length values.now.states) values.now.faults
+    ensures enough { HeedsOnly (agreed (length values.now.states) values.now.faults
         values.now.register node kind king)
         faulty.now.ids node values.now.states result.0 result.1 }
 {
@@ -116,7 +116,7 @@ pub fn heeded_at(
 }
 
 /// The liars on whose lies the round of [`agree`](crate::agree) hangs, as [`heeded_at`] has them.
-pub fn relevant_liars(
+pub fn heeded(
     values: &HeardRegister<'_>,
     node: u32,
     output: u64,
@@ -125,7 +125,7 @@ pub fn relevant_liars(
     requires quorum { 3 * values.now.faults < length values.now.states }
     requires node { node < length values.now.states }
     ensures within { result.1 ≤ length faulty.now.ids }
-    ensures enough { DependsOnlyOn (agreed_in_turn (length values.now.states) values.now.faults
+    ensures enough { HeedsOnly (agreed_in_turn (length values.now.states) values.now.faults
         values.now.register node (output % slot_length values.now.faults))
         faulty.now.ids node values.now.states result.0 result.1 }
 {

@@ -3,18 +3,12 @@ ghost use Rattle.consensus_layer.specs.AgreeAnswers.{IsAnswer, IsAnswerOver};
 
 use crate::agree_lines::AgreeLines;
 use crate::agreement::Agreement;
-use edge_io::{PartError, Refused, read_part};
+use crate::refusals::AgreeError;
+use edge_io::read_part;
 use layer_laws::CounterNumbers;
 use plan_numbers::Plan;
 use std::alloc::Global;
 use sync_types::Rule;
-
-/// The line of an agree part that is refused: its number in the whole input, skipped lines counted,
-/// and the first rule that it fails. Where the part lacks its end it is the line after the last.
-pub type AgreeRefusal = Refused<Rule>;
-
-/// Why an agree part was not read: its first line that fails, or memory was refused.
-pub type AgreeError = PartError<Rule>;
 
 /// Reads the agree part at the front of an input: consensus on a counter of these numbers as it
 /// says, where each node's decision is 0, how many bytes stand through the part's `end` line, that

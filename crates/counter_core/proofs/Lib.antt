@@ -1,3 +1,4 @@
+pub mod LiesHeard
 pub mod ListsAndPlaces
 pub mod ClearedRegisters
 pub mod Layers

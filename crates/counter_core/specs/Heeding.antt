@@ -14,9 +14,9 @@ pub record HearsTruth (faulty : List ℕ) (v : ℕ) (config heard : List State) 
 
 -- What node v finds from what it hears hangs on the lies in a stretch alone, from one place of the
 -- faulty set to before another: whatever the other liars tell, it is the same.
-abbrev pub DependsOnlyOn : {Found : Type 0} → (find : List State → Found) (faulty : List ℕ) (v : ℕ)
+abbrev pub HeedsOnly : {Found : Type 0} → (find : List State → Found) (faulty : List ℕ) (v : ℕ)
     → (config : List State) (from to : ℕ) → Type 0
-DependsOnlyOn find faulty v config from to = (heard told : List State)
+HeedsOnly find faulty v config from to = (heard told : List State)
     → HearsTruth faulty v config heard → HearsTruth faulty v config told
     → ((j : ℕ) → from ≤ j → j < to
     → state_of heard (slice_index faulty j) ≡ state_of told (slice_index faulty j))

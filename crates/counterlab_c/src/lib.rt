@@ -44,7 +44,7 @@ pub extern "C" fn counterlab_plan(alloc: Global, plan: &[u8], numbers: &mut Plan
     texts_have_counters();
     match counter_in(alloc, plan) {
         Ok(read) => {
-            read.facts();
+            read.tell();
             *numbers = numbers_of(&read);
             answer_of(Ok(0))
         }

@@ -1,7 +1,9 @@
 -- What words ask for: `--help` or `--version`, alone, for a text, and `--page` for a page.
-use Rattle.std.specs.Prelude.{ℕ, List, [], ◌∷◌, if◌then◌else◌, codes}
+use Rattle.std.specs.Prelude.{◌≡◌, ℕ, List, [], ◌∷◌, Option, Some, None, Bool, true, false}
+use Rattle.std.specs.Prelude.{Result, MatchResult, if◌then◌else◌, codes}
 use Rattle.std.specs.List.{concat}
 use Rattle.std.specs.Str.{bytes_eq}
+use Rattle.texts.specs.Growth.{Told, Wrote, Cut}
 use Rattle.run_pictures.specs.declared.pages.Form.{Form}
 use Rattle.run_pictures.specs.declared.pages.Form.TheVariants.{Picture, Page}
 
@@ -18,6 +20,19 @@ help_text = concat (
 abbrev pub version_text : List ℕ
 version_text = codes "draw 1.0\n"
 
+-- the text that a single word asks for
+abbrev pub text_alone : List ℕ → Option (List ℕ)
+text_alone word =
+    if bytes_eq word (codes "--help") then Some help_text
+    else if bytes_eq word (codes "--version") then Some version_text
+    else None
+
+-- the text that words ask for
+abbrev pub text_for : List (List ℕ) → Option (List ℕ)
+text_for [] = None
+text_for (word ∷ []) = text_alone word
+text_for (word ∷ other ∷ words) = None
+
 -- what is drawn for a single word
 abbrev pub form_alone : List ℕ → Form
 form_alone word = if bytes_eq word (codes "--page") then Page else Picture
@@ -27,3 +42,10 @@ abbrev pub form_for : List (List ℕ) → Form
 form_for [] = Picture
 form_for (word ∷ []) = form_alone word
 form_for (word ∷ other ∷ words) = Picture
+
+-- Whether a text was asked for is answered, and it was written, or a front of it where a write
+-- failed; where none was asked for nothing was written.
+abbrev pub Tells : {E : Type 0} → Option (List ℕ) → (old new : Told) → Result Bool E → Type 0
+Tells (Some text) old new told =
+    MatchResult told (λ asked. (asked ≡ true) × Wrote text old new) (λ _. Cut text old new)
+Tells None old new told = MatchResult told (λ asked. (asked ≡ false) × (new ≡ old)) (λ _. ⊥)

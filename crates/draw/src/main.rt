@@ -6,13 +6,22 @@
 //! with 1. With `--help` or `--version`, alone, it reads nothing and writes what these ask for;
 //! other words count for nothing.
 //!
-//! What it draws is said in [`run_pictures`], and what is written for words in
-//! [`asking::answer_words`].
+//! What it draws is said in [`run_pictures`], and what is written for words in [`asking::tell`].
 #![tactic(auto)]
+
+// As `?` behind a part of a text that is written, but with no call of its own.
+macro_rules! written {
+    ($part:expr) => {
+        match $part {
+            Ok(()) => {}
+            Err(WriteFault) => return Err(WriteFault),
+        }
+    };
+}
 
 mod asking;
 
-use crate::asking::{answer_words, form_for};
+use crate::asking::{form_for, tell};
 use edge_io::{Sink, StdSink, StdSource, first_line, read_all};
 use program_words::{arguments, words};
 use run_pictures::{Form, draw};
@@ -59,7 +68,7 @@ fn draw_stdin<K: Sink>(rt: &HostRuntime, form: Form, sink: &mut K) -> anyhow::Re
 fn main(rt: HostRuntime) -> anyhow::Result<ExitCode> {
     let mut sink = StdSink::new(io::writer(&rt));
     let arguments = arguments(&rt)?;
-    if answer_words(words(&arguments), &mut sink)? {
+    if tell(words(&arguments), &mut sink)? {
         return Ok(ExitCode::SUCCESS);
     }
     draw_stdin(&rt, form_for(words(&arguments)), &mut sink)

@@ -7,17 +7,17 @@ use Rattle.std.proofs.KnownBytes.{Consumes-kept, Consumes-trans}
 use Rattle.texts.specs.Causes.{Counted}
 use Rattle.edge_io.specs.Reading.{LosesFront, LosesWithin, LosesMore}
 use Rattle.std.proofs.lemmas.List.{take-append-drop, take_rest, length-take-le}
-use Rattle.texts.specs.Growth.{SinkState, Follows, Wrote, Cut, IsMissed, arrived}
+use Rattle.texts.specs.Growth.{Told, Follows, Wrote, Cut, IsMissed, arrived}
 use Rattle.texts.proofs.Growth.{wrote_none, wrote_then, cut_then, kept_is}
 
 -- so far a front of the text was written
-pub record Putting (text rest : List ℕ) (old now : SinkState) : Type 0 where
+pub record Putting (text rest : List ℕ) (old now : Told) : Type 0 where
   pub done : List ℕ
   pub parts : text ≡ done ++ rest
   pub wrote : Wrote done old now
 
 -- some more bytes were written
-pub put_more : (text rest : List ℕ) (n : ℕ) (old mid new : SinkState) → n ≤ length rest
+pub put_more : (text rest : List ℕ) (n : ℕ) (old mid new : Told) → n ≤ length rest
     → Putting text rest old mid → Appends mid.taken new.taken (take n rest)
     → new.faults ≡ mid.faults → mid.certain ≤ new.certain + n → Follows mid new
     → Putting text (take (length rest - n) (drop n rest)) old new
@@ -35,11 +35,11 @@ put_more text rest n old mid new most p bytes still lasts follows = record {
 }
 
 -- nothing was written yet
-pub put_none : (text : List ℕ) (s : SinkState) → Putting text text s s
+pub put_none : (text : List ℕ) (s : Told) → Putting text text s s
 put_none text s = record { done = []; parts = refl; wrote = wrote_none s }
 
 -- a write failed
-pub put_cut : (text rest : List ℕ) (old mid new : SinkState) → Putting text rest old mid
+pub put_cut : (text rest : List ℕ) (old mid new : Told) → Putting text rest old mid
     → Keeps mid.taken new.taken → Counted mid.faults new.faults → mid.certain ≤ length rest
     → Follows mid new → IsMissed mid.taken (arrived new) rest → Cut text old new
 put_cut text rest old mid new p keeps cause uncertain follows missed =

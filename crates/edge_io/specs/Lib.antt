@@ -5,7 +5,6 @@ pub mod Gathering
 pub mod HeldLines
 pub mod Items
 pub mod Memory
-pub mod PartAnswers
 pub mod PendingLaws
 pub mod Pieces
 pub mod Reading
@@ -13,4 +12,3 @@ pub mod Real
 pub mod Rising
 pub mod Taking
 pub mod Whole
-pub mod Writing

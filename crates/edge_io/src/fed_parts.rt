@@ -91,7 +91,7 @@ pub fn feed_part<S: Source, P: LineReader>(
 }
 
 /// The refusal of a line.
-fn refused<R>(line: u64, rule: R) -> FedError<R>
+pub(crate) fn refused<R>(line: u64, rule: R) -> FedError<R>
     ensures { result ≡ fed.Refused (record { line = line; rule = rule }) }
 {
     FedError::Refused(Refused { line, rule })

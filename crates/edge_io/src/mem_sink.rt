@@ -1,5 +1,5 @@
 ghost use Rattle.std.specs.Prelude.{◌≤◌, vec_len, vec_capacity, All};
-ghost use Rattle.edge_io.specs.Memory.{MemSinkState};
+ghost use Rattle.edge_io.specs.Memory.{SinkState};
 
 use crate::cuts::cut;
 use crate::{Failed, Sink};
@@ -42,7 +42,7 @@ impl Drop for MemSink {
 }
 
 impl Model for MemSink {
-    ghost Value = { MemSinkState };
+    ghost Value = { SinkState };
 
     ghost view = { λ s. record {
       taken = s.taken.items;

@@ -1,5 +1,5 @@
 ghost use Rattle.std.specs.Prelude.{◌≤◌, drop, vec_len, All};
-ghost use Rattle.edge_io.specs.Memory.{MemSourceState};
+ghost use Rattle.edge_io.specs.Memory.{SourceState};
 
 use crate::cuts::cut;
 use crate::{Failed, Source};
@@ -37,7 +37,7 @@ impl Drop for MemSource {
 }
 
 impl Model for MemSource {
-    ghost Value = { MemSourceState };
+    ghost Value = { SourceState };
 
     ghost view = { λ s. record {
       left = drop s.at s.bytes.items;

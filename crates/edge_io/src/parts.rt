@@ -1,7 +1,7 @@
 ghost use Rattle.std.specs.Prelude.{◌≡◌, ◌≤◌, ◌<◌, ◌+◌, ◌^◌, List, ℕ, length, drop, MatchResult};
 ghost use Rattle.std.specs.Prelude.{IfOk, Ok};
 ghost use Rattle.texts.specs.Lines.{lines_of, is_well_parted, has_empty_word, words_of};
-ghost use Rattle.edge_io.specs.Taking.{Takes, FailsAsDefined};
+ghost use Rattle.edge_io.specs.Taking.{Takes, FailsAt};
 ghost use Rattle.texts.specs.Parts.{Next, is_skipped, with_skips, part_from};
 
 use crate::{PartError, Refused, TakeError, Words, first_line};
@@ -106,7 +106,7 @@ pub fn read_part<P: LineReader>(
           taken = x.lines;
           behind = lines_of (drop x.bytes text.now);
         }))
-        (λ e. FailsAsDefined e
+        (λ e. FailsAt e
         (part_from (with_skips P.step form) form reader 0 first (lines_of text.now))) }
     ensures within { IfOk result (λ x. x.bytes ≤ length text.now) }
     ensures lines { IfOk result (λ x. x.lines ≤ x.bytes) }

@@ -4,7 +4,7 @@ ghost use Rattle.std.specs.declared.option.Option.{Option};
 ghost use Rattle.std.specs.Io.{ReadsAtMost};
 ghost use Rattle.std.specs.Io.KnownBytes.{ReadConsumes, WriteAppends};
 ghost use Rattle.texts.specs.Causes.{HasCause};
-ghost use Rattle.texts.specs.Growth.{SinkState, Follows, UsesUp, Puts, IsMissed, arrived};
+ghost use Rattle.texts.specs.Growth.{Told, Follows, UsesUp, Puts, IsMissed, arrived};
 ghost use Rattle.edge_io.specs.Reading.{MeetsEnd};
 ghost use Rattle.edge_io.specs.Rising.{labelled_text};
 
@@ -43,7 +43,7 @@ pub trait Source {
 pub trait Sink {
     /// The bytes that were taken, where the sink tells them, and how many writes have failed, up to
     /// 2 ^ 64 - 1.
-    ghost told: { Self → SinkState };
+    ghost told: { Self → Told };
 
     /// Takes some bytes from the front of a piece that is not empty, and answers how many: at least
     /// 1.

@@ -1,4 +1,5 @@
 pub mod FirePart
+pub mod FireRefusals
 pub mod Firings
 pub mod FiringsSeen
 pub mod FireLaws

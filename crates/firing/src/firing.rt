@@ -2,7 +2,7 @@ ghost use Rattle.std.specs.Prelude.{◌≡◌, ◌*◌, ◌<◌, length};
 
 use crate::fires::Fire;
 use crate::requests::Requests;
-use consensus_layer::{agree, relevant_liars};
+use consensus_layer::{agree, heeded};
 use counter_core::{Heard, HeardRegister, Overlay, Work};
 use layer_laws::CounterNumbers;
 use std::alloc::{AllocError, Global};
@@ -41,7 +41,7 @@ impl Firing {
         ensures kept { IfOk result
             (λ firing. fires_seen firing ≡ replicate numbers.now.nodes unfired) }
     {
-        numbers.facts();
+        numbers.tell();
         let nodes = numbers.nodes();
         Ok(Firing {
             nodes,
@@ -104,7 +104,7 @@ impl Overlay for Firing {
         self.round = at;
     }
 
-    fn relevant_liars(
+    fn heeded(
         &self,
         node: u32,
         output: u64,
@@ -112,7 +112,7 @@ impl Overlay for Firing {
         faulty: &FaultSet,
     ) -> (usize, usize) {
         let values = HeardRegister::of(heard, self.depth, self.nodes, self.faults);
-        relevant_liars(&values, node, output, faulty)
+        heeded(&values, node, output, faulty)
     }
 
     fn advance(

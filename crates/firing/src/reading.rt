@@ -3,18 +3,12 @@ ghost use Rattle.firing.specs.FireAnswers.{IsAnswerOver, IsAnswer};
 
 use crate::fire_lines::FireLines;
 use crate::firing::Firing;
-use edge_io::{PartError, Refused, read_part};
+use crate::refusals::FireError;
+use edge_io::read_part;
 use layer_laws::CounterNumbers;
 use plan_numbers::Plan;
 use std::alloc::Global;
 use sync_types::Rule;
-
-/// The line of a fire part that is refused: its number in the whole input, skipped lines counted,
-/// and the first rule that it fails. Where the part lacks its end it is the line after the last.
-pub type FireRefusal = Refused<Rule>;
-
-/// Why a fire part was not read: its first line that fails, or memory was refused.
-pub type FireError = PartError<Rule>;
 
 /// Reads the fire part at the front of an input: the firing over a counter that it says, of which
 /// nothing was played, how many bytes stand through the part's `end` line, that line's newline

@@ -4,7 +4,7 @@ use Rattle.construction.specs.Plans.{Plan, plan_nodes, plan_faults, plan_modulus
 use Rattle.construction.specs.Runs.{IsState, Run, IsBorne}
 use Rattle.plan_numbers.specs.Premises.{IsAccepted}
 use Rattle.plan_laws.specs.PlanMeaning.{plan_meaning}
-use Rattle.counter_core.specs.Overlays.{Layer, SameNumbers, LayerFits, KeepsRange}
+use Rattle.counter_core.specs.Overlays.{Layer, SameNumbers, StandsOver, KeepsRange}
 use Rattle.layer_laws.specs.Counters.{IsSettling}
 use Rattle.layer_laws.specs.Scenes.{Scene}
 use Rattle.layer_laws.specs.LayerRuns.{IsLayerConfiguration, LayerRun, scene, without_layer}
@@ -36,7 +36,7 @@ SlotsAgree layer = (plan : Plan) → IsAccepted plan → SameNumbers layer (plan
 -- An era that begins with states in range is a run with the layer, whose first round is that of
 -- the era.
 abbrev pub ErasAreRuns : {Kept : Type 0} → Layer Kept → Type 0
-ErasAreRuns layer = (plan : Plan) → IsAccepted plan → LayerFits layer (plan_meaning plan)
+ErasAreRuns layer = (plan : Plan) → IsAccepted plan → StandsOver layer (plan_meaning plan)
     → KeepsRange layer
     → (faulty : List ℕ) (lie : Telling) → TellsInRange plan layer faulty lie
     → (first : ℕ) (start : Scene _) → IsLayerConfiguration plan layer start.states

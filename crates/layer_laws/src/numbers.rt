@@ -62,7 +62,7 @@ impl CounterNumbers {
     pub fn of(plan: &Plan) -> CounterNumbers
         ensures { result ≡ numbers_of plan.now }
     {
-        plan.facts();
+        plan.tell();
         CounterNumbers {
             nodes: plan.nodes(),
             faults: plan.faults(),
@@ -72,7 +72,7 @@ impl CounterNumbers {
     }
 
     /// Tells a caller's proof within which limits they are. It does nothing when it runs.
-    pub fn facts(&self)
+    pub fn tell(&self)
         ensures { AreNumbers self.now }
     {
         let _nodes = self.nodes;

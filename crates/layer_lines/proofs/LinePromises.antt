@@ -6,7 +6,7 @@ use Rattle.sync_types.specs.States.{State}
 use Rattle.construction.specs.Steps.{state_of}
 use Rattle.counter_core.specs.Meanings.{Meaning}
 use Rattle.adversary_script.specs.Eras.{first_of_era, era_of, faulty_of_era, faulty_at}
-use Rattle.machine_runner.specs.RunTexts.{number_word}
+use Rattle.run_texts.specs.RunTexts.{number_word}
 use Rattle.layer_laws.specs.CounterSlots.{slot_length}
 use Rattle.layer_laws.specs.Numbers.{numbers_in}
 use Rattle.layer_laws.specs.Scenes.{Scene}

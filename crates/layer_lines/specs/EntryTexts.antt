@@ -6,8 +6,8 @@ use Rattle.std.specs.List.{concat}
 use Rattle.counter_core.specs.Meanings.{Meaning}
 use Rattle.adversary_script.specs.Scripts.{Script}
 use Rattle.adversary_script.specs.Eras.{faulty_at}
-use Rattle.machine_runner.specs.FirstLocked.{LockTest}
-use Rattle.machine_runner.specs.RunTexts.{bound_line, number_word, words_of}
+use Rattle.run_texts.specs.FirstLocked.{LockTest}
+use Rattle.run_texts.specs.RunTexts.{bound_line, number_word, words_of}
 use Rattle.layer_laws.specs.Numbers.{numbers_in}
 use Rattle.layer_laws.specs.Scenes.{Scene}
 use Rattle.replicated_log.specs.declared.entries.Entry.{Entry}

@@ -3,7 +3,7 @@ use Rattle.std.specs.Prelude.{◌≡◌, ℕ, ◌*◌, ◌%◌, List, [], replic
 use Rattle.counter_core.specs.Meanings.{Meaning}
 use Rattle.counter_core.specs.Overlays.{Layer}
 use Rattle.adversary_script.specs.Scripts.{Script}
-use Rattle.machine_runner.specs.FirstLocked.{LockTest}
+use Rattle.run_texts.specs.FirstLocked.{LockTest}
 use Rattle.layer_laws.specs.Numbers.{numbers_in}
 use Rattle.layer_laws.specs.Slots.{slot_length}
 use Rattle.consensus_layer.specs.AgreeSaid.{AgreeSaid}

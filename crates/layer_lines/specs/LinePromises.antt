@@ -6,7 +6,7 @@ use Rattle.sync_types.specs.States.{State}
 use Rattle.counter_core.specs.Meanings.{Meaning}
 use Rattle.adversary_script.specs.Scripts.{Script}
 use Rattle.adversary_script.specs.Eras.{faulty_at}
-use Rattle.machine_runner.specs.RunTexts.{number_word}
+use Rattle.run_texts.specs.RunTexts.{number_word}
 use Rattle.layer_laws.specs.CounterSlots.{slot_length}
 use Rattle.layer_laws.specs.Numbers.{numbers_in}
 use Rattle.layer_lines.specs.PlayedEras.{PlaysEras}

@@ -8,8 +8,8 @@ use Rattle.counter_core.specs.Meanings.{Meaning}
 use Rattle.counter_core.specs.Overlays.{Layer}
 use Rattle.adversary_script.specs.Scripts.{Script}
 use Rattle.adversary_script.specs.Eras.{faulty_at}
-use Rattle.machine_runner.specs.FirstLocked.{LockTest}
-use Rattle.machine_runner.specs.RunTexts.{bound_line, words_of}
+use Rattle.run_texts.specs.FirstLocked.{LockTest}
+use Rattle.run_texts.specs.RunTexts.{bound_line, words_of}
 use Rattle.layer_laws.specs.Scenes.{Scene}
 use Rattle.layer_runs.specs.Scenes.{scene_at}
 use Rattle.layer_runs.specs.Positions.{Position}

@@ -3,7 +3,7 @@ ghost use Rattle.layer_laws.specs.Slots.{slot_length};
 
 use crate::{Lines, slot_ends};
 use consensus_layer::slot_length;
-use edge_io::{RisingText, Sink, Writer};
+use edge_io::{RisingText, TextSink, WriteFault};
 use firing::Firing;
 use layer_runs::Play;
 
@@ -43,21 +43,26 @@ impl Lines<Firing> for Fires {
         slot_ends(play, self.length)
     }
 
-    fn put_front<K: Sink, P: Play<Firing>>(
+    fn put_front<K: TextSink, P: Play<Firing>>(
         &self,
-        writer: &mut Writer<'_, K>,
+        sink: &mut K,
         play: &P,
         _number: &RisingText,
-    ) {
-        writer.labelled(b"fire ", play.at() - self.length);
+    ) -> Result<(), WriteFault> {
+        sink.labelled(b"fire ", play.at() - self.length)
     }
 
-    fn put_word<K: Sink, P: Play<Firing>>(&self, writer: &mut Writer<'_, K>, play: &P, v: u32) {
-        play.facts();
+    fn put_word<K: TextSink, P: Play<Firing>>(
+        &self,
+        sink: &mut K,
+        play: &P,
+        v: u32,
+    ) -> Result<(), WriteFault> {
+        play.tell();
         if play.overlay().fired(v) {
-            writer.text(b" 1");
+            sink.text(b" 1")
         } else {
-            writer.text(b" .");
+            sink.text(b" .")
         }
     }
 }

@@ -10,7 +10,7 @@ pub fn lead_output<O: Overlay, P: Play<O>>(play: &P) -> u64
     ensures { result ≡ lead_output (P.position play.now).counter (P.position play.now).script
         (P.position play.now).at (P.position play.now).scene.states }
 {
-    play.facts();
+    play.tell();
     let faulty = play.script().faulty_at(play.at());
     play.output(lowest_correct(play.nodes(), faulty))
 }

@@ -20,7 +20,7 @@ use Rattle.layer_runs.specs.Scenes.{layer_step, new_state}
 use Rattle.layer_runner.specs.Counters.{machine_counter}
 use Rattle.layer_runner.specs.ReadOver.{IsReadWithLayer}
 use Rattle.layer_runner.proofs.CutStates.{state_of-cut}
-use Rattle.layer_runs.proofs.Layered.{layered_written}
+use Rattle.layer_runner.proofs.Layered.{layered_written}
 use Rattle.layer_runner.proofs.ReadOver.{front_is, values_are, joined}
 
 -- a node of a script steps from a configuration of states in range

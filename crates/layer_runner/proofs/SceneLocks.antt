@@ -25,18 +25,16 @@ use Rattle.layer_laws.specs.CounterPlayed.{Telling, era_from, scene_after}
 use Rattle.layer_laws.specs.Scenes.{Scene}
 use Rattle.layer_laws.proofs.CounterEras.{eras_are_runs_over}
 use Rattle.layer_laws.proofs.CounterSlots.{runs_without_layer_over}
-use Rattle.machine_runner.specs.Locks.{is_locked, era_locked}
-use Rattle.machine_runner.proofs.Eras.{same_faulty}
-use Rattle.machine_runner.proofs.FirstLocked.{passes}
-use Rattle.machine_runner.proofs.FirstPassing.{first_locked_below}
+use Rattle.machine_runner.specs.Locks.{era_locked}
+use Rattle.machine_runner.proofs.FirstLocked.{first_locked_below, passes}
 use Rattle.machine_runner.proofs.Firsts.{in_era}
-use Rattle.machine_runner.proofs.Locked.{lock_test_is_exact}
 use Rattle.layer_runner.specs.Counters.{machine_counter}
 use Rattle.layer_runner.specs.Laws.{IsPlayable, EraCountsFrom, EraStaysLocked, ErasLock}
 use Rattle.layer_runner.specs.Laws.{ErasStayLocked}
 use Rattle.layer_runner.specs.Laws.{played_states, era_scenes}
 use Rattle.layer_runner.proofs.CutStates.{state_of-cut}
 use Rattle.layer_runner.proofs.EraScenes.{bare_run, bare_long, bare_at, borne_in, counts_from}
+use Rattle.layer_runner.proofs.EraScenes.{same_faulty}
 use Rattle.layer_runner.proofs.MachinesSettle.{machines_settle, run_of}
 use Rattle.layer_runner.proofs.SceneStates.{configuration_is}
 
@@ -203,7 +201,7 @@ module _ {Kept : Type 0} (machine : Machine) (script : Script) (layer : Layer Ke
       → EraStaysLocked machine script layer began j t
   stays t low high locked =
       let long = bare_long machine script layer began is j among in
-      let same = same_faulty script is.read.whole j among in
+      let same = same_faulty machine script layer began is j among in
       let back : first + (t - first) ≡ t = omega arith in
       let after = is.sound.stays faulty bare (borne_in machine script layer began is j among)
       (bare_run machine script layer began is j among) (t - first) (omega (arith, high, long))
@@ -223,8 +221,8 @@ eras_lock layer machine script began is j among high at reached within_rounds =
     let t : ℕ = first_of_era script j + machine.bound in
     first_locked_below (era_locked machine script (played_states machine script layer began) j) t at
     reached
-    (passes (is_locked machine) (IsLocked machine) (lock_test_is_exact machine) script
-    (played_states machine script layer began) is.read.whole j at among within_rounds t
+    (passes machine script (played_states machine script layer began) is.read.whole j at among
+    within_rounds t
     (in_era script is.read.whole.formed.rising j t among (omega arith) high)
     (at_the_bound machine script layer began is j among high))
 

@@ -26,7 +26,7 @@ pub fn lay_fronts(count: usize, states: &Packed, fronts: &mut [NodeState])
     ensures fronts { fronts.new ≡ map (cut count) states.now.current }
     ensures room { HasFronts (length states.now.current) count fronts.new }
 {
-    states.facts();
+    states.tell();
     for v in 0..states.nodes() {
         copy_front(count, states.state(v), &mut fronts[v as usize]);
     }
@@ -42,7 +42,7 @@ pub fn lay_lies(faulty: &FaultSet, count: usize, heard: &[NodeState], fronts: &m
         → state_of fronts.old u ≡ cut count (state_of heard.now u) }
     ensures { fronts.new ≡ map (cut count) heard.now }
 {
-    faulty.facts();
+    faulty.tell();
     for i in 0..faulty.len() {
         let u = faulty.at(i) as usize;
         copy_front(count, &heard[u], &mut fronts[u]);

@@ -8,8 +8,8 @@ ghost use Rattle.layer_runner.specs.Laws.{ErasCount, ErasLock, ErasStayLocked};
 use counter_core::Overlay;
 
 /// A script that the reader of scripts read for the nodes and faults of a machine, and for the
-/// shape of its states with a layer's registers behind, is read for both where the layer stands
-/// over the machine.
+/// shape of its states with a layer's registers behind, is read for both where the layer stands over
+/// the machine.
 pub fn readers_fit<O: Overlay>()
     ensures { (layer : Layer O.Kept) → ReadersFit layer }
 {}

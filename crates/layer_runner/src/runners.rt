@@ -4,11 +4,11 @@ ghost use Rattle.machine_runner.specs.Rooms as plain;
 ghost use Rattle.layer_runner.specs.Rooms.{IsReady};
 
 use crate::fronts::lay_fronts;
-use crate::stepping::LayerBuffers;
+use crate::stepping::LayerRoom;
 use adversary_script::Script;
 use counter_core::Overlay;
 use layer_laws::AnyCounter;
-use machine_runner::{first_locks, is_locked, room_for, start_all};
+use machine_runner::{first_locks, room_for, start_all};
 use machines::Machine;
 use state_codec::{Packed, StateShape};
 use std::alloc::Global;
@@ -20,7 +20,7 @@ pub struct LayerRunner<'a, M: Machine, O: Overlay> {
     pub(crate) machine: &'a M,
     pub(crate) script: Script,
     pub(crate) overlay: O,
-    pub(crate) room: LayerBuffers,
+    pub(crate) room: LayerRoom,
     pub(crate) states: Packed,
     pub(crate) at: u64,
     // The era of `at`.
@@ -75,12 +75,12 @@ fn layer_room<M: Machine>(
     machine: &M,
     script: &Script,
     shape: &StateShape,
-) -> Result<LayerBuffers, NoMemory>
+) -> Result<LayerRoom, NoMemory>
     requires { shape.now ≡ script.now.shape }
     ensures { IfOk result (IsReady (M.machine machine.now) script.now) }
 {
     let depth = machine.depth();
-    Ok(LayerBuffers {
+    Ok(LayerRoom {
         below: room_for(alloc, script, shape)?,
         fronts: NodeState::zeros(alloc, script.faulty().nodes(), depth)?,
         front: NodeState::zero(alloc, depth)?,
@@ -111,20 +111,14 @@ impl<'a, M: Machine, O: Overlay> LayerRunner<'a, M, O> {
             ≡ begun (machine_counter (M.machine machine.now)) (is_locked (M.machine machine.now))
             script (O.layer overlay) (O.kept overlay)) }
     {
-        shape.facts();
-        machine.facts();
+        shape.tell();
+        machine.tell();
         let _rounds = script.rounds();
         let mut room = layer_room(alloc, machine, &script, &shape)?;
         let mut states = Packed::new(alloc, shape, script.faulty().nodes())?;
-        start_all(
-            &script,
-            &mut room.below.noise,
-            &mut room.below.out,
-            &mut states,
-        );
+        start_all(&script, &mut room.below, &mut states);
         lay_fronts(machine.depth(), &states, &mut room.fronts);
-        let locked = is_locked(machine, script.faulty(), &states);
-        let locks = first_locks(alloc, &script, locked)?;
+        let locks = first_locks(alloc, machine, &script, &states)?;
         Ok(LayerRunner {
             machine,
             script,

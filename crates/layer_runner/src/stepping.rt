@@ -16,16 +16,16 @@ ghost use Rattle.layer_runner.specs.Rooms.{IsReady, IsLaid};
 
 use crate::fronts::{copy_front, lay_lies};
 use counter_core::{Heard, Overlay};
-use machine_runner::{Receiver, Round, RoundBuffers, lay};
+use machine_runner::{Receiver, Room, Round, lay};
 use machines::Machine;
 use state_codec::Packed;
 use sync_types::NodeState;
 
 /// What rounds need beside two configurations.
 #[derive(Drop)]
-pub struct LayerBuffers {
+pub struct LayerRoom {
     /// What rounds without a layer need.
-    pub below: RoundBuffers,
+    pub below: Room,
     /// The fronts of what a node hears, by place.
     pub fronts: Vec<NodeState>,
     /// The front of a node's new state.
@@ -34,7 +34,7 @@ pub struct LayerBuffers {
 
 /// A node that steps in a round, from a configuration of the script's nodes.
 #[derive(Clone, Copy, Drop)]
-pub struct NodeStep<'a> {
+pub struct Turn<'a> {
     /// The round.
     pub round: &'a Round<'a>,
     /// The configuration.
@@ -48,7 +48,7 @@ pub struct NodeStep<'a> {
 
 /// Lays what the node of a turn hears of the faulty nodes, and the fronts of that, into their
 /// places.
-fn hear<M: Machine>(turn: &NodeStep<'_>, machine: &M, room: &mut LayerBuffers)
+fn hear<M: Machine>(turn: &Turn<'_>, machine: &M, room: &mut LayerRoom)
     requires depth { (M.machine machine.now).depth ≤ turn.now.round.now.script.now.shape.depth }
     requires laid { IsLaid (M.machine machine.now) turn.now.round.now.script.now
         turn.now.round.now.t turn.now.states.now.current room.old }
@@ -75,7 +75,7 @@ fn hear<M: Machine>(turn: &NodeStep<'_>, machine: &M, room: &mut LayerBuffers)
 
 /// The machine's step of node `v`, from the fronts of what it hears: its new front is written into
 /// the room, and what it showed is returned.
-fn step_machine<M: Machine>(machine: &M, v: u32, room: &mut LayerBuffers) -> u64
+fn step_machine<M: Machine>(machine: &M, v: u32, room: &mut LayerRoom) -> u64
     requires node { v < (M.machine machine.now).nodes }
     requires fronts { IsConfiguration (M.machine machine.now) room.old.fronts.items }
     requires work { IsFor (M.machine machine.now).nodes room.old.below.work }
@@ -95,7 +95,7 @@ fn step_machine<M: Machine>(machine: &M, v: u32, room: &mut LayerBuffers) -> u64
 }
 
 /// The layer's step of node `v`, from what it showed and what it hears, behind its new front.
-fn step_layer<O: Overlay>(overlay: &mut O, v: u32, output: u64, room: &mut LayerBuffers)
+fn step_layer<O: Overlay>(overlay: &mut O, v: u32, output: u64, room: &mut LayerRoom)
     requires front { length room.old.front.registers ≤ length room.old.below.out.registers }
     requires step { 0 < (O.layer overlay.old).extra → CanStep (O.layer overlay.old) v output
         room.old.below.heard.items room.old.below.out }
@@ -124,12 +124,7 @@ fn step_layer<O: Overlay>(overlay: &mut O, v: u32, output: u64, room: &mut Layer
 
 /// The step of the node of a turn with its layer: its new state, or that into which it is put where
 /// an era begins, is written into the room.
-fn step<M: Machine, O: Overlay>(
-    turn: &NodeStep<'_>,
-    machine: &M,
-    overlay: &mut O,
-    room: &mut LayerBuffers,
-)
+fn step<M: Machine, O: Overlay>(turn: &Turn<'_>, machine: &M, overlay: &mut O, room: &mut LayerRoom)
     requires read { IsReadWithLayer (M.machine machine.now) (O.layer overlay.old)
         turn.now.round.now.script.now }
     requires laid { IsLaid (M.machine machine.now) turn.now.round.now.script.now
@@ -147,8 +142,8 @@ fn step<M: Machine, O: Overlay>(
     ensures laid { IsLaid (M.machine machine.now) turn.now.round.now.script.now
         turn.now.round.now.t turn.now.states.now.current room.new }
 {
-    machine.facts();
-    turn.states.facts();
+    machine.tell();
+    turn.states.tell();
     hear(turn, machine, room);
     let output = step_machine(machine, turn.v, room);
     step_layer(overlay, turn.v, output, room);
@@ -162,7 +157,7 @@ pub fn step_all<M: Machine, O: Overlay>(
     round: &Round<'_>,
     machine: &M,
     overlay: &mut O,
-    room: &mut LayerBuffers,
+    room: &mut LayerRoom,
     states: &mut Packed,
 )
     requires read { IsReadWithLayer (M.machine machine.now) (O.layer overlay.old)
@@ -182,10 +177,10 @@ pub fn step_all<M: Machine, O: Overlay>(
         (O.kept overlay.old)) (range_with_len 0 (length (O.kept overlay.old))) }
     ensures ready { IsReady (M.machine machine.now) round.now.script.now room.new }
 {
-    states.facts();
+    states.tell();
     lay(states, &mut room.below.heard);
     for v in 0..states.nodes() {
-        let turn = NodeStep {
+        let turn = Turn {
             round: &*round,
             states: &*states,
             v,

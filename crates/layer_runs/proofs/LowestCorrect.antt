@@ -1,5 +1,5 @@
 -- The lowest id of a correct node.
-use Rattle.std.proofs.Common.{◌≡◌, ℕ, ◌+◌, ◌*◌, ◌<◌, ◌≤◌, inl, inr, Bool, true, false, not, cond, List}
+use Rattle.std.proofs.Common.{◌≡◌, ℕ, ◌+◌, ◌<◌, ◌≤◌, inl, inr, Bool, true, false, not, cond, List}
 use Rattle.std.proofs.Common.{length, get_or, Option, Some, None, zero, suc, refl, sym, ap, ◌∙◌}
 use Rattle.std.proofs.Common.{subst, arith}
 use Rattle.std.specs.Prelude.{position, nat_lt, unwrap_or}
@@ -8,8 +8,6 @@ use Rattle.std.proofs.lemmas.Bool.{cases_lt, lt-ltb, le-ltb}
 use Rattle.std.proofs.lemmas.List.FromFn.{length-range_with_len, get_or-range_with_len}
 use Rattle.std.proofs.lemmas.List.Sums.{position_or_len_is}
 use Rattle.sync_types.specs.FaultSets.{is_in}
-use Rattle.counting.proofs.Places.{one_fails}
-use Rattle.counter_core.proofs.ListsAndPlaces.{places_of_ids}
 use Rattle.layer_runs.specs.Lowest.{lowest_correct}
 
 module _ (p : ℕ → Bool) (n : ℕ) where
@@ -24,8 +22,7 @@ module _ (p : ℕ → Bool) (n : ℕ) where
       let here : get_or numbers t 0 ≡ t = omega (arith, get_or-range_with_len 0 n t 0 lt) in
       ap p here
 
-  -- the first of them that passes
-  pub found : (v : ℕ) → v < n → ((u : ℕ) → u < v → p u ≡ false) → p v ≡ true
+  found : (v : ℕ) → v < n → ((u : ℕ) → u < v → p u ≡ false) → p v ≡ true
       → position p numbers ≡ Some v
   found v lt before is =
       let place : position_or_len p numbers
@@ -35,7 +32,7 @@ module _ (p : ℕ → Bool) (n : ℕ) where
       ∙ ap (λ (b : Bool). cond b (Some v) None)
       (lt-ltb v (length numbers) (omega (arith, lt, size)))
 
-  pub none_found : ((u : ℕ) → u < n → p u ≡ false) → position p numbers ≡ None
+  none_found : ((u : ℕ) → u < n → p u ≡ false) → position p numbers ≡ None
   none_found fails =
       let place : position_or_len p numbers
       ≡ length numbers = position_or_len_is p numbers (length numbers) 0 (omega arith)
@@ -96,11 +93,3 @@ unfolding IsLowest
 lowest_among n faulty w lt is =
     search_from n faulty w lt is w 0 (omega arith) (λ u ult. absurd (omega (arith, ult)))
     (is_in faulty 0) refl
-
--- and there is one, where few enough are faulty
-pub lowest_leads : (n faults : ℕ) (faulty : List ℕ) → 3 * faults < n → length faulty ≤ faults
-    → (lowest_correct n faulty < n) × (is_in faulty (lowest_correct n faulty) ≡ false)
-lowest_leads n faults faulty quorum few =
-    let some = one_fails (is_in faulty) n
-    (omega (arith, places_of_ids faulty n, few, quorum)) in
-    lowest_among n faulty some.0 some.1 some.2

@@ -1,30 +1,92 @@
 -- A play that begins goes on to be one of its script.
-use Rattle.std.proofs.Common.{◌≡◌, ℕ, suc, ◌+◌, List, map, Option, add-one, sym, ap, ap₂, ◌∙◌}
+use Rattle.std.proofs.Common.{◌≡◌, ℕ, zero, suc, ◌+◌, ◌<◌, inl, inr, List, length, get_or, set}
+use Rattle.std.proofs.Common.{Bool, true, false, ◌&&◌, eqb, Option, Some, None, add-one, refl, sym}
+use Rattle.std.proofs.Common.{ap, ap₂, ◌∙◌, subst, arith}
+use Rattle.std.proofs.lemmas.Bool.{cases_eq, eq-eqb, eqb-true}
+use Rattle.std.proofs.lemmas.List.{length-set, length-replicate, get_or-set_same, get_or-set_other}
+use Rattle.std.proofs.lemmas.List.{get_or-replicate}
+use Rattle.std.proofs.lemmas.List.FromFn.{fill_by_all, length-map-range_with_len}
+use Rattle.std.proofs.lemmas.List.FromFn.{get_or-map-range_with_len}
 use Rattle.sync_types.specs.States.{State}
 use Rattle.counter_core.specs.Meanings.{Meaning}
 use Rattle.counter_core.specs.Overlays.{Layer}
 use Rattle.adversary_script.specs.Scripts.{Script, IsScript}
-use Rattle.machine_runner.specs.FirstLocked.{LockTest, next_locks, known_locks}
-use Rattle.machine_runner.proofs.KnownLocks.{first_known, next_known}
+use Rattle.adversary_script.specs.Eras.{era_of, faulty_at}
+use Rattle.machine_runner.proofs.Firsts.{begun_era, era_within}
+use Rattle.run_texts.specs.FirstLocked.{LockTest, first_of, first_locked, era_locked}
 use Rattle.layer_laws.specs.Scenes.{Scene}
-use Rattle.layer_runs.specs.Scenes.{stepped_scene, next_scene, scene_at}
-use Rattle.layer_runs.specs.Positions.{Position, begun, advanced, configuration_in, played_to}
-use Rattle.layer_runs.specs.Positions.{IsBegun, IsPlayed}
+use Rattle.layer_runs.specs.Scenes.{next_scene, scene_at}
+use Rattle.layer_runs.specs.Positions.{Position, begun, begun_locks, advanced, next_locks}
+use Rattle.layer_runs.specs.Positions.{configuration_in, known_locks, played_to, IsBegun, IsPlayed}
 
--- the steps of a round that has begun are those of the round
-pub stepped_is : {Kept : Type 0} (m : Meaning) (script : Script) (layer begun : Layer Kept) (t : ℕ)
-    (states : List State) (kept kept_begun : List Kept) → begun ≡ layer
-    → kept_begun ≡ map (layer.begun t) kept
-    → stepped_scene m script begun t states kept_begun
-    ≡ next_scene m script layer t (record { states = states; kept = kept })
-stepped_is m script layer begun t states kept kept_begun same is =
-    ap₂ (λ (l : Layer _) (k : List _). stepped_scene m script l t states k) same is
+-- what is known stays known
+pub same_known : (known : Option ℕ) (now : ℕ) → first_of known false now ≡ known
+same_known (Some t) now = refl
+same_known None now = refl
 
--- a scene, part by part
-pub scene_is : {Kept : Type 0} {states : List State} {kept : List Kept} {scene : Scene Kept}
-    → states ≡ scene.states → kept ≡ scene.kept → record { states = states; kept = kept } ≡ scene
-scene_is {scene = scene} states kept = ap₂ (λ (s : List State) (k : List _). let both : Scene _ =
-    record { states = s; kept = k } in both) states kept
+pub begun_long : (locked : LockTest) (script : Script) (config : List State)
+    → length (begun_locks locked script config) ≡ length script.eras + 1
+begun_long locked script config =
+    let none : Option ℕ = None in
+    let long = length-replicate (length script.eras) none in
+    omega (arith, long)
+
+-- the first locked configurations of the eras
+module _ (locked : LockTest) (script : Script) (config_at : ℕ → List State) where
+  abbrev known : ℕ → ℕ → Option ℕ
+  known t j = first_locked (era_locked locked script config_at j) t
+
+  abbrev all_known : ℕ → List (Option ℕ)
+  all_known t = known_locks locked script config_at t
+
+  pub known_at : (t j : ℕ) → j < length script.eras + 1 → get_or (all_known t) j None ≡ known t j
+  known_at t j lt = get_or-map-range_with_len (known t) 0 (length script.eras + 1) j j None lt
+      (omega arith)
+
+  pub other_era : (t j : ℕ) (same : Bool) → eqb (era_of script t) j ≡ same
+      → (j ≡ era_of script t → ⊥)
+      → era_locked locked script config_at j t ≡ false
+  other_era t j true is other = absurd (other (sym (eqb-true _ _ is)))
+  other_era t j false is other = rw is refl
+
+  -- those of configuration 0
+  one_known : (j : ℕ) → j < length script.eras + 1 → era_of script 0 ≡ 0
+      → get_or (begun_locks locked script (config_at 0)) j None ≡ known 0 j
+  one_known zero lt here = rw here refl
+  one_known (suc j) lt here = get_or-replicate (length script.eras) j None None (omega arith)
+      ∙ sym (ap (λ b. first_of None b 0) (other_era 0 (suc j) (eqb (era_of script 0) (suc j)) refl
+      (λ same. absurd (omega (arith, same, here)))))
+
+  pub first_known : IsScript script → begun_locks locked script (config_at 0) ≡ all_known 0
+  first_known whole =
+      fill_by_all (known 0) (begun_locks locked script (config_at 0)) (length script.eras + 1) None
+      (begun_long locked script (config_at 0))
+      (λ j lt. one_known j lt (begun_era script whole.formed.rising 0 0 (omega arith) refl))
+
+  -- and those of the next one
+  pub next_known : (t : ℕ) → next_locks locked script (all_known t) (suc t) (config_at (suc t))
+      ≡ all_known (suc t)
+  next_known t =
+      let era : ℕ = era_of script (suc t) in
+      let here : era < length script.eras + 1 = let within = era_within script (suc t) in
+      omega (arith, within) in
+      let long : length (all_known t) ≡ length script.eras + 1 =
+      length-map-range_with_len (known t) 0 (length script.eras + 1) in
+      let now : Option ℕ = first_of (get_or (all_known t) era None)
+      (locked (faulty_at script (suc t)) (config_at (suc t))) (suc t) in
+      let own : now ≡ known (suc t) era =
+      ap₂ (λ (o : Option ℕ) (b : Bool). first_of o
+      (b && locked (faulty_at script (suc t)) (config_at (suc t))) (suc t))
+      (known_at t era here) (sym (eq-eqb era era refl)) in
+      fill_by_all (known (suc t)) (set (all_known t) era now) (length script.eras + 1) None
+      (length-set (all_known t) era now ∙ long) (λ j lt. elim (cases_eq j era) [
+        | inl same ↦ subst (λ i. get_or (set (all_known t) era now) i None ≡ known (suc t) i)
+            (sym same) (get_or-set_same (all_known t) era now None (omega (arith, here, long))
+            ∙ own)
+        | inr other ↦ get_or-set_other (all_known t) era j now None other ∙ known_at t j lt
+            ∙ sym (ap (λ b. first_of (known t j) b (suc t))
+            (other_era (suc t) j (eqb era j) refl other) ∙ same_known (known t j) (suc t))
+      ])
 
 -- a play begins with configuration 0
 pub begins : {Kept : Type 0} (counter : Meaning) (locked : LockTest) (script : Script)

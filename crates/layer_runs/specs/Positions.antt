@@ -1,11 +1,14 @@
 -- Where a script stands that is played round by round on a counter with a layer above.
-use Rattle.std.specs.Prelude.{◌≡◌, ℕ, ◌+◌, ◌*◌, ◌<◌, ◌≤◌, List, All, Option}
+use Rattle.std.specs.Prelude.{◌≡◌, ℕ, ◌+◌, ◌*◌, ◌<◌, ◌≤◌, List, ◌∷◌, length, map, All, replicate}
+use Rattle.std.specs.Prelude.{slice_set, slice_index_or, Option, None}
+use Rattle.std.specs.List.{range_with_len}
 use Rattle.sync_types.specs.States.{State}
 use Rattle.counter_core.specs.Meanings.{Meaning}
-use Rattle.counter_core.specs.Overlays.{Layer, LayerFits}
+use Rattle.counter_core.specs.Overlays.{Layer, StandsOver}
 use Rattle.adversary_script.specs.Scripts.{Script, IsScript, faulty_sets}
+use Rattle.adversary_script.specs.Eras.{era_of, faulty_at}
 use Rattle.adversary_script.specs.Rounds.{starts}
-use Rattle.machine_runner.specs.FirstLocked.{LockTest, begun_locks, next_locks, known_locks}
+use Rattle.run_texts.specs.FirstLocked.{LockTest, first_of, first_locked, era_locked}
 use Rattle.layer_laws.specs.Counters.{Bears}
 use Rattle.layer_laws.specs.Scenes.{Scene}
 use Rattle.layer_runs.specs.Scenes.{next_scene, scene_at}
@@ -21,6 +24,18 @@ pub record Position (Kept : Type 0) : Type 0 where
   pub at : ℕ
   pub scene : Scene Kept
   pub locks : List (Option ℕ)
+
+-- the first locked configuration of each era so far, where configuration 0 is this one
+abbrev pub begun_locks : LockTest → Script → List State → List (Option ℕ)
+begun_locks locked script config =
+    first_of None (locked script.faulty config) 0 ∷ replicate (length script.eras) None
+
+-- the same where the next configuration, of number `at`, is this one
+abbrev pub next_locks : LockTest → Script → List (Option ℕ) → (at : ℕ) → List State
+    → List (Option ℕ)
+next_locks locked script locks at config =
+    slice_set locks (era_of script at) (first_of (slice_index_or locks (era_of script at) None)
+    (locked (faulty_at script at) config) at)
 
 -- the play at configuration 0, where the nodes keep these things
 abbrev pub begun : {Kept : Type 0} → Meaning → LockTest → Script → Layer Kept → List Kept
@@ -54,6 +69,13 @@ abbrev pub configuration_in : {Kept : Type 0} → (began : List Kept) → Positi
     → List State
 configuration_in began p t = (scene_at p.counter p.script p.layer began t).states
 
+-- of each era the first locked configuration up to configuration t
+abbrev pub known_locks : LockTest → Script → (config_at : ℕ → List State) → (t : ℕ)
+    → List (Option ℕ)
+known_locks locked script config_at t =
+    map (λ j. first_locked (era_locked locked script config_at j) t)
+    (range_with_len 0 (length script.eras + 1))
+
 -- the same play at configuration t, where the nodes began with these things kept
 abbrev pub played_to : {Kept : Type 0} → (began : List Kept) → Position Kept → (t : ℕ)
     → Position Kept
@@ -77,5 +99,5 @@ pub record IsFitting {Kept : Type 0} (p : Position Kept) : Type 0 where
   pub nodes : p.script.nodes ≡ p.counter.nodes
   pub borne : All (Bears p.counter) (faulty_sets p.script)
   pub whole : IsScript p.script
-  pub over : LayerFits p.layer p.counter
+  pub over : StandsOver p.layer p.counter
   pub within : p.at ≤ p.script.rounds

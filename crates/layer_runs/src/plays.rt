@@ -13,7 +13,7 @@ pub trait Play<O: Overlay>: Drop {
 
     /// Tells a caller's proof that the script and the layer are for the counter. It does nothing
     /// when it runs.
-    fn facts(&self)
+    fn tell(&self)
         ensures { IsFitting (position self.now) };
 
     /// How many rounds were played.

@@ -1,10 +1,11 @@
 -- What is known of a runner whose correct nodes count.
-use Rattle.std.proofs.Common.{◌≡◌, ◌≢◌, ℕ, suc, ◌+◌, ◌-◌, ◌%◌, ◌<◌, ◌≤◌, inl, inr, Bool, true}
+use Rattle.std.proofs.Common.{◌≡◌, ◌≢◌, ℕ, zero, suc, ◌+◌, ◌-◌, ◌%◌, ◌<◌, ◌≤◌, inl, inr, Bool, true}
 use Rattle.std.proofs.Common.{false, ◌&&◌, cond, eqb, List, length, Option, Some, None, refl, sym}
 use Rattle.std.proofs.Common.{ap, ap₂, ◌∙◌, subst, arith}
 use Rattle.std.specs.Prelude.{is_some, codes}
+use Rattle.std.proofs.Math.Nat.{mod-add-mod}
 use Rattle.std.proofs.lemmas.Bool.{true≢false, and_parts, cases_eq, cases_lt, eqb-true}
-use Rattle.std.proofs.lemmas.Bool.{eq-eqb, ne_eqb}
+use Rattle.std.proofs.lemmas.Bool.{eq-eqb, ne_eqb, le-ltb}
 use Rattle.sync_types.specs.FaultSets.{is_in}
 use Rattle.construction.specs.Steps.{state_of}
 use Rattle.adversary_script.specs.Scripts.{Script, IsScript}
@@ -12,16 +13,47 @@ use Rattle.adversary_script.specs.Eras.{era_of, first_of_era, end_of_era, faulty
 use Rattle.machines.specs.Machines.{Machine, AllShow, IsLocked}
 use Rattle.machines.specs.Laws.{IsSound}
 use Rattle.machine_runner.specs.Laws.{IsReadFor, EraCountsFrom}
-use Rattle.machine_runner.specs.Locks.{is_locked, first_locked, era_locked, IsFirstLocked}
+use Rattle.machine_runner.specs.Locks.{is_locked, first_of, first_locked, era_locked, IsFirstLocked}
 use Rattle.machine_runner.specs.Played.{played_at}
 use Rattle.machine_runner.proofs.EraRuns.{eras_stay_locked}
 use Rattle.machine_runner.proofs.FirstLocked.{firsts_are_locked}
-use Rattle.machine_runner.proofs.Eras.{last_end, still_last, counts_on}
-use Rattle.machine_runner.proofs.FirstPassing.{still_known}
-use Rattle.machine_runner.proofs.Firsts.{in_era}
+use Rattle.machine_runner.proofs.Firsts.{in_era, era_from}
+use Rattle.machine_runner.proofs.KnownLocks.{same_known}
 use Rattle.machine_runner.specs.Runners.{Running, lock_of}
-use Rattle.machine_lines.specs.Counting.{is_counting, Knows, Shows}
-use Rattle.machine_lines.specs.RunTexts.{lock_played}
+use Rattle.run_texts.specs.RunTexts.{word_or_star, words_of}
+use Rattle.machine_lines.specs.Counting.{is_counting, Knows}
+use Rattle.machine_lines.specs.RunTexts.{word_at, lock_played}
+use Rattle.machine_lines.proofs.Numbers.{same_texts}
+
+-- ---- the first number that passes
+
+module _ (passes : ℕ → Bool) (t : ℕ) where
+  -- what is found is found from there on
+  found_stays : (w k : ℕ) → first_locked passes t ≡ Some w → first_locked passes (t + k) ≡ Some w
+  found_stays w zero is =
+      let same : t + 0 ≡ t = omega arith in ap (first_locked passes) same ∙ is
+  found_stays w (suc k) is =
+      let next : t + suc k ≡ suc (t + k) = omega arith in
+      ap (first_locked passes) next
+      ∙ ap (λ (known : Option ℕ). first_of known (passes (suc (t + k))) (suc (t + k)))
+      (found_stays w k is)
+
+  -- and where none passes from there on, none is found
+  none_more : (k : ℕ) → ((u : ℕ) → t < u → u ≤ t + k → passes u ≡ false)
+      → first_locked passes (t + k) ≡ first_locked passes t
+  none_more zero none = let same : t + 0 ≡ t = omega arith in ap (first_locked passes) same
+  none_more (suc k) none =
+      let next : t + suc k ≡ suc (t + k) = omega arith in
+      ap (first_locked passes) next
+      ∙ (ap (λ (b : Bool). first_of (first_locked passes (t + k)) b (suc (t + k)))
+      (none (suc (t + k)) (omega arith) (omega arith))
+      ∙ (same_known (first_locked passes (t + k)) (suc (t + k))
+      ∙ none_more k (λ u lo hi. none u lo (omega (arith, hi)))))
+
+  stays_some : (known : Option ℕ) (k : ℕ) → first_locked passes t ≡ known → is_some known ≡ true
+      → first_locked passes (t + k) ≡ known
+  stays_some None k is some = absurd (true≢false (sym some))
+  stays_some (Some w) k is some = found_stays w k is
 
 module _ {M : Type 0} (machine : M → Machine) (r : Running M) (whole : IsScript r.script)
     (within : r.at ≤ r.script.rounds) where
@@ -35,7 +67,8 @@ module _ {M : Type 0} (machine : M → Machine) (r : Running M) (whole : IsScrip
   last = length r.script.eras
 
   end_is : end_of_era s last ≡ s.rounds + 1
-  end_is = last_end s
+  end_is = ap (λ (b : Bool). cond b (first_of_era s (last + 1)) (s.rounds + 1))
+      (le-ltb last last (omega arith))
 
   module _ (counting : is_counting machine r ≡ true) where
     parts : (eqb (era_of s r.at) last ≡ true) × (is_some (lock_of machine r last) ≡ true)
@@ -44,9 +77,15 @@ module _ {M : Type 0} (machine : M → Machine) (r : Running M) (whole : IsScrip
     in_last : era_of s r.at ≡ last
     in_last = eqb-true (era_of s r.at) last parts.0
 
+    begun : first_of_era s last ≤ r.at
+    begun = subst (λ (j : ℕ). first_of_era s j ≤ r.at) in_last
+        (era_from s whole.formed.rising r.at)
+
     -- each configuration from there on is of the last era
     era_is : (t : ℕ) → r.at ≤ t → t ≤ s.rounds → era_of s t ≡ last
-    era_is = still_last s whole r.at in_last
+    era_is t from to =
+        in_era s whole.formed.rising last t (omega arith) (omega (arith, begun, from))
+        (omega (arith, end_is, to))
 
     same_faulty : (t : ℕ) → r.at ≤ t → t ≤ s.rounds → faulty_at s t ≡ faulty_at s r.at
     same_faulty t from to = ap (faulty_of_era s) (era_is t from to ∙ sym in_last)
@@ -63,14 +102,15 @@ module _ {M : Type 0} (machine : M → Machine) (r : Running M) (whole : IsScrip
     counting_known : (j : ℕ) → lock_of machine r j ≡ lock_played m s j
     counting_known j =
         let back : r.at + (s.rounds - r.at) ≡ s.rounds = omega (arith, within) in
-        let known : Option ℕ = first_locked (locked_in j) r.at in
-        sym (ap (first_locked (locked_in j)) (sym back)
-        ∙ still_known (locked_in j) r.at (s.rounds - r.at) known refl (λ u lo hi none.
         elim (cases_eq j last) [
-          | inl same ↦ absurd (true≢false (sym (subst (λ (i : ℕ).
-              is_some (lock_of machine r i) ≡ true) (sym same) parts.1) ∙ none))
-          | inr other ↦ not_of j u other (omega (arith, lo)) (omega (arith, hi, back))
-        ]))
+          | inl same ↦ sym (ap (first_locked (locked_in j)) (sym back)
+              ∙ stays_some (locked_in j) r.at (first_locked (locked_in j) r.at)
+              (s.rounds - r.at) refl
+              (subst (λ (i : ℕ). is_some (lock_of machine r i) ≡ true) (sym same) parts.1))
+          | inr other ↦ sym (ap (first_locked (locked_in j)) (sym back)
+              ∙ none_more (locked_in j) r.at (s.rounds - r.at)
+              (λ u lo hi. not_of j u other (omega (arith, lo)) (omega (arith, hi, back))))
+        ]
 
     -- ---- outputs
 
@@ -99,6 +139,20 @@ module _ {M : Type 0} (machine : M → Machine) (r : Running M) (whole : IsScrip
       counts = counts_by (lock_of machine r last) parts.1
           (firsts_are_locked m s (played_at m s) whole last r.at (omega arith) within)
 
+      -- what they show so many rounds later
+      counted : (k : ℕ) → r.at + (k + 1) ≤ s.rounds
+          → counts.output (r.at + (k + 1)) ≡ (counts.output r.at + (k + 1)) % m.modulus
+      counted zero le = counts.grows r.at (omega arith) (omega (arith, end_is, le))
+      counted (suc k) le =
+          let there : r.at + (suc k + 1) ≡ r.at + (k + 1) + 1 = omega arith in
+          let sum : counts.output r.at + (k + 1) + 1 ≡ counts.output r.at + (suc k + 1) =
+          omega arith in
+          ap counts.output there
+          ∙ (counts.grows (r.at + (k + 1)) (omega arith) (omega (arith, end_is, le))
+          ∙ (ap (λ (o : ℕ). (o + 1) % m.modulus) (counted k (omega (arith, le)))
+          ∙ (mod-add-mod (counts.output r.at + (k + 1)) m.modulus 1
+          ∙ ap (λ (o : ℕ). o % m.modulus) sum)))
+
       module _ (t lead : ℕ) (behind : r.at < t) (to : t ≤ s.rounds)
           (leads : (output v : ℕ) → AllShow m (faulty_at s r.at) (played_at m s r.at) output
           → v < m.nodes → is_in (faulty_at s r.at) v ≡ false → lead ≡ output) where
@@ -112,44 +166,57 @@ module _ {M : Type 0} (machine : M → Machine) (r : Running M) (whole : IsScrip
             subst (λ (faulty : List ℕ). is_in faulty v ≡ false)
             (same_faulty t (omega (arith, behind)) to) correct in
             let k : ℕ = t - r.at - 1 in
-            let there : t ≡ r.at + suc k = omega (arith, behind) in
-            let rounds : suc k ≡ t - r.at = omega (arith, behind) in
+            let there : t ≡ r.at + (k + 1) = omega (arith, behind) in
+            let rounds : k + 1 ≡ t - r.at = omega (arith, behind) in
             let at_first : lead ≡ counts.output r.at =
             leads (counts.output r.at) v
             (counts.shows r.at (omega arith) (omega (arith, end_is, within))) lt own in
             counts.shows t (omega (arith, behind)) (omega (arith, end_is, to)) v lt correct
             ∙ (ap counts.output there
-            ∙ (counts_on m.modulus counts.output r.at (end_of_era s last) counts.grows r.at k
-            (omega arith) (omega (arith, end_is, behind, to))
+            ∙ (counted k (omega (arith, behind, to))
             ∙ ap₂ (λ (o n : ℕ). (o + n) % m.modulus) (sym at_first) rounds))
+
+        -- so the words of the line hang on that output
+        module _ (front : List ℕ) (word : (output v : ℕ) → List ℕ) where
+          abbrev Same : Bool → (v : ℕ) → Type 0
+          Same b v = cond b (codes " *") (word output v)
+              ≡ cond b (codes " *") (word_at front word m s t v)
+
+          same_word : (v : ℕ) → v < m.nodes → (b : Bool) → is_in (faulty_at s t) v ≡ b → Same b v
+          same_word v lt true is = refl
+          same_word v lt false is =
+              ap (λ (o : ℕ). word o v) (sym (shows_counted v lt is))
+
+          pub words_are : words_of m.nodes (word output) (faulty_at s r.at)
+              ≡ words_of m.nodes (word_at front word m s t) (faulty_at s t)
+          words_are =
+              ap (words_of m.nodes (word output)) (sym (same_faulty t (omega (arith, behind)) to))
+              ∙ same_texts (word_or_star (word output) (faulty_at s t))
+              (word_or_star (word_at front word m s t) (faulty_at s t)) m.nodes 0
+              (λ v lo hi. same_word v (omega (arith, hi)) (is_in (faulty_at s t) v) refl)
 
   -- the first locked configurations are known, at the end or before
   pub known_at_end : Knows machine r s.rounds → (j : ℕ) → lock_of machine r j ≡ lock_played m s j
   known_at_end (inl end) j = ap (first_locked (era_locked m s (played_at m s) j)) end
   known_at_end (inr counting) j = counting_known counting j
 
--- what correct nodes show in a configuration, where it is known
-pub counted_shows : {M : Type 0} (machine : M → Machine) (r : Running M) (t : ℕ)
-    → Knows machine r t → IsSound (machine r.machine) → IsReadFor (machine r.machine) r.script
-    → r.at ≤ t → t ≤ r.script.rounds → (lead : ℕ)
+-- the words of a line that is counted
+pub counted_words : {M : Type 0} (machine : M → Machine) (r : Running M)
+    → is_counting machine r ≡ true → IsSound (machine r.machine)
+    → IsReadFor (machine r.machine) r.script → (t lead : ℕ) → r.at < t → t ≤ r.script.rounds
     → ((output v : ℕ)
     → AllShow (machine r.machine) (faulty_at r.script r.at)
     (played_at (machine r.machine) r.script r.at) output
     → v < (machine r.machine).nodes → is_in (faulty_at r.script r.at) v ≡ false → lead ≡ output)
-    → (output : ℕ) → output ≡ (lead + (t - r.at)) % (machine r.machine).modulus
-    → Shows machine r t output
-counted_shows machine r t (inl here) sound read from to lead leads output is = record {
-  same = ap (faulty_at r.script) (sym here);
-  shows = λ other v lt correct. absurd (other here);
-}
-counted_shows machine r t (inr counting) sound read from to lead leads output is =
-    let within : r.at ≤ r.script.rounds = omega (arith, from, to) in
-    record {
-      same = same_faulty machine r read.whole within counting t from to;
-      shows = λ other v lt correct. is
-          ∙ sym (shows_counted machine r read.whole within counting sound read t lead
-          (omega (arith, from, other)) to leads v lt correct);
-    }
+    → (front : List ℕ) (word : (output v : ℕ) → List ℕ) (output : ℕ)
+    → output ≡ (lead + (t - r.at)) % (machine r.machine).modulus
+    → words_of (machine r.machine).nodes (word output) (faulty_at r.script r.at)
+    ≡ words_of (machine r.machine).nodes
+    (word_at front word (machine r.machine) r.script t) (faulty_at r.script t)
+counted_words machine r counting sound read t lead behind to leads front word output is =
+    ap (λ (o : ℕ). words_of (machine r.machine).nodes (word o) (faulty_at r.script r.at)) is
+    ∙ words_are machine r read.whole (omega (arith, behind, to)) counting sound read t lead behind
+    to leads front word
 
 -- ---- the first correct node
 

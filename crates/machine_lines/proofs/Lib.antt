@@ -1,4 +1,5 @@
+pub mod Numbers
+pub mod PlayedOn
+pub mod LinesSoFar
 pub mod Counted
 pub mod HoldLaws
-pub mod LinesSoFar
-pub mod PlayedOn

@@ -1,11 +1,13 @@
 -- A runner that plays on.
-use Rattle.std.proofs.Common.{◌≡◌, ℕ, ◌<◌, ◌≤◌, sym, ap, ◌∙◌, subst, arith}
+use Rattle.std.proofs.Common.{◌≡◌, ◌≢◌, ℕ, ◌<◌, ◌≤◌, inl, inr, true, List, Result, sym, ap, ◌∙◌}
+use Rattle.std.proofs.Common.{subst, arith}
+use Rattle.texts.specs.Growth.{Told, Puts}
 use Rattle.adversary_script.specs.Scripts.{Script}
 use Rattle.machines.specs.Machines.{Machine}
-use Rattle.machine_runner.specs.RunTexts.{lock_lines}
 use Rattle.machine_runner.specs.Runners.{Running}
-use Rattle.machine_lines.specs.RunTexts.{lock_played}
-use Rattle.machine_lines.specs.Counting.{Knows}
+use Rattle.run_texts.specs.RunTexts.{lock_lines}
+use Rattle.machine_lines.specs.RunTexts.{shown_line, lock_played}
+use Rattle.machine_lines.specs.Counting.{is_counting, Knows}
 
 module _ {M : Type 0} (start : Running M) where
   -- the same runner at configuration t
@@ -37,13 +39,30 @@ module _ {M : Type 0} (start : Running M) where
         on ∙ ap (λ (r : Running M). let s : Running M = record r { at = n } in s) is
 
 module _ {M : Type 0} (machine : M → Machine) where
+  -- the line of the runner's configuration is that of its number
+  pub line_there : {T E : Type 0} (front : List ℕ) (word : (output v : ℕ) → List ℕ)
+      (r : Running M) (t : ℕ) (result : Result T E) (s u : Told) → r.at ≡ t
+      → Puts result (shown_line front word (machine r.machine) r.script r.at) s u
+      → Puts result (shown_line front word (machine r.machine) r.script t) s u
+  line_there front word r t result s u is puts =
+      subst (λ (t : ℕ). Puts result (shown_line front word (machine r.machine) r.script t) s u) is
+      puts
+
+  -- where it is not there, its correct nodes count
+  pub counts_there : (r : Running M) (t : ℕ) → Knows machine r t → (r.at ≢ t)
+      → is_counting machine r ≡ true
+  counts_there r t (inl there) other = absurd (other there)
+  counts_there r t (inr counting) other = counting
+
   -- what is known of one number is of another that is the same
   pub knows_there : (r : Running M) (t u : ℕ) → t ≡ u → Knows machine r t → Knows machine r u
   knows_there r t u same knows = subst (λ (t : ℕ). Knows machine r t) same knows
 
-  -- the lines after those of the configurations are of the same run
-  pub locks_after : (start r : Running M) (n : ℕ) → r ≡ record start { at = n }
-      → lock_lines r.script (lock_played (machine r.machine) r.script)
-      ≡ lock_lines start.script (lock_played (machine start.machine) start.script)
-  locks_after start r n is =
-      ap (λ (r : Running M). lock_lines r.script (lock_played (machine r.machine) r.script)) is
+  -- what is written behind the lines is of the same run
+  pub locks_after : {T E : Type 0} (result : Result T E) (start r : Running M) (n : ℕ) (s t : Told)
+      → r ≡ record start { at = n }
+      → Puts result (lock_lines r.script (lock_played (machine r.machine) r.script)) s t
+      → Puts result (lock_lines start.script (lock_played (machine start.machine) start.script)) s t
+  locks_after result start r n s t is puts =
+      subst (λ (r : Running M).
+      Puts result (lock_lines r.script (lock_played (machine r.machine) r.script)) s t) is puts

@@ -8,7 +8,7 @@ use Rattle.adversary_script.specs.Eras.{faulty_at}
 use Rattle.machines.specs.Machines.{Machine}
 use Rattle.machine_runner.specs.Locks.{first_locked, era_locked}
 use Rattle.machine_runner.specs.Played.{played_at}
-use Rattle.machine_runner.specs.RunTexts.{bound_line, number_word, words_of, lock_lines}
+use Rattle.run_texts.specs.RunTexts.{bound_line, number_word, words_of, lock_lines}
 
 -- the first locked configuration of era j of what is played
 abbrev pub lock_played : Machine → Script → (j : ℕ) → Option ℕ

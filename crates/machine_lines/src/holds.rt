@@ -1,5 +1,5 @@
 use crate::ShownLines;
-use edge_io::{Sink, Writer};
+use edge_io::{TextSink, WriteFault};
 use slot_table::SlotTable;
 
 /// The lines of a slot table: of each configuration that is shown, which nodes hold at the outputs
@@ -22,11 +22,11 @@ impl ShownLines for HoldLines {
         b"hold "
     }
 
-    fn put_word<K: Sink>(&self, writer: &mut Writer<'_, K>, output: u64, v: u32) {
+    fn put_word<K: TextSink>(&self, sink: &mut K, output: u64, v: u32) -> Result<(), WriteFault> {
         if self.table.holder(output) == Some(v) {
-            writer.text(b" 1");
+            sink.text(b" 1")
         } else {
-            writer.text(b" .");
+            sink.text(b" .")
         }
     }
 }

@@ -1,7 +1,7 @@
 ghost use Rattle.std.specs.Prelude.{◌≡◌, ℕ, List};
-ghost use Rattle.edge_io.specs.Writing.{Writes};
+ghost use Rattle.texts.specs.Growth.{Puts};
 
-use edge_io::{Sink, Writer};
+use edge_io::{TextSink, WriteFault};
 
 /// Lines of the configurations that are shown: each is a label, the number of the configuration,
 /// and a word of each node that is correct there, by what it shows.
@@ -17,6 +17,7 @@ pub trait ShownLines: Drop {
         ensures { result.now ≡ front self.now };
 
     /// Writes the word of node `v`, which shows this output.
-    fn put_word<K: Sink>(&self, writer: &mut Writer<'_, K>, output: u64, v: u32)
-        ensures { Writes K.told (word self.now output v) writer.old writer.new };
+    fn put_word<K: TextSink>(&self, sink: &mut K, output: u64, v: u32) -> Result<(), WriteFault>
+        ensures { Puts result (word self.now output v) (K.Sink.told sink.old)
+            (K.Sink.told sink.new) };
 }

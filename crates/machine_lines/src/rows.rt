@@ -1,5 +1,5 @@
 use crate::ShownLines;
-use edge_io::{Sink, Writer};
+use edge_io::{TextSink, WriteFault};
 
 /// The rows of the word `run`: of each configuration that is shown, what its nodes show.
 #[derive(Clone, Copy, Debug, Drop)]
@@ -7,7 +7,7 @@ pub struct Rows;
 
 impl ShownLines for Rows {
     ghost use Rattle.std.specs.Prelude.{codes};
-    ghost use Rattle.machine_runner.specs.RunTexts.{number_word};
+    ghost use Rattle.run_texts.specs.RunTexts.{number_word};
 
     ghost front = { λ _. codes "row " };
 
@@ -17,7 +17,7 @@ impl ShownLines for Rows {
         b"row "
     }
 
-    fn put_word<K: Sink>(&self, writer: &mut Writer<'_, K>, output: u64, _v: u32) {
-        writer.labelled(b" ", output);
+    fn put_word<K: TextSink>(&self, sink: &mut K, output: u64, _v: u32) -> Result<(), WriteFault> {
+        sink.labelled(b" ", output)
     }
 }

@@ -1,95 +1,154 @@
-ghost use Rattle.std.specs.Prelude.{◌≡◌, ◌<◌, ◌≤◌, false};
-ghost use Rattle.sync_types.specs.FaultSets.{is_in};
-ghost use Rattle.construction.specs.Steps.{state_of};
-ghost use Rattle.edge_io.specs.Writing.{Writes};
+ghost use Rattle.std.specs.Prelude.{◌≡◌, ◌<◌, ◌≤◌, true};
+ghost use Rattle.texts.specs.Growth.{Puts};
 ghost use Rattle.adversary_script.specs.Eras.{faulty_at};
-ghost use Rattle.machine_runner.specs.Played.{played_at};
-ghost use Rattle.machine_runner.specs.RunTexts.{word_or_star, words_of};
+ghost use Rattle.run_texts.specs.RunTexts.{word_or_star, words_of};
 ghost use Rattle.machine_lines.specs.RunTexts.{word_at, shown_line};
-ghost use Rattle.machine_lines.specs.Counting.{Knows, Shows};
+ghost use Rattle.machine_lines.specs.Counting.{is_counting, Knows};
 
-use crate::leading::counted_output;
+use crate::leading::lead_output;
 use crate::lines::ShownLines;
-use edge_io::{Sink, Writer};
+use edge_io::{TextSink, WriteFault};
 use machine_runner::Runner;
 use machines::Machine;
 
-/// What node `v` shows in configuration `t`, where it is correct: `counted` where the runner is not
-/// there.
-fn output_in<M: Machine>(runner: &Runner<'_, M>, t: u64, counted: u64, v: u32) -> u64
-    requires node { v < (M.machine runner.now.machine).nodes }
-    requires shows { Shows M.machine runner.now t counted }
-    requires correct { is_in (faulty_at runner.now.script t) v ≡ false }
-    ensures { result ≡ (M.machine runner.now.machine).shows v
-        (state_of (played_at (M.machine runner.now.machine) runner.now.script t) v) }
-{
-    if runner.at() == t {
-        runner.output(v)
-    } else {
-        counted
-    }
-}
-
-/// Writes a node's word in the line of configuration `t`, or a star where it is faulty. Where the
-/// runner is not there, correct nodes show `counted` there.
-fn put_word<K: Sink, M: Machine, L: ShownLines>(
-    writer: &mut Writer<'_, K>,
+/// Writes a node's word by what it shows in the runner's configuration, or a star where it is
+/// faulty.
+fn put_word<K: TextSink, M: Machine, L: ShownLines>(
+    sink: &mut K,
     runner: &Runner<'_, M>,
     lines: &L,
-    t: u64,
-    counted: u64,
     v: u32,
-)
-    requires node { v < (M.machine runner.now.machine).nodes }
-    requires shows { Shows M.machine runner.now t counted }
-    ensures { Writes K.told
+) -> Result<(), WriteFault>
+    requires { v < (M.machine runner.now.machine).nodes }
+    ensures { Puts result
         (word_or_star (word_at (L.front lines.now) (L.word lines.now)
-        (M.machine runner.now.machine) runner.now.script t) (faulty_at runner.now.script t) v)
-        writer.old writer.new }
+        (M.machine runner.now.machine) runner.now.script runner.now.at)
+        (faulty_at runner.now.script runner.now.at) v)
+        (K.Sink.told sink.old) (K.Sink.told sink.new) }
 {
     if runner.is_faulty(v) {
-        writer.text(b" *");
+        sink.text(b" *")
     } else {
-        lines.put_word(writer, output_in(runner, t, counted, v), v);
+        lines.put_word(sink, runner.output(v), v)
     }
 }
 
-/// Writes the words of all nodes in the line of configuration `t`.
-fn put_words<K: Sink, M: Machine, L: ShownLines>(
-    writer: &mut Writer<'_, K>,
+/// Writes the words of all nodes.
+fn put_words<K: TextSink, M: Machine, L: ShownLines>(
+    sink: &mut K,
     runner: &Runner<'_, M>,
     lines: &L,
-    t: u64,
-    counted: u64,
-)
-    requires { Shows M.machine runner.now t counted }
-    ensures { Writes K.told
+) -> Result<(), WriteFault>
+    ensures { Puts result
         (words_of (M.machine runner.now.machine).nodes
         (word_at (L.front lines.now) (L.word lines.now)
-        (M.machine runner.now.machine) runner.now.script t) (faulty_at runner.now.script t))
-        writer.old writer.new }
+        (M.machine runner.now.machine) runner.now.script runner.now.at)
+        (faulty_at runner.now.script runner.now.at))
+        (K.Sink.told sink.old) (K.Sink.told sink.new) }
 {
     for v in 0..runner.nodes() {
-        put_word(writer, runner, lines, t, counted, v);
+        match put_word(sink, runner, lines, v) {
+            Ok(()) => {}
+            Err(WriteFault) => return Err(WriteFault),
+        }
+    }
+    Ok(())
+}
+
+/// Writes the line of the runner's configuration.
+fn put_own_line<K: TextSink, M: Machine, L: ShownLines>(
+    sink: &mut K,
+    runner: &Runner<'_, M>,
+    lines: &L,
+) -> Result<(), WriteFault>
+    ensures { Puts result
+        (shown_line (L.front lines.now) (L.word lines.now) (M.machine runner.now.machine)
+        runner.now.script runner.now.at) (K.Sink.told sink.old) (K.Sink.told sink.new) }
+{
+    sink.labelled(lines.label(), runner.at())?;
+    put_words(sink, runner, lines)?;
+    sink.byte(b'\n')
+}
+
+/// Writes a node's word where it shows this output, or a star where it is faulty.
+fn put_word_of<K: TextSink, M: Machine, L: ShownLines>(
+    sink: &mut K,
+    runner: &Runner<'_, M>,
+    lines: &L,
+    output: u64,
+    v: u32,
+) -> Result<(), WriteFault>
+    ensures { Puts result
+        (word_or_star (L.word lines.now output) (faulty_at runner.now.script runner.now.at) v)
+        (K.Sink.told sink.old) (K.Sink.told sink.new) }
+{
+    if runner.is_faulty(v) {
+        sink.text(b" *")
+    } else {
+        lines.put_word(sink, output, v)
     }
 }
 
-/// Writes the line of configuration `t`, at or after the runner's.
-pub(crate) fn put_line<K: Sink, M: Machine, L: ShownLines>(
-    writer: &mut Writer<'_, K>,
+/// Writes the words of all nodes, where the correct ones show this output.
+fn put_words_of<K: TextSink, M: Machine, L: ShownLines>(
+    sink: &mut K,
+    runner: &Runner<'_, M>,
+    lines: &L,
+    output: u64,
+) -> Result<(), WriteFault>
+    ensures { Puts result
+        (words_of (M.machine runner.now.machine).nodes (L.word lines.now output)
+        (faulty_at runner.now.script runner.now.at))
+        (K.Sink.told sink.old) (K.Sink.told sink.new) }
+{
+    for v in 0..runner.nodes() {
+        match put_word_of(sink, runner, lines, output, v) {
+            Ok(()) => {}
+            Err(WriteFault) => return Err(WriteFault),
+        }
+    }
+    Ok(())
+}
+
+/// Writes the line of a configuration behind the runner's, from which on the correct nodes count.
+fn put_counted_line<K: TextSink, M: Machine, L: ShownLines>(
+    sink: &mut K,
     runner: &Runner<'_, M>,
     lines: &L,
     t: u64,
-)
+) -> Result<(), WriteFault>
+    requires counts { is_counting M.machine runner.now ≡ true }
+    requires behind { runner.now.at < t }
+    requires within { t ≤ runner.now.script.rounds }
+    ensures { Puts result
+        (shown_line (L.front lines.now) (L.word lines.now) (M.machine runner.now.machine)
+        runner.now.script t) (K.Sink.told sink.old) (K.Sink.told sink.new) }
+{
+    runner.tell();
+    let _rounds = runner.script().rounds();
+    let output = (lead_output(runner) + (t - runner.at())) % runner.machine().modulus();
+    sink.labelled(lines.label(), t)?;
+    put_words_of(sink, runner, lines, output)?;
+    sink.byte(b'\n')
+}
+
+/// Writes the line of configuration `t`, at or behind the runner's.
+pub(crate) fn put_line<K: TextSink, M: Machine, L: ShownLines>(
+    sink: &mut K,
+    runner: &Runner<'_, M>,
+    lines: &L,
+    t: u64,
+) -> Result<(), WriteFault>
     requires knows { Knows M.machine runner.now t }
     requires from { runner.now.at ≤ t }
     requires within { t ≤ runner.now.script.rounds }
-    ensures { Writes K.told
+    ensures { Puts result
         (shown_line (L.front lines.now) (L.word lines.now) (M.machine runner.now.machine)
-        runner.now.script t) writer.old writer.new }
+        runner.now.script t) (K.Sink.told sink.old) (K.Sink.told sink.new) }
 {
-    let counted = counted_output(runner, t);
-    writer.labelled(lines.label(), t);
-    put_words(writer, runner, lines, t, counted);
-    writer.byte(b'\n');
+    if runner.at() == t {
+        put_own_line(sink, runner, lines)
+    } else {
+        put_counted_line(sink, runner, lines, t)
+    }
 }

@@ -1,14 +1,16 @@
 -- What a script that was read for a machine says of the machine's nodes.
-use Rattle.std.proofs.Common.{ℕ, ◌<◌, ◌≤◌, All, length, refl, sym, ◌∙◌, subst, arith}
+use Rattle.std.proofs.Common.{ℕ, ◌<◌, ◌≤◌, [], All, length, refl, sym, ◌∙◌, subst}
+use Rattle.std.proofs.Common.{arith}
+use Rattle.std.proofs.lemmas.List.{length-map}
+use Rattle.std.proofs.lemmas.List.Elements.{All-get_or}
 use Rattle.sync_types.specs.States.{State}
 use Rattle.state_codec.specs.Shapes.{Fields, fields_at}
 use Rattle.state_codec.specs.Ranges.{InRange}
 use Rattle.machines.specs.Machines.{Machine, IsState, IsBorne}
-use Rattle.adversary_script.specs.Scripts.{Script, faulty_sets}
+use Rattle.adversary_script.specs.Scripts.{Era, Script, faulty_sets}
 use Rattle.adversary_script.specs.Eras.{faulty_of_era}
 use Rattle.adversary_script.specs.ScriptPart.{IsTolerated}
 use Rattle.machine_runner.specs.Laws.{IsShapeOf, IsReadFor, ReadersFit}
-use Rattle.machine_runner.proofs.Eras.{of_each_era}
 
 -- what the reader of scripts says of a script, for a machine
 pub readers_fit : ReadersFit
@@ -38,5 +40,7 @@ module _ (machine : Machine) (s : Script) (is : IsReadFor machine s) where
   -- the faulty nodes of each era are what the machine tolerates
   pub borne_in : (j : ℕ) → j ≤ length s.eras → IsBorne machine (faulty_of_era s j)
   borne_in j le =
-      let few = of_each_era (IsTolerated machine.nodes machine.faults) s j le is.right.borne in
+      let few : IsTolerated machine.nodes machine.faults (faulty_of_era s j) =
+      All-get_or (IsTolerated machine.nodes machine.faults) (faulty_sets s) j []
+      (omega (arith, le, length-map s.eras (λ (era : Era). era.faulty))) is.right.borne in
       record { rising = few.rising; ids = few.ids; few = few.few }

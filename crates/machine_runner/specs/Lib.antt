@@ -1,12 +1,9 @@
-pub mod Beginnings
-pub mod Eras
-pub mod FirstLocked
 pub mod Hearing
 pub mod Kept
+pub mod Rooms
+pub mod Runners
+pub mod Beginnings
 pub mod Laws
 pub mod Locks
 pub mod Played
 pub mod Plays
-pub mod Rooms
-pub mod RunTexts
-pub mod Runners

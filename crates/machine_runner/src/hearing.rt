@@ -14,7 +14,7 @@ pub fn lay(states: &Packed, heard: &mut [NodeState])
     requires deep { All (λ s. length s.registers ≡ states.now.shape.depth) heard.old }
     ensures { heard.new ≡ states.now.current }
 {
-    states.facts();
+    states.tell();
     for v in 0..states.nodes() {
         states.old(v, &mut heard[v as usize]);
     }
@@ -56,8 +56,8 @@ impl Receiver<'_> {
             heard.new }
         ensures noise { noise.new ≡ noise.old }
     {
-        self.states.facts();
-        self.faulty.facts();
+        self.states.tell();
+        self.faulty.tell();
         for i in 0..self.faulty.len() {
             let u = self.faulty.at(i);
             let out = &mut heard[u as usize];

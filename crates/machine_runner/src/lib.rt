@@ -5,25 +5,18 @@
 //! has what holds of the configurations that are played, and when they are locked: each era is a
 //! run of the machine, so what holds of a sound machine holds of each.
 //!
-//! What a run and a round are made of serves other runners too: [`start_all`] and [`first_locks`],
-//! [`Receiver::hear`], [`put_hit`] and [`note_lock`].
-//!
-//! Lines that are written of each run, of any counter: its bound, words of nodes, and which
-//! configuration of each era is the first locked one.
+//! What a round is made of serves other runners too: [`start_all`], [`Receiver::hear`] and
+//! [`Round::put_at`].
 #![tactic(auto)]
 
-mod era_locks;
 mod hearing;
 pub mod laws;
 mod locks;
-mod putting;
 mod restarting;
 mod runners;
 mod stepping;
 
-pub use era_locks::{begin_locks, first_locks, note_lock};
 pub use hearing::{Receiver, lay};
-pub use locks::{is_locked, is_locked_by};
-pub use putting::{put_bound, put_era, put_locked};
-pub use runners::{Runner, room_for};
-pub use stepping::{Round, RoundBuffers, beginning_in, put_hit, start_all};
+pub use locks::{is_locked, locked_so_far};
+pub use runners::{Runner, first_locks, room_for};
+pub use stepping::{Room, Round, beginning_in, start_all};

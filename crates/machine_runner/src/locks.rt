@@ -1,9 +1,9 @@
-ghost use Rattle.std.specs.Prelude.{◌≡◌, ◌<◌, length};
+ghost use Rattle.std.specs.Prelude.{◌≡◌, ◌<◌, None, length};
 ghost use Rattle.std.specs.List.{list_all};
 ghost use Rattle.sync_types.specs.States.{register_at};
 ghost use Rattle.construction.specs.Steps.{state_of};
-ghost use Rattle.machine_runner.specs.Locks.{are_locked, correct_registers, first_value};
-ghost use Rattle.machine_runner.specs.Locks.{is_locked, is_locked_at, is_locked_by};
+ghost use Rattle.machine_runner.specs.Locks.{are_locked, correct_registers, first_value, first_of};
+ghost use Rattle.machine_runner.specs.Locks.{is_locked, is_locked_at};
 
 use machines::Machine;
 use state_codec::Packed;
@@ -88,13 +88,15 @@ impl Registers<'_> {
     }
 }
 
-/// Whether a configuration is locked by a register: that register is the same, finite and marked in
-/// all correct nodes. Without a register each one is.
-pub fn is_locked_by(lock: Option<usize>, faulty: &FaultSet, config: &Packed) -> bool
-    requires { length config.now.current ≡ faulty.now.nodes }
-    ensures { result ≡ is_locked_by lock faulty.now.nodes faulty.now.ids config.now.current }
+/// Whether a configuration of a machine's nodes is locked: the register that tells it is the same,
+/// finite and marked in all correct nodes. Where there is no such register each one is.
+pub fn is_locked<M: Machine>(machine: &M, faulty: &FaultSet, config: &Packed) -> bool
+    requires nodes { faulty.now.nodes ≡ (M.machine machine.now).nodes }
+    requires size { length config.now.current ≡ faulty.now.nodes }
+    ensures { result
+        ≡ is_locked (M.machine machine.now) faulty.now.ids config.now.current }
 {
-    match lock {
+    match machine.lock() {
         None => true,
         Some(register) => Registers {
             register,
@@ -105,12 +107,13 @@ pub fn is_locked_by(lock: Option<usize>, faulty: &FaultSet, config: &Packed) -> 
     }
 }
 
-/// Whether a configuration of a machine's nodes is locked: by the register that tells it.
-pub fn is_locked<M: Machine>(machine: &M, faulty: &FaultSet, config: &Packed) -> bool
-    requires nodes { faulty.now.nodes ≡ (M.machine machine.now).nodes }
-    requires size { length config.now.current ≡ faulty.now.nodes }
-    ensures { result
-        ≡ is_locked (M.machine machine.now) faulty.now.ids config.now.current }
+/// The first locked configuration so far: that which was known before, or else this one, of that
+/// number, if it is locked.
+pub fn locked_so_far(known: Option<u64>, locked: bool, at: u64) -> Option<u64>
+    ensures { result ≡ first_of known locked at }
 {
-    is_locked_by(machine.lock(), faulty, config)
+    match known {
+        Some(_) => known,
+        None => { if locked { Some(at) } else { None } }
+    }
 }

@@ -18,7 +18,7 @@ use sync_types::{FaultSet, NodeState};
 
 /// What rounds need beside two configurations.
 #[derive(Drop)]
-pub struct RoundBuffers {
+pub struct Room {
     /// The noise of the script.
     pub noise: Noise,
     /// What a node hears, by place.
@@ -38,7 +38,7 @@ pub struct Round<'a> {
     pub faulty: &'a FaultSet,
     /// Its number.
     pub t: u64,
-    /// The further era that begins after it, where one does.
+    /// The further era that begins behind it, where one does.
     pub begins: Option<usize>,
     ghost liars: { faulty.now
         ≡ record { nodes = script.now.nodes; ids = faulty_at script.now t } },
@@ -59,42 +59,28 @@ pub fn beginning_in(script: &Script, era: usize, t: u64) -> Option<usize>
     }
 }
 
-/// Puts every node into the state in which it starts. `out` has room for a state.
-pub fn start_all(script: &Script, noise: &mut Noise, out: &mut NodeState, states: &mut Packed)
+/// Puts every node into the state in which it starts.
+pub fn start_all(script: &Script, room: &mut Room, states: &mut Packed)
     requires config { IsConfiguration script.now states.old }
-    requires noise { noise.old ≡ script.now.key }
-    requires out { length out.old.registers ≡ script.now.shape.depth }
+    requires noise { room.old.noise ≡ script.now.key }
+    requires out { length room.old.out.registers ≡ script.now.shape.depth }
     ensures shape { states.new.shape ≡ states.old.shape }
     ensures states { states.new.current ≡ starts script.now }
     ensures size { length states.new.current ≡ script.now.nodes }
-    ensures noise { noise.new ≡ script.now.key }
-    ensures out { length out.new.registers ≡ script.now.shape.depth }
+    ensures noise { room.new.noise ≡ script.now.key }
+    ensures out { length room.new.out.registers ≡ script.now.shape.depth }
+    ensures same { room.new ≡ record room.old { noise = room.new.noise; out = room.new.out } }
 {
-    states.facts();
+    states.tell();
     for v in 0..script.faulty().nodes() {
-        script.start_into(noise, v, out);
-        states.put(v, out);
+        script.start_into(&mut room.noise, v, &mut room.out);
+        states.put(v, &room.out);
     }
     states.flip();
 }
 
-/// Puts node `v` into the state that it is put into at configuration `t`, with which that further
-/// era begins, where one does. `out` has its state, and room for another one.
-pub fn put_hit(script: &Script, t: u64, begins: Option<usize>, v: u32, out: &mut NodeState)
-    requires begins { BeginsAt script.now t begins }
-    requires depth { length out.old.registers ≡ script.now.shape.depth }
-    ensures state { out.new ≡ unwrap_or (hit_at script.now t v) out.old }
-    ensures range { InRange (fields_at script.now.shape v) out.old
-        → InRange (fields_at script.now.shape v) out.new }
-{
-    let _rounds = script.rounds();
-    if let Some(era) = begins {
-        script.hit_into(era, v, out);
-    }
-}
-
 impl Round<'_> {
-    /// Puts node `v` into the state that it is put into where an era begins after the round.
+    /// Puts node `v` into the state that it is put into where an era begins behind the round.
     pub fn put_at(&self, v: u32, out: &mut NodeState)
         requires { length out.old.registers ≡ self.now.script.now.shape.depth }
         ensures state { out.new
@@ -103,11 +89,13 @@ impl Round<'_> {
             → InRange (fields_at self.now.script.now.shape v) out.new }
     {
         let _rounds = self.script.rounds();
-        put_hit(self.script, self.t + 1, self.begins, v, out);
+        if let Some(era) = self.begins {
+            self.script.hit_into(era, v, out);
+        }
     }
 
     /// The step of node `v`: its new state is written into the room.
-    fn step<M: Machine>(&self, machine: &M, v: u32, room: &mut RoundBuffers, states: &Packed)
+    fn step<M: Machine>(&self, machine: &M, v: u32, room: &mut Room, states: &Packed)
         requires read { IsReadFor (M.machine machine.now) self.now.script.now }
         requires node { v < self.now.script.now.nodes }
         requires config { IsConfiguration self.now.script.now states.now }
@@ -121,8 +109,8 @@ impl Round<'_> {
         ensures honest { AreHonest self.now.script.now self.now.t states.now.current
             room.new.heard.items }
     {
-        machine.facts();
-        states.facts();
+        machine.tell();
+        states.tell();
         let receiver = Receiver {
             script: self.script,
             faulty: self.faulty,
@@ -136,9 +124,9 @@ impl Round<'_> {
         self.put_at(v, &mut room.out);
     }
 
-    /// The steps of all nodes, from the current states to the next ones. Where an era begins after
+    /// The steps of all nodes, from the current states to the next ones. Where an era begins behind
     /// the round, nodes are put into the states that it gives them.
-    pub fn step_all<M: Machine>(&self, machine: &M, room: &mut RoundBuffers, states: &mut Packed)
+    pub fn step_all<M: Machine>(&self, machine: &M, room: &mut Room, states: &mut Packed)
         requires read { IsReadFor (M.machine machine.now) self.now.script.now }
         requires config { IsConfiguration self.now.script.now states.old }
         requires room { IsReady self.now.script.now room.old }
@@ -148,7 +136,7 @@ impl Round<'_> {
         } }
         ensures room { IsReady self.now.script.now room.new }
     {
-        states.facts();
+        states.tell();
         lay(states, &mut room.heard);
         for v in 0..states.nodes() {
             self.step(machine, v, room, &*states);

@@ -41,7 +41,7 @@ pub trait Machine: Drop {
         ensures { result ≡ (machine self.now).lock };
 
     /// Tells a caller's proof that the machine is sound. It does nothing when it runs.
-    fn facts(&self)
+    fn tell(&self)
         ensures { IsSound (machine self.now) };
 
     /// How many bytes a state of node `v` has, at most 128.

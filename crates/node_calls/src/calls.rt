@@ -10,7 +10,7 @@ use machines::Machine;
 use plan_machine::PlanMachine;
 use plan_numbers::Plan;
 use plan_reader::{first_unskipped, read_whole_plan};
-use pulse_plan::PulseMachine;
+use pulse_machine::PulseMachine;
 use pulse_texts::{PulsesError, read_whole_pulses};
 use std::alloc::Global;
 use sync_types::{NoMemory, NodeState};
@@ -96,7 +96,7 @@ fn shown_by<M: Machine>(alloc: Global, machine: &M, id: u32, state: &[u8]) -> Re
     ensures { IfOk result (λ output. output
         ≡ (M.machine machine.now).shows id (read ((M.machine machine.now).fields id) state.now)) }
 {
-    machine.facts();
+    machine.tell();
     let mut own = NodeState::zero(alloc, machine.depth())?;
     machine.read_state(id, state, &mut own);
     Ok(machine.output(id, &own))

@@ -21,7 +21,7 @@ pub(crate) fn node_of<M: Machine>(
     ensures { IfOk result (λ e. e
         ≡ begun M.machine machine id (read ((M.machine machine).fields id) state.now)) }
 {
-    machine.facts();
+    machine.tell();
     let mut own = NodeState::zero(alloc, machine.depth())?;
     machine.read_state(id, state, &mut own);
     NodeEngine::new(alloc, machine, id, own)

@@ -5,7 +5,7 @@ use Rattle.std.proofs.Common.{arith}
 use Rattle.std.specs.Io.KnownBytes.{Consumes, Keeps, IsAtEnd}
 use Rattle.std.proofs.KnownBytes.{Consumes-nil, Consumes-trans, Consumes-kept}
 use Rattle.std.specs.List.{flat_map}
-use Rattle.texts.specs.Growth.{SinkState, Wrote, Cut}
+use Rattle.texts.specs.Growth.{Told, Wrote, Cut}
 use Rattle.texts.proofs.Growth.{wrote_then, cut_then, cut_more}
 use Rattle.sync_types.specs.States.{State}
 use Rattle.machines.specs.Machines.{Machine}
@@ -40,7 +40,7 @@ module _ {M : Type 0} (machine : M → Machine) where
     abbrev cell : State → List ℕ
     cell s = state_cell (machine before.counter) before.id s
 
-    pub record ServedSoFar (now : Standing M) (s t : Option (List ℕ)) (w x : SinkState)
+    pub record ServedSoFar (now : Standing M) (s t : Option (List ℕ)) (w x : Told)
         (count : ℕ) : Type 0 where
       pub bytes : List ℕ
       pub packets : List (List (List ℕ))
@@ -61,7 +61,7 @@ module _ {M : Type 0} (machine : M → Machine) where
         ∙ ap (λ i. state_cell (machine before.counter) i (behind packets)) stands.id
 
     -- the first cell is cut, whatever follows
-    pub first_cut : (now : Standing M) (s : Option (List ℕ)) (w x : SinkState)
+    pub first_cut : (now : Standing M) (s : Option (List ℕ)) (w x : Told)
         → StandsBehind machine before now []
         → Cut (state_cell (machine now.counter) now.id (own now)) w x
         → ServedCut machine before now s s w x
@@ -80,7 +80,7 @@ module _ {M : Type 0} (machine : M → Machine) where
       stands = stands;
     }
 
-    pub served_none : (now : Standing M) (s : Option (List ℕ)) (w x : SinkState)
+    pub served_none : (now : Standing M) (s : Option (List ℕ)) (w x : Told)
         → StandsBehind machine before now []
         → Wrote (state_cell (machine now.counter) now.id (own now)) w x → ServedSoFar now s s w x 0
     served_none now s w x stands wrote = record {
@@ -96,7 +96,7 @@ module _ {M : Type 0} (machine : M → Machine) where
       ) wrote;
     }
 
-    module _ (now : Standing M) (s t u : Option (List ℕ)) (w x : SinkState) (count : ℕ)
+    module _ (now : Standing M) (s t u : Option (List ℕ)) (w x : Told) (count : ℕ)
         (h : ServedSoFar now s t w x count) where
       all_of : (rest : List ℕ) (ending : Ending)
           → packets_of size (1000000 - count) count rest ≡ record { cells = []; ending = ending }
@@ -220,8 +220,7 @@ module _ {M : Type 0} (machine : M → Machine) where
             ∙ ap cell (state_push (machine before.counter) before.id (own before) h.packets
             fed.packet)
 
-        pub served_more : (y : SinkState) → Wrote (state_cell (machine new.counter) new.id
-            (own new)) x y
+        pub served_more : (y : Told) → Wrote (state_cell (machine new.counter) new.id (own new)) x y
             → ServedSoFar new s u w y (count + 1)
         served_more y wrote = record {
           bytes = h.bytes ++ fed.bytes;
@@ -247,8 +246,7 @@ module _ {M : Type 0} (machine : M → Machine) where
             record { cells = l; ending = whole (count + 1) } in p)
             (append-nil (h.packets ++ fed.packet ∷ []))
 
-        pub served_cut : (y : SinkState) → Cut (state_cell (machine new.counter) new.id (own new)) x
-            y
+        pub served_cut : (y : Told) → Cut (state_cell (machine new.counter) new.id (own new)) x y
             → ServedCut machine before new s u w y
         served_cut y is = record {
           bytes = h.bytes ++ fed.bytes;

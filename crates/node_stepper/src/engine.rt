@@ -53,7 +53,7 @@ impl<M: Machine> NodeEngine<M> {
         requires state { IsState (M.machine machine) id state }
         ensures { IfOk result (λ e. e ≡ begun M.machine machine id state) }
     {
-        machine.facts();
+        machine.tell();
         let nodes = machine.nodes();
         let depth = machine.depth();
         let mut states = NodeState::zeros(alloc, nodes, depth)?;
@@ -128,7 +128,7 @@ impl<M: Machine> NodeEngine<M> {
         requires { AllHeard M.machine self.old }
         ensures { self.new ≡ stepped M.machine self.old }
     {
-        self.machine.facts();
+        self.machine.tell();
         let heard = Heard::of(&self.states);
         self.machine
             .advance(self.id, &heard, &mut self.work, &mut self.next);

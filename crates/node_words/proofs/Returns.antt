@@ -4,7 +4,7 @@ use Rattle.std.proofs.Common.{length, take, drop, Option, Some, None, Result, re
 use Rattle.std.proofs.Common.{subst, append_assoc, append-nil, length-append, arith}
 use Rattle.std.specs.Io.KnownBytes.{prepend_known, Consumes, Keeps, IsAtEnd}
 use Rattle.std.proofs.lemmas.Bool.{le-ltb}
-use Rattle.texts.specs.Growth.{SinkState}
+use Rattle.texts.specs.Growth.{Told}
 use Rattle.edge_io.specs.FedParts.{MayFollow}
 use Rattle.node_words.specs.declared.errors.NodeError.{NodeError}
 use Rattle.node_words.specs.Constructions.{Words}
@@ -109,7 +109,7 @@ dry_held at end buffer Met dry = none_held at end buffer (dry.0)
 -- the source that was lent ends as what stands under its name
 pub does_end : {Reader Plan Premise X : Type 0} (words : Words Reader Plan Premise)
     (left : X → Option (List ℕ)) (faults : X → ℕ) (r : Result ℕ (NodeError Premise))
-    (start final now : X) (lent other : ℕ) (t u : SinkState)
+    (start final now : X) (lent other : ℕ) (t u : Told)
     → (lent ≡ other → final ≡ now) → lent ≡ other
     → NodeDoes words r (left start) (left now) (faults start) (faults now) t u
     → NodeDoes words r (left start) (left final) (faults start) (faults final) t u

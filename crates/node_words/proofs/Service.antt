@@ -8,7 +8,7 @@ use Rattle.std.proofs.lemmas.Bool.{le-ltb}
 use Rattle.texts.specs.Causes.{Counted}
 use Rattle.texts.proofs.Causes.{never_counted}
 use Rattle.texts.specs.Limits.{behind_lines}
-use Rattle.texts.specs.Growth.{SinkState, Wrote, Cut}
+use Rattle.texts.specs.Growth.{Told, Wrote, Cut}
 use Rattle.edge_io.specs.FedParts.{MayFollow}
 use Rattle.machines.specs.Machines.{Machine}
 use Rattle.node_words.specs.declared.headers.HeaderRead.{HeaderRead}
@@ -30,7 +30,7 @@ use Rattle.node_words.proofs.Engines.{IsNodeOf}
 
 module _ {Reader Plan Premise M : Type 0} (words : Words Reader Plan Premise)
     (machine : M → Machine) (s f m l : Option (List ℕ)) (held : List ℕ) (before now : ℕ)
-    (keeps : Keeps s f) (t u : SinkState) (x : HeaderRead Plan) (w : HeaderWhole words.part f m x)
+    (keeps : Keeps s f) (t u : Told) (x : HeaderRead Plan) (w : HeaderWhole words.part f m x)
     (e after : Standing M) (node : IsNodeOf words machine w.header e)
     (goes_on : x.ended ≡ false) where
   open_end : w.decided.ended ≡ false
@@ -161,7 +161,7 @@ no_bytes (Some ys) (Some zs) bytes keeps read = (nothing_left bytes zs (sym read
 
 module _ {Reader Plan Premise M : Type 0} (words : Words Reader Plan Premise)
     (machine : M → Machine) (s f l : Option (List ℕ)) (held : List ℕ) (before now : ℕ)
-    (keeps : Keeps s f) (t u : SinkState) (x : HeaderRead Plan)
+    (keeps : Keeps s f) (t u : Told) (x : HeaderRead Plan)
     (w : HeaderWhole words.part f (prepend_known held l) x) (e after : Standing M)
     (node : IsNodeOf words machine w.header e) (over : x.ended ≡ true) (still : now ≡ before)
   where

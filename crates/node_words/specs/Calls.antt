@@ -2,7 +2,7 @@
 use Rattle.std.specs.Prelude.{◌≡◌, ⊤, ℕ, ◌^◌, List, [], slice_index_or, Option, None, Result}
 use Rattle.std.specs.Prelude.{Ok, Err}
 use Rattle.std.specs.Io.KnownBytes.{Consumes}
-use Rattle.texts.specs.Growth.{SinkState, Wrote}
+use Rattle.texts.specs.Growth.{Told, Wrote}
 use Rattle.texts.specs.Lines.{lines_of, whole_lines}
 use Rattle.texts.specs.Limits.{room_in, behind_lines}
 use Rattle.machines.specs.Machines.{Machine}
@@ -74,7 +74,7 @@ HasRead ended left left' (failed seen) =
 module _ {Reader Plan Premise : Type 0} (words : Words Reader Plan Premise) where
   -- one of these calls was made, and its text was written
   pub record IsCall (ended : Result ℕ (NodeError Premise)) (left left' : Option (List ℕ))
-      (old new : SinkState) : Type 0 where
+      (old new : Told) : Type 0 where
     pub call : Call
     pub read : HasRead ended left left' call
     pub wrote : Wrote (text_of words call) old new
@@ -82,5 +82,5 @@ module _ {Reader Plan Premise : Type 0} (words : Words Reader Plan Premise) wher
   -- what a node does that ends so is such a call
   abbrev pub CallsWriteTexts : Type 0
   CallsWriteTexts = (ended : Result ℕ (NodeError Premise)) → HasWrittenAll ended
-      → (left left' : Option (List ℕ)) (before now : ℕ) (old new : SinkState)
+      → (left left' : Option (List ℕ)) (before now : ℕ) (old new : Told)
       → NodeDoes words ended left left' before now old new → IsCall ended left left' old new

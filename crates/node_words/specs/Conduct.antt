@@ -3,7 +3,7 @@ use Rattle.std.specs.Prelude.{◌≡◌, ℕ, List, ◌++◌, Option, Some, None
 use Rattle.std.specs.Prelude.{Err}
 use Rattle.std.specs.Io.KnownBytes.{Consumes, IsAtEnd}
 use Rattle.texts.specs.Causes.{Counted}
-use Rattle.texts.specs.Growth.{SinkState, Wrote, Cut}
+use Rattle.texts.specs.Growth.{Told, Wrote, Cut}
 use Rattle.node_words.specs.declared.errors.NodeError.{NodeError}
 use Rattle.node_words.specs.declared.errors.NodeError.TheVariants as error
 use Rattle.node_words.specs.Constructions.{Words}
@@ -43,14 +43,14 @@ comes_to_end (Err other) = false
 -- ---- what was done
 
 -- memory was refused, and nothing was written
-pub record OutOfMemory (before now : ℕ) (old new : SinkState) : Type 0 where
+pub record OutOfMemory (before now : ℕ) (old new : Told) : Type 0 where
   pub still : now ≡ before
   pub none : new ≡ old
 
 module _ {Reader Plan Premise : Type 0} (words : Words Reader Plan Premise) where
   -- it ended as is defined for the input, whose text was written
   pub record Answered (ended : Result ℕ (NodeError Premise)) (left left' : Option (List ℕ))
-      (before now : ℕ) (old new : SinkState) : Type 0 where
+      (before now : ℕ) (old new : Told) : Type 0 where
     pub input : List ℕ
     pub read : ReadsPart (comes_to_end ended) left left' input
     pub still : now ≡ before
@@ -58,8 +58,7 @@ module _ {Reader Plan Premise : Type 0} (words : Words Reader Plan Premise) wher
     pub wrote : Wrote (node_outcome words input).text old new
 
   -- a write failed, and a front of the input's text was taken
-  pub record AnswerCut (left left' : Option (List ℕ)) (before now : ℕ)
-      (old new : SinkState) : Type 0
+  pub record AnswerCut (left left' : Option (List ℕ)) (before now : ℕ) (old new : Told) : Type 0
     where
       pub input : List ℕ
       pub read : ReadsFront left left' input
@@ -68,8 +67,7 @@ module _ {Reader Plan Premise : Type 0} (words : Words Reader Plan Premise) wher
 
   -- One read failed, behind bytes that do not show what decides, and the cells of the whole packets
   -- among them were written.
-  pub record ReadFailed (left left' : Option (List ℕ)) (before now : ℕ)
-      (old new : SinkState) : Type 0
+  pub record ReadFailed (left left' : Option (List ℕ)) (before now : ℕ) (old new : Told) : Type 0
     where
       pub seen : List ℕ
       pub read : Consumes left left' seen
@@ -80,7 +78,7 @@ module _ {Reader Plan Premise : Type 0} (words : Words Reader Plan Premise) wher
   -- what a call did that ended so: the bytes that its source has left, the source's count of
   -- faults, and what its sink tells, each before and after
   abbrev pub NodeDoes : Result ℕ (NodeError Premise) → (left left' : Option (List ℕ))
-      (before now : ℕ) (old new : SinkState) → Type 0
+      (before now : ℕ) (old new : Told) → Type 0
   NodeDoes (Ok count) left left' before now old new =
       Answered (Ok count) left left' before now old new
   NodeDoes (Err error.ReadFault) left left' before now old new =

@@ -149,7 +149,7 @@ where
         }));
     }
     let shape = R::shape_of(alloc, &plan)?;
-    shape.facts();
+    shape.tell();
     let node_lines = HeaderLines::new(alloc, &shape);
     let node = match feed_part(feed, line, node_lines, Rule::Form, first, LONGEST_HEADER) {
         Ok(node) => node,

@@ -1,5 +1,5 @@
 -- Inputs of a plan, a part that says a layer above its counter, and a script.
-use Rattle.std.specs.Prelude.{ℕ, ◌+◌, List, Option, Some, None, Result, Ok, Err}
+use Rattle.std.specs.Prelude.{ℕ, ◌+◌, List, Result, Ok, Err}
 use Rattle.texts.specs.Parts.{At, Found}
 use Rattle.sync_types.specs.declared.answers.Premise.{Premise}
 use Rattle.sync_types.specs.declared.answers.Rule.{Rule}
@@ -10,8 +10,6 @@ use Rattle.plan_reader.specs.PlanPart.{plan_of}
 use Rattle.state_codec.specs.Shapes.{Shape, shape_of, shape_with}
 use Rattle.adversary_script.specs.Scripts.{Script}
 use Rattle.adversary_script.specs.ScriptPart.{script_of}
-use Rattle.layer_laws.specs.Numbers.{Numbers, numbers_of}
-use Rattle.layer_parts.specs.declared.registers.Registers.{Registers}
 use Rattle.slot_table.specs.declared.lines.SlotLine.{SlotLine}
 use Rattle.slot_table.specs.SlotPart as slots
 use Rattle.consensus_layer.specs.AgreeSaid.{AgreeSaid}
@@ -54,21 +52,6 @@ module _ {Said : Type 0} (name : Part)
 
   abbrev pub layered_of : List ℕ → Result (Layered Said) Refusal
   layered_of input = behind_plan (plan_of input)
-
--- ---- a part for the counter of a plan
-
--- the shape of a plan's states, with these registers after the plan's
-abbrev pub shape_for : Plan → Option Registers → Shape
-shape_for plan None = shape_of plan
-shape_for plan (Some more) = shape_with plan more.values more.count
-
--- an input with a part for a counter's numbers, which has such registers
-abbrev pub layered_by : {Said : Type 0} → Part
-    → (part_over : Numbers → (number : ℕ) → List (List ℕ) → Result (Found Said) (At Rule))
-    → (registers : Said → Option Registers) → List ℕ → Result (Layered Said) Refusal
-layered_by name part_over registers input =
-    layered_of name (λ plan. part_over (numbers_of plan))
-    (λ plan said. shape_for plan (registers said)) input
 
 -- ---- the four layers
 

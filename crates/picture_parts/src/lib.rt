@@ -33,8 +33,8 @@ pub use captions::{put_colour_legend, put_number_caption, put_span};
 pub use errors::{ChartError, LineError, Wanted};
 pub use faces::{Face, face_of};
 pub use frames::{
-    CellPosition, Frame, MOST_COLUMNS, band_height, band_top, bottom, configuration, digits_of,
-    left, line_top, middle, spot_top, width,
+    Frame, MOST_COLUMNS, Spot, band_height, band_top, bottom, configuration, digits_of, left,
+    line_top, middle, spot_top, width,
 };
 pub use fronts::{picture_width, put_front, put_ground};
 pub use hits::breaks;

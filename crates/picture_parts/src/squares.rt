@@ -9,8 +9,8 @@ ghost use Rattle.picture_parts.specs.Frames.{band_top};
 
 use crate::faces::{Face, lead_of, shade};
 use crate::frames::{
-    CellPosition, Frame, MOST_COLUMNS, band_top, column_middle, configuration, left, middle,
-    spot_top, width,
+    Frame, MOST_COLUMNS, Spot, band_top, column_middle, configuration, left, middle, spot_top,
+    width,
 };
 use edge_io::{Piece, Sink, WriteFault, put_all, put_pieces};
 
@@ -82,11 +82,7 @@ pub fn put_column_head<K: Sink>(sink: &mut K, frame: Frame, column: u32) -> Resu
 }
 
 /// Writes the id of a node, before its line in each band.
-pub fn put_node_label<K: Sink>(
-    sink: &mut K,
-    spot: CellPosition,
-    node: u64,
-) -> Result<(), WriteFault>
+pub fn put_node_label<K: Sink>(sink: &mut K, spot: Spot, node: u64) -> Result<(), WriteFault>
     ensures { Puts result (node_label spot node) (K.told sink.old) (K.told sink.new) }
 {
     if spot.column % MOST_COLUMNS == 0 {
@@ -97,11 +93,7 @@ pub fn put_node_label<K: Sink>(
 }
 
 /// Writes what is told of a node where the pointer rests on its cell, up to what it shows there.
-pub fn put_hover_front<K: Sink>(
-    sink: &mut K,
-    spot: CellPosition,
-    node: u64,
-) -> Result<(), WriteFault>
+pub fn put_hover_front<K: Sink>(sink: &mut K, spot: Spot, node: u64) -> Result<(), WriteFault>
     ensures { Puts result (hover_front spot node) (K.told sink.old) (K.told sink.new) }
 {
     put_pieces(
@@ -134,12 +126,7 @@ fn put_face_word<K: Sink>(sink: &mut K, face: Face) -> Result<(), WriteFault>
 }
 
 /// Writes what is told of a node where the pointer rests on its cell.
-fn put_hover<K: Sink>(
-    sink: &mut K,
-    spot: CellPosition,
-    node: u64,
-    face: Face,
-) -> Result<(), WriteFault>
+fn put_hover<K: Sink>(sink: &mut K, spot: Spot, node: u64, face: Face) -> Result<(), WriteFault>
     ensures { Puts result (hover spot node face) (K.told sink.old) (K.told sink.new) }
 {
     written!(put_hover_front(sink, spot, node));
@@ -147,7 +134,7 @@ fn put_hover<K: Sink>(
 }
 
 /// Writes the front of a rectangle, up to its filling.
-pub fn put_rectangle<K: Sink>(sink: &mut K, spot: CellPosition) -> Result<(), WriteFault>
+pub fn put_rectangle<K: Sink>(sink: &mut K, spot: Spot) -> Result<(), WriteFault>
     ensures { Puts result (rectangle_front spot) (K.told sink.old) (K.told sink.new) }
 {
     put_pieces(
@@ -183,7 +170,7 @@ fn put_colour<K: Sink>(sink: &mut K, lead: u64) -> Result<(), WriteFault>
 }
 
 /// Writes the rest of a rectangle: nodes that count keep one colour.
-fn put_filling<K: Sink>(sink: &mut K, spot: CellPosition, face: Face) -> Result<(), WriteFault>
+fn put_filling<K: Sink>(sink: &mut K, spot: Spot, face: Face) -> Result<(), WriteFault>
     ensures { Puts result (filling spot face) (K.told sink.old) (K.told sink.new) }
 {
     match face {
@@ -197,7 +184,7 @@ fn put_filling<K: Sink>(sink: &mut K, spot: CellPosition, face: Face) -> Result<
 }
 
 /// Draws a cross, where there is no value.
-pub fn put_cross<K: Sink>(sink: &mut K, spot: CellPosition) -> Result<(), WriteFault>
+pub fn put_cross<K: Sink>(sink: &mut K, spot: Spot) -> Result<(), WriteFault>
     ensures { Puts result (cross spot) (K.told sink.old) (K.told sink.new) }
 {
     put_pieces(
@@ -213,7 +200,7 @@ pub fn put_cross<K: Sink>(sink: &mut K, spot: CellPosition) -> Result<(), WriteF
 }
 
 /// Writes what stands within a rectangle.
-fn put_inscription<K: Sink>(sink: &mut K, spot: CellPosition, face: Face) -> Result<(), WriteFault>
+fn put_inscription<K: Sink>(sink: &mut K, spot: Spot, face: Face) -> Result<(), WriteFault>
     ensures { Puts result (inscription spot face) (K.told sink.old) (K.told sink.new) }
 {
     match face {
@@ -224,7 +211,7 @@ fn put_inscription<K: Sink>(sink: &mut K, spot: CellPosition, face: Face) -> Res
 }
 
 /// Draws a rectangle with what a node shows.
-fn put_square<K: Sink>(sink: &mut K, spot: CellPosition, face: Face) -> Result<(), WriteFault>
+fn put_square<K: Sink>(sink: &mut K, spot: Spot, face: Face) -> Result<(), WriteFault>
     ensures { Puts result (square spot face) (K.told sink.old) (K.told sink.new) }
 {
     written!(put_rectangle(sink, spot));
@@ -233,7 +220,7 @@ fn put_square<K: Sink>(sink: &mut K, spot: CellPosition, face: Face) -> Result<(
 }
 
 /// Draws a black corner where the start of an era put a node into another state, and ends a group.
-fn put_cell_close<K: Sink>(sink: &mut K, spot: CellPosition, hit: bool) -> Result<(), WriteFault>
+fn put_cell_close<K: Sink>(sink: &mut K, spot: Spot, hit: bool) -> Result<(), WriteFault>
     ensures { Puts result (cell_close spot hit) (K.told sink.old) (K.told sink.new) }
 {
     match hit {
@@ -254,7 +241,7 @@ fn put_cell_close<K: Sink>(sink: &mut K, spot: CellPosition, hit: bool) -> Resul
 /// Draws a rectangle with what a node shows, and the corner.
 pub fn put_shown<K: Sink>(
     sink: &mut K,
-    spot: CellPosition,
+    spot: Spot,
     node: u64,
     face: Face,
     hit: bool,

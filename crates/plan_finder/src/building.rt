@@ -43,7 +43,7 @@ pub fn plan_of(alloc: Global, steps: &[Step], c: u64, most: u64) -> Result<Plan,
         let modulus = modulus_under(&steps[i + 1..], c);
         plan.push(step.blocks, step.faults, modulus).unwrap();
     }
-    plan.facts();
+    plan.tell();
     Ok(plan)
 }
 

@@ -1,19 +1,13 @@
 ghost use Rattle.std.specs.Prelude.{◌≡◌, Ok, MatchResult, IfOk};
 ghost use Rattle.plan_finder.specs.FindPart.{want_of, IsFit};
-ghost use Rattle.edge_io.specs.Taking.{FailsAsDefined};
+ghost use Rattle.plan_finder.specs.FindRefusals.{FailsAsDefined};
 
+use crate::refusals::{FindError, FindRefusal};
 use crate::want_lines::FindLines;
 use crate::wants::Want;
-use edge_io::{PartError, Refused, read_part};
+use edge_io::read_part;
 use plan_reader::first_unskipped;
 use sync_types::Rule;
-
-/// The line of a find part that is refused: its number, from 1, skipped lines counted, and the
-/// first rule that it fails. Where the part lacks its end it is the line after the last.
-pub type FindRefusal = Refused<Rule>;
-
-/// Why a find part was not read: its first line that fails, or memory was refused.
-pub type FindError = PartError<Rule>;
 
 /// Reads the whole of an input as a find part, behind which only skipped lines stand. What is read
 /// meets the conditions of [`crate::find`].

@@ -5,12 +5,12 @@ use Rattle.sync_types.specs.declared.states.Reg.{Reg}
 use Rattle.counting.specs.Places.{places}
 use Rattle.construction.specs.Plans.{Level, group_size, span_of}
 use Rattle.plan_laws.specs.Hearing.{RegistersStep}
-use Rattle.plan_laws.specs.Level.{LevelPremises, faults_in, BlockCounts, StaysLocked}
+use Rattle.plan_laws.specs.Level.{StandsOver, faults_in, BlockCounts, StaysLocked}
 use Rattle.plan_laws.proofs.ExplainedLevels.{explained_locks, span_is_explained}
 use Rattle.plan_laws.proofs.Locked.{stays_from}
 
 module _ (level : Level) (n f modulus : ℕ) (next : ℕ → ℕ) (faulty : ℕ → Bool)
-    (stands : LevelPremises level n f modulus) (inner : 3 * f < n)
+    (stands : StandsOver level n f modulus) (inner : 3 * f < n)
     (few : places faulty (group_size level n) ≤ level.faults)
     (t last : ℕ) (outputs : ℕ → ℕ → ℕ) (registers : ℕ → ℕ → Reg)
     (steps : RegistersStep level n next faulty t last outputs registers)

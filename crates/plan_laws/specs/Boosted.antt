@@ -9,7 +9,7 @@ use Rattle.construction.specs.Plans.{Level, group_size, span_of}
 use Rattle.construction.specs.Steps.{state_of, register_after, with_register}
 use Rattle.construction.specs.Votes.{block}
 use Rattle.counter_core.specs.Meanings.{Meaning}
-use Rattle.plan_laws.specs.Level.{LevelPremises}
+use Rattle.plan_laws.specs.Level.{StandsOver}
 
 -- what is heard of the inner outputs of the blocks' nodes, by place; spares have none
 abbrev pub outputs_heard : (below : Meaning) → Level → List State → List ℕ
@@ -58,7 +58,7 @@ BoostedRange in_range depth modulus state =
 
 -- the level may stand on this counter, and the two keep within the limits of counters
 pub record StandsOn (below : Meaning) (level : Level) : Type 0 where
-  pub stands : LevelPremises level below.nodes below.faults below.modulus
+  pub stands : StandsOver level below.nodes below.faults below.modulus
   pub most_nodes : group_size level below.nodes ≤ 256
   pub least_modulus : 2 ≤ level.modulus
   pub most_modulus : level.modulus ≤ 2 ^ 40

@@ -9,7 +9,7 @@ use Rattle.phase_king.specs.Hearing.{AllLocked}
 use Rattle.plan_laws.specs.Hearing.{RegistersStep}
 
 -- the premises of the level over what stands below it
-pub record LevelPremises (level : Level) (n f modulus : ℕ) : Type 0 where
+pub record StandsOver (level : Level) (n f modulus : ℕ) : Type 0 where
   pub blocks : 3 ≤ level.blocks
   pub quorum : 3 * level.faults < group_size level n
   pub share : level.faults < (f + 1) * leaders_of level
@@ -40,8 +40,7 @@ pub record StaysLocked (nodes : ℕ) (next : ℕ → ℕ) (faulty : ℕ → Bool
 -- end on. The other blocks are free, and so are the registers in configuration t.
 abbrev pub LevelSettles : Type 0
 LevelSettles = (level : Level) (n f modulus : ℕ) (next : ℕ → ℕ) (faulty : ℕ → Bool)
-    → LevelPremises level n f modulus → 3 * f < n → places faulty
-    (group_size level n) ≤ level.faults
+    → StandsOver level n f modulus → 3 * f < n → places faulty (group_size level n) ≤ level.faults
     → (t last : ℕ) (outputs : ℕ → ℕ → ℕ) (registers : ℕ → ℕ → Reg)
     → RegistersStep level n next faulty t last outputs registers
     → ((i : ℕ) → i < level.blocks → faults_in n faulty i ≤ f

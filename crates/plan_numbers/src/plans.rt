@@ -246,7 +246,7 @@ impl Plan {
 
     /// Tells a caller's proof that the plan is accepted, and how large its numbers are. It does
     /// nothing when it runs.
-    pub fn facts(&self)
+    pub fn tell(&self)
         ensures accepted { IsAccepted self.now }
         ensures sized { IsSized (numbers_below self.now) }
         ensures depth { plan_depth self.now ≤ 5 }

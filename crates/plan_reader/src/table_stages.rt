@@ -7,7 +7,7 @@ ghost use Rattle.plan_reader.specs.TableLines.{same_numbers, plan_values, top_va
 ghost use Rattle.plan_reader.specs.TableLines.{level_behind, built_by, level_stated};
 ghost use Rattle.plan_reader.specs.TableLines.{plan_stated};
 ghost use Rattle.plan_reader.specs.TableVersions.{HasVersion};
-ghost use Rattle.edge_io.specs.Taking.{TakesAsDefined};
+ghost use Rattle.plan_reader.specs.TableRefusals.{TakesAsDefined};
 
 use crate::table_lines::{level_stated, plan_stated, table_version};
 use edge_io::{LineReader, TakeError, numbers_after};

@@ -1,5 +1,3 @@
-pub mod MachineLocks
-pub mod Texts
 pub mod Lines
 pub mod LockLaws
 pub mod Heard
@@ -36,4 +34,6 @@ pub mod NodeStatuses
 pub mod NodePromises
 pub mod CallInputs
 pub mod DemoTexts
+pub mod ReadRequests
+pub mod ReadLogs
 pub mod OnlyTexts

@@ -11,7 +11,11 @@ use Rattle.run_lines.specs.PlayedTexts.{configuration_in}
 use Rattle.layer_lines.specs.CountedSlots as any
 use Rattle.promises.specs.LayeredEras.{IsReadFor}
 
--- just the slots of q rounds that count have a line
+-- a slot of q rounds that begins in configuration t counts
+abbrev pub SlotCounts : Plan → Script → (config_at : ℕ → List State) → (q t : ℕ) → Type 0
+SlotCounts plan = any.SlotCounts (plan_meaning plan)
+
+-- just these have a line
 abbrev pub SlotsAreExact : Plan → Script → (config_at : ℕ → List State) → (q : ℕ) → Type 0
 SlotsAreExact plan = any.SlotsAreExact (plan_meaning plan)
 

@@ -1,4 +1,3 @@
-pub mod MachineTexts
 pub mod Promises
 pub mod Locks
 pub mod LayeredEras

@@ -1,10 +1,10 @@
 -- That skipped lines change nothing, and so which line the number of a refusal is.
-use Rattle.std.specs.Prelude.{◌≡◌, ℕ, ◌≤◌, List, ◌∷◌, ◌++◌, length, take, drop, true, Result, Ok}
-use Rattle.std.specs.Prelude.{Err}
+use Rattle.std.specs.Prelude.{◌≡◌, ℕ, ◌+◌, ◌≤◌, List, ◌∷◌, ◌++◌, length, take, drop, true, nat_le}
+use Rattle.std.specs.Prelude.{if◌then◌else◌, Result, Ok, Err}
 use Rattle.texts.specs.Lines.{lines_of, is_one_line}
 use Rattle.texts.specs.Words.{text_of}
 use Rattle.texts.specs.Parts.{is_skipped}
-use Rattle.node_words.specs.Skips.{further, HeaderSkipsAreUnseen}
+use Rattle.node_words.specs.Skips.{HeaderSkipsAreUnseen}
 use Rattle.outcomes.specs.declared.refusals.Refusal.{Refusal}
 use Rattle.outcomes.specs.declared.refusals.Refusal.TheVariants as refusal
 use Rattle.outcomes.specs.Inputs.{plan_alone, scripted_of, wants_of}
@@ -19,7 +19,11 @@ put_in n line lines = take n lines ++ line ∷ drop n lines
 abbrev pub with_line : (n : ℕ) → (line : List ℕ) → (input : List ℕ) → List ℕ
 with_line n line input = text_of (put_in n line (lines_of input))
 
--- the refusal of the same line, by the number that it has then
+-- the number that a line has then
+abbrev pub further : (n number : ℕ) → ℕ
+further n number = if nat_le number n then number else number + 1
+
+-- the refusal of the same line
 abbrev pub moved : (n : ℕ) → Refusal → Refusal
 moved n (refusal.Plan line premise) = refusal.Plan (further n line) premise
 moved n (refusal.Part part line rule) = refusal.Part part (further n line) rule

@@ -5,7 +5,7 @@ use Rattle.std.proofs.lemmas.Bool.{cases_lt, ne_eqb}
 use Rattle.std.proofs.lemmas.List.{get_or_default, drop_more}
 use Rattle.trace_pictures.specs.TraceSaid.{is_other}
 use Rattle.pulse_pictures.specs.declared.pulse_notes.PulseNote.{PulseNote}
-use Rattle.pulse_pictures.specs.declared.pulse_notes.GroupInstruction.{GroupInstruction}
+use Rattle.pulse_pictures.specs.declared.pulse_notes.Stand.{Stand}
 use Rattle.pulse_pictures.specs.PulseSaid.{ColumnsRise, IsBefore, IsSharedByAll, KnowsValue}
 use Rattle.pulse_pictures.specs.PulseSaid.{is_lost_before, stands, value_behind, value_told}
 
@@ -71,7 +71,7 @@ module _ (notes : List PulseNote) (k : ℕ) (note : PulseNote)
 -- ---- turns
 
 -- in another column no line speaks of a turn
-pub deaf : (stand : GroupInstruction) (note : PulseNote) → (note.column ≡ stand.column → ⊥)
+pub deaf : (stand : Stand) (note : PulseNote) → (note.column ≡ stand.column → ⊥)
     → is_other (stands stand note) ≡ false
 deaf stand note apart = rw (ne_eqb note.column stand.column apart) refl
 
@@ -89,7 +89,7 @@ starts_before notes from column d rise inside before k e within less =
       rise k (from - 1) e (omega (arith, less)) inside,
     )
 
-module _ (stand : GroupInstruction) (notes : List PulseNote) (rise : ColumnsRise notes) where
+module _ (stand : Stand) (notes : List PulseNote) (rise : ColumnsRise notes) where
   -- lines from a place on stand in later columns
   pub shared_so_far : (k : ℕ) (note : PulseNote) → ((d : PulseNote) → note ≡ get_or notes k d)
       → stand.column < note.column

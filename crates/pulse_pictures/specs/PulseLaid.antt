@@ -9,7 +9,7 @@ use Rattle.pulse_pictures.specs.declared.pulse_notes.Member.{Member}
 use Rattle.pulse_pictures.specs.declared.pulse_notes.Told.{Told}
 use Rattle.pulse_pictures.specs.declared.pulse_notes.Told.TheVariants.{Shows, Holds}
 use Rattle.pulse_pictures.specs.declared.pulse_notes.PulseNote.{PulseNote}
-use Rattle.pulse_pictures.specs.declared.pulse_notes.GroupInstruction.{GroupInstruction}
+use Rattle.pulse_pictures.specs.declared.pulse_notes.Stand.{Stand}
 use Rattle.pulse_pictures.specs.declared.pulse_notes.Heading.{Heading}
 use Rattle.pulse_pictures.specs.declared.pulse_notes.Strip.{Strip}
 use Rattle.pulse_pictures.specs.declared.pulse_notes.PulseTrace.{PulseTrace}
@@ -77,7 +77,7 @@ AreLinesLaid strips nodes ids notes =
 -- ---- kings' turns
 
 -- the turn of a group at an instruction, in the column of its configuration
-pub record IsStandOf (column : ℕ) (member : Member) (instruction : ℕ) (stand : GroupInstruction)
+pub record IsStandOf (column : ℕ) (member : Member) (instruction : ℕ) (stand : Stand)
     : Type 0 where
   pub at_column : stand.column ≡ column
   pub of_first : stand.first ≡ member.first
@@ -85,36 +85,34 @@ pub record IsStandOf (column : ℕ) (member : Member) (instruction : ℕ) (stand
   pub same : stand.instruction ≡ instruction
 
 -- one of the turns is this
-pub record HasStandOf (stands : List GroupInstruction) (column : ℕ) (member : Member)
-    (instruction : ℕ)
+pub record HasStandOf (stands : List Stand) (column : ℕ) (member : Member) (instruction : ℕ)
     : Type 0 where
   pub place : ℕ
   pub inside : place < length stands
-  pub is : (d : GroupInstruction) → IsStandOf column member instruction
-      (slice_index_or stands place d)
+  pub is : (d : Stand) → IsStandOf column member instruction (slice_index_or stands place d)
 
-abbrev pub HasStandAt : List GroupInstruction → (column : ℕ) → Member → Option ℕ → Type 0
+abbrev pub HasStandAt : List Stand → (column : ℕ) → Member → Option ℕ → Type 0
 HasStandAt stands column member (Some instruction) = HasStandOf stands column member instruction
 HasStandAt stands column member None = Unit {0}
 
 -- where a correct node stands at an instruction, the turn is drawn
-abbrev pub HasStandIf : List GroupInstruction → (faulty : Bool) → (column : ℕ) → Told → Type 0
+abbrev pub HasStandIf : List Stand → (faulty : Bool) → (column : ℕ) → Told → Type 0
 HasStandIf stands true column told = Unit {0}
 HasStandIf stands false column (Shows output) = Unit {0}
 HasStandIf stands false column (Holds member) = HasStandAt stands column member member.instruction
 
-abbrev pub HasStand : List GroupInstruction → PulseNote → Type 0
+abbrev pub HasStand : List Stand → PulseNote → Type 0
 HasStand stands note = HasStandIf stands note.is_faulty note.column note.told
 
 -- a turn stands above the cells of its group's strip
-pub record IsStandLaid (strips : List Strip) (stand : GroupInstruction) : Type 0 where
+pub record IsStandLaid (strips : List Strip) (stand : Stand) : Type 0 where
   pub strip : Strip
   pub is : IsStripOf strips stand.first stand.last strip
   pub below : strip.top ≤ stand.top
   pub above : stand.top + 16 ≤ strip.cells
 
 -- turns of one group in one column stand one below the other
-abbrev pub AreApart : (turn later : GroupInstruction) → Type 0
+abbrev pub AreApart : (turn later : Stand) → Type 0
 AreApart turn later =
     turn.column ≡ later.column → turn.first ≡ later.first → turn.last ≡ later.last
     → turn.top + 16 ≤ later.top

@@ -9,7 +9,7 @@ use Rattle.pulse_pictures.specs.declared.pulse_notes.Member.{Member}
 use Rattle.pulse_pictures.specs.declared.pulse_notes.Told.{Told}
 use Rattle.pulse_pictures.specs.declared.pulse_notes.Told.TheVariants.{Shows, Holds}
 use Rattle.pulse_pictures.specs.declared.pulse_notes.PulseNote.{PulseNote}
-use Rattle.pulse_pictures.specs.declared.pulse_notes.GroupInstruction.{GroupInstruction}
+use Rattle.pulse_pictures.specs.declared.pulse_notes.Stand.{Stand}
 use Rattle.pulse_pictures.specs.declared.pulse_notes.Strip.{Strip}
 use Rattle.pulse_pictures.specs.declared.pulse_notes.PulseTrace.{PulseTrace}
 
@@ -55,18 +55,18 @@ is_at instruction None = false
 is_at instruction (Some other) = other == instruction
 
 -- the same of what a node holds in the turn's group
-abbrev pub member_as : GroupInstruction → Member → Option Bool
+abbrev pub member_as : Stand → Member → Option Bool
 member_as stand member =
     if (member.first == stand.first) && (member.last == stand.last)
     then Some (is_at stand.instruction member.instruction) else None
 
-abbrev pub told_as : GroupInstruction → Told → Option Bool
+abbrev pub told_as : Stand → Told → Option Bool
 told_as stand (Shows shown) = None
 told_as stand (Holds member) = member_as stand member
 
 -- Where a line is on what a correct node holds in a turn's column and group: whether it stands at
 -- this turn's instruction. Else nothing.
-abbrev pub stands : GroupInstruction → PulseNote → Option Bool
+abbrev pub stands : Stand → PulseNote → Option Bool
 stands stand note =
     if (note.column == stand.column) && not note.is_faulty then told_as stand note.told else None
 
@@ -83,25 +83,24 @@ IsBefore column from notes =
     → (slice_index_or notes k d).column < column
 
 -- some line says so of a turn
-pub record HasStander (stand : GroupInstruction) (notes : List PulseNote)
-    (same : Bool) : Type 0 where
+pub record HasStander (stand : Stand) (notes : List PulseNote) (same : Bool) : Type 0 where
   pub place : ℕ
   pub inside : place < length notes
   pub is : (d : PulseNote) → stands stand (slice_index_or notes place d) ≡ Some same
 
 -- no line says that a correct node of the group stands elsewhere, or waits
-abbrev pub IsSharedByAll : GroupInstruction → List PulseNote → Type 0
+abbrev pub IsSharedByAll : Stand → List PulseNote → Type 0
 IsSharedByAll stand notes =
     (k : ℕ) (d : PulseNote) → k < length notes
     → is_other (stands stand (slice_index_or notes k d)) ≡ false
 
 -- a turn has a whole frame where all correct nodes of its group have it, and else a broken one
-abbrev pub IsFramed : GroupInstruction → List PulseNote → (common : Bool) → Type 0
+abbrev pub IsFramed : Stand → List PulseNote → (common : Bool) → Type 0
 IsFramed stand notes true = IsSharedByAll stand notes
 IsFramed stand notes false = HasStander stand notes false
 
 -- a turn is one that some correct node has, in a frame that says whether all do
-pub record IsStandSaid (notes : List PulseNote) (stand : GroupInstruction) : Type 0 where
+pub record IsStandSaid (notes : List PulseNote) (stand : Stand) : Type 0 where
   pub there : HasStander stand notes true
   pub framed : IsFramed stand notes stand.is_common
 

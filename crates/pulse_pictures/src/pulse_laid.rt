@@ -4,7 +4,7 @@
 ghost use Rattle.std.specs.Prelude.{◌≡◌, ◌≤◌, ◌<◌, ◌+◌, ◌*◌, ◌^◌, ℕ, All, AllPairs, true};
 ghost use Rattle.std.specs.Prelude.{IfSome, length, slice_index_or};
 ghost use Rattle.std.specs.List.{count_by};
-ghost use Rattle.pulse_pictures.specs.declared.pulse_notes.GroupInstruction.{GroupInstruction};
+ghost use Rattle.pulse_pictures.specs.declared.pulse_notes.Stand.{Stand};
 ghost use Rattle.pulse_pictures.specs.PulseLaid.{AreApart, AreLinesLaid, AreStacked};
 ghost use Rattle.pulse_pictures.specs.PulseLaid.{AreStackedBelow, HasRoom, HasStand};
 ghost use Rattle.pulse_pictures.specs.PulseLaid.{HasStandOf};
@@ -12,7 +12,7 @@ ghost use Rattle.pulse_pictures.specs.PulseLaid.{IsAtHeight, IsHeadingLaid, IsLi
 ghost use Rattle.pulse_pictures.specs.PulseLaid.{IsPulseTraceLaid, IsStandLaid, IsStandOf};
 ghost use Rattle.pulse_pictures.specs.PulseLaid.{IsStripOf, StandsInStrip, is_later, shows};
 
-use crate::pulse_notes::{GroupInstruction, Heading, Member, PulseNote, PulseTrace, Strip, Told};
+use crate::pulse_notes::{Heading, Member, PulseNote, PulseTrace, Stand, Strip, Told};
 use crate::pulse_said::is_pulse_trace_said;
 use picture_parts::{MOST_COLUMNS, line_top};
 use trace_pictures::{has_id, ids_rise};
@@ -109,7 +109,7 @@ fn outputs_laid(strips: &[Strip], nodes: u16, ids: &[u64], notes: &[PulseNote]) 
 }
 
 /// The place of the first turn of a column, or of a later one.
-fn first_stand(stands: &[GroupInstruction], column: u32) -> usize {
+fn first_stand(stands: &[Stand], column: u32) -> usize {
     let mut low = 0;
     let mut high = stands.len();
     for _ in 0..32 {
@@ -127,7 +127,7 @@ fn first_stand(stands: &[GroupInstruction], column: u32) -> usize {
 }
 
 /// Whether a turn is that of a group at an instruction.
-fn is_stand_of(stand: GroupInstruction, column: u32, member: Member, instruction: u32) -> bool
+fn is_stand_of(stand: Stand, column: u32, member: Member, instruction: u32) -> bool
     ensures { result ≡ true → IsStandOf column member instruction stand }
 {
     stand.column == column
@@ -137,7 +137,7 @@ fn is_stand_of(stand: GroupInstruction, column: u32, member: Member, instruction
 }
 
 /// Whether such a turn is drawn.
-fn has_stand_of(stands: &[GroupInstruction], column: u32, member: Member, instruction: u32) -> bool
+fn has_stand_of(stands: &[Stand], column: u32, member: Member, instruction: u32) -> bool
     ensures { result ≡ true → HasStandOf stands.now column member instruction }
 {
     for k in first_stand(stands, column)..stands.len() {
@@ -152,7 +152,7 @@ fn has_stand_of(stands: &[GroupInstruction], column: u32, member: Member, instru
 }
 
 /// Whether the turn that a line says is drawn, if a correct node has it.
-fn has_stand(stands: &[GroupInstruction], note: PulseNote) -> bool
+fn has_stand(stands: &[Stand], note: PulseNote) -> bool
     ensures { result ≡ true → HasStand stands.now note }
 {
     if note.is_faulty {
@@ -168,7 +168,7 @@ fn has_stand(stands: &[GroupInstruction], note: PulseNote) -> bool
 }
 
 /// Whether all turns that correct nodes have are drawn.
-fn have_stands(stands: &[GroupInstruction], notes: &[PulseNote]) -> bool
+fn have_stands(stands: &[Stand], notes: &[PulseNote]) -> bool
     ensures { result ≡ true → All (HasStand stands.now) notes.now }
 {
     for k in 0..notes.len() {
@@ -180,7 +180,7 @@ fn have_stands(stands: &[GroupInstruction], notes: &[PulseNote]) -> bool
 }
 
 /// Whether a turn stands above the cells of its group.
-fn is_stand_laid(strips: &[Strip], stand: GroupInstruction) -> bool
+fn is_stand_laid(strips: &[Strip], stand: Stand) -> bool
     ensures { result ≡ true → IsStandLaid strips.now stand }
 {
     match strip_of(strips, stand.first, stand.last) {
@@ -192,7 +192,7 @@ fn is_stand_laid(strips: &[Strip], stand: GroupInstruction) -> bool
 }
 
 /// Whether all turns do.
-fn are_stands_laid(strips: &[Strip], stands: &[GroupInstruction]) -> bool
+fn are_stands_laid(strips: &[Strip], stands: &[Stand]) -> bool
     ensures { result ≡ true → All (IsStandLaid strips.now) stands.now }
 {
     for k in 0..stands.len() {
@@ -204,7 +204,7 @@ fn are_stands_laid(strips: &[Strip], stands: &[GroupInstruction]) -> bool
 }
 
 /// Whether a turn stands above a later one, if both are of one column and group.
-fn is_above(turn: GroupInstruction, later: GroupInstruction) -> bool
+fn is_above(turn: Stand, later: Stand) -> bool
     ensures { result ≡ true → AreApart turn later }
 {
     turn.column != later.column
@@ -214,9 +214,9 @@ fn is_above(turn: GroupInstruction, later: GroupInstruction) -> bool
 }
 
 /// Whether the turns of these places do.
-fn are_above(stands: &[GroupInstruction], from: usize, to: usize, later: GroupInstruction) -> bool
+fn are_above(stands: &[Stand], from: usize, to: usize, later: Stand) -> bool
     requires { to ≤ length stands.now }
-    ensures { result ≡ true → (i : ℕ) (d : GroupInstruction) → from ≤ i → i < to
+    ensures { result ≡ true → (i : ℕ) (d : Stand) → from ≤ i → i < to
         → AreApart (slice_index_or stands.now i d) later }
 {
     for i in from..to {
@@ -228,7 +228,7 @@ fn are_above(stands: &[GroupInstruction], from: usize, to: usize, later: GroupIn
 }
 
 /// Whether no turn covers another one. Columns rise.
-fn are_apart(stands: &[GroupInstruction]) -> bool
+fn are_apart(stands: &[Stand]) -> bool
     ensures { result ≡ true → AllPairs AreApart stands.now }
 {
     let mut column = 0;

@@ -3,7 +3,7 @@
 
 use crate::pulse_hits::mark_pulse_trace;
 use crate::pulse_laid::strip_of;
-use crate::pulse_notes::{GroupInstruction, Heading, Member, PulseNote, PulseTrace, Strip, Told};
+use crate::pulse_notes::{Heading, Member, PulseNote, PulseTrace, Stand, Strip, Told};
 use crate::pulse_reading::read_pulse_trace;
 use picture_parts::{ChartError, MOST_COLUMNS, line_top};
 use std::alloc::{AllocFailed, Global};
@@ -32,17 +32,17 @@ fn count_nodes(trace: &mut PulseTrace) {
 }
 
 /// Whether two turns are of one group.
-fn are_of_one_group(stand: GroupInstruction, other: GroupInstruction) -> bool {
+fn are_of_one_group(stand: Stand, other: Stand) -> bool {
     stand.first == other.first && stand.last == other.last
 }
 
 /// Adds a turn to those of its column, which stand from place `from` on, if it is not there.
 /// Answers how many of its group there are then.
 fn add_stand(
-    stands: &mut Vec<GroupInstruction>,
+    stands: &mut Vec<Stand>,
     from: usize,
-    mut new: GroupInstruction,
-) -> Result<u32, AllocFailed<GroupInstruction>> {
+    mut new: Stand,
+) -> Result<u32, AllocFailed<Stand>> {
     for i in from..stands.len() {
         let old = stands[i];
         if are_of_one_group(old, new) {
@@ -57,7 +57,7 @@ fn add_stand(
 }
 
 /// The turn of a line, if a correct node has one there.
-fn stand_in(note: &PulseNote) -> Option<GroupInstruction> {
+fn stand_in(note: &PulseNote) -> Option<Stand> {
     if note.is_faulty {
         return None;
     }
@@ -65,7 +65,7 @@ fn stand_in(note: &PulseNote) -> Option<GroupInstruction> {
         Told::Shows(_) => None,
         Told::Holds(member) => match member.instruction {
             None => None,
-            Some(instruction) => Some(GroupInstruction {
+            Some(instruction) => Some(Stand {
                 column: note.column,
                 first: member.first,
                 last: member.last,
@@ -79,7 +79,7 @@ fn stand_in(note: &PulseNote) -> Option<GroupInstruction> {
 }
 
 /// Gives the strip of a turn's group room for so many turns in a column.
-fn widen(strips: &mut [Strip], stand: GroupInstruction, lanes: u32) {
+fn widen(strips: &mut [Strip], stand: Stand, lanes: u32) {
     for strip in strips.iter_mut() {
         if strip.first == stand.first && strip.last == stand.last {
             strip.lanes = strip.lanes.max(lanes);
@@ -104,7 +104,7 @@ fn find_stands(trace: &mut PulseTrace) -> Result<(), ChartError> {
 
 /// Says of the turns of a group in a column, from place `from` on, which ones a node of it does not
 /// have that is correct: it stands at another one, or waits.
-fn part(stands: &mut Vec<GroupInstruction>, from: usize, column: u32, member: &Member) {
+fn part(stands: &mut Vec<Stand>, from: usize, column: u32, member: &Member) {
     for i in from..stands.len() {
         let stand = stands[i];
         if stand.column > column {
@@ -120,7 +120,7 @@ fn part(stands: &mut Vec<GroupInstruction>, from: usize, column: u32, member: &M
 }
 
 /// The place of the first turn of a column, or of a later one, from a place on.
-fn next_stand(stands: &[GroupInstruction], from: usize, column: u32) -> usize {
+fn next_stand(stands: &[Stand], from: usize, column: u32) -> usize {
     for i in from..stands.len() {
         if stands[i].column >= column {
             return i;

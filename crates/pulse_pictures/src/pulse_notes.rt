@@ -92,7 +92,7 @@ pub struct PulseNote {
 
 /// An instruction at which correct nodes of a group stand.
 #[derive(Clone, Copy)]
-pub struct GroupInstruction {
+pub struct Stand {
     pub column: u32,
     /// The first node of the group.
     pub first: u32,
@@ -147,7 +147,7 @@ pub struct PulseTrace {
     pub cells: u32,
     /// The lines.
     pub notes: Vec<PulseNote>,
-    pub stands: Vec<GroupInstruction>,
+    pub stands: Vec<Stand>,
     pub headings: Vec<Heading>,
     pub strips: Vec<Strip>,
     /// The columns where an era must begin.
@@ -186,7 +186,7 @@ impl PulseTrace {
     }
 
     /// The kings' turns.
-    pub fn turns(&self) -> &[GroupInstruction]
+    pub fn turns(&self) -> &[Stand]
         ensures { result.now ≡ self.now.stands.items }
     {
         &self.stands

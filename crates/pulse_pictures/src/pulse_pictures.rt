@@ -8,7 +8,7 @@ ghost use Rattle.pulse_pictures.specs.PulsePictures.{pulse_picture_front, regist
 use crate::members::{put_headings, put_pulse_notes};
 use crate::pulse_notes::PulseTrace;
 use crate::pulse_turns::put_stands;
-use edge_io::{Writer, Piece, Sink, WriteFault, put_all, put_pieces};
+use edge_io::{Gathered, Piece, Sink, WriteFault, put_all, put_pieces};
 use picture_parts::{
     Frame, bottom, picture_width, put_colour_legend, put_front, put_ground, put_number_caption,
     put_span,
@@ -145,7 +145,7 @@ fn put_pulse_parts<K: Sink>(sink: &mut K, trace: &PulseTrace) -> Result<(), Writ
 pub fn put_pulse_picture<K: Sink>(sink: &mut K, trace: &PulseTrace) -> Result<(), WriteFault>
     ensures { Puts result (pulse_picture trace.now) (K.told sink.old) (K.told sink.new) }
 {
-    let mut parts = Writer::gathering(sink);
+    let mut parts = Gathered::new(sink);
     let written = put_pulse_parts(&mut parts, trace);
-    parts.finish_with(written)
+    parts.finish(written)
 }

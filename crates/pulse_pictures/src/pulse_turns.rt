@@ -6,18 +6,14 @@ ghost use Rattle.texts.specs.Growth.{Puts};
 ghost use Rattle.pulse_pictures.specs.Members.{stand_at, stand_box, stand_hover, stand_picture};
 ghost use Rattle.pulse_pictures.specs.Members.{stand_spot};
 
-use crate::pulse_notes::GroupInstruction;
+use crate::pulse_notes::Stand;
 use crate::pulse_printing::{king_of, turn_of};
 use edge_io::{Piece, Sink, WriteFault, put_pieces};
-use picture_parts::{CellPosition, Frame, configuration};
+use picture_parts::{Frame, Spot, configuration};
 use trace_pictures::{edge, put_gold_part, put_king, share, turn_word};
 
 /// Writes what is told of a turn where the pointer rests on it.
-fn put_stand_hover<K: Sink>(
-    sink: &mut K,
-    spot: CellPosition,
-    stand: GroupInstruction,
-) -> Result<(), WriteFault>
+fn put_stand_hover<K: Sink>(sink: &mut K, spot: Spot, stand: Stand) -> Result<(), WriteFault>
     ensures { Puts result (stand_hover spot stand) (K.told sink.old) (K.told sink.new) }
 {
     put_pieces(
@@ -39,11 +35,7 @@ fn put_stand_hover<K: Sink>(
 }
 
 /// Draws a turn: its front in gold, and a frame.
-fn put_stand_box<K: Sink>(
-    sink: &mut K,
-    spot: CellPosition,
-    stand: GroupInstruction,
-) -> Result<(), WriteFault>
+fn put_stand_box<K: Sink>(sink: &mut K, spot: Spot, stand: Stand) -> Result<(), WriteFault>
     ensures { Puts result (stand_box spot stand) (K.told sink.old) (K.told sink.new) }
 {
     let part = share(spot, turn_of(stand.instruction));
@@ -51,11 +43,7 @@ fn put_stand_box<K: Sink>(
 }
 
 /// Draws a turn, with its king.
-fn put_stand_at<K: Sink>(
-    sink: &mut K,
-    spot: CellPosition,
-    stand: GroupInstruction,
-) -> Result<(), WriteFault>
+fn put_stand_at<K: Sink>(sink: &mut K, spot: Spot, stand: Stand) -> Result<(), WriteFault>
     ensures { Puts result (stand_at spot stand) (K.told sink.old) (K.told sink.new) }
 {
     written!(put_stand_hover(sink, spot, stand));
@@ -64,10 +52,10 @@ fn put_stand_at<K: Sink>(
 }
 
 /// Where a turn is drawn.
-fn stand_spot(frame: Frame, stand: GroupInstruction) -> CellPosition
+fn stand_spot(frame: Frame, stand: Stand) -> Spot
     ensures { result ≡ stand_spot frame stand }
 {
-    CellPosition {
+    Spot {
         frame,
         column: stand.column,
         top: stand.top,
@@ -75,18 +63,14 @@ fn stand_spot(frame: Frame, stand: GroupInstruction) -> CellPosition
 }
 
 /// Draws a turn in its place.
-fn put_stand<K: Sink>(sink: &mut K, frame: Frame, stand: GroupInstruction) -> Result<(), WriteFault>
+fn put_stand<K: Sink>(sink: &mut K, frame: Frame, stand: Stand) -> Result<(), WriteFault>
     ensures { Puts result (stand_picture frame stand) (K.told sink.old) (K.told sink.new) }
 {
     put_stand_at(sink, stand_spot(frame, stand), stand)
 }
 
 /// Draws all turns.
-pub fn put_stands<K: Sink>(
-    sink: &mut K,
-    frame: Frame,
-    stands: &[GroupInstruction],
-) -> Result<(), WriteFault>
+pub fn put_stands<K: Sink>(sink: &mut K, frame: Frame, stands: &[Stand]) -> Result<(), WriteFault>
     ensures { Puts result (flat_map (stand_picture frame) stands.now)
         (K.told sink.old) (K.told sink.new) }
 {

@@ -6,7 +6,7 @@ ghost use Rattle.pulse_pictures.specs.PulseSaid.{ColumnsRise, HasStander, IsBefo
 ghost use Rattle.pulse_pictures.specs.PulseSaid.{IsSharedByAll, IsStandSaid, is_at, member_as};
 ghost use Rattle.pulse_pictures.specs.PulseSaid.{stands, told_as};
 
-use crate::pulse_notes::{GroupInstruction, Member, PulseNote, Told};
+use crate::pulse_notes::{Member, PulseNote, Stand, Told};
 
 /// Whether no line stands in a column before that of the line before it.
 pub fn columns_rise(notes: &[PulseNote]) -> bool
@@ -34,7 +34,7 @@ fn is_at(instruction: u32, other: Option<u32>) -> bool
 }
 
 /// Whether a node stands at a turn's instruction, where it is what it holds in the turn's group.
-fn member_as(stand: GroupInstruction, member: Member) -> Option<bool>
+fn member_as(stand: Stand, member: Member) -> Option<bool>
     ensures { result ≡ member_as stand member }
 {
     if member.first == stand.first && member.last == stand.last {
@@ -45,7 +45,7 @@ fn member_as(stand: GroupInstruction, member: Member) -> Option<bool>
 }
 
 /// The same of what a line is about.
-fn told_as(stand: GroupInstruction, told: Told) -> Option<bool>
+fn told_as(stand: Stand, told: Told) -> Option<bool>
     ensures { result ≡ told_as stand told }
 {
     match told {
@@ -56,7 +56,7 @@ fn told_as(stand: GroupInstruction, told: Told) -> Option<bool>
 
 /// Where a line is on what a correct node holds in a turn's column and group: whether it stands at
 /// the turn's instruction.
-fn stands(stand: GroupInstruction, note: PulseNote) -> Option<bool>
+fn stands(stand: Stand, note: PulseNote) -> Option<bool>
     ensures { result ≡ stands stand note }
 {
     if note.column == stand.column && !note.is_faulty {
@@ -85,7 +85,7 @@ fn first_line(notes: &[PulseNote], column: u32) -> usize {
 }
 
 /// Whether some line says so of a turn.
-fn has_stander(stand: GroupInstruction, notes: &[PulseNote], same: bool) -> bool
+fn has_stander(stand: Stand, notes: &[PulseNote], same: bool) -> bool
     ensures { result ≡ true → HasStander stand notes.now same }
 {
     for k in first_line(notes, stand.column)..notes.len() {
@@ -116,7 +116,7 @@ fn starts_at(column: u32, from: usize, notes: &[PulseNote]) -> bool
 }
 
 /// Whether a line says that a correct node of a turn's group does not have the turn.
-fn stands_elsewhere(stand: GroupInstruction, note: PulseNote) -> bool
+fn stands_elsewhere(stand: Stand, note: PulseNote) -> bool
     ensures { result ≡ is_other (stands stand note) }
 {
     match stands(stand, note) {
@@ -127,7 +127,7 @@ fn stands_elsewhere(stand: GroupInstruction, note: PulseNote) -> bool
 }
 
 /// Whether no line says so, where columns rise, and lines before a place stand in earlier columns.
-fn is_shared_from(stand: GroupInstruction, notes: &[PulseNote], from: usize) -> bool
+fn is_shared_from(stand: Stand, notes: &[PulseNote], from: usize) -> bool
     requires rise { ColumnsRise notes.now }
     requires before { IsBefore stand.column from notes.now }
     ensures { result ≡ true → IsSharedByAll stand notes.now }
@@ -145,7 +145,7 @@ fn is_shared_from(stand: GroupInstruction, notes: &[PulseNote], from: usize) -> 
 }
 
 /// Whether no line says so, where columns rise.
-fn is_shared_by_all(stand: GroupInstruction, notes: &[PulseNote]) -> bool
+fn is_shared_by_all(stand: Stand, notes: &[PulseNote]) -> bool
     requires { ColumnsRise notes.now }
     ensures { result ≡ true → IsSharedByAll stand notes.now }
 {
@@ -154,7 +154,7 @@ fn is_shared_by_all(stand: GroupInstruction, notes: &[PulseNote]) -> bool
 }
 
 /// Whether a turn's frame is whole where all have it, and else broken, where columns rise.
-fn is_framed(stand: GroupInstruction, notes: &[PulseNote], is_common: bool) -> bool
+fn is_framed(stand: Stand, notes: &[PulseNote], is_common: bool) -> bool
     requires { ColumnsRise notes.now }
     ensures { result ≡ true → IsFramed stand notes.now is_common }
 {
@@ -165,7 +165,7 @@ fn is_framed(stand: GroupInstruction, notes: &[PulseNote], is_common: bool) -> b
 }
 
 /// Whether some correct node has each turn, and all turns have their frames, where columns rise.
-pub fn are_stands_said(notes: &[PulseNote], stands: &[GroupInstruction]) -> bool
+pub fn are_stands_said(notes: &[PulseNote], stands: &[Stand]) -> bool
     requires { ColumnsRise notes.now }
     ensures { result ≡ true → All (IsStandSaid notes.now) stands.now }
 {

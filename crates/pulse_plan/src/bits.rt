@@ -20,7 +20,7 @@ fn level_bits(group: &Group) -> u32
     ensures value { result ≡ level_bits group.now.faults group.now.modulus }
     ensures most { result ≤ 168 }
 {
-    group.facts();
+    group.tell();
     register_bits(group.modulus())
         + register_bits(group.instructions())
         + register_bits(group.left_period())
@@ -32,7 +32,7 @@ fn bits_in(group: &Group) -> u32
     ensures value { result ≡ most_bits (tree_in group.now) group.now.modulus }
     ensures most { result ≤ 40 + 168 * group.now.faults }
 {
-    group.facts();
+    group.tell();
     if group.faults() == 0 {
         return width(group.modulus());
     }
@@ -46,7 +46,7 @@ pub fn state_bits(plan: &PulsePlan) -> u32
     ensures value { result ≡ state_bits plan.now }
     ensures most { result ≤ 14320 }
 {
-    plan.facts();
+    plan.tell();
     bits_in(&plan.whole())
 }
 

@@ -8,7 +8,7 @@ pub(crate) fn modulus_in(group: &Group, node: u32, i: usize) -> Option<u64>
     requires { group.now.first ≤ node }
     ensures { result ≡ slice_get (fields_by group.now node).moduli i }
 {
-    group.facts();
+    group.tell();
     if group.faults() == 0 {
         return None;
     }
@@ -29,7 +29,7 @@ pub(crate) fn base_in(group: &Group, node: u32) -> u64
     requires { group.now.first ≤ node }
     ensures { result ≡ (fields_by group.now node).base }
 {
-    group.facts();
+    group.tell();
     if group.faults() == 0 {
         return group.modulus();
     }

@@ -107,7 +107,7 @@ impl Group {
     }
 
     /// Tells a caller's proof what is true of every group. It does nothing when it runs.
-    pub fn facts(&self)
+    pub fn tell(&self)
         ensures { IsGroup self.now }
     {
         let _first = self.first;
@@ -117,7 +117,7 @@ impl Group {
     pub fn instructions(&self) -> u64
         ensures { result ≡ instructions self.now.faults }
     {
-        self.facts();
+        self.tell();
         3 * (u64::from(self.faults) + 1)
     }
 
@@ -125,7 +125,7 @@ impl Group {
     pub fn left_period(&self) -> u64
         ensures { result ≡ left_period self.now.faults }
     {
-        self.facts();
+        self.tell();
         3 * self.instructions() - 1
     }
 
@@ -141,7 +141,7 @@ impl Group {
         requires { 0 < self.now.faults }
         ensures { result ≡ left_of self.now }
     {
-        self.facts();
+        self.tell();
         let faults = self.faults / 3;
         Group {
             first: self.first,
@@ -157,7 +157,7 @@ impl Group {
         requires { 0 < self.now.faults }
         ensures { result ≡ right_of self.now }
     {
-        self.facts();
+        self.tell();
         let left = self.faults / 3;
         let faults = self.faults - 1 - left;
         Group {
@@ -176,9 +176,9 @@ impl Group {
         ensures value { result ≡ half_in self.now node }
         ensures half { self.now.first ≤ node → IfSome result (IsHalf self.now node) }
     {
-        self.facts();
+        self.tell();
         let right = self.right();
-        right.facts();
+        right.tell();
         if node < right.first() {
             Some(self.left())
         } else if node < right.first() + right.nodes() {

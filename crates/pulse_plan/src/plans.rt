@@ -87,7 +87,7 @@ impl PulsePlan {
     }
 
     /// Tells a caller's proof that the plan is accepted. It does nothing when it runs.
-    pub fn facts(&self)
+    pub fn tell(&self)
         ensures { IsAccepted self.now }
     {
         let _nodes = self.nodes;
@@ -97,7 +97,7 @@ impl PulsePlan {
     pub fn bound(&self) -> u64
         ensures { result ≡ halving_bound (tree_of self.now) }
     {
-        self.facts();
+        self.tell();
         bound_of(self.faults)
     }
 
@@ -105,7 +105,7 @@ impl PulsePlan {
     pub fn depth(&self) -> usize
         ensures { result ≡ halving_depth (tree_of self.now) }
     {
-        self.facts();
+        self.tell();
         depth_of(self.faults)
     }
 
@@ -113,7 +113,7 @@ impl PulsePlan {
     pub fn whole(&self) -> Group
         ensures { result ≡ whole_of self.now }
     {
-        self.facts();
+        self.tell();
         Group::whole(self.nodes, self.faults, self.modulus)
     }
 

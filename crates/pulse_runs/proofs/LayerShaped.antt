@@ -18,9 +18,9 @@ use Rattle.node_words.proofs.StateDigits.{most_bits}
 use Rattle.pulse_plan.specs.Steps.{halving_depth}
 use Rattle.pulse_plan.specs.Runs.{all_fields}
 use Rattle.pulse_plan.specs.Plans.{PulseNumbers, IsAccepted, tree_of}
-use Rattle.pulse_texts.proofs.PlanBits.{some_bits_at, few_registers}
-use Rattle.pulse_texts.proofs.Shaped as shaped
-use Rattle.pulse_texts.specs.PulseShapes.{shape_of}
+use Rattle.pulse_nodes.proofs.PlanBits.{some_bits_at, few_registers}
+use Rattle.pulse_nodes.proofs.Shaped as shaped
+use Rattle.pulse_nodes.specs.PulseShapes.{shape_of}
 use Rattle.pulse_runs.specs.LayerShapes.{shape_with}
 
 -- ---- the fields of a node

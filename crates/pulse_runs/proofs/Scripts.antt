@@ -21,8 +21,8 @@ use Rattle.pulse_plan.specs.Laws.{machine_in}
 use Rattle.pulse_plan.proofs.Sound.{nodes_are}
 use Rattle.pulse_texts.specs.PulsesPart.{pulses_of}
 use Rattle.pulse_texts.proofs.Rewritten.{read_is_accepted}
-use Rattle.pulse_texts.specs.PulseShapes.{shape_of}
-use Rattle.pulse_texts.proofs.Shaped as shaped
+use Rattle.pulse_nodes.specs.PulseShapes.{shape_of}
+use Rattle.pulse_nodes.proofs.Shaped as shaped
 use Rattle.pulse_runs.specs.RunInputs.{in_plan, in_part, in_script, script_behind, Scripted}
 use Rattle.pulse_runs.specs.RunInputs.{with_script, scripted_behind, scripted_of, Layered}
 use Rattle.pulse_runs.specs.RunInputs.{with_said, behind_part, layered_behind, layered_of}

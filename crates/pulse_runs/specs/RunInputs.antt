@@ -11,7 +11,7 @@ use Rattle.adversary_script.specs.ScriptPart.{script_for}
 use Rattle.pulse_plan.specs.Plans.{PulseNumbers}
 use Rattle.pulse_texts.specs.declared.premises.LinePremise.{LinePremise}
 use Rattle.pulse_texts.specs.PulsesPart.{pulses_of}
-use Rattle.pulse_texts.specs.PulseShapes.{shape_of}
+use Rattle.pulse_nodes.specs.PulseShapes.{shape_of}
 use Rattle.pulse_runs.specs.declared.errors.RunRefusal.{RunRefusal}
 use Rattle.pulse_runs.specs.declared.errors.RunRefusal.TheVariants as refusal
 

@@ -10,7 +10,7 @@ use Rattle.slot_table.specs.SlotTexts.{slots_text}
 use Rattle.consensus_layer.specs.AgreeTexts.{agree_text}
 use Rattle.pulse_plan.specs.Plans.{PulseNumbers, IsAccepted}
 use Rattle.pulse_texts.specs.PulsesTexts.{pulses_text}
-use Rattle.pulse_texts.specs.PulseShapes.{shape_of}
+use Rattle.pulse_nodes.specs.PulseShapes.{shape_of}
 use Rattle.pulse_runs.specs.declared.errors.RunRefusal.{RunRefusal}
 use Rattle.pulse_runs.specs.RunInputs.{scripted_of, Layered}
 use Rattle.pulse_runs.specs.LayerInputs.{slots_shape, slotted_of, agree_shape, agreed_of}

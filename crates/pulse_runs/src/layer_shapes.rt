@@ -1,11 +1,9 @@
-ghost use Rattle.std.specs.Prelude.{◌≡◌, ◌≤◌, ◌++◌, length, replicate, IfOk, IfSome};
+ghost use Rattle.std.specs.Prelude.{◌≡◌, ◌≤◌, ◌++◌, length, replicate, IfOk};
 ghost use Rattle.state_codec.specs.Shapes.{bits_in, with_further};
-ghost use Rattle.layer_parts.specs.CounterParts.{AreFew};
-ghost use Rattle.pulse_runs.specs.LayerShapes.{shape_with, shape_for};
+ghost use Rattle.pulse_runs.specs.LayerShapes.{shape_with};
 
-use layer_parts::Registers;
-use pulse_plan::{PulsePlan, all_nodes_fields};
-use pulse_texts::shape_of;
+use pulse_machine::all_nodes_fields;
+use pulse_plan::PulsePlan;
 use state_codec::{Fields, StateShape};
 use std::alloc::{AllocError, Global};
 use sync_types::NoMemory;
@@ -47,7 +45,7 @@ fn fields_with(
     requires few { count ≤ 2 }
     ensures { IfOk result (λ fields. fields ≡ with_further own.now values count) }
 {
-    own.facts();
+    own.tell();
     let moduli = moduli_with(alloc, own, depth, values, count)?;
     Fields::new(alloc, own.base(), moduli)
 }
@@ -55,7 +53,7 @@ fn fields_with(
 /// The shape of a plan's states with `count` further registers after the plan's, at most 2, which
 /// every node has and whose values are those below `values`, 2 to 65536. The only error is want of
 /// memory.
-fn shape_with(
+pub(crate) fn shape_with(
     alloc: Global,
     plan: &PulsePlan,
     values: u64,
@@ -66,7 +64,7 @@ fn shape_with(
     requires few { count ≤ 2 }
     ensures { IfOk result (λ shape. shape ≡ shape_with plan.now values count) }
 {
-    plan.facts();
+    plan.tell();
     let depth = plan.depth();
     let own = all_nodes_fields(alloc, plan)?;
     let mut fields = Vec::with_capacity(alloc, own.len())?;
@@ -75,20 +73,4 @@ fn shape_with(
         fields.push(more).map_err(|_| NoMemory)?;
     }
     StateShape::by_node(alloc, depth + count, &fields)
-}
-
-/// The shape of a plan's states, with these registers after the plan's. The only error is want of
-/// memory.
-pub(crate) fn shape_for(
-    alloc: Global,
-    plan: &PulsePlan,
-    registers: Option<Registers>,
-) -> Result<StateShape, NoMemory>
-    requires { IfSome registers AreFew }
-    ensures { IfOk result (λ shape. shape ≡ shape_for plan.now registers) }
-{
-    match registers {
-        None => shape_of(alloc, plan),
-        Some(more) => shape_with(alloc, plan, more.values, more.count),
-    }
 }

@@ -1,4 +1,4 @@
-ghost use Rattle.std.specs.Prelude.{◌≡◌, MatchResult, IfErr};
+ghost use Rattle.std.specs.Prelude.{◌≡◌, ◌≤◌, ◌^◌, length, MatchResult, IfErr};
 ghost use Rattle.machine_lines.specs.RunTexts.{shown_text};
 ghost use Rattle.pulse_plan.specs.Laws.{machine_in};
 ghost use Rattle.machine_runner.specs.Laws.{IsReadFor};
@@ -6,18 +6,15 @@ ghost use Rattle.pulse_runs.specs.RunTexts.{IsPlayed, FailsToPlay, IsWritten, Ke
 ghost use Rattle.pulse_runs.specs.declared.shown.Shown.TheVariants as shown;
 
 use crate::errors::PlayError;
-use crate::layer_playing::play_layer;
+use crate::layer_playing::{play_decisions, play_entries, play_fires};
 use crate::reading::{read_scripted, read_slotted};
-use crate::refusals::put_error;
+use crate::refusals::tell;
 use crate::shown::Shown;
 use adversary_script::Script;
-use consensus_layer::Agreement;
 use edge_io::Sink;
-use firing::Firing;
 use machine_lines::{HoldLines, Rows, ShownLines, put_shown};
 use machine_runner::Runner;
-use pulse_plan::PulseMachine;
-use replicated_log::Replica;
+use pulse_machine::PulseMachine;
 use state_codec::StateShape;
 use std::alloc::Global;
 
@@ -44,6 +41,7 @@ fn play_on<K: Sink, L: ShownLines>(
 
 /// Plays the script of an input, and writes what the nodes show.
 fn play_rows<K: Sink>(alloc: Global, input: &[u8], sink: &mut K) -> Result<(), PlayError>
+    requires { length input.now ≤ 2 ^ 20 }
     ensures does { MatchResult result
         (λ _. IsPlayed (run_of shown.Rows input.now) (K.told sink.old) (K.told sink.new))
         (FailsToPlay (run_of shown.Rows input.now) (K.told sink.old) (K.told sink.new)) }
@@ -51,12 +49,13 @@ fn play_rows<K: Sink>(alloc: Global, input: &[u8], sink: &mut K) -> Result<(), P
 {
     match read_scripted(alloc, input) {
         Ok((machine, shape, script)) => play_on(alloc, &machine, shape, script, &Rows, sink),
-        Err(error) => Err(put_error(sink, error)),
+        Err(error) => Err(tell(sink, error)),
     }
 }
 
 /// Plays the script of an input, and writes which nodes hold.
 fn play_holds<K: Sink>(alloc: Global, input: &[u8], sink: &mut K) -> Result<(), PlayError>
+    requires { length input.now ≤ 2 ^ 20 }
     ensures does { MatchResult result
         (λ _. IsPlayed (run_of shown.Holds input.now) (K.told sink.old) (K.told sink.new))
         (FailsToPlay (run_of shown.Holds input.now) (K.told sink.old) (K.told sink.new)) }
@@ -66,7 +65,7 @@ fn play_holds<K: Sink>(alloc: Global, input: &[u8], sink: &mut K) -> Result<(), 
         Ok((table, (machine, shape, script))) => {
             play_on(alloc, &machine, shape, script, &HoldLines { table }, sink)
         }
-        Err(error) => Err(put_error(sink, error)),
+        Err(error) => Err(tell(sink, error)),
     }
 }
 
@@ -84,6 +83,7 @@ pub fn play<K: Sink>(
     input: &[u8],
     sink: &mut K,
 ) -> Result<(), PlayError>
+    requires { length input.now ≤ 2 ^ 20 }
     ensures does { MatchResult result
         (λ _. IsPlayed (run_of shown input.now) (K.told sink.old) (K.told sink.new))
         (FailsToPlay (run_of shown input.now) (K.told sink.old) (K.told sink.new)) }
@@ -92,8 +92,8 @@ pub fn play<K: Sink>(
     match shown {
         Shown::Rows => play_rows(alloc, input, sink),
         Shown::Holds => play_holds(alloc, input, sink),
-        Shown::Decisions => play_layer::<Agreement, K>(alloc, input, sink),
-        Shown::Fires => play_layer::<Firing, K>(alloc, input, sink),
-        Shown::Entries => play_layer::<Replica, K>(alloc, input, sink),
+        Shown::Decisions => play_decisions(alloc, input, sink),
+        Shown::Fires => play_fires(alloc, input, sink),
+        Shown::Entries => play_entries(alloc, input, sink),
     }
 }

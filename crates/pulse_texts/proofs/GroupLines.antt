@@ -51,6 +51,9 @@ same_lines (suc d) (suc e) group l m =
     (λ more. let some = some_faults group.faults (group.faults == 0) refl more in
     same_lines d e (right_of group) (omega (arith, l, some)) (omega (arith, m, some))))
 
+pub lines_alone : (group : PulseGroup) → group.faults ≡ 0 → group_lines group ≡ group_line group
+lines_alone group none = alone_lines group.faults group none
+
 lines_by : (f : ℕ) (group : PulseGroup) → group.faults ≡ f → 0 < f
     → lines_within f group
     ≡ group_line group ++ (group_lines (left_of group) ++ group_lines (right_of group))

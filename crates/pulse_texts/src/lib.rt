@@ -1,4 +1,4 @@
-//! The texts of a pulse plan: its part of an input, its table, and the header of one of its nodes.
+//! The texts of a pulse plan: its part of an input, and its table.
 //!
 //! A pulses part is the line `pulses 1`, the line `group N F C` with how many nodes there are, how
 //! many may be faulty, and the modulus that they count by, and the line `end`. Empty lines and
@@ -13,24 +13,14 @@
 //! spares S`, with its first node, what its halves count by and how many of its nodes are in none
 //! of them, or, for a node alone, `group V nodes 1 faults 0 modulus C`; then `end`. Each line ends
 //! with a newline. A table is read back, and refused at its first line that is not as it has to be.
-//!
-//! A header is a pulses part, and then the part of a node with its id and state. [`PulseNodes`] are
-//! the nodes that read a header and packets; [`node_laws`] has what calls of them promise that are
-//! given one another's cells.
 #![tactic(auto)]
 
 mod buffers;
 mod differences;
-pub mod header_laws;
 mod laws;
-pub mod node_laws;
-mod node_refusals;
-mod nodes;
 mod premises;
-mod readers;
 mod reading;
 mod refusals;
-mod shapes;
 mod stages;
 mod table_laws;
 mod table_reading;
@@ -39,13 +29,9 @@ mod taking;
 mod writing;
 
 pub use laws::{accepted_texts_are_rewritten, pulses_texts_read_back};
-pub use node_refusals::put_refusal;
-pub use nodes::PulseNodes;
 pub use premises::LinePremise;
-pub use readers::{PulsesHeader, read_pulses_header};
 pub use reading::{read_pulses, read_whole_pulses};
 pub use refusals::{PulsesError, PulsesRefusal};
-pub use shapes::shape_of;
 pub use stages::PulsesLines;
 pub use table_laws::tables_read_back;
 pub use table_reading::{TableError, read_table};

@@ -3,7 +3,7 @@ ghost use Rattle.texts.specs.Growth.{Puts};
 ghost use Rattle.pulse_texts.specs.Tables.{plan_line, sizes_line, group_front, halves_end};
 ghost use Rattle.pulse_texts.specs.Tables.{spares_of, group_line, group_lines, table_text};
 
-use edge_io::{Writer, Piece, Sink, WriteFault, put_all, put_pieces};
+use edge_io::{Gathered, Piece, Sink, WriteFault, put_all, put_pieces};
 use pulse_plan::{Group, PulsePlan, levels, state_bits, state_bytes};
 
 fn put_plan<K: Sink>(sink: &mut K, plan: &PulsePlan) -> Result<(), WriteFault>
@@ -65,7 +65,7 @@ fn spares(group: &Group) -> u64
     requires { 0 < group.now.faults }
     ensures { result ≡ spares_of group.now }
 {
-    group.facts();
+    group.tell();
     u64::from(group.nodes() - group.left().nodes() - group.right().nodes())
 }
 
@@ -127,7 +127,7 @@ fn put_table<K: Sink>(sink: &mut K, plan: &PulsePlan) -> Result<(), WriteFault>
 pub fn write_table<K: Sink>(plan: &PulsePlan, sink: &mut K) -> Result<(), WriteFault>
     ensures { Puts result (table_text plan.now) (K.told sink.old) (K.told sink.new) }
 {
-    let mut lines = Writer::gathering(sink);
+    let mut lines = Gathered::new(sink);
     let written = put_table(&mut lines, plan);
-    lines.finish_with(written)
+    lines.finish(written)
 }

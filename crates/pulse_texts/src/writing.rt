@@ -1,7 +1,7 @@
 ghost use Rattle.texts.specs.Growth.{Puts};
 ghost use Rattle.pulse_texts.specs.PulsesTexts.{pulses_text};
 
-use edge_io::{Writer, Piece, Sink, WriteFault, put_pieces};
+use edge_io::{Gathered, Piece, Sink, WriteFault, put_pieces};
 use pulse_plan::PulsePlan;
 
 fn put_pulses_text<K: Sink>(sink: &mut K, plan: &PulsePlan) -> Result<(), WriteFault>
@@ -28,7 +28,7 @@ fn put_pulses_text<K: Sink>(sink: &mut K, plan: &PulsePlan) -> Result<(), WriteF
 pub fn write_pulses<K: Sink>(plan: &PulsePlan, sink: &mut K) -> Result<(), WriteFault>
     ensures { Puts result (pulses_text plan.now) (K.told sink.old) (K.told sink.new) }
 {
-    let mut lines = Writer::gathering(sink);
+    let mut lines = Gathered::new(sink);
     let written = put_pulses_text(&mut lines, plan);
-    lines.finish_with(written)
+    lines.finish(written)
 }

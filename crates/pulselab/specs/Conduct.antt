@@ -1,6 +1,6 @@
 -- What a call did to its source and its sink.
 use Rattle.std.specs.Prelude.{◌≡◌, ℕ, List, Option, Some, None}
-use Rattle.texts.specs.Growth.{SinkState, Wrote, Cut}
+use Rattle.texts.specs.Growth.{Told, Wrote, Cut}
 use Rattle.pulselab.specs.declared.faults.LabError.{LabError}
 use Rattle.pulselab.specs.declared.faults.LabError.TheVariants as error
 use Rattle.pulselab.specs.declared.requests.Request.{Request}
@@ -16,8 +16,7 @@ pub record IsUnread (left left' : Option (List ℕ)) (before now : ℕ) : Type 0
   pub still : now ≡ before
 
 -- a text that does not depend on the input was cut
-abbrev pub IsCut : (text : List ℕ) (left left' : Option (List ℕ)) (before now : ℕ)
-    (old new : SinkState)
+abbrev pub IsCut : (text : List ℕ) (left left' : Option (List ℕ)) (before now : ℕ) (old new : Told)
     → LabError → Type 0
 IsCut text left left' before now old new error.WriteFault =
     IsUnread left left' before now × Cut text old new
@@ -25,7 +24,7 @@ IsCut text left left' before now old new other = ⊥
 
 -- the answer was written, all of it
 abbrev pub Answers : Option Request → (left left' : Option (List ℕ)) (before now : ℕ)
-    (old new : SinkState) → Type 0
+    (old new : Told) → Type 0
 Answers None left left' before now old new = ⊥
 Answers (Some request.Help) left left' before now old new =
     IsUnread left left' before now × Wrote help_text old new
@@ -43,13 +42,13 @@ LeavesUnread (Some request.Node) old new = Unit {0}
 LeavesUnread other old new = new ≡ old
 
 -- the words ask for nothing, and nothing was done
-abbrev pub IsUsage : (left left' : Option (List ℕ)) (before now : ℕ) (old new : SinkState)
+abbrev pub IsUsage : (left left' : Option (List ℕ)) (before now : ℕ) (old new : Told)
     → LabError → Type 0
 IsUsage left left' before now old new error.Usage = IsUnread left left' before now × (new ≡ old)
 IsUsage left left' before now old new other = ⊥
 
 abbrev pub Fails : Option Request → (left left' : Option (List ℕ)) (before now : ℕ)
-    (old new : SinkState) → LabError → Type 0
+    (old new : Told) → LabError → Type 0
 Fails None left left' before now old new error = IsUsage left left' before now old new error
 Fails (Some request.Help) left left' before now old new error =
     IsCut help_text left left' before now old new error

@@ -1,6 +1,6 @@
 -- What the words that play do with an input: they play the script on the plan, and write the run.
 use Rattle.std.specs.Prelude.{◌≡◌, ℕ, List, Result, Err}
-use Rattle.texts.specs.Growth.{SinkState, Wrote, Cut}
+use Rattle.texts.specs.Growth.{Told, Wrote, Cut}
 use Rattle.pulse_runs.specs.declared.errors.RunRefusal.{RunRefusal}
 use Rattle.pulse_runs.specs.declared.errors.RunRefusal.TheVariants as refusal
 use Rattle.pulse_runs.specs.RunTexts.{refusal_line, text_of}
@@ -8,12 +8,11 @@ use Rattle.pulselab.specs.declared.faults.LabError.{LabError}
 use Rattle.pulselab.specs.declared.faults.LabError.TheVariants as error
 
 -- the line of this refusal is defined, and was written
-abbrev pub IsRefused : Result (List ℕ) RunRefusal → RunRefusal → (old new : SinkState) → Type 0
+abbrev pub IsRefused : Result (List ℕ) RunRefusal → RunRefusal → (old new : Told) → Type 0
 IsRefused defined refused old new = (defined ≡ Err refused) × Wrote (refusal_line refused) old new
 
 -- the run that is defined was not played
-abbrev pub FailsOn : (defined : Result (List ℕ) RunRefusal) (old new : SinkState) → LabError
-    → Type 0
+abbrev pub FailsOn : (defined : Result (List ℕ) RunRefusal) (old new : Told) → LabError → Type 0
 FailsOn defined old new (error.Refused refused) =
     IsRefused defined (refusal.Plan refused.line refused.premise) old new
 FailsOn defined old new (error.PartRefused part line rule) =

@@ -2,7 +2,7 @@
 use Rattle.std.specs.Prelude.{◌≡◌, ℕ, ◌≤◌, ◌^◌, List, Option, length}
 use Rattle.std.specs.Io.KnownBytes.{Consumes, IsAtEnd}
 use Rattle.texts.specs.Causes.{Counted}
-use Rattle.texts.specs.Growth.{SinkState}
+use Rattle.texts.specs.Growth.{Told}
 use Rattle.edge_io.specs.Reading.{LosesWithin, LosesMore}
 use Rattle.pulselab.specs.declared.faults.LabError.{LabError}
 use Rattle.pulselab.specs.declared.faults.LabError.TheVariants as error
@@ -15,15 +15,15 @@ pub record WasRead (left left' : Option (List ℕ)) (before now : ℕ) (input : 
   pub still : now ≡ before
 
 -- what was read, and that it was answered
-pub record WholeDone (IsDone : (input : List ℕ) (old new : SinkState) → Type 0)
-    (left left' : Option (List ℕ)) (before now : ℕ) (old new : SinkState) : Type 0 where
+pub record WholeDone (IsDone : (input : List ℕ) (old new : Told) → Type 0)
+    (left left' : Option (List ℕ)) (before now : ℕ) (old new : Told) : Type 0 where
   pub input : List ℕ
   pub read : WasRead left left' before now input
   pub done : IsDone input old new
 
 -- the whole input was read, and then this failed
-pub record FailsAfter (FailsOn : (input : List ℕ) (old new : SinkState) → LabError → Type 0)
-    (left left' : Option (List ℕ)) (before now : ℕ) (old new : SinkState) (error : LabError)
+pub record FailsAfter (FailsOn : (input : List ℕ) (old new : Told) → LabError → Type 0)
+    (left left' : Option (List ℕ)) (before now : ℕ) (old new : Told) (error : LabError)
     : Type 0 where
   pub input : List ℕ
   pub read : WasRead left left' before now input
@@ -31,8 +31,8 @@ pub record FailsAfter (FailsOn : (input : List ℕ) (old new : SinkState) → La
 
 -- Nothing was written where at most so much was read before a read failed, or more than there may
 -- be, or memory was refused. Else what failed came after the input was read.
-abbrev pub WholeFails : (FailsOn : (input : List ℕ) (old new : SinkState) → LabError → Type 0)
-    → (left left' : Option (List ℕ)) (before now : ℕ) (old new : SinkState) → LabError → Type 0
+abbrev pub WholeFails : (FailsOn : (input : List ℕ) (old new : Told) → LabError → Type 0)
+    → (left left' : Option (List ℕ)) (before now : ℕ) (old new : Told) → LabError → Type 0
 WholeFails FailsOn left left' before now old new error.Usage = ⊥
 WholeFails FailsOn left left' before now old new (error.Cut packet sender) = ⊥
 WholeFails FailsOn left left' before now old new error.ReadFault =

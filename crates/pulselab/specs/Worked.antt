@@ -15,7 +15,7 @@ use Rattle.pulse_texts.specs.declared.premises.LinePremise.TheVariants as line
 use Rattle.pulse_texts.specs.PulsesPart.{whole_pulses_of}
 use Rattle.pulse_texts.specs.PulsesTexts.{pulses_text}
 use Rattle.pulse_texts.specs.Tables.{table_text}
-use Rattle.pulse_texts.specs.PulseWords.{pulse_words}
+use Rattle.pulse_nodes.specs.PulseWords.{pulse_words}
 use Rattle.pulse_runs.specs.declared.shown.Shown.TheVariants as shown
 use Rattle.pulse_runs.specs.RunTexts as run
 use Rattle.pulselab.specs.declared.requests.Request.TheVariants as request

@@ -4,9 +4,9 @@ ghost use Rattle.std.specs.Prelude.{◌≡◌, map, string_bytes, MatchResult, I
 ghost use Rattle.pulse_plan.specs.Laws.{EveryPlanSettles};
 ghost use Rattle.pulse_texts.specs.PulsesTexts.{PulsesTextIsWhole};
 ghost use Rattle.pulse_texts.specs.TableLaws.{TablesAreRead, OnlyTablesAreRead};
-ghost use Rattle.pulse_texts.specs.HeaderTexts.{PulseHeaderTextIsRead};
-ghost use Rattle.pulse_texts.specs.NodePromises.{PulseNodesKeepPromise, PulseCallsAreProcesses};
-ghost use Rattle.pulse_texts.specs.NodePromises.{AnyPulseInputs};
+ghost use Rattle.pulse_nodes.specs.HeaderTexts.{PulseHeaderTextIsRead};
+ghost use Rattle.pulse_nodes.specs.NodePromises.{PulseNodesKeepPromise, PulseCallsAreProcesses};
+ghost use Rattle.pulse_nodes.specs.NodePromises.{AnyPulseInputs};
 ghost use Rattle.pulse_runs.specs.RunPromises.{RunsKeepPromise};
 ghost use Rattle.pulse_runs.specs.HoldPromises.{SlotsKeepPromise};
 ghost use Rattle.pulse_runs.specs.LayerPromises.{LayersKeepPromise};
@@ -23,10 +23,10 @@ use crate::requests::{Request, request_of};
 use crate::whole_word::answer_all;
 use crate::worked::worked_values;
 use edge_io::{Sink, Source};
+use pulse_nodes::header_laws::header_texts_read_back;
+use pulse_nodes::laws::{any_inputs, calls_are_processes, pulse_nodes_keep_promise};
 use pulse_plan::laws::every_plan_settles;
 use pulse_runs::laws::{runs_keep_promise, script_inputs_read_back};
-use pulse_texts::header_laws::header_texts_read_back;
-use pulse_texts::node_laws::{any_inputs, calls_are_processes, pulse_nodes_keep_promise};
 use pulse_texts::{pulses_texts_read_back, tables_read_back};
 use std::alloc::Global;
 

@@ -8,7 +8,7 @@ ghost use Rattle.pulselab.specs.declared.requests.Request.TheVariants as request
 use crate::faults::LabError;
 use edge_io::{Sink, Source};
 use node_words::serve_node;
-use pulse_texts::PulseNodes;
+use pulse_nodes::PulseNodes;
 use std::alloc::Global;
 
 /// Reads a header and then packets, and writes the node's cells.

@@ -7,7 +7,8 @@ ghost use Rattle.pulselab.specs.PlanWord.{IsTabled, FailsOn};
 
 use crate::faults::LabError;
 use edge_io::{Sink, WriteFault};
-use pulse_texts::{PulsesError, put_refusal, read_whole_pulses, write_table};
+use pulse_nodes::put_refusal;
+use pulse_texts::{PulsesError, read_whole_pulses, write_table};
 
 /// Writes the table of the plan that an input is, or the line of its refusal.
 pub fn table_plan<K: Sink>(input: &[u8], sink: &mut K) -> Result<(), LabError>

@@ -2,19 +2,13 @@ ghost use Rattle.std.specs.Prelude.{◌≤◌, ◌<◌, ◌+◌, ◌^◌, length
 ghost use Rattle.replicated_log.specs.LogReadings.{IsAnswerOver, IsAnswer};
 
 use crate::log_lines::LogLines;
+use crate::refusals::LogError;
 use crate::replica::Replica;
-use edge_io::{PartError, Refused, read_part};
+use edge_io::read_part;
 use layer_laws::CounterNumbers;
 use plan_numbers::Plan;
 use std::alloc::Global;
 use sync_types::Rule;
-
-/// The line of a log part that is refused: its number in the whole input, skipped lines counted,
-/// and the first rule that it fails. Where the part lacks its end it is the line after the last.
-pub type LogRefusal = Refused<Rule>;
-
-/// Why a log part was not read: its first line that fails, or memory was refused.
-pub type LogError = PartError<Rule>;
 
 /// Reads the log part at the front of an input: the log over a counter that it says, with nothing
 /// in it, how many bytes stand through the part's `end` line, that line's newline among them, and
@@ -57,6 +51,6 @@ pub fn read_log(
     ensures within { IfOk result (λ read. read.1 ≤ length bytes.now) }
     ensures lines { IfOk result (λ read. read.2 ≤ read.1) }
 {
-    plan.facts();
+    plan.tell();
     read_log_over(alloc, &CounterNumbers::of(plan), bytes, first_line)
 }

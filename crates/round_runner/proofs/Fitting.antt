@@ -28,7 +28,7 @@ use Rattle.state_codec.proofs.Lows.{depth_at, fields_limited}
 use Rattle.state_codec.proofs.Plans.{shape_of_accepted, length-moduli_of, nodes_of_shape}
 use Rattle.state_codec.proofs.PlanStates.{in_range_of_node, state_of_node}
 use Rattle.counter_core.specs.Meanings.{cut}
-use Rattle.counter_core.specs.Overlays.{Layer, LayerFits, HasValues, AreBelow}
+use Rattle.counter_core.specs.Overlays.{Layer, StandsOver, HasValues, AreBelow}
 use Rattle.counter_core.specs.NoLayers.{no_layer}
 use Rattle.adversary_script.specs.Scripts.{Script}
 use Rattle.adversary_script.specs.ScriptPart as part
@@ -122,7 +122,7 @@ module _ {Kept : Type 0} (plan : Plan) (layer : Layer Kept) (accepted : IsAccept
               (omega arith) s within.values;
         }
 
-    values : LayerFits layer (plan_meaning plan) → (s : State) → InRange (fields_at shape v) s
+    values : StandsOver layer (plan_meaning plan) → (s : State) → InRange (fields_at shape v) s
         → HasValues layer s
     values over s range = λ i lt.
         let here : InRange (record own { moduli = own.moduli ++ behind }) s =
@@ -225,7 +225,7 @@ module _ {Kept : Type 0} (plan : Plan) (layer : Layer Kept) (accepted : IsAccept
 
 pub layer_fits : {Kept : Type 0} (plan : Plan) (layer : Layer Kept) (shape : Shape)
     → IsAccepted plan → shape ≡ shape_with plan layer.values layer.extra → IsShape shape
-    → LayerFits layer (plan_meaning plan) → Fits shape (plan_meaning plan) (IsInRange plan) layer
+    → StandsOver layer (plan_meaning plan) → Fits shape (plan_meaning plan) (IsInRange plan) layer
 layer_fits plan layer states accepted is sound over =
     let whole : IsShape (shape_with plan layer.values layer.extra) = subst IsShape is sound in
     subst (λ (s : Shape). Fits s (plan_meaning plan) (IsInRange plan) layer) (sym is) (record {

@@ -12,7 +12,7 @@ use Rattle.adversary_script.specs.Scripts.{Script}
 use Rattle.adversary_script.specs.Eras.{faulty_at}
 use Rattle.adversary_script.specs.Lies.{lie_of}
 use Rattle.round_runner.specs.Played.{lies_at, heard_at}
-use Rattle.machine_runner.proofs.Heard.{one_at}
+use Rattle.round_runner.proofs.Heard.{one_at}
 
 module _ (script : Script) (t v : ℕ) (config : List State) (node : v < script.nodes) (u : ℕ)
     (lt : u < script.nodes) (told : State) where

@@ -14,12 +14,10 @@ use Rattle.round_runner.specs.Known.{KnowsLocks, known_from}
 use Rattle.round_runner.specs.Laws.{IsUpTo}
 use Rattle.round_runner.specs.Locks.{first_locked, era_locked, IsFirstLocked}
 use Rattle.round_runner.specs.Runners.{Running, IsPlaying, configuration_of}
-use Rattle.layer_runs.specs.Scenes.{scene_at}
-use Rattle.machine_runner.proofs.Eras.{still_last}
-use Rattle.machine_runner.proofs.FirstPassing.{first_locked_below}
-use Rattle.machine_runner.proofs.Firsts.{in_era, era_some, end_within}
-use Rattle.round_runner.proofs.FirstLocked.{first_is_locked, passes}
-use Rattle.round_runner.proofs.LocksKnown.{known_at_end}
+use Rattle.round_runner.specs.Scenes.{scene_at}
+use Rattle.round_runner.proofs.FirstLocked.{first_is_locked, first_locked_below, passes}
+use Rattle.round_runner.proofs.Firsts.{in_era, era_some, end_within}
+use Rattle.round_runner.proofs.LocksKnown.{known_at_end, still_last}
 use Rattle.round_runner.proofs.ScenesLock.{known_is, known_first}
 
 -- where it stops

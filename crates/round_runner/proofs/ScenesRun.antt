@@ -29,11 +29,11 @@ use Rattle.adversary_script.specs.Lies.{fitted, start_of, lie_of}
 use Rattle.adversary_script.proofs.LiesInRange.{starts_in_range, lies_have}
 use Rattle.round_runner.specs.Played.{heard_at}
 use Rattle.round_runner.specs.Runners.{IsFor}
-use Rattle.layer_runs.specs.Scenes.{begun_kept, layer_step, new_state, state_behind, scene_at}
+use Rattle.round_runner.specs.Scenes.{begun_kept, layer_step, new_state, state_behind, scene_at}
 use Rattle.round_runner.proofs.Fitting.{front_is, fitted_is}
-use Rattle.machine_runner.proofs.Firsts.{in_era, none_inside, none_hit}
-use Rattle.machine_runner.proofs.Hits.{put_has, hit_has}
-use Rattle.machine_runner.proofs.Places.{each, placed}
+use Rattle.round_runner.proofs.Firsts.{in_era, none_inside, none_hit}
+use Rattle.round_runner.proofs.Hits.{put_has, hit_has}
+use Rattle.round_runner.proofs.Places.{each, placed}
 
 -- a choice of two states, cut
 cut_choice : (d : ℕ) (b : Bool) (s t : State) → cond b (cut d s) (cut d t) ≡ cut d (cond b s t)

@@ -8,9 +8,8 @@ use Rattle.std.proofs.lemmas.List.Elements.{All-set}
 use Rattle.sync_types.specs.States.{State, zero_state}
 use Rattle.construction.specs.Steps.{state_of}
 use Rattle.adversary_script.specs.Scripts.{Script}
-use Rattle.machine_runner.specs.Hearing.{heard_from}
-use Rattle.round_runner.specs.Hearing.{IsOfSome, AreOfNodes, TellsItself}
-use Rattle.machine_runner.proofs.Told.{from_itself}
+use Rattle.round_runner.specs.Hearing.{heard_from, IsOfSome, AreOfNodes, TellsItself}
+use Rattle.round_runner.proofs.HeardFrom.{heard_itself}
 
 module _ (script : Script) (t v : ℕ) (config : List State) (ids : List ℕ) (from room : ℕ)
     (key : List ℕ) where
@@ -58,7 +57,7 @@ module _ (script : Script) (t v : ℕ) (config : List State) (ids : List ℕ) (f
           ≡ heard_from script t v config (slice_index ids i)) (sym at)
           (h.own j lt (id ∙ it)
           ∙ sym (ap (heard_from script t v config) id
-          ∙ (from_itself script t v config u it ∙ ap (state_of config) it)))
+          ∙ (heard_itself script t v config u it ∙ ap (state_of config) it)))
       | inr ne ↦ h.told k low (omega (arith, high, ne))
     ];
     own = h.own;

@@ -1,3 +1,4 @@
+pub mod Beginnings
 pub mod Fits
 pub mod Hearing
 pub mod Laying
@@ -9,5 +10,6 @@ pub mod Locks
 pub mod Played
 pub mod Rooms
 pub mod Runners
+pub mod Scenes
 pub mod Skipping
 pub mod Turns

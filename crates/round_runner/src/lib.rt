@@ -11,6 +11,7 @@ mod hearing;
 mod knowing;
 pub mod laws;
 mod locks;
+mod plays;
 mod positions;
 mod restarting;
 mod rounds;

@@ -8,7 +8,7 @@ impl<O: Overlay> Play<O> for Runner<O> {
 
     ghost position = { position_of O.layer O.kept };
 
-    fn facts(&self) {
+    fn tell(&self) {
         let _at = self.at;
     }
 

@@ -40,7 +40,7 @@ impl Runner<NoOverlay> {
         ensures settled { result ≡ true → IsSettled self.old.plan
             (faulty_at self.old.script self.old.at) self.old.states }
     {
-        self.states.facts();
+        self.states.tell();
         let mut steps = Steps::<G>::new(blank);
         let shared = &mut self.room.shared;
         let faulty = self.script.era_faulty(self.era);
@@ -77,7 +77,7 @@ impl Runner<NoOverlay> {
     {
         let to = end.min(self.era_end() - 1);
         if self.at() < to && self.is_settled() {
-            self.states.facts();
+            self.states.tell();
             grow(to - self.at, &mut self.room.out, &mut self.states);
             self.states.flip();
             self.at = to;

@@ -2,10 +2,9 @@ ghost use Rattle.std.specs.Prelude.{◌≡◌, ◌<◌, ◌≤◌, ℕ, true, le
 ghost use Rattle.sync_types.specs.FaultSets.{is_in};
 ghost use Rattle.construction.specs.Steps.{state_of};
 ghost use Rattle.shared_board.specs.Sharing.{place_among};
-ghost use Rattle.machine_runner.specs.Hearing.{heard_from};
-ghost use Rattle.round_runner.specs.Hearing.{AreLies, AreOfNodes, TellsItself};
+ghost use Rattle.round_runner.specs.Hearing.{heard_from, AreLies, AreOfNodes, TellsItself};
 
-use crate::turns::{NodeStep, Round};
+use crate::turns::{Round, Turn};
 use adversary_script::Noise;
 use sync_types::{FaultSet, NodeState};
 
@@ -32,7 +31,7 @@ pub fn liars_in(round: &Round<'_>) -> usize
 }
 
 /// Where the node of a turn is faulty, puts its own state into its place.
-fn tell_itself(turn: &NodeStep<'_>, lies: &mut [NodeState])
+fn tell_itself(turn: &Turn<'_>, lies: &mut [NodeState])
     requires { AreLies turn.now.round.now.script.now lies.old }
     ensures own { TellsItself turn.now.round.now.faulty.now.ids turn.now.v
         turn.now.states.now.current lies.new }
@@ -40,8 +39,8 @@ fn tell_itself(turn: &NodeStep<'_>, lies: &mut [NodeState])
 {
     let faulty = turn.round.faulty;
     let _liars = liars_in(turn.round);
-    faulty.facts();
-    turn.states.facts();
+    faulty.tell();
+    turn.states.tell();
     if faulty.contains(turn.v) {
         let own = place_of(faulty, turn.v);
         turn.states.old(turn.v, &mut lies[own]);
@@ -50,12 +49,7 @@ fn tell_itself(turn: &NodeStep<'_>, lies: &mut [NodeState])
 
 /// Puts what the node of a turn hears of the faulty nodes from one place of their set to before
 /// another into these places of `lies`, and where it is faulty itself its own state into its place.
-pub fn fill_lies(
-    turn: &NodeStep<'_>,
-    stretch: (usize, usize),
-    noise: &mut Noise,
-    lies: &mut [NodeState],
-)
+pub fn tell(turn: &Turn<'_>, stretch: (usize, usize), noise: &mut Noise, lies: &mut [NodeState])
     requires noise { noise.old ≡ turn.now.round.now.script.now.key }
     requires stretch { stretch.1 ≤ length turn.now.round.now.faulty.now.ids }
     requires lies { AreLies turn.now.round.now.script.now lies.old }
@@ -72,7 +66,7 @@ pub fn fill_lies(
     let faulty = round.faulty;
     let v = turn.v;
     let _liars = liars_in(round);
-    faulty.facts();
+    faulty.tell();
     tell_itself(turn, lies);
     for j in stretch.0..stretch.1 {
         let u = faulty.at(j);

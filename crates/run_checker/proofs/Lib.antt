@@ -30,6 +30,7 @@ mod BodySteps
 mod Decoded
 mod EraFound
 mod HeardLaid
+mod HeardSteps
 mod LevelLines
 mod LineTexts
 mod LinesRead
@@ -50,3 +51,4 @@ mod StatesRead
 mod ToldPlaces
 mod TrueTexts
 mod Unlimited
+mod WordsBefore

@@ -6,14 +6,14 @@ use Rattle.std.proofs.Common.{length-append}
 use Rattle.std.specs.Prelude.{slice_index}
 use Rattle.std.proofs.lemmas.Bool.{cases_eq, eq-eqb, ne_eqb, and_parts, and_from, lt-ltb, ltb-true}
 use Rattle.std.proofs.lemmas.Bool.{leb-true, le-leb, true≢false}
+use Rattle.std.proofs.lemmas.List.{append-nil}
 use Rattle.std.proofs.lemmas.List.Folds.{list_all-append}
 use Rattle.std.proofs.Math.ListN.{get_or-append}
 use Rattle.std.proofs.Math.Seq.{get_or-append_seam}
 use Rattle.texts.specs.Numbers.{number_of}
 use Rattle.texts.specs.Shapes.{onto_numbers}
 use Rattle.texts.proofs.Shapes.{with_front}
-use Rattle.adversary_script.specs.WordTests.{are_below, is_rising}
-use Rattle.texts.specs.Shapes.{all_numbers}
+use Rattle.adversary_script.specs.WordTests.{are_below, is_rising, numbers_in}
 use Rattle.adversary_script.proofs.RisingIds.{id_below, rises_at}
 use Rattle.run_checker.specs.Sets.{is_borne_by, borne_ids, is_above, may_follow}
 
@@ -108,11 +108,15 @@ module _ (nodes faults : ℕ) where
 
   module _ (said : Option (List ℕ)) (ids : List ℕ) where
     pub word_read : (words rest : List (List ℕ)) (word : List ℕ) (id : ℕ)
-        → said ≡ with_front ids (all_numbers words) → words ≡ word ∷ rest → number_of word ≡ Some id
-        → said ≡ with_front ids (onto_numbers (Some id) (all_numbers rest))
+        → said ≡ with_front ids (numbers_in words) → words ≡ word ∷ rest → number_of word ≡ Some id
+        → said ≡ with_front ids (onto_numbers (Some id) (numbers_in rest))
     word_read words rest word id is more number =
-        is ∙ ap (λ (ws : List (List ℕ)). with_front ids (all_numbers ws)) more
-        ∙ ap (λ (o : Option ℕ). with_front ids (onto_numbers o (all_numbers rest))) number
+        is ∙ ap (λ (ws : List (List ℕ)). with_front ids (numbers_in ws)) more
+        ∙ ap (λ (o : Option ℕ). with_front ids (onto_numbers o (numbers_in rest))) number
+
+    pub no_number : (rest : Option (List ℕ)) → said ≡ with_front ids (onto_numbers None rest)
+        → borne_ids nodes faults said ≡ None
+    no_number rest is = ap (borne_ids nodes faults) is
 
     pub no_follower : (id : ℕ) (rest : Option (List ℕ))
         → said ≡ with_front ids (onto_numbers (Some id) rest)
@@ -131,3 +135,9 @@ module _ (nodes faults : ℕ) where
           ≡ with_front (ids ++ id ∷ []) rest
       moved id None = refl
       moved id (Some ns) = ap Some (sym (append_assoc ids (id ∷ []) ns))
+
+    pub all_read : said ≡ with_front ids (Some []) → is_borne_by nodes faults ids ≡ true
+        → borne_ids nodes faults said ≡ Some ids
+    all_read is borne =
+        ap (borne_ids nodes faults) (is ∙ ap Some (append-nil ids))
+        ∙ ap (λ (b : Bool). cond b (Some ids) None) borne

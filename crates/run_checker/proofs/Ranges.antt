@@ -41,6 +41,9 @@ module _ (unknown faulty : List ℕ) where
       let more : to - v ≡ suc (to - (v + 1)) = omega arith in
       ap (some_need v) more
 
+  pub none_needs : (v to : ℕ) → to ≤ v → needs_state unknown faulty v to ≡ false
+  none_needs v to le = let none : to - v ≡ 0 = omega arith in ap (some_need v) none
+
 -- ---- correct nodes
 
 module _ (faulty : List ℕ) where

@@ -20,6 +20,9 @@ use Rattle.run_checker.specs.Grammar.{AreStarts}
 use Rattle.run_checker.specs.Checking.{needs_state}
 
 module _ (plan : Plan) (unknown faulty : List ℕ) where
+  n : ℕ
+  n = plan_nodes plan
+
   abbrev pub needs : ℕ → Bool
   needs v = is_in unknown v && not (is_in faulty v)
 

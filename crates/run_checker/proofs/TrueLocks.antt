@@ -17,7 +17,7 @@ use Rattle.round_runner.specs.Locks.{is_locked}
 use Rattle.run_checker.specs.declared.Verdict.TheVariants as verdict
 use Rattle.run_checker.specs.Certificates.{Era, Turn, Certificate}
 use Rattle.run_checker.specs.Grammar.{IsCertificate}
-use Rattle.run_checker.specs.Stated.{Snapshot, first_stand, stated, first_from, begins_at}
+use Rattle.run_checker.specs.Stated.{Stand, first_stand, stated, first_from, begins_at}
 use Rattle.run_checker.specs.Stated.{last_start_from, last_start, locks_at, verdict_by}
 use Rattle.run_checker.specs.Stated.{verdict_of, first_difference}
 use Rattle.run_checker.specs.Laws.{AreQuiet, EndWithEra, LockedAt, NoneLocked, IsFirstLocked}
@@ -167,7 +167,7 @@ module _ (test : LockTestIsExact) (locks : LocksAtBound) (locked_count : LockedR
   abbrev from : ℕ
   from = length begin.before
 
-  abbrev passes : Snapshot → Bool
+  abbrev passes : Stand → Bool
   passes s = is_locked c.plan s.faulty s.config
 
   from_is : last_start c ≡ from
@@ -240,16 +240,16 @@ module _ (test : LockTestIsExact) (locks : LocksAtBound) (locked_count : LockedR
     turns_long : length c.turns ≡ from + length begin.stretch
     turns_long = ap length begin.parts ∙ length-append begin.before begin.stretch
 
-    abbrev last_stand : Snapshot
+    abbrev last_stand : Stand
     last_stand = stand c is rows locked true_is begin.before begin.stretch [] whole begin.quiet
 
-    abbrev last_stands : List Snapshot
+    abbrev last_stands : List Stand
     last_stands = stands c is rows locked true_is begin.before begin.stretch [] whole begin.quiet
 
     abbrev last_configs : List (List State)
     last_configs = configs c is rows locked true_is begin.before begin.stretch [] whole begin.quiet
 
-    abbrev first : Snapshot
+    abbrev first : Stand
     first = first_stand c
 
     -- what is locked at a place of the stretch
@@ -270,12 +270,12 @@ module _ (test : LockTestIsExact) (locks : LocksAtBound) (locked_count : LockedR
       to_run h =
           subst (λ config. IsLocked c.plan last_stand.faulty config) (sym config_at)
           (subst (λ f. IsLocked c.plan f (get_or last_stands i first).config) faulty_at
-          (subst (λ (s : Snapshot). IsLocked c.plan s.faulty s.config) stand_at h))
+          (subst (λ (s : Stand). IsLocked c.plan s.faulty s.config) stand_at h))
 
       from_run : IsLocked c.plan last_stand.faulty (configuration last_configs i)
           → LockedAt c (from + i)
       from_run h =
-          subst (λ (s : Snapshot). IsLocked c.plan s.faulty s.config) (sym stand_at)
+          subst (λ (s : Stand). IsLocked c.plan s.faulty s.config) (sym stand_at)
           (subst (λ f. IsLocked c.plan f (get_or last_stands i first).config) (sym faulty_at)
           (subst (λ config. IsLocked c.plan last_stand.faulty config) config_at h))
 

@@ -111,6 +111,12 @@ abbrev pub Read : Stage → (taken number : ℕ) → List (List ℕ)
 Read stage taken number lines (Ok found) = Taken stage taken lines found
 Read stage taken number lines (Err at) = Stopped stage number lines at
 
+-- a line, where it says an item
+abbrev ReadBy : Stage → List ℕ → (taken number : ℕ) → (lines : List (List ℕ)) → Option Item → Onward
+    → Type 0
+ReadBy stage line taken number lines found next =
+    Read stage taken number (line ∷ lines) (lines_following next taken number lines)
+
 stop_here : (stage : Stage) (taken number : ℕ) (lines : List (List ℕ)) (at : At (Unit {0}))
     → at.line ≡ number → Stopped stage number lines at
 stop_here stage taken number lines at e =

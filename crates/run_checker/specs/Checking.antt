@@ -20,8 +20,7 @@ use Rattle.texts.specs.Words.{open_rest}
 use Rattle.run_checker.specs.Items.{Item, run_item, base_item, level_item, faulty_item}
 use Rattle.run_checker.specs.Items.{start_item, row_item, lie_item, era_item, end_item, said}
 use Rattle.run_checker.specs.Grammar.{pairs_of, plan_version, most_eras}
-use Rattle.run_checker.specs.Stated.{Snapshot, Message, stepped, unless_faulty, shown_row}
-use Rattle.run_checker.specs.Stated.{same_rows}
+use Rattle.run_checker.specs.Stated.{Stand, Told, stepped, unless_faulty, shown_row, same_rows}
 use Rattle.run_checker.specs.Stated.{verdict_by}
 
 -- Configuration `at` of the stated run, and what its rows came to before it: how many eras have
@@ -31,7 +30,7 @@ pub record Known : Type 0 where
   pub plan : Plan
   pub eras : ℕ
   pub at : ℕ
-  pub stand : Snapshot
+  pub stand : Stand
   pub differs : Option ℕ
   pub locked : Option ℕ
 
@@ -153,7 +152,7 @@ first_row_fits k unknown from t row =
 
 -- ---- rounds
 
-abbrev pub attributed : (n : ℕ) → (faulty : List ℕ) → List State → List Message
+abbrev pub attributed : (n : ℕ) → (faulty : List ℕ) → List State → List Told
 attributed n faulty states =
     map (λ (pair, state). record { sender = pair.0; receiver = pair.1; state = state })
     (zip (pairs_of n faulty) states)

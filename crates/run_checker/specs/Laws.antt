@@ -11,7 +11,7 @@ use Rattle.run_checker.specs.declared.Verdict.TheVariants as verdict
 use Rattle.texts.specs.Lines.{whole_lines}
 use Rattle.run_checker.specs.Certificates.{Turn, Certificate, certificate_text}
 use Rattle.run_checker.specs.Grammar.{IsCertificate, AreFirstLines}
-use Rattle.run_checker.specs.Stated.{Snapshot, stand_behind, first_stand, stands_behind, stated}
+use Rattle.run_checker.specs.Stated.{Stand, stand_behind, first_stand, stands_behind, stated}
 use Rattle.run_checker.specs.Stated.{rows_of, verdict_of}
 use Rattle.run_checker.specs.Checking.{checked}
 
@@ -58,7 +58,7 @@ abbrev pub AreQuiet : List Turn → Type 0
 AreQuiet turns = All (λ turn. turn.era ≡ None) turns
 
 -- the configuration behind rounds
-abbrev pub stand_after : Plan → Snapshot → List Turn → Snapshot
+abbrev pub stand_after : Plan → Stand → List Turn → Stand
 stand_after plan stand [] = stand
 stand_after plan stand (turn ∷ turns) = stand_after plan (stand_behind plan stand turn) turns
 

@@ -7,7 +7,7 @@ use Rattle.counter_core.specs.declared.overlays.NoOverlay.{NoOverlay}
 use Rattle.counter_core.specs.NoLayers.{no_layer}
 use Rattle.adversary_script.specs.Scripts.{Script, IsScript}
 use Rattle.adversary_script.specs.Eras.{faulty_at}
-use Rattle.machine_runner.specs.Beginnings.{BeginsAt}
+use Rattle.round_runner.specs.Beginnings.{BeginsAt}
 use Rattle.round_runner.specs.Played.{played_at}
 use Rattle.round_runner.specs.Runners.{Running, IsPlaying}
 

@@ -19,12 +19,12 @@ use Rattle.run_checker.specs.declared.Verdict.TheVariants as verdict
 use Rattle.run_checker.specs.NodeFields.{fields_of}
 use Rattle.run_checker.specs.Certificates.{Put, Lie, Era, Turn, Certificate}
 use Rattle.run_checker.specs.Grammar.{pairs_of, IsCertificate}
-use Rattle.run_checker.specs.Stated.{Snapshot, told_by, told_of, stated, shown_row}
+use Rattle.run_checker.specs.Stated.{Stand, told_by, told_of, stated, shown_row}
 use Rattle.run_checker.specs.Stated.{first_difference, verdict_of}
 
 module _ (plan : Plan) (s : Script) where
   -- configuration t, with its faulty nodes
-  abbrev pub stand_at : ℕ → Snapshot
+  abbrev pub stand_at : ℕ → Stand
   stand_at t = record { faulty = faulty_at s t; config = played_at plan s t }
 
   -- node v in its state of configuration t
@@ -109,9 +109,9 @@ RecordsAreTrue = (plan : Plan) (s : Script) → IsReadFor plan s → HasItsEras 
 pub record IsOfRun (plan : Plan) (s : Script) : Type 0 where
   pub of_plan : (certificate_of plan s).plan ≡ plan
   pub rounds : length (certificate_of plan s).turns ≡ s.rounds
-  pub faulty : (t : ℕ) (d : Snapshot) → t ≤ s.rounds
+  pub faulty : (t : ℕ) (d : Stand) → t ≤ s.rounds
       → (slice_index_or (stated (certificate_of plan s)) t d).faulty ≡ faulty_at s t
-  pub states : (t v : ℕ) (d : Snapshot) → t ≤ s.rounds → v < plan_nodes plan
+  pub states : (t v : ℕ) (d : Stand) → t ≤ s.rounds → v < plan_nodes plan
       → is_in (faulty_at s t) v ≡ false
       → state_of (slice_index_or (stated (certificate_of plan s)) t d).config v
       ≡ state_of (played_at plan s t) v

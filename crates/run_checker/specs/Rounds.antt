@@ -11,7 +11,7 @@ use Rattle.state_codec.specs.Packs.{Pack}
 use Rattle.shared_board.specs.Sharing.{stands_for}
 use Rattle.run_checker.specs.Grammar.{pairs_of}
 use Rattle.plan_laws.specs.PlanMeaning.{IsInRange}
-use Rattle.run_checker.specs.declared.rounds.RoundBuffers.{RoundBuffers}
+use Rattle.run_checker.specs.declared.rounds.Room.{Room}
 use Rattle.run_checker.specs.Tellings.{Telling}
 
 -- what u tells v: the state told for the first pair of both, or the zero state where there is none
@@ -53,7 +53,7 @@ pub record AreStates (plan : Plan) (states : List State) : Type 0 where
   pub range : All (IsInRange plan) states
 
 -- the room that rounds of a plan need: as many may lie as there are nodes
-pub record IsReady (plan : Plan) (room : RoundBuffers) : Type 0 where
+pub record IsReady (plan : Plan) (room : Room) : Type 0 where
   pub size : length room.lies.items ≡ plan_nodes plan
   pub lies : AreStates plan room.lies.items
   pub zero : room.zero ≡ zero_state (plan_depth plan)
@@ -74,7 +74,7 @@ pub record IsConfig (plan : Plan) (config : Pack) : Type 0 where
 
 -- and the room is ready, and has counted the correct nodes in it; what the others tell are states
 pub record IsGathered (plan : Plan) (faulty : List ℕ) (told : List State) (config : Pack)
-    (room : RoundBuffers) : Type 0 where
+    (room : Room) : Type 0 where
   pub said : AreStates plan told
   pub is : IsConfig plan config
   pub ready : IsReady plan room

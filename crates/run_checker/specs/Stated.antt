@@ -18,17 +18,17 @@ use Rattle.run_checker.specs.Certificates.{Put, Lie, Era, Turn, Certificate}
 use Rattle.run_checker.specs.Grammar.{faulty_behind}
 
 -- a configuration of the run, with its faulty nodes
-pub record Snapshot : Type 0 where
+pub record Stand : Type 0 where
   pub faulty : List ℕ
   pub config : List State
 
 -- what a sender tells a receiver
-pub record Message : Type 0 where
+pub record Told : Type 0 where
   pub sender : ℕ
   pub receiver : ℕ
   pub state : State
 
-abbrev pub told_by : Plan → Lie → Message
+abbrev pub told_by : Plan → Lie → Told
 told_by plan lie = record {
   sender = lie.sender;
   receiver = lie.receiver;
@@ -36,13 +36,13 @@ told_by plan lie = record {
 }
 
 -- what u tells v; where nothing is said, the zero state
-abbrev pub told_of : Plan → List Message → (u v : ℕ) → State
+abbrev pub told_of : Plan → List Told → (u v : ℕ) → State
 told_of plan told u v =
     unwrap_or (option_map (λ t. t.state) (find (λ t. t.sender == u && t.receiver == v) told))
     (zero_state (plan_depth plan))
 
 -- the table of what is told
-abbrev pub lies_table : Plan → List Message → List (List State)
+abbrev pub lies_table : Plan → List Told → List (List State)
 lies_table plan told =
     map (λ u. map (λ v. told_of plan told u v) (range_with_len 0 (plan_nodes plan)))
     (range_with_len 0 (plan_nodes plan))
@@ -65,13 +65,13 @@ starts_of None = []
 starts_of (Some era) = era.starts
 
 -- the configuration behind a round: each correct node steps from what it hears
-abbrev pub stepped : Plan → (new_faulty : List ℕ) → Snapshot → List Message → List State
+abbrev pub stepped : Plan → (new_faulty : List ℕ) → Stand → List Told → List State
 stepped plan new stand told =
     unless_faulty plan new
     (λ v. step_of plan v
     (heard_by (plan_nodes plan) stand.faulty stand.config (lies_table plan told) v))
 
-abbrev pub stand_behind : Plan → Snapshot → Turn → Snapshot
+abbrev pub stand_behind : Plan → Stand → Turn → Stand
 stand_behind plan stand turn = record {
   faulty = faulty_behind stand.faulty turn.era;
   config =
@@ -80,7 +80,7 @@ stand_behind plan stand turn = record {
       (starts_of turn.era);
 }
 
-abbrev pub first_stand : Certificate → Snapshot
+abbrev pub first_stand : Certificate → Stand
 first_stand c =
     record {
       faulty = c.faulty;
@@ -89,17 +89,17 @@ first_stand c =
     }
 
 -- the configurations behind one
-abbrev pub stands_behind : Plan → Snapshot → List Turn → List Snapshot
+abbrev pub stands_behind : Plan → Stand → List Turn → List Stand
 stands_behind plan stand [] = []
 stands_behind plan stand (turn ∷ turns) =
     stand_behind plan stand turn ∷ stands_behind plan (stand_behind plan stand turn) turns
 
 -- the stated run: its configurations, each with its faulty nodes
-abbrev pub stated : Certificate → List Snapshot
+abbrev pub stated : Certificate → List Stand
 stated c = first_stand c ∷ stands_behind c.plan (first_stand c) c.turns
 
 -- the row that a configuration shows
-abbrev pub shown_row : Plan → Snapshot → List (Option ℕ)
+abbrev pub shown_row : Plan → Stand → List (Option ℕ)
 shown_row plan stand =
     map (λ v. if is_in stand.faulty v then None
     else Some (shown (plan_depth plan) (state_of stand.config v)))
@@ -114,7 +114,7 @@ same_rows (x ∷ xs) (y ∷ ys) = option_eq nat_eq x y && same_rows xs ys
 same_rows xs ys = false
 
 -- for each row, whether it differs from what its configuration shows
-abbrev pub differences : Plan → List (List (Option ℕ)) → List Snapshot → List Bool
+abbrev pub differences : Plan → List (List (Option ℕ)) → List Stand → List Bool
 differences plan (row ∷ rows) (stand ∷ stands) =
     not (same_rows row (shown_row plan stand)) ∷ differences plan rows stands
 differences plan rows stands = []

@@ -3,7 +3,7 @@ ghost use Rattle.run_checker.specs.Grammar.{most_eras};
 
 use crate::Verdict;
 use crate::id_lists::{all_nodes, empty_sets, most_eras, needs_state, read_ids};
-use crate::rounds::{RoundBuffers, play, room_for};
+use crate::rounds::{Room, play, room_for};
 use crate::tellings::Tellings;
 use counter_core::Counter;
 use edge_io::{TakeError, Words};
@@ -27,7 +27,7 @@ pub struct Body {
     pub(crate) unknown: FaultSet,
     pub(crate) config: Packed,
     pub(crate) tellings: Tellings,
-    pub(crate) room: RoundBuffers,
+    pub(crate) room: Room,
     pub(crate) is_putting: bool,
     pub(crate) from: u32,
     // An empty set for each era that may still begin.
@@ -96,7 +96,7 @@ impl Body {
     ghost use Rattle.std.specs.Prelude.{true, Some, IfOk, nat_lt};
     ghost use Rattle.construction.specs.Plans.{plan_nodes, plan_faults};
     ghost use Rattle.edge_io.specs.Taking.{Takes};
-    ghost use Rattle.texts.specs.Shapes.{all_numbers};
+    ghost use Rattle.adversary_script.specs.WordTests.{numbers_in};
     ghost use Rattle.run_checker.specs.Items.{start_item, lie_item, era_by};
     ghost use Rattle.run_checker.specs.Checking.{has_round, all_told, step, step_by};
     ghost use Rattle.run_checker.specs.Bodies.{stage_of};
@@ -113,8 +113,8 @@ impl Body {
         requires few { length faulty.ids ≤ plan_faults plan.now }
         ensures { IfOk result (λ body. body ≡ first_body version plan.now faulty.ids) }
     {
-        plan.facts();
-        faulty.facts();
+        plan.tell();
+        faulty.tell();
         let tower = build(alloc, plan)?;
         let shape = StateShape::of(alloc, plan)?;
         let unknown = all_nodes(alloc, plan.nodes())?;
@@ -259,7 +259,7 @@ impl Body {
             return false;
         }
         self.tower.tell();
-        self.faulty.facts();
+        self.faulty.tell();
         match self.tellings.digits_in(line) {
             Some(digits) => self.tell_state(digits),
             None => false,
@@ -299,7 +299,7 @@ impl Body {
         ensures { self.new ≡ played_into self.old faulty.ids }
     {
         self.tower.tell();
-        faulty.facts();
+        faulty.tell();
         play(
             &self.tower,
             &self.faulty,
@@ -341,7 +341,7 @@ impl Body {
 
     /// Takes an era that begins behind the round that was told.
     pub fn take_era(&mut self, t: u64, words: Words<'_>) -> Result<Option<Verdict>, TakeError<()>>
-        ensures { Takes (step_by (stage_of self.old) (era_by (Some t) (all_numbers words.entry)))
+        ensures { Takes (step_by (stage_of self.old) (era_by (Some t) (numbers_in words.entry)))
             (stage_of self.new) result }
     {
         if self.is_putting() {

@@ -1,6 +1,6 @@
 ghost use Rattle.std.specs.Prelude.{◌≡◌};
 ghost use Rattle.edge_io.specs.Taking.{Takes};
-ghost use Rattle.texts.specs.Shapes.{all_numbers};
+ghost use Rattle.adversary_script.specs.WordTests.{numbers_in};
 ghost use Rattle.std.specs.Option.{option_map};
 ghost use Rattle.run_checker.specs.Items.{run_item, faulty_item};
 ghost use Rattle.run_checker.specs.Checking.{unread, planned, step, step_by, base_step};
@@ -122,7 +122,7 @@ fn behind_level(
 /// What stands behind the line of the nodes that are faulty at first.
 fn behind_faulty(alloc: Global, planned: &Planned, words: Words<'_>) -> Result<Phase, TakeError<()>>
     ensures { Enters (step_by (planned_seen planned.now) (option_map faulty_item
-        (all_numbers words.entry))) result }
+        (numbers_in words.entry))) result }
 {
     let plan = &planned.plan;
     let mut faulty = FaultSet::new(alloc, plan.nodes()).map_err(|_| TakeError::NoMemory)?;

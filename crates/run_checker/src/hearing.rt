@@ -2,9 +2,9 @@ ghost use Rattle.std.specs.Prelude.{◌≡◌, ◌<◌, ◌≤◌, ◌+◌, ◌*
 ghost use Rattle.construction.specs.Steps.{state_of};
 ghost use Rattle.run_checker.specs.Hearing.{Lays};
 
-use crate::rounds::RoundBuffers;
+use crate::rounds::Room;
 use crate::tellings::Tellings;
-use crate::turns::NodeStep;
+use crate::turns::Turn;
 use counter_core::Counter;
 use round_runner::place_of;
 use state_codec::Packed;
@@ -43,7 +43,7 @@ fn lay_told(
     }
 }
 
-impl NodeStep<'_> {
+impl Turn<'_> {
     ghost use Rattle.std.specs.Prelude.{take};
     ghost use Rattle.construction.specs.Plans.{plan_nodes};
     ghost use Rattle.construction.specs.Steps.{step_of};
@@ -54,7 +54,7 @@ impl NodeStep<'_> {
 
     /// Lays what the node hears of the faulty nodes of a stretch of places into these: what they
     /// tell it, or where it is faulty itself the zero state, and its own state in its place.
-    fn lay_heard(&self, config: &Packed, stretch: (usize, usize), room: &mut RoundBuffers)
+    fn lay_heard(&self, config: &Packed, stretch: (usize, usize), room: &mut Room)
         requires room { IsGathered self.now.round.now.tower.now self.now.round.now.faulty.now.ids
             self.now.round.now.told.now.states config.now room.old }
         requires stretch { (stretch.0 ≤ stretch.1)
@@ -66,7 +66,7 @@ impl NodeStep<'_> {
     {
         let round = self.round;
         round.tower.tell();
-        config.facts();
+        config.tell();
         if round.faulty.contains(self.v) {
             lay_zeros(stretch, &room.zero, &mut room.lies);
             let own = place_of(round.faulty, self.v);
@@ -79,7 +79,7 @@ impl NodeStep<'_> {
 
     /// Lays as much of what the node hears of the faulty nodes as its step hangs on into the first
     /// of `room.lies`.
-    pub fn hear(&self, config: &Packed, room: &mut RoundBuffers)
+    pub fn hear(&self, config: &Packed, room: &mut Room)
         requires room { IsGathered self.now.round.now.tower.now self.now.round.now.faulty.now.ids
             self.now.round.now.told.now.states config.now room.old }
         ensures room { IsGathered self.now.round.now.tower.now self.now.round.now.faulty.now.ids
@@ -94,7 +94,7 @@ impl NodeStep<'_> {
             config.now.current (pairs_of (plan_nodes self.now.round.now.tower.now)
             self.now.round.now.faulty.now.ids) self.now.round.now.told.now.states self.now.v }
     {
-        let stretch = self.round.tower.relevant_liars(self.v, &room.shared);
+        let stretch = self.round.tower.heeded(self.v, &room.shared);
         self.lay_heard(config, stretch, room);
     }
 }

@@ -1,6 +1,6 @@
 ghost use Rattle.std.specs.Prelude.{◌≡◌, ◌<◌, ◌≤◌, ◌^◌, ◌&&◌, not, true, [], length, All, IfOk};
 ghost use Rattle.sync_types.specs.FaultSets.{is_in};
-ghost use Rattle.texts.specs.Shapes.{all_numbers};
+ghost use Rattle.adversary_script.specs.WordTests.{numbers_in};
 ghost use Rattle.std.specs.List.{range_with_len};
 ghost use Rattle.run_checker.specs.Grammar.{most_eras};
 ghost use Rattle.run_checker.specs.Checking.{needs_state};
@@ -31,7 +31,7 @@ fn may_follow(faults: u32, set: &FaultSet, id: u64) -> bool
 pub fn read_ids(words: Words<'_>, faults: u32, set: &mut FaultSet) -> bool
     requires { set.old.ids ≡ [] }
     ensures nodes { set.new.nodes ≡ set.old.nodes }
-    ensures ids { ReadsBorne set.old.nodes faults (all_numbers words.entry) set.new.ids result }
+    ensures ids { ReadsBorne set.old.nodes faults (numbers_in words.entry) set.new.ids result }
     ensures few { result ≡ true → length set.new.ids ≤ faults }
 {
     for word in words {

@@ -41,7 +41,8 @@ fn take_held<S: Source>(feed: &mut Feed<'_, S>, reader: &mut CheckLines, limit: 
 }
 
 /// Reads a text whose lines all end with a newline, from a feed of which no line was read, to the
-/// end of its input. A line that says what is told next is read where it stands in the buffer.
+/// end of its input, as `read_ended` does. A line that says what is told next is read where it
+/// stands in the buffer.
 pub fn read_lines<S: Source>(
     feed: &mut Feed<'_, S>,
     line: &mut LineBuf,

@@ -8,7 +8,7 @@ ghost use Rattle.run_checker.specs.Grammar.{pairs_of};
 ghost use Rattle.run_checker.specs.Rounds.{stepped_all, AreStates, IsReady, IsTold, IsConfig};
 
 use crate::tellings::Tellings;
-use crate::turns::NodeStep;
+use crate::turns::Turn;
 use counter_core::Counter;
 use majority_votes::Steps;
 use state_codec::Packed;
@@ -19,7 +19,7 @@ use sync_types::{FaultSet, NoMemory, NodeState};
 use tower::{Shared, Tower};
 
 /// What rounds need beside the configurations, made once.
-pub struct RoundBuffers {
+pub struct Room {
     /// What the faulty nodes tell a node, in the order of their ids.
     pub lies: Vec<NodeState>,
     /// The zero state.
@@ -31,9 +31,9 @@ pub struct RoundBuffers {
 }
 
 // Written out, so that what lets go of one calls this, and no more.
-impl Drop for RoundBuffers {
+impl Drop for Room {
     fn drop(self) {
-        let RoundBuffers {
+        let Room {
             lies,
             zero,
             shared,
@@ -47,11 +47,11 @@ impl Drop for RoundBuffers {
 }
 
 /// The room that rounds of a plan need.
-pub fn room_for(alloc: Global, tower: &Tower) -> Result<RoundBuffers, NoMemory>
+pub fn room_for(alloc: Global, tower: &Tower) -> Result<Room, NoMemory>
     ensures { IfOk result (IsReady tower.now) }
 {
     tower.tell();
-    Ok(RoundBuffers {
+    Ok(Room {
         lies: NodeState::zeros(alloc, tower.nodes(), tower.depth())?,
         zero: NodeState::zero(alloc, tower.depth())?,
         shared: tower.shared(alloc)?,
@@ -106,7 +106,7 @@ impl<'a> Round<'a> {
         &self,
         new_faulty: &FaultSet,
         config: &mut Packed,
-        room: &mut RoundBuffers,
+        room: &mut Room,
         steps: &mut Steps<G>,
     )
         requires said { AreStates self.now.tower.now self.now.told.now.states }
@@ -121,12 +121,12 @@ impl<'a> Round<'a> {
         ensures room { IsReady self.now.tower.now room.new }
     {
         self.tower.tell();
-        config.facts();
+        config.tell();
         self.tower
             .gather(config, self.faulty, &mut room.shared, steps);
         let mut before = 0;
         for v in 0..self.tower.nodes() {
-            let turn = NodeStep {
+            let turn = Turn {
                 round: &*self,
                 v,
                 before,
@@ -141,7 +141,7 @@ impl<'a> Round<'a> {
         &self,
         new_faulty: &FaultSet,
         config: &mut Packed,
-        room: &mut RoundBuffers,
+        room: &mut Room,
         blank: Blank,
     )
         requires blank { IsBlankOf G.name G.parts blank.name blank.parts }
@@ -169,7 +169,7 @@ pub fn play(
     new_faulty: &FaultSet,
     told: &Tellings,
     config: &mut Packed,
-    room: &mut RoundBuffers,
+    room: &mut Room,
 )
     requires told { IsTold tower.now faulty.now told.now }
     requires config { IsConfig tower.now config.old }
@@ -179,7 +179,7 @@ pub fn play(
         config.old.current (pairs_of (plan_nodes tower.now) faulty.now.ids) told.now.states }
     ensures room { IsReady tower.now room.new }
 {
-    faulty.facts();
+    faulty.tell();
     let _few = faulty.len();
     let correct = count_correct(faulty);
     let round = Round {

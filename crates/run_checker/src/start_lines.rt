@@ -1,5 +1,5 @@
-ghost use Rattle.std.specs.Prelude.{◌≡◌, ◌&&◌, ◌||◌, not};
-ghost use Rattle.edge_io.specs.Writing.{Writes};
+ghost use Rattle.std.specs.Prelude.{◌≡◌, ◌&&◌, ◌||◌, not, length};
+ghost use Rattle.texts.specs.Growth.{Puts};
 ghost use Rattle.construction.specs.Plans.{Plan, plan_nodes};
 ghost use Rattle.run_checker.specs.Recorded.{is_put};
 ghost use Rattle.run_checker.specs.Playing.{HasNode, Begins};
@@ -9,56 +9,74 @@ ghost use Rattle.state_codec.specs.Shapes.{shape_nodes};
 
 use adversary_script::Script;
 use counter_core::NoOverlay;
-use edge_io::{Piece, Sink, Writer};
+use edge_io::{Piece, Sink, WriteFault, put_pieces};
 use round_runner::Runner;
 
 /// No state has more digits.
 const MOST_DIGITS: usize = 256;
 
 /// Writes the state of node `v` in the runner's configuration.
-fn put_start<K: Sink>(writer: &mut Writer<'_, K>, runner: &mut Runner<NoOverlay>, v: u32)
+fn put_start<K: Sink>(
+    sink: &mut K,
+    runner: &mut Runner<NoOverlay>,
+    v: u32,
+) -> Result<(), WriteFault>
     requires { HasNode runner.old v }
-    ensures text { Writes K.told (start_text runner.old.script runner.old.states v)
-        writer.old writer.new }
+    ensures text { Puts result (start_text runner.old.script runner.old.states v)
+        (K.told sink.old) (K.told sink.new) }
     ensures same { runner.new ≡ runner.old }
 {
     let mut buffer = [0; MOST_DIGITS];
     let digits = 2 * runner.shape().bytes_of(v);
     runner.state_hex(v, &mut buffer[..digits]);
-    writer.pieces(&[
-        Piece::Text(b"start "),
-        Piece::Number(u64::from(v)),
-        Piece::Text(b" "),
-        Piece::Text(&buffer[..digits]),
-        Piece::Text(b"\n"),
-    ]);
+    put_pieces(
+        sink,
+        &[
+            Piece::Text(b"start "),
+            Piece::Number(u64::from(v)),
+            Piece::Text(b" "),
+            Piece::Text(&buffer[..digits]),
+            Piece::Text(b"\n"),
+        ],
+    )
 }
 
 /// Writes the state of node `v`, where it is correct at first.
-fn put_first_start<K: Sink>(writer: &mut Writer<'_, K>, runner: &mut Runner<NoOverlay>, v: u32)
+fn put_first_start<K: Sink>(
+    sink: &mut K,
+    runner: &mut Runner<NoOverlay>,
+    v: u32,
+) -> Result<(), WriteFault>
     requires { HasNode runner.old v }
-    ensures text { Writes K.told (first_start runner.old.script runner.old.states v)
-        writer.old writer.new }
+    ensures text { Puts result (first_start runner.old.script runner.old.states v)
+        (K.told sink.old) (K.told sink.new) }
     ensures same { runner.new ≡ runner.old }
 {
     if runner.script().faulty_at(0).contains(v) {
-        return;
+        return Ok(());
     }
-    put_start(writer, runner, v);
+    put_start(sink, runner, v)
 }
 
 /// Writes the states of the nodes that are correct at first, which are those of the runner's
 /// configuration.
-pub fn put_first_starts<K: Sink>(writer: &mut Writer<'_, K>, runner: &mut Runner<NoOverlay>)
+pub fn put_first_starts<K: Sink>(
+    sink: &mut K,
+    runner: &mut Runner<NoOverlay>,
+) -> Result<(), WriteFault>
     requires sized { shape_nodes runner.old.script.shape ≡ plan_nodes runner.old.plan }
-    ensures text { Writes K.told
+    ensures text { Puts result
         (first_starts runner.old.script (plan_nodes runner.old.plan) runner.old.states)
-        writer.old writer.new }
+        (K.told sink.old) (K.told sink.new) }
     ensures same { runner.new ≡ runner.old }
 {
     for v in 0..runner.nodes() {
-        put_first_start(writer, runner, v);
+        match put_first_start(sink, runner, v) {
+            Ok(()) => {}
+            Err(WriteFault) => return Err(WriteFault),
+        }
     }
+    Ok(())
 }
 
 /// Whether a node is put into a state: it is correct, and it was faulty, or an era hits it.
@@ -83,38 +101,42 @@ fn is_put(script: &Script, t: u64, j: usize, v: u32) -> bool
 /// Writes the state of node `v`, where it is stated where era `j` begins with the runner's
 /// configuration, `t + 1`.
 fn put_start_if<K: Sink>(
-    writer: &mut Writer<'_, K>,
+    sink: &mut K,
     runner: &mut Runner<NoOverlay>,
     t: u64,
     j: usize,
     v: u32,
-)
+) -> Result<(), WriteFault>
     requires begins { Begins runner.old.script t j }
     requires node { HasNode runner.old v }
-    ensures text { Writes K.told (start_if runner.old.plan runner.old.script t runner.old.states v)
-        writer.old writer.new }
+    ensures text { Puts result (start_if runner.old.plan runner.old.script t runner.old.states v)
+        (K.told sink.old) (K.told sink.new) }
     ensures same { runner.new ≡ runner.old }
 {
     if !is_put(runner.script(), t, j, v) {
-        return;
+        return Ok(());
     }
-    put_start(writer, runner, v);
+    put_start(sink, runner, v)
 }
 
 /// Writes the states that are stated where era `j` begins with the runner's configuration, `t + 1`.
 pub fn put_starts<K: Sink>(
-    writer: &mut Writer<'_, K>,
+    sink: &mut K,
     runner: &mut Runner<NoOverlay>,
     t: u64,
     j: usize,
-)
+) -> Result<(), WriteFault>
     requires begins { Begins runner.old.script t j }
     requires sized { shape_nodes runner.old.script.shape ≡ plan_nodes runner.old.plan }
-    ensures text { Writes K.told (starts_text runner.old.plan runner.old.script t runner.old.states)
-        writer.old writer.new }
+    ensures text { Puts result (starts_text runner.old.plan runner.old.script t runner.old.states)
+        (K.told sink.old) (K.told sink.new) }
     ensures same { runner.new ≡ runner.old }
 {
     for v in 0..runner.nodes() {
-        put_start_if(writer, runner, t, j, v);
+        match put_start_if(sink, runner, t, j, v) {
+            Ok(()) => {}
+            Err(WriteFault) => return Err(WriteFault),
+        }
     }
+    Ok(())
 }

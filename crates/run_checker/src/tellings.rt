@@ -43,7 +43,7 @@ fn take_pairs(faulty: &FaultSet, pairs: &mut Vec<Pair>)
     ensures senders { All (λ pair. pair.0 < faulty.now.nodes) pairs.new.items }
     ensures room { vec_capacity pairs.old ≤ vec_capacity pairs.new }
 {
-    faulty.facts();
+    faulty.tell();
     pairs.clear();
     for i in 0..faulty.len() {
         add_pairs(faulty.at(i), faulty, pairs);
@@ -132,7 +132,7 @@ impl Tellings {
           room = most_pairs plan.now;
         }) }
     {
-        plan.facts();
+        plan.tell();
         let shape = StateShape::of(alloc, plan)?;
         let faults = plan.faults() as usize;
         let most = faults * (plan.nodes() as usize - faults);

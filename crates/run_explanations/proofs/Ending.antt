@@ -10,7 +10,7 @@ use Rattle.round_runner.specs.Known.{KnowsLocks}
 use Rattle.round_runner.specs.Runners.{Running}
 use Rattle.run_explanations.specs.declared.explaining.Search.{Search}
 use Rattle.run_explanations.specs.declared.explanations.Explanation.{Explanation}
-use Rattle.run_explanations.specs.declared.searching.LeaderStreak.{LeaderStreak}
+use Rattle.run_explanations.specs.declared.searching.Stretch.{Stretch}
 use Rattle.run_explanations.specs.declared.tops.Top.{Top}
 use Rattle.run_explanations.specs.Explanations.{is_faulty, seen_at}
 use Rattle.run_explanations.specs.Playing.{IsFound, IsEnough, HasPlayed}
@@ -21,7 +21,7 @@ use Rattle.run_explanations.proofs.Windows.{none_before}
 
 -- before the first configuration that is looked at there is no stretch
 pub stretch_begin : (top : Top) (from : ℕ) (plan : Plan) (script : Script) (c : ℕ) → c ≤ from
-    → (s : LeaderStreak) → s ≡ no_stretch → s ≡ stretch_before top.beat from (seen_at plan script) c
+    → (s : Stretch) → s ≡ no_stretch → s ≡ stretch_before top.beat from (seen_at plan script) c
 stretch_begin top from plan script c le s is =
     is ∙ sym (none_before top.beat (seen_at plan script) from c le)
 
@@ -31,7 +31,7 @@ module _ (top : Top) (from : ℕ) (plan : Plan) (script : Script) where
       (seen_at plan script) c ≡ None
   none_found zero le = refl
   none_found (suc c) le =
-      ap₂ (λ (o : Option Explanation) (s : LeaderStreak). first_or o
+      ap₂ (λ (o : Option Explanation) (s : Stretch). first_or o
       (explained_from top.beat (is_faulty script) script.rounds c s.count s.seen))
       (none_found c (omega (arith, le)))
       (none_before top.beat (seen_at plan script) from (suc c) le)

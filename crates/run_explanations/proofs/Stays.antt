@@ -4,10 +4,10 @@ use Rattle.std.proofs.Common.{refl, sym, ap, ◌∙◌, arith}
 use Rattle.std.specs.Prelude.{is_some}
 use Rattle.std.proofs.lemmas.Bool.{true≢false}
 use Rattle.run_explanations.specs.declared.explanations.Explanation.{Explanation}
-use Rattle.run_explanations.specs.declared.seeing.Observation.{Observation}
+use Rattle.run_explanations.specs.declared.seeing.Seen.{Seen}
 use Rattle.run_explanations.specs.Searching.{first_or, explained_at, found_before}
 
-module _ (beat : ℕ) (faulty : ℕ → Bool) (last from : ℕ) (seen_at : ℕ → Option Observation) where
+module _ (beat : ℕ) (faulty : ℕ → Bool) (last from : ℕ) (seen_at : ℕ → Option Seen) where
   abbrev found : ℕ → Option Explanation
   found c = found_before beat faulty last from seen_at c
 

@@ -5,21 +5,21 @@ use Rattle.std.specs.Prelude.{ℕ, zero, suc, ◌+◌, ◌-◌, ◌/◌, ◌%◌
 use Rattle.std.specs.Prelude.{nat_le, Option, Some, None, if◌then◌else◌}
 use Rattle.std.specs.Option.{option_map}
 use Rattle.run_explanations.specs.declared.explanations.Explanation.{Explanation}
-use Rattle.run_explanations.specs.declared.seeing.Observation.{Observation}
-use Rattle.run_explanations.specs.declared.searching.LeaderStreak.{LeaderStreak}
+use Rattle.run_explanations.specs.declared.seeing.Seen.{Seen}
+use Rattle.run_explanations.specs.declared.searching.Stretch.{Stretch}
 
 -- whether what is seen goes on: the same leader, and a part that is one more
-abbrev pub goes_on : (beat : ℕ) → Option Observation → Observation → Bool
+abbrev pub goes_on : (beat : ℕ) → Option Seen → Seen → Bool
 goes_on beat None now = false
 goes_on beat (Some before) now =
     before.leader == now.leader && now.part == (before.part + 1) % beat
 
 -- a stretch of no configuration
-abbrev pub no_stretch : LeaderStreak
+abbrev pub no_stretch : Stretch
 no_stretch = record { seen = None; count = 0 }
 
 -- a stretch and a configuration more, which shows this
-abbrev pub stretched : (beat : ℕ) → LeaderStreak → Option Observation → LeaderStreak
+abbrev pub stretched : (beat : ℕ) → Stretch → Option Seen → Stretch
 stretched beat stretch None = no_stretch
 stretched beat stretch (Some now) = record {
   seen = Some now;
@@ -37,8 +37,8 @@ first_below test zero = None
 first_below test (suc n) = first_or (first_below test n) (if test n then Some n else None)
 
 -- the stretch of configurations from `from` on that ends before configuration c
-module _ (beat from : ℕ) (seen_at : ℕ → Option Observation) where
-  abbrev pub stretch_before : (c : ℕ) → LeaderStreak
+module _ (beat from : ℕ) (seen_at : ℕ → Option Seen) where
+  abbrev pub stretch_before : (c : ℕ) → Stretch
   stretch_before zero = no_stretch
   stretch_before (suc c) =
       if nat_le from c then stretched beat (stretch_before c) (seen_at c) else stretch_before c
@@ -62,13 +62,13 @@ module _ (beat : ℕ) (faulty : ℕ → Bool) (last : ℕ) where
       (first_below (begins_phase t start) (beat - 2))
 
   -- that of the window which ends with configuration c, where a stretch ends there
-  abbrev pub explained_from : (c count : ℕ) → Option Observation → Option Explanation
+  abbrev pub explained_from : (c count : ℕ) → Option Seen → Option Explanation
   explained_from c count None = None
   explained_from c count (Some seen) =
       if nat_le beat count
       then explained_in (c + 1 - beat) seen.leader ((seen.part + 1) % beat) else None
 
-  module _ (from : ℕ) (seen_at : ℕ → Option Observation) where
+  module _ (from : ℕ) (seen_at : ℕ → Option Seen) where
     -- the explanation of the window that ends with configuration c
     abbrev pub explained_at : (c : ℕ) → Option Explanation
     explained_at c =

@@ -6,7 +6,7 @@ use Rattle.construction.specs.Pointers.{pointer_of, part_of}
 use Rattle.plan_laws.specs.Level.{faults_in}
 use Rattle.run_explanations.specs.declared.seeing.Shared.{Shared}
 use Rattle.run_explanations.specs.declared.seeing.Shared.TheVariants.{Nothing, One, Several}
-use Rattle.run_explanations.specs.declared.seeing.Observation.{Observation}
+use Rattle.run_explanations.specs.declared.seeing.Seen.{Seen}
 use Rattle.run_explanations.specs.declared.tops.Top.{Top}
 
 -- what numbers have in common, with a number more
@@ -51,18 +51,18 @@ module _ (top : Top) (faulty : ℕ → Bool) (outputs : ℕ → ℕ) where
   parted b = shared_by Nothing (is_correct top faulty b) (part_at top outputs b) top.nodes
 
   -- the leader and the part, where the parts are one
-  abbrev pub seen_parts : (b : ℕ) → Shared → Option Observation
+  abbrev pub seen_parts : (b : ℕ) → Shared → Option Seen
   seen_parts b (One part) = Some (record { leader = b; part = part })
   seen_parts b Nothing = None
   seen_parts b Several = None
 
   -- the same, where the pointers are one and the leader's block is sound
-  abbrev pub seen_leader : Shared → Option Observation
+  abbrev pub seen_leader : Shared → Option Seen
   seen_leader (One b) = if is_sound top faulty b then seen_parts b (parted b) else None
   seen_leader Nothing = None
   seen_leader Several = None
 
-  abbrev pub seen_in : Option Observation
+  abbrev pub seen_in : Option Seen
   seen_in = seen_leader (pointed top.blocks)
 
   -- that this leader and this part are seen

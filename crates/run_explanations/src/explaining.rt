@@ -12,8 +12,8 @@ ghost use Rattle.run_explanations.specs.Playing.{HasTested, taken};
 
 use crate::explanations::Explanation;
 use crate::laws::found_is_first;
-use crate::searching::{LeaderStreak, Window, begins_phase, explained_from, next_part, stretched};
-use crate::seeing::TopLevelView;
+use crate::searching::{Stretch, Window, begins_phase, explained_from, next_part, stretched};
+use crate::seeing::Sight;
 use crate::tops::{TopLevel, top_of};
 use adversary_script::Script;
 use counter_core::NoOverlay;
@@ -27,7 +27,7 @@ use sync_types::FaultSet;
 #[derive(Clone, Copy, Debug)]
 pub(crate) struct Search {
     /// The stretch.
-    pub stretch: LeaderStreak,
+    pub stretch: Stretch,
     /// The first explanation.
     pub found: Option<Explanation>,
 }
@@ -49,7 +49,7 @@ fn last_begin(script: &Script) -> u64
 }
 
 /// The stretch that ends with the runner's configuration, after this one, which ends before it.
-fn next_stretch(stretch: LeaderStreak, top: TopLevel, runner: &Runner<NoOverlay>) -> LeaderStreak
+fn next_stretch(stretch: Stretch, top: TopLevel, runner: &Runner<NoOverlay>) -> Stretch
     requires read { IsRead top.numbers runner.now }
     requires few { stretch.count ≤ runner.now.at }
     ensures { result ≡ stretched top.numbers.beat stretch
@@ -59,7 +59,7 @@ fn next_stretch(stretch: LeaderStreak, top: TopLevel, runner: &Runner<NoOverlay>
     let script = runner.script();
     let _rounds = script.rounds();
     let faulty = last_faulty(script);
-    let sight = TopLevelView {
+    let sight = Sight {
         top,
         faulty,
         runner,
@@ -90,10 +90,10 @@ fn take(search: Search, top: TopLevel, runner: &Runner<NoOverlay>) -> Search
 }
 
 /// A stretch of no configuration.
-fn no_stretch() -> LeaderStreak
+fn no_stretch() -> Stretch
     ensures { result ≡ no_stretch }
 {
-    LeaderStreak {
+    Stretch {
         seen: None,
         count: 0,
     }
@@ -111,7 +111,7 @@ fn begun() -> Search
 
 /// Goes on to the end of the window that begins with configuration `window`, and answers the
 /// stretch that ends there, of the configurations from that one on.
-fn look_over(top: TopLevel, window: u64, runner: &mut Runner<NoOverlay>) -> LeaderStreak
+fn look_over(top: TopLevel, window: u64, runner: &mut Runner<NoOverlay>) -> Stretch
     requires start { IsToRead top.numbers runner.old }
     requires end { window + top.numbers.beat ≤ runner.old.script.rounds + 1 }
     ensures stretch { result ≡ stretch_before top.numbers.beat window
@@ -170,7 +170,7 @@ pub fn explain(plan: &Plan, runner: &mut Runner<NoOverlay>) -> Option<Explanatio
     ensures knows { KnowsLocks runner.new }
 {
     found_is_first();
-    plan.facts();
+    plan.tell();
     first_found(top_of(plan), runner)
 }
 
@@ -186,7 +186,7 @@ fn fits(top: TopLevel, from: u64, rounds: u64, explanation: Explanation) -> bool
 }
 
 /// Whether an explanation is that of the window which ends with a stretch.
-fn is_of(top: TopLevel, script: &Script, stretch: LeaderStreak, explanation: Explanation) -> bool
+fn is_of(top: TopLevel, script: &Script, stretch: Stretch, explanation: Explanation) -> bool
     requires { Fits top.numbers.beat 0 script.now.rounds explanation }
     ensures { result ≡ is_of top.numbers.beat (is_faulty script.now) script.now.rounds stretch
         explanation }
@@ -223,7 +223,7 @@ pub fn check_explanation(
     ensures exact { (result ≡ true) ↔ IsExplanation plan.now runner.old.script explanation.now }
     ensures played { HasTested plan.now explanation.now runner.old runner.new }
 {
-    plan.facts();
+    plan.tell();
     let script = runner.script();
     let from = last_begin(script);
     let rounds = script.rounds();

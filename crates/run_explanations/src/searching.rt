@@ -4,15 +4,15 @@ ghost use Rattle.run_explanations.specs.Searching.{goes_on, stretched, begins_ph
 ghost use Rattle.run_explanations.specs.Searching.{explained_in, explained_from};
 
 use crate::explanations::Explanation;
-use crate::seeing::Observation;
+use crate::seeing::Seen;
 use crate::tops::TopLevel;
 use sync_types::FaultSet;
 
 /// For how many configurations one leader has been seen, with a part that grows by one.
 #[derive(Clone, Copy, Debug)]
-pub(crate) struct LeaderStreak {
+pub(crate) struct Stretch {
     /// What the last one shows.
-    pub seen: Option<Observation>,
+    pub seen: Option<Seen>,
     /// How many there are.
     pub count: u64,
 }
@@ -40,7 +40,7 @@ pub(crate) fn next_part(top: TopLevel, part: u64) -> u64
 }
 
 /// Whether what is seen goes on: the same leader, and a part that is one more.
-fn goes_on(top: TopLevel, before: Option<Observation>, now: Observation) -> bool
+fn goes_on(top: TopLevel, before: Option<Seen>, now: Seen) -> bool
     ensures { result ≡ goes_on top.numbers.beat before now }
 {
     match before {
@@ -50,16 +50,12 @@ fn goes_on(top: TopLevel, before: Option<Observation>, now: Observation) -> bool
 }
 
 /// A stretch and a configuration more, which shows this.
-pub(crate) fn stretched(
-    top: TopLevel,
-    stretch: LeaderStreak,
-    seen: Option<Observation>,
-) -> LeaderStreak
+pub(crate) fn stretched(top: TopLevel, stretch: Stretch, seen: Option<Seen>) -> Stretch
     requires { stretch.count ≤ 1000001 }
     ensures { result ≡ stretched top.numbers.beat stretch seen }
 {
     let Some(now) = seen else {
-        return LeaderStreak {
+        return Stretch {
             seen: None,
             count: 0,
         };
@@ -69,7 +65,7 @@ pub(crate) fn stretched(
     } else {
         1
     };
-    LeaderStreak { seen, count }
+    Stretch { seen, count }
 }
 
 /// Whether the phase of a correct king begins `x` configurations after the first one of a window,
@@ -119,7 +115,7 @@ pub(crate) fn explained_from(
     faulty: &FaultSet,
     last: u64,
     c: u64,
-    stretch: LeaderStreak,
+    stretch: Stretch,
 ) -> Option<Explanation>
     requires early { c ≤ 1000000 }
     requires within { stretch.count ≤ c + 1 }

@@ -22,7 +22,7 @@ pub(crate) enum Shared {
 /// What a configuration shows: a leader to which all correct nodes of sound blocks point, and the
 /// part at which the correct nodes of its block are.
 #[derive(Clone, Copy, Debug, PartialEq, Eq)]
-pub(crate) struct Observation {
+pub(crate) struct Seen {
     /// The leader.
     pub leader: u32,
     /// The part of the beat.
@@ -32,7 +32,7 @@ pub(crate) struct Observation {
 /// The runner's configuration, as it is read by the numbers of the plan's top level, with these
 /// faulty nodes.
 #[derive(Clone, Copy)]
-pub(crate) struct TopLevelView<'a> {
+pub(crate) struct Sight<'a> {
     /// The top level.
     pub top: TopLevel,
     /// The faulty nodes.
@@ -53,7 +53,7 @@ fn joined(shared: Shared, number: u64) -> Shared
     }
 }
 
-impl<'a> TopLevelView<'a> {
+impl<'a> Sight<'a> {
     ghost use Rattle.std.specs.Prelude.{◌≡◌, ◌-◌, ◌<◌, ◌≤◌, nat_le};
     ghost use Rattle.construction.specs.Plans.{plan_depth};
     ghost use Rattle.construction.specs.Runs.{is_in};
@@ -130,7 +130,7 @@ impl<'a> TopLevelView<'a> {
     }
 
     /// What it shows.
-    pub(crate) fn see(&self) -> Option<Observation>
+    pub(crate) fn see(&self) -> Option<Seen>
         ensures { result ≡ seen_in self.now.top.numbers (is_in self.now.faulty.now.ids)
             (outputs_in (plan_depth self.now.runner.now.plan - 1) self.now.runner.now.states) }
     {
@@ -142,7 +142,7 @@ impl<'a> TopLevelView<'a> {
             return None;
         }
         match self.parted(leader) {
-            Shared::One(part) => Some(Observation { leader, part }),
+            Shared::One(part) => Some(Seen { leader, part }),
             _ => None,
         }
     }

@@ -43,7 +43,7 @@ pub(crate) fn top_of(plan: &Plan) -> TopLevel
     requires { 1 ≤ plan_depth plan.now }
     ensures { result.numbers ≡ top_of plan.now }
 {
-    plan.facts();
+    plan.tell();
     let nums = plan.level(plan.depth() - 1);
     TopLevel {
         numbers: Top {

@@ -12,7 +12,7 @@ use Rattle.counter_core.specs.NoLayers.{no_layer}
 use Rattle.adversary_script.specs.Scripts.{Script, IsScript}
 use Rattle.adversary_script.specs.Eras.{era_of, end_of_era, faulty_of_era, faulty_at}
 use Rattle.round_runner.specs.Known.{CountsOn}
-use Rattle.machine_runner.proofs.Firsts.{in_era, era_from, era_within}
+use Rattle.round_runner.proofs.Firsts.{in_era, era_from, era_within}
 use Rattle.run_lines.specs.RunTexts.{word_or_star, words_of_nodes}
 use Rattle.run_lines.specs.PlayedTexts.{line_of, scene_in, configuration_in, lines_between}
 use Rattle.run_lines.specs.OutputTexts.{word_of_shown, output_wording, counted_line}

@@ -7,7 +7,7 @@ use Rattle.construction.specs.Shown.{shown}
 use Rattle.construction.specs.Steps.{state_of}
 use Rattle.adversary_script.specs.Eras.{era_of}
 use Rattle.plan_laws.proofs.RunLaws.{every_plan_settles}
-use Rattle.machine_runner.proofs.Firsts.{of_one_era}
+use Rattle.round_runner.proofs.Firsts.{of_one_era}
 use Rattle.round_runner.proofs.EraRuns.{eras_count}
 use Rattle.slot_table.specs.HoldWords.{hold_word_at, WordsAreExact}
 use Rattle.slot_table.proofs.HoldWords.{one_holds}

@@ -1,6 +1,6 @@
 use crate::{Lines, Output, OutputLines};
 use counter_core::NoOverlay;
-use edge_io::{RisingText, Sink, Writer};
+use edge_io::{RisingText, TextSink, WriteFault};
 use layer_runs::Play;
 use slot_table::SlotTable;
 
@@ -26,20 +26,25 @@ impl Lines<NoOverlay> for HoldLines {
         first <= play.at() && play.at() <= last
     }
 
-    fn put_front<K: Sink, P: Play<NoOverlay>>(
+    fn put_front<K: TextSink, P: Play<NoOverlay>>(
         &self,
-        writer: &mut Writer<'_, K>,
+        sink: &mut K,
         _play: &P,
         number: &RisingText,
-    ) {
-        writer.rising(number);
+    ) -> Result<(), WriteFault> {
+        sink.rising(number)
     }
 
-    fn put_word<K: Sink, P: Play<NoOverlay>>(&self, writer: &mut Writer<'_, K>, play: &P, v: u32) {
+    fn put_word<K: TextSink, P: Play<NoOverlay>>(
+        &self,
+        sink: &mut K,
+        play: &P,
+        v: u32,
+    ) -> Result<(), WriteFault> {
         if self.table.holder(play.output(v)) == Some(v) {
-            writer.text(b" 1");
+            sink.text(b" 1")
         } else {
-            writer.text(b" .");
+            sink.text(b" .")
         }
     }
 }
@@ -50,11 +55,16 @@ impl OutputLines for HoldLines {
 
     ghost word_at = { λ l. hold_word_at l.table };
 
-    fn put_word_at<K: Sink>(&self, writer: &mut Writer<'_, K>, output: &Output, v: u32) {
+    fn put_word_at<K: TextSink>(
+        &self,
+        sink: &mut K,
+        output: &Output,
+        v: u32,
+    ) -> Result<(), WriteFault> {
         if self.table.holder(output.value()) == Some(v) {
-            writer.text(b" 1");
+            sink.text(b" 1")
         } else {
-            writer.text(b" .");
+            sink.text(b" .")
         }
     }
 

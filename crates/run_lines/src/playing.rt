@@ -10,7 +10,7 @@ use round_runner::Runner;
 /// Plays all rounds of a script on the counter of a plan, and writes the bound, a line of each
 /// configuration that has one, and the first locked configuration of each era. It takes no memory.
 ///
-/// The runner is at configuration 0. `WriteFault` comes where the sink counted one; a prefix of the
+/// The runner is at configuration 0. `WriteFault` comes where the sink counted one; a front of the
 /// text was then taken.
 pub fn put_played<K: Sink, O: Overlay, L: Lines<O>>(
     sink: &mut K,
@@ -21,6 +21,6 @@ pub fn put_played<K: Sink, O: Overlay, L: Lines<O>>(
     ensures { Puts result (text_of O.layer O.kept (L.wording lines.now) runner.old)
         (K.told sink.old) (K.told sink.new) }
 {
-    runner.facts();
+    runner.tell();
     layer_lines::put_played(sink, runner, lines)
 }

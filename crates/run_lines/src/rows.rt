@@ -1,6 +1,6 @@
 use crate::{Lines, Output, OutputLines};
 use counter_core::NoOverlay;
-use edge_io::{RisingText, Sink, Writer};
+use edge_io::{RisingText, TextSink, WriteFault};
 use layer_runs::Play;
 
 /// The rows of the word `run`: of each configuration that is shown, what its nodes show.
@@ -21,17 +21,22 @@ impl Lines<NoOverlay> for Rows {
         first <= play.at() && play.at() <= last
     }
 
-    fn put_front<K: Sink, P: Play<NoOverlay>>(
+    fn put_front<K: TextSink, P: Play<NoOverlay>>(
         &self,
-        writer: &mut Writer<'_, K>,
+        sink: &mut K,
         _play: &P,
         number: &RisingText,
-    ) {
-        writer.rising(number);
+    ) -> Result<(), WriteFault> {
+        sink.rising(number)
     }
 
-    fn put_word<K: Sink, P: Play<NoOverlay>>(&self, writer: &mut Writer<'_, K>, play: &P, v: u32) {
-        writer.labelled(b" ", play.output(v));
+    fn put_word<K: TextSink, P: Play<NoOverlay>>(
+        &self,
+        sink: &mut K,
+        play: &P,
+        v: u32,
+    ) -> Result<(), WriteFault> {
+        sink.labelled(b" ", play.output(v))
     }
 }
 
@@ -41,13 +46,18 @@ impl OutputLines for Rows {
 
     ghost word_at = { λ _ output v. number_word output };
 
-    fn put_word_at<K: Sink>(&self, writer: &mut Writer<'_, K>, output: &Output, _v: u32) {
+    fn put_word_at<K: TextSink>(
+        &self,
+        sink: &mut K,
+        output: &Output,
+        _v: u32,
+    ) -> Result<(), WriteFault> {
         let value = output.value();
         if value < 10 {
             // Two bytes, which are placed without a call that copies them.
-            writer.text(&[b' ', b'0' + value as u8]);
+            sink.text(&[b' ', b'0' + value as u8])
         } else {
-            writer.rising(output.text());
+            sink.rising(output.text())
         }
     }
 

@@ -8,7 +8,7 @@ ghost use Rattle.run_pictures.specs.ChoicePictures.{dot, numbers_top, point_left
 ghost use Rattle.run_pictures.specs.ChoicePictures.{point_top};
 
 use crate::choices::{Point, put_point_words};
-use edge_io::{Writer, Piece, Sink, WriteFault, put_all, put_pieces};
+use edge_io::{Gathered, Piece, Sink, WriteFault, put_all, put_pieces};
 use picture_parts::{put_front, put_ground};
 
 /// How far below the top a bound stands.
@@ -130,7 +130,7 @@ fn put_parts<K: Sink>(sink: &mut K, points: &[Point<'_>]) -> Result<(), WriteFau
 pub fn put_choice_picture<K: Sink>(sink: &mut K, points: &[Point<'_>]) -> Result<(), WriteFault>
     ensures { Puts result (choice_picture points.now) (K.told sink.old) (K.told sink.new) }
 {
-    let mut parts = Writer::gathering(sink);
+    let mut parts = Gathered::new(sink);
     let written = put_parts(&mut parts, points);
-    parts.finish_with(written)
+    parts.finish(written)
 }

@@ -9,7 +9,7 @@ ghost use Rattle.picture_parts.specs.Fronts.{picture_width};
 use crate::cells::put_cells;
 use crate::charts::{Chart, End};
 use crate::marks::put_ends;
-use edge_io::{Writer, Piece, Sink, WriteFault, put_all, put_pieces};
+use edge_io::{Gathered, Piece, Sink, WriteFault, put_all, put_pieces};
 use picture_parts::{
     Frame, bottom, picture_width, put_colour_legend, put_front, put_ground, put_number_caption,
     put_span,
@@ -100,7 +100,7 @@ fn put_parts<K: Sink>(sink: &mut K, chart: &Chart) -> Result<(), WriteFault>
 pub fn put_picture<K: Sink>(sink: &mut K, chart: &Chart) -> Result<(), WriteFault>
     ensures { Puts result (picture_text chart.now) (K.told sink.old) (K.told sink.new) }
 {
-    let mut parts = Writer::gathering(sink);
+    let mut parts = Gathered::new(sink);
     let written = put_parts(&mut parts, chart);
-    parts.finish_with(written)
+    parts.finish(written)
 }

@@ -13,7 +13,7 @@ ghost use Rattle.run_pictures.specs.SweepPictures.{worst_front, worst_if, worst_
 
 use crate::sweep_charts::{Sweep, Tally, Tick};
 use crate::sweep_printing::put_tally_words;
-use edge_io::{Writer, Piece, Sink, WriteFault, put_all, put_pieces};
+use edge_io::{Gathered, Piece, Sink, WriteFault, put_all, put_pieces};
 use picture_parts::{put_front, put_ground};
 
 /// The left side of a bar.
@@ -339,7 +339,7 @@ fn put_parts<K: Sink>(sink: &mut K, sweep: &Sweep) -> Result<(), WriteFault>
 pub fn put_sweep_picture<K: Sink>(sink: &mut K, sweep: &Sweep) -> Result<(), WriteFault>
     ensures { Puts result (sweep_picture sweep.now) (K.told sink.old) (K.told sink.new) }
 {
-    let mut parts = Writer::gathering(sink);
+    let mut parts = Gathered::new(sink);
     let written = put_parts(&mut parts, sweep);
-    parts.finish_with(written)
+    parts.finish(written)
 }

@@ -16,6 +16,12 @@ module _ (weight : (first count : ℕ) → ℕ)
   abbrev pub group_weight : Group → ℕ
   group_weight g = weight g.first (nodes_in g)
 
+  none_weighs : (first : ℕ) → weight first 0 ≡ 0
+  none_weighs first =
+      let e : 0 + 0 ≡ 0 = omega arith in
+      let at : first + 0 ≡ first = omega arith in
+      omega (arith, adds first 0 0, ap (weight first) e, ap (λ a. weight a 0) at)
+
   less_weighs : (first count more : ℕ) → count ≤ more → weight first count ≤ weight first more
   less_weighs first count more le =
       let rest : count + (more - count) ≡ more = omega arith in

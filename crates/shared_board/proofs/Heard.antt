@@ -21,6 +21,7 @@ use Rattle.shared_board.specs.Senders.{Sent, is_liar, output_of, register_of, co
 use Rattle.shared_board.specs.Senders.{liars_below, liars_in, values_of, IsTold, told_by, lies_in}
 use Rattle.shared_board.specs.Senders.{output_heard, outputs_heard, values_heard}
 use Rattle.shared_board.specs.Votes.{known_number, IsKnown}
+use Rattle.shared_board.proofs.Single.{single_number}
 
 -- the liars of a stretch stand behind those before it
 pub liars_sum : (s : Sent) (first count : ℕ)
@@ -146,6 +147,15 @@ pub number_known : (s : Sent) (first count : ℕ) → first + count ≤ length s
 number_known s first count within f (outlook.Is m) stays =
     λ lies told. number_stays s lies told first count within f m stays
 number_known s first count within f outlook.Open stays = tt
+
+-- what is heard of one correct node
+pub number_of_one : (s : Sent) (first count : ℕ) → count ≡ 1 → is_liar s first ≡ false
+    → (f : ℕ → ℕ) (lies : List State)
+    → majority_or_zero (map f (outputs_heard s lies first count)) ≡ f (output_of s first)
+number_of_one s first count one ok f lies =
+    ap (λ n. majority_or_zero (map f (outputs_heard s lies first n))) one
+    ∙ (single_number (f (output_heard s lies first))
+    ∙ ap (λ b. f (if b then shown s.height (told_by s lies first) else output_of s first)) ok)
 
 -- some lies that may be told
 some_lies : Sent → List State

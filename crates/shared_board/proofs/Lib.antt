@@ -1,4 +1,5 @@
 pub mod Passing
+pub mod Single
 pub mod Told
 pub mod Most
 pub mod FirstCorrect
@@ -21,6 +22,7 @@ pub mod Places
 pub mod Nested
 pub mod Costs
 pub mod Ids
+pub mod LieOrder
 pub mod ByPlace
 pub mod Filling
 pub mod Filled

@@ -43,6 +43,10 @@ module _ (s : Sent) (nums : LevelNums) (first : ℕ) (beat : ℕ) (own : Reg) (l
   heard : List (Option ℕ)
   heard = values_heard s lies first nums.nodes
 
+  laid : List (Option ℕ)
+  laid = values_of s first nums.nodes ++ map (λ t. (register_at s.height t).a)
+      (lies_in s lies first nums.nodes)
+
   kind_at : (kind : ℕ) → beat % 3 ≡ kind
       → instructed nums.nodes nums.faults (up nums.modulus) kind own heard (beat / 3)
       ≡ instructed nums.nodes nums.faults (up nums.modulus) (beat % 3) own heard (beat / 3)

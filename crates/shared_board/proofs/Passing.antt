@@ -3,7 +3,7 @@ use Rattle.std.proofs.Common.{◌≡◌, ℕ, zero, suc, ◌+◌, ◌-◌, ◌*�
 use Rattle.std.proofs.Common.{List, [], ◌∷◌, ◌++◌, map, length, sym, ap, ◌∙◌, arith}
 use Rattle.std.specs.List.{filter, range_with_len}
 use Rattle.std.proofs.lemmas.Nat.{mul-le}
-use Rattle.std.proofs.lemmas.List.{length-append, length-map, map-append}
+use Rattle.std.proofs.lemmas.List.{length-append, map-append}
 use Rattle.std.proofs.lemmas.List.Elements.{filter-append}
 use Rattle.std.proofs.lemmas.List.FromFn.{length-range_with_len}
 
@@ -70,24 +70,13 @@ module _ (q : ℕ → Bool) where
       sym (ap length (passing_more first u le)
       ∙ length-append (passing first (u - first)) (passing u 1))
 
-  -- one more place is read, if it passes
-  pub read_more : {X : Type 0} (f : ℕ → X) (first u : ℕ) (values new : List X) → first ≤ u
-      → values ≡ map f (passing first (u - first)) → new ≡ values ++ map f (passing u 1)
-      → new ≡ map f (passing first (u + 1 - first))
-  read_more f first u values new le so_far one =
-      one ∙ ap (λ xs. xs ++ map f (passing u 1)) so_far ∙ mapped_more f first u le
-
-  -- and there is room for what is read of all places
-  pub read_fits : {X : Type 0} (f : ℕ → X) (first u count room : ℕ) (values : List X) → first ≤ u
-      → u < first + count → count ≤ room → values ≡ map f (passing first (u - first))
-      → length values < room
-  read_fits f first u count room values le lt enough so_far =
-      omega (
-        arith,
-        ap length so_far,
-        length-map (passing first (u - first)) f,
-        passing_most first (u - first),
-      )
+  -- the same from place 0 on
+  pub mapped_next : {X : Type 0} (f : ℕ → X) (u : ℕ)
+      → map f (passing 0 u) ++ map f (passing u 1) ≡ map f (passing 0 (u + 1))
+  mapped_next f u =
+      let at : 0 + u ≡ u = omega arith in
+      sym (ap (map f) (passing_two 0 u 1 ∙ ap (λ a. passing 0 u ++ passing a 1) at)
+      ∙ map-append f (passing 0 u) (passing u 1))
 
   -- the blocks so far and the next one
   pub blocks_more : (first i n : ℕ)

@@ -114,6 +114,9 @@ pub record Stands (s : Sent) (group : Contents) : Type 0 where
 abbrev pub IsGroup : Group → Type 0
 IsGroup group = HasRoom (contents group)
 
+abbrev pub IsCounted : Sent → Group → Type 0
+IsCounted s group = AreCounted s (contents group)
+
 abbrev pub StandsFor : Sent → Group → Type 0
 StandsFor s group = Stands s (contents group)
 

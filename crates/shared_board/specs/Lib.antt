@@ -2,5 +2,6 @@ pub mod Senders
 pub mod Votes
 pub mod GroupVotes
 pub mod Sharing
+pub mod LieOrder
 pub mod Groups
 pub mod Boards

@@ -14,11 +14,11 @@ use crate::group::Group;
 use crate::hearing::Hearing;
 use crate::locks::is_locked_at;
 use crate::obeying::{is_king_open, is_test_open, locked_next, obey};
-use crate::polls::SharedTally;
+use crate::polls::Poll;
 use crate::readings::{Parts, Pointers};
 use crate::senders::Senders;
 use crate::sites::Site;
-use crate::stretches::NodeRange;
+use crate::stretches::Stretch;
 use majority_votes::Steps;
 use std::sync::ledger::Ledger;
 use sync_types::{NodeState, Reg};
@@ -58,7 +58,7 @@ fn hear_votes(
     hearing: &Hearing<'_>,
     site: &Site<'_>,
     votes: &[Option<u64>],
-    pointers: &[SharedTally],
+    pointers: &[Poll],
     heard: &mut [u64],
 )
     requires same { site.now.senders.now ≡ hearing.now.senders.now }
@@ -88,7 +88,7 @@ fn lead_heard(
     site: &Site<'_>,
     known: Option<u64>,
     votes: &[Option<u64>],
-    pointers: &[SharedTally],
+    pointers: &[Poll],
 ) -> u64
     requires same { site.now.senders.now ≡ hearing.now.senders.now }
     requires blocks { AreAsked site.now.senders.now site.now.intervals.now site.now.leaders
@@ -107,7 +107,7 @@ fn lead_heard(
 }
 
 /// The part of the beat heard of the lead, whose parts are counted.
-fn part_of_lead(hearing: &Hearing<'_>, site: &Site<'_>, lead: usize, parts: &[SharedTally]) -> u64
+fn part_of_lead(hearing: &Hearing<'_>, site: &Site<'_>, lead: usize, parts: &[Poll]) -> u64
     requires same { site.now.senders.now ≡ hearing.now.senders.now }
     requires lead { lead < site.now.leaders }
     requires stands { (none : Votes) → (slice_index_or parts.now lead none).values
@@ -217,7 +217,7 @@ impl Group {
             return false;
         }
         let nums = self.nums;
-        let group = NodeRange {
+        let group = Stretch {
             senders,
             first: self.first,
             count: nums.nodes as usize,

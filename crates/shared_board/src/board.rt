@@ -91,8 +91,8 @@ impl Board {
           states = map (cut self.old.depth) config.now.current;
         } }
     {
-        faulty.facts();
-        config.facts();
+        faulty.tell();
+        config.tell();
         take_liars(faulty, &mut self.liars, &mut self.marks, &mut self.before);
         fill(config, &mut self.registers, &mut self.outputs);
     }
@@ -136,7 +136,7 @@ impl Board {
 
     /// Tells a caller's proof that the ids of the liars rise and are those of nodes. It does
     /// nothing when it runs.
-    pub fn facts(&self)
+    pub fn tell(&self)
         ensures liars { AreLiars (length self.now.states) self.now.faulty }
         ensures most { length self.now.states ≤ 256 }
     {

@@ -6,17 +6,17 @@ ghost use Rattle.shared_board.specs.Senders.{correct_in, parts_of, values_of, va
 ghost use Rattle.shared_board.specs.Votes.{IsKnown, IsBeat, IsLead, AreVotes, AreAsked, HasVotesIn};
 ghost use Rattle.shared_board.specs.Votes.{HasRoomIn};
 
-use crate::polls::SharedTally;
+use crate::polls::Poll;
 use crate::readings::{Parts, Pointers};
 use crate::sites::Site;
-use crate::stretches::NodeRange;
+use crate::stretches::Stretch;
 use majority_votes::Steps;
 use std::sync::ledger::Ledger;
 
 /// Counts the pointers of the blocks, as far as they decide a vote.
 fn gather_votes<G: Ledger>(
     site: &Site<'_>,
-    pointers: &mut [SharedTally],
+    pointers: &mut [Poll],
     votes: &mut [Option<u64>],
     steps: &mut Steps<G>,
 )
@@ -29,7 +29,7 @@ fn gather_votes<G: Ledger>(
         site.now.first (length site.now.intervals.now * site.now.size)) }
 {
     for i in 0..site.intervals.len() {
-        let block = NodeRange {
+        let block = Stretch {
             senders: site.senders,
             first: site.start(i),
             count: site.size,
@@ -85,7 +85,7 @@ fn known_lead(votes: &[Option<u64>]) -> Option<u64>
 /// it is known.
 pub(crate) fn gather_lead<G: Ledger>(
     site: &Site<'_>,
-    pointers: &mut [SharedTally],
+    pointers: &mut [Poll],
     votes: &mut [Option<u64>],
     steps: &mut Steps<G>,
 ) -> Option<u64>
@@ -101,7 +101,7 @@ pub(crate) fn gather_lead<G: Ledger>(
 }
 
 /// Counts the parts of the correct nodes of each leader.
-fn gather_leaders<G: Ledger>(site: &Site<'_>, parts: &mut [SharedTally], steps: &mut Steps<G>)
+fn gather_leaders<G: Ledger>(site: &Site<'_>, parts: &mut [Poll], steps: &mut Steps<G>)
     requires { HasRoomIn site.now.leaders site.now.size parts.old }
     ensures parts { (b : ℕ) (none : Votes) → b < site.now.leaders
         → (slice_index_or parts.new b none).values ≡ parts_of site.now.senders.now site.now.beat
@@ -112,7 +112,7 @@ fn gather_leaders<G: Ledger>(site: &Site<'_>, parts: &mut [SharedTally], steps: 
 {
     let reading = Parts { beat: site.beat };
     for b in 0..parts.len() {
-        let block = NodeRange {
+        let block = Stretch {
             senders: site.senders,
             first: site.start(b),
             count: site.size,
@@ -126,7 +126,7 @@ fn gather_leaders<G: Ledger>(site: &Site<'_>, parts: &mut [SharedTally], steps: 
 pub(crate) fn gather_beat<G: Ledger>(
     site: &Site<'_>,
     lead: Option<u64>,
-    parts: &mut [SharedTally],
+    parts: &mut [Poll],
     steps: &mut Steps<G>,
 ) -> Option<u64>
     requires lead { IfSome lead (λ lead. lead < site.now.leaders) }
@@ -140,7 +140,7 @@ pub(crate) fn gather_beat<G: Ledger>(
     match lead {
         Some(lead) => {
             let lead = lead as usize;
-            let block = NodeRange {
+            let block = Stretch {
                 senders: site.senders,
                 first: site.start(lead),
                 count: site.size,
@@ -157,10 +157,10 @@ pub(crate) fn gather_beat<G: Ledger>(
 /// Counts the values of a group, unless the beat is known and counts none. The answer is the least
 /// value that more than `faults` nodes have, where it is known.
 pub(crate) fn gather_least<G: Ledger>(
-    group: &NodeRange<'_>,
+    group: &Stretch<'_>,
     faults: usize,
     beat: Option<u64>,
-    values: &mut SharedTally,
+    values: &mut Poll,
     steps: &mut Steps<G>,
 ) -> Option<Option<u64>>
     requires { group.now.count ≤ values.old.capacity }

@@ -3,11 +3,11 @@ ghost use Rattle.shared_board.specs.Senders.{correct_in};
 ghost use Rattle.shared_board.specs.GroupVotes.{AreNumbers, IsGroup, StandsFor};
 
 use crate::gathering::{gather_beat, gather_lead, gather_least};
-use crate::polls::SharedTally;
+use crate::polls::Poll;
 use crate::rooms::{intervals, polls};
 use crate::senders::Senders;
 use crate::sites::Site;
-use crate::stretches::NodeRange;
+use crate::stretches::Stretch;
 use majority_votes::Steps;
 use plan_numbers::LevelNums;
 use std::alloc::Global;
@@ -34,9 +34,9 @@ pub struct Group {
     pub(crate) beat: Option<u64>,
     pub(crate) least: Option<Option<u64>>,
     // The pointers of each block, the parts of each leader, and the values of all.
-    pub(crate) pointers: Vec<SharedTally>,
-    pub(crate) parts: Vec<SharedTally>,
-    pub(crate) values: SharedTally,
+    pub(crate) pointers: Vec<Poll>,
+    pub(crate) parts: Vec<Poll>,
+    pub(crate) values: Poll,
 }
 
 impl Group {
@@ -62,7 +62,7 @@ impl Group {
             least: None,
             pointers: polls(alloc, blocks, block)?,
             parts: polls(alloc, nums.leaders as usize, block)?,
-            values: SharedTally::new(alloc, nums.nodes as usize)?,
+            values: Poll::new(alloc, nums.nodes as usize)?,
         })
     }
 
@@ -79,7 +79,7 @@ impl Group {
     {
         let nodes = self.nums.nodes as usize;
         let faults = self.nums.faults as usize;
-        let stretch = NodeRange {
+        let stretch = Stretch {
             senders,
             first: self.first,
             count: nodes,

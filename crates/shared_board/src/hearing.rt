@@ -7,7 +7,7 @@ ghost use Rattle.shared_board.specs.Votes.{IsMost, most_heard};
 ghost use Rattle.shared_board.specs.GroupVotes.{AreNumbers, AreBelow, AreLies};
 
 use crate::laying::Lies;
-use crate::polls::SharedTally;
+use crate::polls::Poll;
 use crate::readings::Reading;
 use crate::senders::Senders;
 use plan_numbers::LevelNums;
@@ -93,7 +93,7 @@ impl Hearing<'_> {
         known: Option<u64>,
         first: usize,
         count: usize,
-        poll: &SharedTally,
+        poll: &Poll,
     ) -> u64
         requires within { first + count ≤ length self.now.senders.now.registers }
         requires stands { IsMost self.now.senders.now (R.reads reading.now)

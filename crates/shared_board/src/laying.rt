@@ -4,9 +4,8 @@ ghost use Rattle.counting.specs.Values.{count_of, majority_of, least_above};
 ghost use Rattle.sync_types.specs.States.{register_at};
 ghost use Rattle.construction.specs.Shown.{shown};
 
-use crate::polls::SharedTally;
+use crate::polls::Poll;
 use crate::readings::Reading;
-use counter_core::shown;
 use majority_votes::Steps;
 use std::sync::ledger::Ledger;
 use sync_types::NodeState;
@@ -19,6 +18,18 @@ pub(crate) struct Lies<'a> {
     ghost deep: { All (λ s. height < length s.registers) lies.now },
 }
 
+/// What a state shows to the level above so many levels.
+fn shown_to(height: usize, state: &NodeState) -> u64
+    requires { height ≤ length state.now.registers }
+    ensures { result ≡ shown height state.now }
+{
+    if height == 0 {
+        state.x()
+    } else {
+        state.reg(height - 1).a.unwrap_or(0)
+    }
+}
+
 impl Lies<'_> {
     /// Of how many lies a number is read.
     fn count_number<R: Reading>(&self, reading: &R, number: u64) -> usize
@@ -29,7 +40,7 @@ impl Lies<'_> {
     {
         let mut count = 0;
         for lie in self.lies {
-            if reading.of(shown(self.height, lie)) == number {
+            if reading.of(shown_to(self.height, lie)) == number {
                 count += 1;
             }
         }
@@ -38,13 +49,7 @@ impl Lies<'_> {
 
     /// Whether more than `half` places hold a number, of those that the poll has and those read of
     /// the lies.
-    fn is_above<R: Reading>(
-        &self,
-        reading: &R,
-        number: u64,
-        half: usize,
-        poll: &SharedTally,
-    ) -> bool
+    fn is_above<R: Reading>(&self, reading: &R, number: u64, half: usize, poll: &Poll) -> bool
         requires { length poll.now.values + length self.now.lies.now ≤ poll.now.capacity }
         ensures { let told = map (λ s. Some (R.reads reading.now (shown self.now.height s)))
             self.now.lies.now in
@@ -60,7 +65,7 @@ impl Lies<'_> {
 
     /// The number that most have, of those that the poll has and those read of the lies; 0 where
     /// there is none. Nothing is placed.
-    pub fn most<R: Reading>(&self, reading: &R, poll: &SharedTally) -> u64
+    pub fn most<R: Reading>(&self, reading: &R, poll: &Poll) -> u64
         requires { length poll.now.values + length self.now.lies.now ≤ poll.now.capacity }
         ensures { let told = map (λ s. Some (R.reads reading.now (shown self.now.height s)))
             self.now.lies.now in
@@ -72,7 +77,7 @@ impl Lies<'_> {
             return most;
         }
         for lie in self.lies {
-            let number = reading.of(shown(self.height, lie));
+            let number = reading.of(shown_to(self.height, lie));
             if half == 0 {
                 return number;
             }
@@ -84,7 +89,7 @@ impl Lies<'_> {
     }
 
     /// Lays the values of the lies over those that a poll has.
-    fn lay_values<G: Ledger>(&self, poll: &mut SharedTally, steps: &mut Steps<G>)
+    fn lay_values<G: Ledger>(&self, poll: &mut Poll, steps: &mut Steps<G>)
         requires { length poll.old.values + length self.now.lies.now ≤ poll.old.capacity }
         ensures poll { poll.new ≡ record poll.old {
           values = poll.old.values
@@ -102,7 +107,7 @@ impl Lies<'_> {
     pub fn least<G: Ledger>(
         &self,
         faults: usize,
-        poll: &mut SharedTally,
+        poll: &mut Poll,
         steps: &mut Steps<G>,
     ) -> Option<u64>
         requires { length poll.old.values + length self.now.lies.now ≤ poll.old.capacity }
@@ -120,7 +125,7 @@ impl Lies<'_> {
 
     /// How many places hold a value, of the values in the poll and of those of the lies; None is
     /// infinity. Nothing is placed.
-    pub fn count(&self, value: Option<u64>, poll: &SharedTally) -> usize
+    pub fn count(&self, value: Option<u64>, poll: &Poll) -> usize
         requires { length poll.now.values + length self.now.lies.now ≤ poll.now.capacity }
         ensures { result ≡ count_of (poll.now.values
             ++ map (λ s. (register_at self.now.height s).a) self.now.lies.now) value }

@@ -4,7 +4,7 @@ ghost use Rattle.construction.specs.PhaseKing.{locked_at};
 ghost use Rattle.phase_king.specs.Groups.{IsLockedGroup};
 ghost use Rattle.shared_board.specs.Senders.{is_liar, register_of, correct_in, values_of};
 
-use crate::stretches::NodeRange;
+use crate::stretches::Stretch;
 use sync_types::Reg;
 
 /// How a group is locked.
@@ -23,7 +23,7 @@ pub(crate) fn is_locked_at(register: Reg, value: u64) -> bool
     register.a == Some(value) && register.d
 }
 
-impl NodeRange<'_> {
+impl Stretch<'_> {
     /// Whether the registers of all its nodes are locked at a value.
     fn all_locked(&self, value: u64) -> bool
         ensures { IsTrue result ↔ ((u : ℕ) → self.now.first ≤ u

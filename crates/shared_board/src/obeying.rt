@@ -10,7 +10,7 @@ ghost use Rattle.shared_board.specs.GroupVotes.{AreNumbers};
 
 use crate::hearing::Hearing;
 use crate::laying::Lies;
-use crate::polls::SharedTally;
+use crate::polls::Poll;
 use crate::senders::Senders;
 use majority_votes::Steps;
 use phase_king::king_step;
@@ -63,7 +63,7 @@ fn least_of<G: Ledger>(
     lies: &Lies<'_>,
     faults: usize,
     known: Option<Option<u64>>,
-    values: &mut SharedTally,
+    values: &mut Poll,
     steps: &mut Steps<G>,
 ) -> Option<u64>
     requires room { length values.old.values + length lies.now.lies.now ≤ values.old.capacity }
@@ -93,7 +93,7 @@ struct Node<'a> {
 impl Node<'_> {
     /// Its register after the instruction of kind 0: an infinite value stays so, and a finite one
     /// stays where enough have it.
-    fn obey_zeroth(&self, lies: &Lies<'_>, values: &SharedTally) -> Reg
+    fn obey_zeroth(&self, lies: &Lies<'_>, values: &Poll) -> Reg
         requires { length values.now.values + length lies.now.lies.now ≤ values.now.capacity }
         ensures { let heard = values.now.values
             ++ map (λ s. (register_at lies.now.height s).a) lies.now.lies.now in
@@ -128,7 +128,7 @@ impl Node<'_> {
         &self,
         least: Option<Option<u64>>,
         lies: &Lies<'_>,
-        values: &mut SharedTally,
+        values: &mut Poll,
         steps: &mut Steps<G>,
     ) -> Reg
         requires room { length values.old.values + length lies.now.lies.now ≤ values.old.capacity }
@@ -170,7 +170,7 @@ pub(crate) fn obey<G: Ledger>(
     beat: u64,
     own: Reg,
     least: Option<Option<u64>>,
-    values: &mut SharedTally,
+    values: &mut Poll,
     steps: &mut Steps<G>,
 ) -> Reg
     requires beat { beat < hearing.now.nums.now.beat }

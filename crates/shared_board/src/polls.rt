@@ -11,11 +11,11 @@ use sync_types::NoMemory;
 
 /// A tally that all receivers of a round share. A value comes into it by a step alone.
 #[derive(Drop)]
-pub(crate) struct SharedTally {
+pub(crate) struct Poll {
     tally: Tally,
 }
 
-impl Model for SharedTally {
+impl Model for Poll {
     ghost use Rattle.majority_votes.specs.Votes.{Votes};
 
     ghost Value = { Votes };
@@ -23,13 +23,13 @@ impl Model for SharedTally {
     ghost view = { λ p. p.tally };
 }
 
-impl SharedTally {
+impl Poll {
     /// One without values, with room for so many.
-    pub fn new(alloc: Global, capacity: usize) -> Result<SharedTally, NoMemory>
+    pub fn new(alloc: Global, capacity: usize) -> Result<Poll, NoMemory>
         ensures { IfOk result (λ p. p ≡ record { values = []; capacity = capacity }) }
     {
         let tally = Tally::new(alloc, capacity).map_err(|_| NoMemory)?;
-        Ok(SharedTally { tally })
+        Ok(Poll { tally })
     }
 
     /// How many values there is room for.

@@ -4,7 +4,7 @@ ghost use Rattle.shared_board.specs.Senders.{is_liar, output_of, correct_in, lia
 ghost use Rattle.shared_board.specs.Senders.{numbers_of};
 ghost use Rattle.shared_board.specs.Votes.{known_number, IsMost};
 
-use crate::polls::SharedTally;
+use crate::polls::Poll;
 use crate::readings::Reading;
 use crate::senders::Senders;
 use majority_votes::{Outlook, Steps};
@@ -12,7 +12,7 @@ use std::sync::ledger::Ledger;
 
 /// So many nodes, from the first on.
 #[derive(Clone, Copy, Drop)]
-pub(crate) struct NodeRange<'a> {
+pub(crate) struct Stretch<'a> {
     pub senders: &'a Senders<'a>,
     pub first: usize,
     pub count: usize,
@@ -29,7 +29,7 @@ pub(crate) fn known_number(outlook: Outlook) -> Option<u64>
     }
 }
 
-impl NodeRange<'_> {
+impl Stretch<'_> {
     /// The place behind its last node.
     pub fn end(&self) -> usize
         ensures { result ≡ self.now.first + self.now.count }
@@ -59,7 +59,7 @@ impl NodeRange<'_> {
         &self,
         reading: &R,
         u: usize,
-        poll: &mut SharedTally,
+        poll: &mut Poll,
         steps: &mut Steps<G>,
     )
         requires within { u < length self.now.senders.now.registers }
@@ -79,7 +79,7 @@ impl NodeRange<'_> {
     pub fn gather_numbers<R: Reading, G: Ledger>(
         &self,
         reading: &R,
-        poll: &mut SharedTally,
+        poll: &mut Poll,
         steps: &mut Steps<G>,
     )
         requires { self.now.count ≤ poll.old.capacity }
@@ -129,7 +129,7 @@ impl NodeRange<'_> {
     pub fn gather_most<R: Reading, G: Ledger>(
         &self,
         reading: &R,
-        poll: &mut SharedTally,
+        poll: &mut Poll,
         steps: &mut Steps<G>,
     ) -> Option<u64>
         requires { self.now.count ≤ poll.old.capacity }
@@ -153,7 +153,7 @@ impl NodeRange<'_> {
     }
 
     /// Counts the value of a node's register, where it is correct.
-    fn gather_value<G: Ledger>(&self, u: usize, poll: &mut SharedTally, steps: &mut Steps<G>)
+    fn gather_value<G: Ledger>(&self, u: usize, poll: &mut Poll, steps: &mut Steps<G>)
         requires within { u < length self.now.senders.now.registers }
         requires room { length poll.old.values < poll.old.capacity }
         ensures poll { poll.new ≡ record poll.old {
@@ -168,7 +168,7 @@ impl NodeRange<'_> {
     }
 
     /// Counts the values of its correct nodes' registers.
-    pub fn gather_values<G: Ledger>(&self, poll: &mut SharedTally, steps: &mut Steps<G>)
+    pub fn gather_values<G: Ledger>(&self, poll: &mut Poll, steps: &mut Steps<G>)
         requires { self.now.count ≤ poll.old.capacity }
         ensures poll { poll.new ≡ record poll.old {
           values

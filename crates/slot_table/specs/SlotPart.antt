@@ -6,8 +6,7 @@ use Rattle.std.specs.List.{list_any}
 use Rattle.std.specs.Str.{bytes_eq}
 use Rattle.texts.specs.Lines.{words_of}
 use Rattle.texts.specs.Shapes.{numbers_after}
-use Rattle.texts.specs.Parts.{Next, goes, ends, refuses, goes_on, with_skips, Found, At}
-use Rattle.texts.specs.Parts.{part_from}
+use Rattle.texts.specs.Parts.{Next, goes, ends, refuses, with_skips, Found, At, part_from}
 use Rattle.sync_types.specs.declared.answers.Rule.{Rule}
 use Rattle.sync_types.specs.declared.answers.Rule.TheVariants.{Form, Limit, Node, Range, Overlap}
 use Rattle.construction.specs.Plans.{Plan, plan_nodes, plan_modulus}
@@ -45,16 +44,16 @@ line_tested s other = Err Form
 abbrev pub line_in : SlotsSoFar → List ℕ → Result SlotLine Rule
 line_in s line = line_tested s (numbers_after (codes "slot") 3 (words_of line))
 
--- one more line
-abbrev pub with_line : SlotsSoFar → SlotLine → SlotsSoFar
-with_line s line = record s { lines = s.lines ++ line ∷ [] }
+-- the part goes on with one more line, or the line is refused
+abbrev pub goes_with : SlotsSoFar → Result SlotLine Rule → Next SlotsSoFar (List SlotLine) Rule
+goes_with s (Ok line) = goes (record s { lines = s.lines ++ line ∷ [] })
+goes_with s (Err rule) = refuses rule
 
 -- a line behind those that were read
 abbrev pub slots_step : SlotsSoFar → List ℕ → Next SlotsSoFar (List SlotLine) Rule
 slots_step s line =
     if s.begun
-    then (if bytes_eq line (codes "end") then ends s.lines
-    else goes_on (with_line s) (line_in s line))
+    then (if bytes_eq line (codes "end") then ends s.lines else goes_with s (line_in s line))
     else (if bytes_eq line (codes "slots 1") then goes (record s { begun = true })
     else refuses Form)
 

@@ -7,9 +7,11 @@
 pub mod laws;
 mod lines;
 mod reading;
+mod refusals;
 mod slot_lines;
 mod tables;
 
 pub use lines::SlotLine;
-pub use reading::{SlotError, SlotRefusal, read_slots, read_slots_for};
+pub use reading::{read_slots, read_slots_for};
+pub use refusals::{SlotError, SlotRefusal};
 pub use tables::SlotTable;

@@ -1,19 +1,13 @@
 ghost use Rattle.std.specs.Prelude.{◌≤◌, ◌<◌, ◌+◌, ◌^◌, length, IfOk};
 ghost use Rattle.slot_table.specs.SlotAnswers.{IsAnswer, IsAnswerFor};
 
+use crate::refusals::SlotError;
 use crate::slot_lines::SlotLines;
 use crate::tables::SlotTable;
-use edge_io::{PartError, Refused, read_part};
+use edge_io::read_part;
 use plan_numbers::Plan;
 use std::alloc::Global;
 use sync_types::Rule;
-
-/// The line of a slots part that is refused: its number in the whole input, skipped lines counted,
-/// and the first rule that it fails. Where the part lacks its end it is the line after the last.
-pub type SlotRefusal = Refused<Rule>;
-
-/// Why a slots part was not read: its first line that fails, or memory was refused.
-pub type SlotError = PartError<Rule>;
 
 /// Reads the slots part at the front of an input: the table for so many nodes and outputs below
 /// that modulus, how many bytes stand through the part's `end` line, that line's newline among

@@ -105,6 +105,15 @@ pub depth_at : (shape : Shape) (v : ℕ) → length (fields_at shape v).moduli �
 depth_at shape v = length-map-range_with_len
     (λ i. slice_index_or (slice_index_or shape.fields v no_fields).moduli i 0) 0 shape.depth
 
+-- the modulus of a register
+pub modulus_of_node : (shape : Shape) (v i : ℕ) → i < shape.depth
+    → get_or (fields_at shape v).moduli i 0
+    ≡ get_or (slice_index_or shape.fields v no_fields).moduli i 0
+modulus_of_node shape v i lt = get_or-map-range_with_len
+    (λ i. slice_index_or (slice_index_or shape.fields v no_fields).moduli i 0) 0 shape.depth i i 0
+    lt
+    (omega arith)
+
 -- fields of the depth are taken as they are
 pub same_depth : (depth : ℕ) (fields : Fields) → length fields.moduli ≡ depth
     → fields ≡ to_depth depth fields

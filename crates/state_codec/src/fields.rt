@@ -132,7 +132,7 @@ impl Fields {
     }
 
     /// Tells a caller's proof that the moduli are within the limits. It does nothing when it runs.
-    pub fn facts(&self)
+    pub fn tell(&self)
         ensures { IsFields self.now }
     {
         let _size = self.size;
@@ -202,7 +202,7 @@ impl Fields {
         ensures value { out.new ≡ read self.now bytes.now }
         ensures range { InRange self.now out.new }
     {
-        self.facts();
+        self.tell();
         if bytes.len() == self.bytes() {
             let mut room = [0; ROOM];
             room[..bytes.len()].copy_from_slice(bytes);
@@ -233,7 +233,7 @@ impl Fields {
         ensures value { out.new ≡ read self.now (take (bytes_in self.now) bytes.now) }
         ensures range { InRange self.now out.new }
     {
-        self.facts();
+        self.tell();
         out.set_x(self.number_of(bytes));
         for i in 0..self.moduli.len() {
             let register = self.register(i).read(bytes, self.offsets[i] as usize);

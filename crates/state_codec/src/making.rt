@@ -17,7 +17,7 @@ pub fn level_moduli(alloc: Global, plan: &Plan) -> Result<Vec<u64>, NoMemory>
         (λ moduli. All (λ modulus. (2 ≤ modulus) × (modulus ≤ 2 ^ 40)) moduli.items) }
     ensures few { IfOk result (λ moduli. length moduli.items ≤ 5) }
 {
-    plan.facts();
+    plan.tell();
     let mut moduli = vec![in alloc; 0; plan.depth()]?;
     for i in 0..plan.depth() {
         moduli[i] = plan.level(i).modulus;
@@ -75,7 +75,7 @@ pub fn kinds(alloc: Global, plan: &Plan, moduli: &[u64]) -> Result<Vec<Fields>, 
         ≡ map (fields_from (all_over plan.now moduli.now))
         (range_with_len 0 (plan_depth plan.now + 1))) }
 {
-    plan.facts();
+    plan.tell();
     let base = plan.base_modulus();
     let lows = plan.depth() + 1;
     let mut kinds = Vec::with_capacity(alloc, lows)?;

@@ -57,7 +57,7 @@ impl Packed {
         ensures { IfOk result (λ packed. packed
             ≡ record { shape = shape; current = zeros shape nodes; next = zeros shape nodes }) }
     {
-        shape.facts();
+        shape.tell();
         let most = shape.nodes();
         let depth = shape.depth();
         let current = NodeState::zeros(alloc, nodes, depth)?;
@@ -87,7 +87,7 @@ impl Packed {
 
     /// Tells a caller's proof that each configuration has a state in range for each node, and at
     /// most as many as the shape. It does nothing when it runs.
-    pub fn facts(&self)
+    pub fn tell(&self)
         ensures sound { IsShape self.now.shape }
         ensures few { length self.now.current ≤ shape_nodes self.now.shape }
         ensures size { length self.now.next ≡ length self.now.current }
@@ -113,7 +113,7 @@ impl Packed {
         requires depth { length out.old.registers ≡ self.now.shape.depth }
         ensures { out.new ≡ state_of self.now.current v }
     {
-        self.facts();
+        self.tell();
         out.copy_from(self.state(v));
     }
 
@@ -131,7 +131,7 @@ impl Packed {
         requires register { i < self.now.shape.depth }
         ensures { result ≡ register_at i (state_of self.now.current v) }
     {
-        self.facts();
+        self.tell();
         self.state(v).reg(i)
     }
 

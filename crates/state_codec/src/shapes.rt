@@ -60,7 +60,7 @@ impl StateShape {
         ensures depth { IfOk result (λ shape. shape.depth ≡ plan_depth plan.now) }
         ensures nodes { IfOk result (λ shape. shape_nodes shape ≡ plan_nodes plan.now) }
     {
-        plan.facts();
+        plan.tell();
         let moduli = level_moduli(alloc, plan)?;
         StateShape::over(alloc, plan, moduli)
     }
@@ -103,7 +103,7 @@ impl StateShape {
         requires few { length moduli.items ≤ 16 }
         ensures { IfOk result (λ shape. shape ≡ shape_over plan.now moduli.items) }
     {
-        plan.facts();
+        plan.tell();
         let depth = moduli.len();
         let kinds = kinds(alloc, plan, &moduli)?;
         let which = node_lows(alloc, plan)?;
@@ -164,7 +164,7 @@ impl StateShape {
     }
 
     /// Tells a caller's proof that the moduli are within the limits. It does nothing when it runs.
-    pub fn facts(&self)
+    pub fn tell(&self)
         ensures { IsShape self.now }
     {
         let _depth = self.depth;

@@ -1,29 +1,62 @@
 //! Tells how the program is used, and its version.
 
-ghost use Rattle.std.specs.Prelude.{map, string_bytes, Some};
-ghost use Rattle.program_words.specs.Asked.{asked_by};
-ghost use Rattle.program_words.specs.Telling.{TellsIfAsked, text_of};
-ghost use Rattle.states.specs.Asked.{help_text, version_text};
+ghost use Rattle.std.specs.Prelude.{map, string_bytes};
+ghost use Rattle.texts.specs.Growth.{Puts};
+ghost use Rattle.states.specs.Asked.{Tells, help_text, text_alone, text_for, version_text};
 
-use edge_io::{Sink, WriteFault};
-use program_words::{asked_by, tell};
+use edge_io::{Piece, Sink, WriteFault, put_all, put_pieces};
 
-/// How the program is used.
-const HELP: &[u8] = b"usage: states < STATES\n\
-    Turns states of nodes from hex digits into words, and back. It reads a\n\
-    plan, a line `values V` for each register of a layer, and then lines\n\
-    `node V H` or `node V number X registers R, R`, and writes the other\n\
-    form of each.\n";
+/// Writes how the program is used.
+fn put_help<K: Sink>(sink: &mut K) -> Result<(), WriteFault>
+    ensures { Puts result help_text (K.told sink.old) (K.told sink.new) }
+{
+    put_pieces(
+        sink,
+        &[
+            Piece::Text(b"usage: states < STATES\n"),
+            Piece::Text(
+                b"Turns states of nodes from hex digits into words, and back. It reads a\n",
+            ),
+            Piece::Text(b"plan, a line `values V` for each register of a layer, and then lines\n"),
+            Piece::Text(b"`node V H` or `node V number X registers R, R`, and writes the other\n"),
+            Piece::Text(b"form of each.\n"),
+        ],
+    )
+}
 
-/// Writes how the program is used if `--help` is the only word, and its name and version if
-/// `--version` is. Answers whether it was one of these; nothing was written if it was neither.
+/// Writes the program's name and version.
+fn put_version<K: Sink>(sink: &mut K) -> Result<(), WriteFault>
+    ensures { Puts result version_text (K.told sink.old) (K.told sink.new) }
+{
+    put_all(sink, b"states 1.0\n")
+}
+
+/// Writes what a single word asks for, as [`tell`] does.
+fn tell_alone<K: Sink>(word: &str, sink: &mut K) -> Result<bool, WriteFault>
+    ensures { Tells (text_alone word.now) (K.told sink.old) (K.told sink.new) result }
+{
+    if word == "--help" {
+        put_help(sink)?;
+        return Ok(true);
+    }
+    if word == "--version" {
+        put_version(sink)?;
+        return Ok(true);
+    }
+    Ok(false)
+}
+
+/// Writes how the program is used where `--help` is the only word, and its name and version where
+/// `--version` is. Answers whether it was one of these; nothing was written where it was neither.
 ///
-/// `WriteFault` comes only if a text was asked for and the sink counted a fault; a prefix of the
+/// `WriteFault` comes only where a text was asked for and the sink counted a fault; a front of the
 /// text was then taken.
-pub fn answer_words<K: Sink>(words: &[String], sink: &mut K) -> Result<bool, WriteFault>
-    ensures { TellsIfAsked
-        (text_of help_text version_text (asked_by (map string_bytes words.now) (Some (tt {0}))))
+pub fn tell<K: Sink>(words: &[String], sink: &mut K) -> Result<bool, WriteFault>
+    ensures { Tells (text_for (map string_bytes words.now))
         (K.told sink.old) (K.told sink.new) result }
 {
-    tell(asked_by(words, Some(())), HELP, b"states 1.0\n", sink)
+    match words {
+        [word] => tell_alone(word.as_str(), sink),
+        _ => Ok(false),
+    }
 }

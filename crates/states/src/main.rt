@@ -6,8 +6,8 @@
 //! count for nothing.
 //!
 //! Digits are read and written by the crate `state_codec`, whose contracts say which state they
-//! are. What is written for `--help` and `--version` is proved ([`asking::answer_words`]). That
-//! states in words are read and written as they are meant is tested, and not proved.
+//! are. What is written for `--help` and `--version` is proved ([`asking::tell`]). That states in
+//! words are read and written as they are meant is tested, and not proved.
 #![tactic(auto)]
 
 ghost use Rattle.std.specs.Prelude.{◌≤◌, ◌^◌, length};
@@ -23,7 +23,7 @@ mod tests;
 mod turning;
 mod writing;
 
-use crate::asking::answer_words;
+use crate::asking::tell;
 use crate::faults::StateError;
 use crate::layers::read_layer;
 use crate::turning::turn;
@@ -82,7 +82,7 @@ fn answer(alloc: Global, input: &[u8]) -> Result<String, StateError>
 fn main(rt: HostRuntime) -> anyhow::Result<ExitCode> {
     let arguments = arguments(&rt)?;
     let mut sink = StdSink::new(io::writer(&rt));
-    if answer_words(words(&arguments), &mut sink)? {
+    if tell(words(&arguments), &mut sink)? {
         return Ok(ExitCode::SUCCESS);
     }
     let mut source = StdSource::new(rt.stdin());

@@ -1,4 +1,4 @@
--- What the words ask for: `FIRST COUNT`.
+-- What the words ask for: `FIRST COUNT`, `--help` or `--version`.
 use Rattle.std.specs.Prelude.{ℕ, ◌+◌, ◌<◌, ◌^◌, List, [], ◌∷◌, ◌||◌, nat_le, nat_lt, Option, Some}
 use Rattle.std.specs.Prelude.{None, codes}
 use Rattle.std.specs.Prelude.{if◌then◌else◌}
@@ -6,6 +6,8 @@ use Rattle.std.specs.Option.{option_map}
 use Rattle.std.specs.Str.{bytes_eq}
 use Rattle.texts.specs.Numbers.{number_of}
 use Rattle.sweep.specs.declared.requests.Numbers.{Numbers}
+use Rattle.sweep.specs.declared.requests.Request.{Request}
+use Rattle.sweep.specs.declared.requests.Request.TheVariants as request
 
 -- so many numbers from the first on, where there is one and both have at most 15 digits
 abbrev pub numbers_with : (first count : ℕ) → Option Numbers
@@ -18,12 +20,25 @@ abbrev pub numbers_by : (first count : Option ℕ) → Option Numbers
 numbers_by (Some first) (Some count) = numbers_with first count
 numbers_by first count = None
 
-abbrev pub request_of : List (List ℕ) → Option Numbers
+-- what a single word asks for
+abbrev pub asked_alone : List ℕ → Option Request
+asked_alone word =
+    if bytes_eq word (codes "--help") then Some request.Help
+    else if bytes_eq word (codes "--version") then Some request.Version
+    else None
+
+abbrev pub request_of : List (List ℕ) → Option Request
 request_of [] = None
-request_of (word ∷ []) = None
-request_of (first ∷ count ∷ []) = numbers_by (number_of first) (number_of count)
+request_of (word ∷ []) = asked_alone word
+request_of (first ∷ count ∷ []) =
+    option_map request.Sweep (numbers_by (number_of first) (number_of count))
 request_of (first ∷ count ∷ more ∷ words) = None
 
--- all of these numbers, and that after them, are below 2^64
+-- all of these numbers, and that behind them, are below 2^64
 abbrev pub AreFew : Numbers → Type 0
 AreFew numbers = numbers.first + numbers.count < 2 ^ 64
+
+abbrev pub HasFewNumbers : Request → Type 0
+HasFewNumbers request.Help = Unit {0}
+HasFewNumbers request.Version = Unit {0}
+HasFewNumbers (request.Sweep numbers) = AreFew numbers

@@ -108,7 +108,7 @@ impl FaultSet {
     }
 
     /// Does nothing but tell that the ids rise and are those of nodes.
-    pub fn facts(&self)
+    pub fn tell(&self)
         ensures { AreFaulty self.now }
     {
         let _ids = &self.ids;

@@ -10,11 +10,6 @@ pub data Next (S V R : Type 0) : Type 0 where
   ends : V → Next S V R
   refuses : R → Next S V R
 
--- it goes on with what is made of a line, or the line is refused
-abbrev pub goes_on : {S V R X : Type 0} → (X → S) → Result X R → Next S V R
-goes_on make (Ok x) = goes (make x)
-goes_on make (Err r) = refuses r
-
 -- an empty line and one that begins with `#`
 abbrev pub is_skipped : List ℕ → Bool
 is_skipped line = length line == 0 || slice_index line 0 == 35

@@ -13,7 +13,7 @@ use Rattle.plan_numbers.proofs.Stacking.{length-levels_in}
 use Rattle.boost_step.proofs.Numbers.{related}
 use Rattle.shared_board.specs.GroupVotes.{AreNumbers}
 use Rattle.shared_board.specs.Groups.{Group, groups_of}
-use Rattle.shared_board.proofs.Passing.{range_two}
+use Rattle.shared_board.proofs.GroupStretches.{range_two}
 use Rattle.tower.proofs.Descent.{top_numbers, top_sized, levels_are, size_is, group_nodes}
 
 -- the groups of one block more

@@ -85,7 +85,7 @@ impl Placed {
         ensures same { self.new ≡ self.old }
         ensures steps { steps.new ≤ steps.old + 3 * length board.now.faulty }
     {
-        board.facts();
+        board.tell();
         if let Some(register) = self.group.common_register() {
             return register;
         }
@@ -113,7 +113,7 @@ impl Placed {
         ensures last { result.1 ≡ place_among board.now.faulty
             (self.now.group.first + self.now.group.nums.nodes) }
     {
-        board.facts();
+        board.tell();
         let first = self.group.first;
         let end = first + self.group.nums.nodes as usize;
         (board.liars_below(first), board.liars_below(end))

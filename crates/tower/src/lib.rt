@@ -10,6 +10,7 @@
 #![tactic(auto)]
 
 mod groups;
+pub mod laws;
 mod registers;
 mod rows;
 mod settled;

@@ -3,7 +3,7 @@ use Rattle.std.proofs.Common.{◌≡◌, ℕ, ◌<◌, ◌≤◌, Bool, true, fa
 use Rattle.std.proofs.Common.{refl, sym, ap, ap₂, ◌∙◌, subst}
 use Rattle.std.specs.Prelude.{not, nat_lt, if◌then◌else◌}
 use Rattle.std.proofs.lemmas.Bool.{lt-ltb, le-ltb}
-use Rattle.texts.specs.Growth.{SinkState}
+use Rattle.texts.specs.Growth.{Told}
 use Rattle.texts.specs.Lines.{lines_of}
 use Rattle.adversary_script.specs.Scripts.{Script}
 use Rattle.machine_runner.specs.Runners.{Running, begun}
@@ -13,9 +13,9 @@ use Rattle.pulse_plan.specs.Plans.{PulseNumbers}
 use Rattle.pulse_runs.specs.Readings.{IsReadAs}
 use Rattle.pulse_runs.specs.RunInputs as pulses
 use Rattle.pulse_runs.specs.declared.errors.RunRefusal.{RunRefusal}
-use Rattle.traces.specs.PulseTraceTexts.{trace_text}
+use Rattle.pulse_traces.specs.TraceTexts.{trace_text}
 use Rattle.state_codec.specs.Shapes.{Shape}
-use Rattle.traces.specs.declared.wants.Want.{Want}
+use Rattle.trace_words.specs.declared.wants.Want.{Want}
 use Rattle.trace.specs.declared.errors.TraceError.{TraceError}
 use Rattle.trace.specs.declared.errors.TraceError.TheVariants as error
 use Rattle.trace.specs.Answers.{fails_at_first, levels_trace_or, pulses_trace, trace_by, trace_of}
@@ -54,7 +54,7 @@ module _ (want : Want) (words : List (List ℕ)) (plan : PulseNumbers) (script :
 
 -- what was written of an answer was written of its equal
 pub answers_as : {T : Type 0} (result : Result T TraceError) (a b : Result (List ℕ) TraceError)
-    (s t : SinkState) → b ≡ a → Answers result a s t → Answers result b s t
+    (s t : Told) → b ≡ a → Answers result a s t → Answers result b s t
 answers_as result a b s t e =
     subst (λ (x : Result (List ℕ) TraceError). Answers result x s t) (sym e)
 

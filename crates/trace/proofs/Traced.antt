@@ -5,7 +5,7 @@ use Rattle.std.specs.Prelude.{not, nat_lt, if◌then◌else◌}
 use Rattle.std.specs.Result.{IsErrAnd}
 use Rattle.std.proofs.lemmas.Bool.{lt-ltb, le-ltb}
 use Rattle.std.proofs.lemmas.Result.{err_from_is_err_and}
-use Rattle.texts.specs.Growth.{SinkState, Cut}
+use Rattle.texts.specs.Growth.{Told, Cut}
 use Rattle.construction.specs.Plans.{Plan, plan_nodes, plan_depth}
 use Rattle.state_codec.specs.Shapes.{Shape}
 use Rattle.state_codec.proofs.Plans.{depth_of_shape}
@@ -16,8 +16,8 @@ use Rattle.answers.specs.declared.errors.Unanswered.{Unanswered}
 use Rattle.answers.specs.declared.errors.Unanswered.TheVariants as end
 use Rattle.answers.specs.Readings.{Refuses}
 use Rattle.answers.specs.ScriptedRuns.{IsScriptedRun}
-use Rattle.traces.specs.declared.desks.TraceBuffers.{TraceBuffers}
-use Rattle.traces.specs.declared.wants.Want.{Want}
+use Rattle.traces.specs.declared.desks.Desk.{Desk}
+use Rattle.trace_words.specs.declared.wants.Want.{Want}
 use Rattle.traces.specs.Desks.{IsFitFor, IsMade}
 use Rattle.traces.specs.TraceTexts.{trace_text}
 use Rattle.traces.specs.Wants.{IsToTrace}
@@ -31,7 +31,7 @@ use Rattle.trace.specs.Names.{are_nodes, named_nodes}
 -- ---- the exit of a `?`
 
 module _ {T : Type 0} (want : Want) (words : List (List ℕ)) (input : List ℕ) where
-  by_error : (result : Result T TraceError) (e : Unanswered) (s : SinkState)
+  by_error : (result : Result T TraceError) (e : Unanswered) (s : Told)
       → Refuses e (scripted_of input) → result ≡ Err (scripted_error e)
       → Answers result (levels_trace_or want words (scripted_of input)) s s
   by_error result end.NoMemory s h is = rw is refl
@@ -39,7 +39,7 @@ module _ {T : Type 0} (want : Want) (words : List (List ℕ)) (input : List ℕ)
   by_error result end.WriteFault s h is = absurd h
 
   -- behind a reading that failed
-  pub unread : (result : Result T TraceError) (e : Unanswered) (s : SinkState)
+  pub unread : (result : Result T TraceError) (e : Unanswered) (s : Told)
       → Refuses e (scripted_of input) → IsErrAnd result (λ given. given ≡ scripted_error e)
       → Answers result (levels_trace_or want words (scripted_of input)) s s
   unread result e s h given =
@@ -48,8 +48,7 @@ module _ {T : Type 0} (want : Want) (words : List (List ℕ)) (input : List ℕ)
 
 -- behind a write that failed
 pub unwritten : {T : Type 0} (result : Result T TraceError) (answer : Result (List ℕ) TraceError)
-    (text : List ℕ) (s t : SinkState) → answer ≡ Ok text → IsErrAnd result
-    (λ e. e ≡ error.WriteFault)
+    (text : List ℕ) (s t : Told) → answer ≡ Ok text → IsErrAnd result (λ e. e ≡ error.WriteFault)
     → Cut text s t → Answers result answer s t
 unwritten result answer text s t is given cut =
     let p = err_from_is_err_and result given in
@@ -97,7 +96,7 @@ module _ (want : Want) (words : List (List ℕ)) (input : List ℕ) (plan : Plan
   deep = ap (λ (s : Shape). s.depth) is.records.shape
       ∙ (depth_of_shape r.plan ∙ ap plan_depth is.plan_is)
 
-  pub fits : (depth : ℕ) (desk : TraceBuffers) → depth ≡ r.script.shape.depth
+  pub fits : (depth : ℕ) (desk : Desk) → depth ≡ r.script.shape.depth
       → IsMade plan depth desk → IsFitFor r desk
   fits depth desk e made =
       subst (λ (p : Plan). IsMade p r.script.shape.depth desk) (sym is.plan_is)

@@ -9,8 +9,8 @@ use Rattle.outcomes.specs.Inputs.{Scripted, scripted_of}
 use Rattle.pulse_runs.specs.declared.errors.RunRefusal.{RunRefusal}
 use Rattle.pulse_runs.specs.declared.errors.RunRefusal.TheVariants as refusal
 use Rattle.pulse_runs.specs.RunInputs as pulses
-use Rattle.traces.specs.PulseTraceTexts as pulse_texts
-use Rattle.traces.specs.declared.wants.Want.{Want}
+use Rattle.pulse_traces.specs.TraceTexts as pulse_texts
+use Rattle.trace_words.specs.declared.wants.Want.{Want}
 use Rattle.traces.specs.TraceTexts.{trace_text}
 use Rattle.trace.specs.Names.{are_nodes, named_nodes}
 use Rattle.trace.specs.declared.errors.TraceError.{TraceError}

@@ -2,9 +2,9 @@
 use Rattle.std.specs.Prelude.{◌≡◌, ℕ, ◌^◌, ◌<◌, List, length, Option, Result, Ok, Err, IfSome}
 use Rattle.std.specs.Io.KnownBytes.{Consumes, IsAtEnd}
 use Rattle.texts.specs.Causes.{Counted}
-use Rattle.texts.specs.Growth.{SinkState, Wrote, Cut}
+use Rattle.texts.specs.Growth.{Told, Wrote, Cut}
 use Rattle.edge_io.specs.Reading.{LosesWithin, LosesMore}
-use Rattle.traces.specs.declared.wants.Want.{Want}
+use Rattle.trace_words.specs.declared.wants.Want.{Want}
 use Rattle.trace.specs.Answers.{trace_of}
 use Rattle.trace.specs.declared.errors.TraceError.{TraceError}
 use Rattle.trace.specs.declared.errors.TraceError.TheVariants as error
@@ -17,9 +17,9 @@ pub record IsTraced (answer : Result (List ℕ) TraceError) (holds : List ℕ �
   pub has : holds text
 
 -- What was written of an answer: its text; or nothing, since it is this error, or memory was
--- refused; or a prefix of the text.
+-- refused; or a front of the text.
 abbrev pub Answers : {T : Type 0} → Result T TraceError → (answer : Result (List ℕ) TraceError)
-    → (old new : SinkState) → Type 0
+    → (old new : Told) → Type 0
 Answers (Ok value) answer old new = IsTraced answer (λ text. Wrote text old new)
 Answers (Err error.WriteFault) answer old new = IsTraced answer (λ text. Cut text old new)
 Answers (Err error.NoMemory) answer old new = new ≡ old
@@ -30,7 +30,7 @@ Answers (Err refused) answer old new = (answer ≡ Err refused) × (new ≡ old)
 
 -- all of the input was read, and this was written of it
 pub record Answered {T : Type 0} (result : Result T TraceError) (want : Want)
-    (words : List (List ℕ)) (left left' : Option (List ℕ)) (before now : ℕ) (old new : SinkState)
+    (words : List (List ℕ)) (left left' : Option (List ℕ)) (before now : ℕ) (old new : Told)
     : Type 0 where
   pub input : List ℕ
   pub read : Consumes left left' input
@@ -41,7 +41,7 @@ pub record Answered {T : Type 0} (result : Result T TraceError) (want : Want)
 -- What a trace did that ended so, of which these words name the nodes: the bytes that its source
 -- has left, the source's count of faults, and what its sink tells, each before and after.
 abbrev pub Does : {T : Type 0} → Result T TraceError → Want → (words : List (List ℕ))
-    → (left left' : Option (List ℕ)) (before now : ℕ) (old new : SinkState) → Type 0
+    → (left left' : Option (List ℕ)) (before now : ℕ) (old new : Told) → Type 0
 Does (Err error.ReadFault) want words left left' before now old new =
     LosesWithin (2 ^ 20) left left' × Counted before now × (new ≡ old)
 Does (Err error.TooLong) want words left left' before now old new =

@@ -5,7 +5,7 @@ use Rattle.std.specs.List.{list_all}
 use Rattle.std.specs.Option.{is_some, option_map}
 use Rattle.std.specs.Str.{bytes_eq}
 use Rattle.texts.specs.Numbers.{number_of}
-use Rattle.traces.specs.declared.wants.Want.{Want}
+use Rattle.trace_words.specs.declared.wants.Want.{Want}
 use Rattle.trace.specs.declared.requests.Request.{Request}
 use Rattle.trace.specs.declared.requests.Request.TheVariants as request
 

@@ -12,7 +12,7 @@ use machine_runner::Runner;
 use plan_reader::first_unskipped;
 use pulse_runs::{PlayError, RunRefusal, read_scripted};
 use std::alloc::Global;
-use traces::Want;
+use trace_words::Want;
 
 /// Whether the line is the first one that counts, or no line does.
 fn is_first(first: Option<u64>, line: u64) -> bool

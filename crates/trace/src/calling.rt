@@ -7,7 +7,7 @@ use crate::answering::write_trace;
 use crate::errors::TraceError;
 use edge_io::{Sink, Source, read_all};
 use std::alloc::Global;
-use traces::Want;
+use trace_words::Want;
 
 /// How many bytes an input may have.
 const LONGEST_INPUT: usize = 1 << 20;
@@ -23,7 +23,7 @@ const LONGEST_INPUT: usize = 1 << 20;
 /// played, and a word names no node of the plan. `TooLong` comes only where the byte behind the
 /// limit was there, `ReadFault` and `WriteFault` only where the source, before its end, or the sink
 /// counted a fault, and `NoMemory` where memory was refused. Nothing was written then, but at
-/// `WriteFault` a prefix of the text. `Usage` never comes.
+/// `WriteFault` a front of the text. `Usage` never comes.
 pub fn trace_input<S: Source, K: Sink>(
     alloc: Global,
     want: Want,

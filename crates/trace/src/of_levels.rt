@@ -10,7 +10,8 @@ use crate::naming::named_nodes;
 use answers::read_scripted;
 use edge_io::Sink;
 use std::alloc::Global;
-use traces::{TraceBuffers, Want, put_trace};
+use trace_words::Want;
+use traces::{Desk, put_trace};
 
 /// Writes the trace of an input that is read as such a plan and a script: that of the wanted
 /// configurations and of the nodes that the words name, or of all where there is no word.
@@ -35,7 +36,7 @@ pub fn write_levels_trace<K: Sink>(
         return Err(TraceError::NoNode);
     };
     let depth = runner.shape().depth();
-    let mut desk = TraceBuffers::new(alloc, &plan, depth)?;
+    let mut desk = Desk::new(alloc, &plan, depth)?;
     put_trace(sink, &mut runner, want, &nodes, &mut desk)?;
     Ok(())
 }

@@ -8,9 +8,10 @@ use crate::errors::TraceError;
 use crate::naming::named_nodes;
 use edge_io::Sink;
 use machine_runner::Runner;
-use pulse_plan::PulseMachine;
+use pulse_machine::PulseMachine;
+use pulse_traces::{Desk, put_trace};
 use std::alloc::Global;
-use traces::{PulseBuffers, Want, put_pulse_trace};
+use trace_words::Want;
 
 /// Writes the trace of the wanted configurations and of the nodes that the words name, or of all
 /// where there is no word. The runner is at configuration 0.
@@ -33,7 +34,7 @@ pub fn write_pulses_trace<K: Sink>(
     let Some(nodes) = named_nodes(alloc, words, runner.machine().plan().nodes())? else {
         return Err(TraceError::NoNode);
     };
-    let mut desk = PulseBuffers::new(alloc, runner)?;
-    put_pulse_trace(sink, runner, want, &nodes, &mut desk)?;
+    let mut desk = Desk::new(alloc, runner)?;
+    put_trace(sink, runner, want, &nodes, &mut desk)?;
     Ok(())
 }

@@ -5,7 +5,7 @@ ghost use Rattle.trace.specs.Requests.{are_numbers, asked_alone, node_words, req
 ghost use Rattle.trace.specs.Requests.{IsInOrder, WantsInOrder};
 
 use edge_io::number;
-use traces::Want;
+use trace_words::Want;
 
 /// What is asked for.
 #[derive(Clone, Copy, Debug, PartialEq, Eq)]

@@ -4,7 +4,7 @@ use Rattle.std.proofs.Common.{List, Option, refl, sym, ap, subst, ◌∙◌, ari
 use Rattle.std.proofs.lemmas.Bool.{cases_lt, ne_eqb}
 use Rattle.std.proofs.lemmas.List.{get_or_default, drop_more}
 use Rattle.trace_pictures.specs.declared.traces.Note.{Note}
-use Rattle.trace_pictures.specs.declared.traces.KingPhase.{KingPhase}
+use Rattle.trace_pictures.specs.declared.traces.Reign.{Reign}
 use Rattle.trace_pictures.specs.TraceSaid.{ColumnsRise, IsBefore, IsHeardByAll, KnowsValue, hears}
 use Rattle.trace_pictures.specs.TraceSaid.{is_lost_before, is_other, top_value, value_before}
 
@@ -75,7 +75,7 @@ module _ (notes : List Note) (k : ℕ) (lt : k < length notes) (note : Note)
 -- ---- turns
 
 -- in another column nothing is heard of a turn
-pub deaf : (reign : KingPhase) (note : Note) → (note.column ≡ reign.column → ⊥)
+pub deaf : (reign : Reign) (note : Note) → (note.column ≡ reign.column → ⊥)
     → is_other (hears reign note) ≡ false
 deaf reign note apart = rw (ne_eqb note.column reign.column apart) refl
 
@@ -93,7 +93,7 @@ starts_before notes from column d rise inside before k e within less =
       rise k (from - 1) e (omega (arith, less)) inside,
     )
 
-module _ (reign : KingPhase) (notes : List Note) (rise : ColumnsRise notes) where
+module _ (reign : Reign) (notes : List Note) (rise : ColumnsRise notes) where
   -- lines from a place on stand in later columns
   pub heard_so_far : (k : ℕ) (note : Note) → k < length notes → note ≡ get_or notes k note
       → reign.column < note.column

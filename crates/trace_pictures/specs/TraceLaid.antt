@@ -8,7 +8,7 @@ use Rattle.trace_pictures.specs.declared.traces.Heard.{Heard}
 use Rattle.trace_pictures.specs.declared.traces.Seen.{Seen}
 use Rattle.trace_pictures.specs.declared.traces.Seen.TheVariants.{Shows, Holds}
 use Rattle.trace_pictures.specs.declared.traces.Note.{Note}
-use Rattle.trace_pictures.specs.declared.traces.KingPhase.{KingPhase}
+use Rattle.trace_pictures.specs.declared.traces.Reign.{Reign}
 use Rattle.trace_pictures.specs.declared.traces.Title.{Title}
 use Rattle.trace_pictures.specs.declared.traces.Level.{Level}
 use Rattle.trace_pictures.specs.declared.traces.Trace.{Trace}
@@ -67,41 +67,41 @@ AreLinesLaid levels nodes ids notes =
 -- ---- kings' turns
 
 -- the turn that is heard at a level, in the column of its configuration
-pub record IsTurnOf (column level : ℕ) (heard : Heard) (reign : KingPhase) : Type 0 where
+pub record IsTurnOf (column level : ℕ) (heard : Heard) (reign : Reign) : Type 0 where
   pub at_column : reign.column ≡ column
   pub at_level : reign.level ≡ level
   pub same_king : reign.king ≡ heard.king
   pub same_turn : reign.turn ≡ heard.turn
 
 -- one of the turns is the one that is heard
-pub record HasTurnOf (reigns : List KingPhase) (column level : ℕ) (heard : Heard) : Type 0 where
+pub record HasTurnOf (reigns : List Reign) (column level : ℕ) (heard : Heard) : Type 0 where
   pub place : ℕ
   pub inside : place < length reigns
-  pub is : (d : KingPhase) → IsTurnOf column level heard (slice_index_or reigns place d)
+  pub is : (d : Reign) → IsTurnOf column level heard (slice_index_or reigns place d)
 
-abbrev pub HasTurnHeard : List KingPhase → (column level : ℕ) → Option Heard → Type 0
+abbrev pub HasTurnHeard : List Reign → (column level : ℕ) → Option Heard → Type 0
 HasTurnHeard reigns column level (Some heard) = HasTurnOf reigns column level heard
 HasTurnHeard reigns column level None = Unit {0}
 
 -- where a correct node hears a turn, it is drawn
-abbrev pub HasTurnIf : List KingPhase → (faulty : Bool) → (column : ℕ) → Seen → Type 0
+abbrev pub HasTurnIf : List Reign → (faulty : Bool) → (column : ℕ) → Seen → Type 0
 HasTurnIf reigns true column seen = Unit {0}
 HasTurnIf reigns false column (Shows output) = Unit {0}
 HasTurnIf reigns false column (Holds register) =
     HasTurnHeard reigns column register.level register.heard
 
-abbrev pub HasTurn : List KingPhase → Note → Type 0
+abbrev pub HasTurn : List Reign → Note → Type 0
 HasTurn reigns note = HasTurnIf reigns note.is_faulty note.column note.seen
 
 -- a turn stands above the cells of its level's strip
-pub record IsTurnLaid (levels : List Level) (reign : KingPhase) : Type 0 where
+pub record IsTurnLaid (levels : List Level) (reign : Reign) : Type 0 where
   pub strip : Level
   pub is : IsStripOf levels reign.level strip
   pub below : strip.top ≤ reign.top
   pub above : reign.top + 16 ≤ strip.cells
 
 -- turns of one level in one column stand one below the other
-abbrev pub AreApart : (turn later : KingPhase) → Type 0
+abbrev pub AreApart : (turn later : Reign) → Type 0
 AreApart turn later =
     turn.column ≡ later.column → turn.level ≡ later.level → turn.top + 16 ≤ later.top
 

@@ -10,7 +10,7 @@ use Rattle.trace_pictures.specs.declared.traces.Turn.TheVariants.{Keep, Mark, Ki
 use Rattle.trace_pictures.specs.declared.traces.Seen.{Seen}
 use Rattle.trace_pictures.specs.declared.traces.Seen.TheVariants.{Shows, Holds}
 use Rattle.trace_pictures.specs.declared.traces.Note.{Note}
-use Rattle.trace_pictures.specs.declared.traces.KingPhase.{KingPhase}
+use Rattle.trace_pictures.specs.declared.traces.Reign.{Reign}
 use Rattle.trace_pictures.specs.declared.traces.Level.{Level}
 use Rattle.trace_pictures.specs.declared.traces.Trace.{Trace}
 use Rattle.picture_parts.specs.Moduli.{IsModulusOf}
@@ -65,19 +65,19 @@ is_same_turn King King = true
 is_same_turn turn other = false
 
 -- whether what is heard is a turn, if anything is
-abbrev pub heard_as : KingPhase → Option Heard → Option Bool
+abbrev pub heard_as : Reign → Option Heard → Option Bool
 heard_as reign None = None
 heard_as reign (Some heard) =
     Some ((heard.king == reign.king) && is_same_turn heard.turn reign.turn)
 
-abbrev pub seen_as : KingPhase → Seen → Option Bool
+abbrev pub seen_as : Reign → Seen → Option Bool
 seen_as reign (Shows shown) = None
 seen_as reign (Holds register) =
     if register.level == reign.level then heard_as reign register.heard else None
 
 -- Where a line is on what a correct node hears in a turn's column at its level: whether that is the
 -- turn. Else nothing.
-abbrev pub hears : KingPhase → Note → Option Bool
+abbrev pub hears : Reign → Note → Option Bool
 hears reign note =
     if (note.column == reign.column) && not note.is_faulty then seen_as reign note.seen else None
 
@@ -93,7 +93,7 @@ IsBefore column from notes =
     (k : ℕ) (d : Note) → k < length notes → k < from → (slice_index_or notes k d).column < column
 
 -- some line says so of a turn
-pub record HasHearer (reign : KingPhase) (notes : List Note) (same : Bool) : Type 0 where
+pub record HasHearer (reign : Reign) (notes : List Note) (same : Bool) : Type 0 where
   pub place : ℕ
   pub inside : place < length notes
   pub is : (d : Note) → hears reign (slice_index_or notes place d) ≡ Some same
@@ -105,18 +105,18 @@ is_other (Some false) = true
 is_other None = false
 
 -- no line says that another turn is heard
-abbrev pub IsHeardByAll : KingPhase → List Note → Type 0
+abbrev pub IsHeardByAll : Reign → List Note → Type 0
 IsHeardByAll reign notes =
     (k : ℕ) (d : Note) → k < length notes
     → is_other (hears reign (slice_index_or notes k d)) ≡ false
 
 -- a turn has a whole frame where all hear it, and else a broken one
-abbrev pub IsFramed : KingPhase → List Note → (common : Bool) → Type 0
+abbrev pub IsFramed : Reign → List Note → (common : Bool) → Type 0
 IsFramed reign notes true = IsHeardByAll reign notes
 IsFramed reign notes false = HasHearer reign notes false
 
 -- a turn is one that some correct node hears, in a frame that says whether all do
-pub record IsTurnSaid (notes : List Note) (reign : KingPhase) : Type 0 where
+pub record IsTurnSaid (notes : List Note) (reign : Reign) : Type 0 where
   pub heard : HasHearer reign notes true
   pub framed : IsFramed reign notes reign.is_common
 

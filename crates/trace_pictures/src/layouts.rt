@@ -1,7 +1,7 @@
 //! Lays out a trace: below the outputs a strip for each level, with the kings' turns above it.
 
 use crate::trace_reading::MOST_LEVELS;
-use crate::traces::{Heard, KingPhase, Level, Note, Register, Seen, Title, Trace};
+use crate::traces::{Heard, Level, Note, Register, Reign, Seen, Title, Trace};
 use picture_parts::{ChartError, MOST_COLUMNS, line_top};
 use std::alloc::{AllocFailed, Global};
 
@@ -24,8 +24,8 @@ struct Strip {
 }
 
 /// A turn that a node hears.
-fn reign_of(column: u32, level: u64, heard: &Heard) -> KingPhase {
-    KingPhase {
+fn reign_of(column: u32, level: u64, heard: &Heard) -> Reign {
+    Reign {
         column,
         level,
         king: heard.king,
@@ -39,10 +39,10 @@ fn reign_of(column: u32, level: u64, heard: &Heard) -> KingPhase {
 /// Adds a turn to those of its column, which stand from place `from` on, if it is not there.
 /// Answers how many of its level there are then.
 fn add_reign(
-    reigns: &mut Vec<KingPhase>,
+    reigns: &mut Vec<Reign>,
     from: usize,
-    mut new: KingPhase,
-) -> Result<u32, AllocFailed<KingPhase>> {
+    mut new: Reign,
+) -> Result<u32, AllocFailed<Reign>> {
     for i in from..reigns.len() {
         let old = reigns[i];
         if old.level == new.level {
@@ -66,12 +66,12 @@ fn add_reign(
 
 /// Takes what a node hears at a level, if it does.
 fn take_register(
-    reigns: &mut Vec<KingPhase>,
+    reigns: &mut Vec<Reign>,
     from: usize,
     strip: &mut Strip,
     note: &Note,
     register: &Register,
-) -> Result<(), AllocFailed<KingPhase>> {
+) -> Result<(), AllocFailed<Reign>> {
     strip.is_there = true;
     if let Some(heard) = &register.heard {
         strip.blocks = Some(heard.votes.len() as u64);

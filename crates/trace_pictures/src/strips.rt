@@ -12,7 +12,7 @@ use crate::trace_printing::{held_word, put_number_or_none};
 use crate::traces::{Held, Note, Register, Seen, Title};
 use edge_io::{Piece, Sink, WriteFault, put_all, put_pieces};
 use picture_parts::{
-    CellPosition, Face, Frame, band_top, left, middle, put_column_head, put_cross, put_hover_front,
+    Face, Frame, Spot, band_top, left, middle, put_column_head, put_cross, put_hover_front,
     put_node_label, put_number_at, put_rectangle, put_shown, spot_top, width,
 };
 
@@ -35,7 +35,7 @@ pub fn put_register_ground<K: Sink>(
 }
 
 /// Draws what lies on it: nothing, dots, or a frame.
-pub fn put_cover<K: Sink>(sink: &mut K, spot: CellPosition, held: Held) -> Result<(), WriteFault>
+pub fn put_cover<K: Sink>(sink: &mut K, spot: Spot, held: Held) -> Result<(), WriteFault>
     ensures { Puts result (cover spot held) (K.told sink.old) (K.told sink.new) }
 {
     let x = left(spot);
@@ -75,11 +75,7 @@ pub fn put_cover<K: Sink>(sink: &mut K, spot: CellPosition, held: Held) -> Resul
 }
 
 /// Writes a value, or a cross.
-pub fn put_value<K: Sink>(
-    sink: &mut K,
-    spot: CellPosition,
-    value: Option<u64>,
-) -> Result<(), WriteFault>
+pub fn put_value<K: Sink>(sink: &mut K, spot: Spot, value: Option<u64>) -> Result<(), WriteFault>
     ensures { Puts result (value_text spot value) (K.told sink.old) (K.told sink.new) }
 {
     match value {
@@ -113,7 +109,7 @@ fn put_held_told<K: Sink>(sink: &mut K, held: Held) -> Result<(), WriteFault>
 /// Writes what is told of a register where the pointer rests on it.
 fn put_register_hover<K: Sink>(
     sink: &mut K,
-    spot: CellPosition,
+    spot: Spot,
     node: u64,
     register: &Register,
 ) -> Result<(), WriteFault>
@@ -129,7 +125,7 @@ fn put_register_hover<K: Sink>(
 /// Draws a register, with what is told of it.
 fn put_register_at<K: Sink>(
     sink: &mut K,
-    spot: CellPosition,
+    spot: Spot,
     node: u64,
     register: &Register,
 ) -> Result<(), WriteFault>
@@ -142,11 +138,7 @@ fn put_register_at<K: Sink>(
 }
 
 /// Draws a register within its group.
-fn put_register_in<K: Sink>(
-    sink: &mut K,
-    spot: CellPosition,
-    register: &Register,
-) -> Result<(), WriteFault>
+fn put_register_in<K: Sink>(sink: &mut K, spot: Spot, register: &Register) -> Result<(), WriteFault>
     ensures { Puts result (register_in spot register.now) (K.told sink.old) (K.told sink.new) }
 {
     written!(put_rectangle(sink, spot));
@@ -170,7 +162,7 @@ pub fn face_in(is_faulty: bool, is_lost: bool, output: u64) -> Face
 /// Draws the register of a line. A faulty node is hatched, whatever it holds.
 fn put_held_cell<K: Sink>(
     sink: &mut K,
-    spot: CellPosition,
+    spot: Spot,
     node: u64,
     is_faulty: bool,
     register: &Register,
@@ -187,7 +179,7 @@ fn put_held_cell<K: Sink>(
 /// Draws what a line is about.
 fn put_seen_cell<K: Sink>(
     sink: &mut K,
-    spot: CellPosition,
+    spot: Spot,
     note: &Note,
     seen: &Seen,
 ) -> Result<(), WriteFault>
@@ -217,10 +209,10 @@ fn put_note_head<K: Sink>(sink: &mut K, frame: Frame, note: &Note) -> Result<(),
 }
 
 /// Where a line is drawn.
-fn note_spot(frame: Frame, note: &Note) -> CellPosition
+fn note_spot(frame: Frame, note: &Note) -> Spot
     ensures { result ≡ note_spot frame note.now }
 {
-    CellPosition {
+    Spot {
         frame,
         column: note.column,
         top: note.top,
@@ -228,7 +220,7 @@ fn note_spot(frame: Frame, note: &Note) -> CellPosition
 }
 
 /// Draws a line in its spot.
-fn put_note_at<K: Sink>(sink: &mut K, spot: CellPosition, note: &Note) -> Result<(), WriteFault>
+fn put_note_at<K: Sink>(sink: &mut K, spot: Spot, note: &Note) -> Result<(), WriteFault>
     ensures { Puts result (note_at spot note.now) (K.told sink.old) (K.told sink.new) }
 {
     written!(put_note_head(sink, spot.frame, note));

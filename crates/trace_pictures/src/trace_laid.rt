@@ -2,7 +2,7 @@
 
 ghost use Rattle.std.specs.Prelude.{◌≡◌, ◌≤◌, ◌<◌, ◌^◌, ℕ, All, AllPairs, true, IfSome, length};
 ghost use Rattle.std.specs.Prelude.{slice_index_or};
-ghost use Rattle.trace_pictures.specs.declared.traces.KingPhase.{KingPhase};
+ghost use Rattle.trace_pictures.specs.declared.traces.Reign.{Reign};
 ghost use Rattle.std.specs.List.{count_by};
 ghost use Rattle.std.specs.List.Sorted.{IsStrictlyIncreasing};
 ghost use Rattle.trace_pictures.specs.TraceLaid.{AreApart, AreLinesLaid, AreStacked, HasTurn};
@@ -11,7 +11,7 @@ ghost use Rattle.trace_pictures.specs.TraceLaid.{IsTitleLaid, IsTraceLaid, IsTur
 ghost use Rattle.trace_pictures.specs.TraceLaid.{shows};
 
 use crate::trace_said::is_trace_said;
-use crate::traces::{Heard, KingPhase, Level, Note, Seen, Title, Trace};
+use crate::traces::{Heard, Level, Note, Reign, Seen, Title, Trace};
 use picture_parts::{MOST_COLUMNS, line_top};
 
 /// Whether a line says what its node shows.
@@ -28,7 +28,13 @@ fn shows(note: &Note) -> bool
 fn strip_of(levels: &[Level], level: u64) -> Option<Level>
     ensures { IfSome result (IsStripOf levels.now level) }
 {
-    levels.iter().copied().find(|strip| strip.level == level)
+    for k in 0..levels.len() {
+        let strip = levels[k];
+        if strip.level == level {
+            return Some(strip);
+        }
+    }
+    None
 }
 
 /// Whether a line stands at the height of its node, of which so many stand above.
@@ -50,7 +56,12 @@ fn is_at_height(levels: &[Level], place: u64, note: &Note) -> bool
 pub fn ids_rise(ids: &[u64]) -> bool
     ensures { result ≡ true → IsStrictlyIncreasing ids.now }
 {
-    ids.windows(2).all(|pair| pair[0] < pair[1])
+    for k in 1..ids.len() {
+        if ids[k - 1] >= ids[k] {
+            return false;
+        }
+    }
+    true
 }
 
 /// Whether the id at a place is that of a node.
@@ -94,7 +105,7 @@ fn outputs_laid(levels: &[Level], nodes: u16, ids: &[u64], notes: &[Note]) -> Op
 }
 
 /// The place of the first turn of a column, or of a later one.
-fn first_turn(reigns: &[KingPhase], column: u32) -> usize {
+fn first_turn(reigns: &[Reign], column: u32) -> usize {
     let mut low = 0;
     let mut high = reigns.len();
     for _ in 0..32 {
@@ -112,7 +123,7 @@ fn first_turn(reigns: &[KingPhase], column: u32) -> usize {
 }
 
 /// Whether a turn is the one that is heard.
-fn is_turn_of(reign: KingPhase, column: u32, level: u64, heard: &Heard) -> bool
+fn is_turn_of(reign: Reign, column: u32, level: u64, heard: &Heard) -> bool
     ensures { result ≡ true → IsTurnOf column level heard.now reign }
 {
     reign.column == column
@@ -122,7 +133,7 @@ fn is_turn_of(reign: KingPhase, column: u32, level: u64, heard: &Heard) -> bool
 }
 
 /// Whether a turn that is heard is drawn.
-fn has_turn_of(reigns: &[KingPhase], column: u32, level: u64, heard: &Heard) -> bool
+fn has_turn_of(reigns: &[Reign], column: u32, level: u64, heard: &Heard) -> bool
     ensures { result ≡ true → HasTurnOf reigns.now column level heard.now }
 {
     for k in first_turn(reigns, column)..reigns.len() {
@@ -137,7 +148,7 @@ fn has_turn_of(reigns: &[KingPhase], column: u32, level: u64, heard: &Heard) -> 
 }
 
 /// Whether the turn that a line says is drawn, if a correct node hears it.
-fn has_turn(reigns: &[KingPhase], note: &Note) -> bool
+fn has_turn(reigns: &[Reign], note: &Note) -> bool
     ensures { result ≡ true → HasTurn reigns.now note.now }
 {
     if note.is_faulty {
@@ -153,14 +164,19 @@ fn has_turn(reigns: &[KingPhase], note: &Note) -> bool
 }
 
 /// Whether all turns that correct nodes hear are drawn.
-fn have_turns(reigns: &[KingPhase], notes: &[Note]) -> bool
+fn have_turns(reigns: &[Reign], notes: &[Note]) -> bool
     ensures { result ≡ true → All (HasTurn reigns.now) notes.now }
 {
-    notes.iter().all(|note| has_turn(reigns, note))
+    for k in 0..notes.len() {
+        if !has_turn(reigns, &notes[k]) {
+            return false;
+        }
+    }
+    true
 }
 
 /// Whether a turn stands above the cells of its level.
-fn is_turn_laid(levels: &[Level], reign: KingPhase) -> bool
+fn is_turn_laid(levels: &[Level], reign: Reign) -> bool
     ensures { result ≡ true → IsTurnLaid levels.now reign }
 {
     match strip_of(levels, reign.level) {
@@ -172,14 +188,19 @@ fn is_turn_laid(levels: &[Level], reign: KingPhase) -> bool
 }
 
 /// Whether all turns do.
-fn are_turns_laid(levels: &[Level], reigns: &[KingPhase]) -> bool
+fn are_turns_laid(levels: &[Level], reigns: &[Reign]) -> bool
     ensures { result ≡ true → All (IsTurnLaid levels.now) reigns.now }
 {
-    reigns.iter().all(|reign| is_turn_laid(levels, *reign))
+    for k in 0..reigns.len() {
+        if !is_turn_laid(levels, reigns[k]) {
+            return false;
+        }
+    }
+    true
 }
 
 /// Whether a turn stands above a later one, if both are of one column and level.
-fn is_above(turn: KingPhase, later: KingPhase) -> bool
+fn is_above(turn: Reign, later: Reign) -> bool
     ensures { result ≡ true → AreApart turn later }
 {
     turn.column != later.column
@@ -188,9 +209,9 @@ fn is_above(turn: KingPhase, later: KingPhase) -> bool
 }
 
 /// Whether the turns of these places do.
-fn are_above(reigns: &[KingPhase], from: usize, to: usize, later: KingPhase) -> bool
+fn are_above(reigns: &[Reign], from: usize, to: usize, later: Reign) -> bool
     requires { to ≤ length reigns.now }
-    ensures { result ≡ true → (i : ℕ) (d : KingPhase) → from ≤ i → i < to
+    ensures { result ≡ true → (i : ℕ) (d : Reign) → from ≤ i → i < to
         → AreApart (slice_index_or reigns.now i d) later }
 {
     for i in from..to {
@@ -202,7 +223,7 @@ fn are_above(reigns: &[KingPhase], from: usize, to: usize, later: KingPhase) -> 
 }
 
 /// Whether no turn covers another one. Columns rise.
-fn are_apart(reigns: &[KingPhase]) -> bool
+fn are_apart(reigns: &[Reign]) -> bool
     ensures { result ≡ true → AllPairs AreApart reigns.now }
 {
     let mut column = 0;
@@ -237,7 +258,12 @@ fn is_title_laid(levels: &[Level], title: Title) -> bool
 fn are_titles_laid(levels: &[Level], titles: &[Title]) -> bool
     ensures { result ≡ true → All (IsTitleLaid levels.now) titles.now }
 {
-    titles.iter().all(|title| is_title_laid(levels, *title))
+    for k in 0..titles.len() {
+        if !is_title_laid(levels, titles[k]) {
+            return false;
+        }
+    }
+    true
 }
 
 /// Whether strips stand one below the other, from one height to another.

@@ -11,7 +11,7 @@ ghost use Rattle.trace_pictures.specs.TracePictures.{trace_facts, trace_front, t
 use crate::strips::{put_note_pictures, put_titles};
 use crate::traces::{Level, Trace};
 use crate::turns::put_reigns;
-use edge_io::{Writer, Piece, Sink, WriteFault, put_all, put_pieces};
+use edge_io::{Gathered, Piece, Sink, WriteFault, put_all, put_pieces};
 use picture_parts::{
     Frame, bottom, picture_width, put_colour_legend, put_front, put_ground, put_mark_at,
     put_number_caption, put_span,
@@ -216,7 +216,7 @@ fn put_parts<K: Sink>(sink: &mut K, trace: &Trace) -> Result<(), WriteFault>
 pub fn put_trace_picture<K: Sink>(sink: &mut K, trace: &Trace) -> Result<(), WriteFault>
     ensures { Puts result (trace_picture trace.now) (K.told sink.old) (K.told sink.new) }
 {
-    let mut parts = Writer::gathering(sink);
+    let mut parts = Gathered::new(sink);
     let written = put_parts(&mut parts, trace);
-    parts.finish_with(written)
+    parts.finish(written)
 }

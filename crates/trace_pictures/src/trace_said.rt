@@ -26,16 +26,26 @@ fn output_said(note: &Note) -> Option<u64>
 fn are_below(modulus: u64, notes: &[Note]) -> bool
     ensures { result ≡ true → All (λ note. IsBelow modulus (output_said note)) notes.now }
 {
-    notes
-        .iter()
-        .all(|note| is_below(modulus, output_said(note)))
+    for k in 0..notes.len() {
+        if !is_below(modulus, output_said(&notes[k])) {
+            return false;
+        }
+    }
+    true
 }
 
 /// Whether an output is shown.
 fn has_output(notes: &[Note], wanted: u64) -> bool
     ensures { result ≡ true → HasOutput output_said notes.now wanted }
 {
-    notes.iter().any(|note| output_said(note) == Some(wanted))
+    for k in 0..notes.len() {
+        if let Some(output) = output_said(&notes[k]) {
+            if output == wanted {
+                return true;
+            }
+        }
+    }
+    false
 }
 
 /// Whether a number is the least one above all outputs.
@@ -120,7 +130,12 @@ fn is_of(level: u64, seen: &Seen) -> bool
 fn has_line(notes: &[Note], level: u64) -> bool
     ensures { result ≡ true → HasLine notes.now level }
 {
-    notes.iter().any(|note| is_of(level, &note.seen))
+    for k in 0..notes.len() {
+        if is_of(level, &notes[k].seen) {
+            return true;
+        }
+    }
+    false
 }
 
 /// Whether some line has votes of so many blocks.
@@ -141,7 +156,12 @@ fn has_votes(notes: &[Note], level: u64, blocks: u64) -> bool
 fn lack_votes(notes: &[Note], level: u64) -> bool
     ensures { result ≡ true → All (λ note. votes_at level note ≡ None) notes.now }
 {
-    notes.iter().all(|note| votes_at(level, note).is_none())
+    for k in 0..notes.len() {
+        if votes_at(level, &notes[k]).is_some() {
+            return false;
+        }
+    }
+    true
 }
 
 /// Whether the blocks of a caption are those of a line.

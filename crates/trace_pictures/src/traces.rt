@@ -119,7 +119,7 @@ impl Drop for Note {
 
 /// A king's turn, as some correct nodes hear it.
 #[derive(Clone, Copy)]
-pub struct KingPhase {
+pub struct Reign {
     pub column: u32,
     pub level: u64,
     pub king: u64,
@@ -164,7 +164,7 @@ pub struct Trace {
     pub cells: u32,
     /// The lines.
     pub notes: Vec<Note>,
-    pub reigns: Vec<KingPhase>,
+    pub reigns: Vec<Reign>,
     pub titles: Vec<Title>,
     pub levels: Vec<Level>,
     /// The columns where an era must begin.
@@ -203,7 +203,7 @@ impl Trace {
     }
 
     /// The kings' turns.
-    pub fn turns(&self) -> &[KingPhase]
+    pub fn turns(&self) -> &[Reign]
         ensures { result.now ≡ self.now.reigns.items }
     {
         &self.reigns

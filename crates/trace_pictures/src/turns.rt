@@ -8,12 +8,12 @@ ghost use Rattle.trace_pictures.specs.Strips.{edge, gold_part, king_text, reign_
 ghost use Rattle.trace_pictures.specs.Strips.{reign_hover, reign_picture, reign_spot, share};
 
 use crate::trace_printing::turn_word;
-use crate::traces::{KingPhase, Turn};
+use crate::traces::{Reign, Turn};
 use edge_io::{Piece, Sink, WriteFault, put_pieces};
-use picture_parts::{CellPosition, Frame, configuration, left, middle, spot_top, width};
+use picture_parts::{Frame, Spot, configuration, left, middle, spot_top, width};
 
 /// How far a turn has come, as a part of its cell.
-pub fn share(spot: CellPosition, turn: Turn) -> u64
+pub fn share(spot: Spot, turn: Turn) -> u64
     ensures { result ≡ share (width spot) turn }
 {
     match turn {
@@ -36,7 +36,7 @@ pub fn edge(is_common: bool) -> &'static [u8]
 /// Draws a part of a cell in gold, and a frame about the cell.
 pub fn put_gold_part<'a, K: Sink>(
     sink: &mut K,
-    spot: CellPosition,
+    spot: Spot,
     part: u64,
     edge: &'a [u8],
 ) -> Result<(), WriteFault>
@@ -69,22 +69,14 @@ pub fn put_gold_part<'a, K: Sink>(
 }
 
 /// Draws a turn: its front in gold, and a frame.
-fn put_reign_box<K: Sink>(
-    sink: &mut K,
-    spot: CellPosition,
-    reign: KingPhase,
-) -> Result<(), WriteFault>
+fn put_reign_box<K: Sink>(sink: &mut K, spot: Spot, reign: Reign) -> Result<(), WriteFault>
     ensures { Puts result (reign_box spot reign) (K.told sink.old) (K.told sink.new) }
 {
     put_gold_part(sink, spot, share(spot, reign.turn), edge(reign.is_common))
 }
 
 /// Writes what is told of a turn where the pointer rests on it.
-fn put_reign_hover<K: Sink>(
-    sink: &mut K,
-    spot: CellPosition,
-    reign: KingPhase,
-) -> Result<(), WriteFault>
+fn put_reign_hover<K: Sink>(sink: &mut K, spot: Spot, reign: Reign) -> Result<(), WriteFault>
     ensures { Puts result (reign_hover spot reign) (K.told sink.old) (K.told sink.new) }
 {
     put_pieces(
@@ -103,7 +95,7 @@ fn put_reign_hover<K: Sink>(
 }
 
 /// Writes the king, and ends a group.
-pub fn put_king<K: Sink>(sink: &mut K, spot: CellPosition, king: u64) -> Result<(), WriteFault>
+pub fn put_king<K: Sink>(sink: &mut K, spot: Spot, king: u64) -> Result<(), WriteFault>
     ensures { Puts result (king_text spot king) (K.told sink.old) (K.told sink.new) }
 {
     put_pieces(
@@ -121,11 +113,7 @@ pub fn put_king<K: Sink>(sink: &mut K, spot: CellPosition, king: u64) -> Result<
 }
 
 /// Draws a turn, with its king.
-fn put_reign_at<K: Sink>(
-    sink: &mut K,
-    spot: CellPosition,
-    reign: KingPhase,
-) -> Result<(), WriteFault>
+fn put_reign_at<K: Sink>(sink: &mut K, spot: Spot, reign: Reign) -> Result<(), WriteFault>
     ensures { Puts result (reign_at spot reign) (K.told sink.old) (K.told sink.new) }
 {
     written!(put_reign_hover(sink, spot, reign));
@@ -134,10 +122,10 @@ fn put_reign_at<K: Sink>(
 }
 
 /// Where a turn is drawn.
-fn reign_spot(frame: Frame, reign: KingPhase) -> CellPosition
+fn reign_spot(frame: Frame, reign: Reign) -> Spot
     ensures { result ≡ reign_spot frame reign }
 {
-    CellPosition {
+    Spot {
         frame,
         column: reign.column,
         top: reign.top,
@@ -145,18 +133,14 @@ fn reign_spot(frame: Frame, reign: KingPhase) -> CellPosition
 }
 
 /// Draws a turn in its place.
-fn put_reign<K: Sink>(sink: &mut K, frame: Frame, reign: KingPhase) -> Result<(), WriteFault>
+fn put_reign<K: Sink>(sink: &mut K, frame: Frame, reign: Reign) -> Result<(), WriteFault>
     ensures { Puts result (reign_picture frame reign) (K.told sink.old) (K.told sink.new) }
 {
     put_reign_at(sink, reign_spot(frame, reign), reign)
 }
 
 /// Draws all turns.
-pub fn put_reigns<K: Sink>(
-    sink: &mut K,
-    frame: Frame,
-    reigns: &[KingPhase],
-) -> Result<(), WriteFault>
+pub fn put_reigns<K: Sink>(sink: &mut K, frame: Frame, reigns: &[Reign]) -> Result<(), WriteFault>
     ensures { Puts result (flat_map (reign_picture frame) reigns.now)
         (K.told sink.old) (K.told sink.new) }
 {

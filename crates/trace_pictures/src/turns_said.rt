@@ -5,7 +5,7 @@ ghost use Rattle.trace_pictures.specs.TraceSaid.{ColumnsRise, HasHearer, IsBefor
 ghost use Rattle.trace_pictures.specs.TraceSaid.{IsHeardByAll, IsTurnSaid, heard_as, hears};
 ghost use Rattle.trace_pictures.specs.TraceSaid.{is_other, is_same_turn, seen_as};
 
-use crate::traces::{Heard, KingPhase, Note, Seen, Turn};
+use crate::traces::{Heard, Note, Reign, Seen, Turn};
 
 /// Whether no line stands in a column before that of the line before it.
 pub fn columns_rise(notes: &[Note]) -> bool
@@ -35,7 +35,7 @@ pub fn is_same_turn(turn: Turn, other: Turn) -> bool
 }
 
 /// Whether what is heard is a turn, if anything is.
-fn heard_as(reign: KingPhase, heard: &Option<Heard>) -> Option<bool>
+fn heard_as(reign: Reign, heard: &Option<Heard>) -> Option<bool>
     ensures { result ≡ heard_as reign heard.now }
 {
     match heard {
@@ -45,7 +45,7 @@ fn heard_as(reign: KingPhase, heard: &Option<Heard>) -> Option<bool>
 }
 
 /// The same where a line is on a register of the turn's level.
-fn seen_as(reign: KingPhase, seen: &Seen) -> Option<bool>
+fn seen_as(reign: Reign, seen: &Seen) -> Option<bool>
     ensures { result ≡ seen_as reign seen.now }
 {
     match seen {
@@ -62,7 +62,7 @@ fn seen_as(reign: KingPhase, seen: &Seen) -> Option<bool>
 
 /// Where a line is on what a correct node hears in a turn's column at its level: whether that is
 /// the turn.
-fn hears(reign: KingPhase, note: &Note) -> Option<bool>
+fn hears(reign: Reign, note: &Note) -> Option<bool>
     ensures { result ≡ hears reign note.now }
 {
     if note.column == reign.column && !note.is_faulty {
@@ -91,7 +91,7 @@ fn first_line(notes: &[Note], column: u32) -> usize {
 }
 
 /// Whether some line says so of a turn.
-fn has_hearer(reign: KingPhase, notes: &[Note], same: bool) -> bool
+fn has_hearer(reign: Reign, notes: &[Note], same: bool) -> bool
     ensures { result ≡ true → HasHearer reign notes.now same }
 {
     for k in first_line(notes, reign.column)..notes.len() {
@@ -122,7 +122,7 @@ fn starts_at(column: u32, from: usize, notes: &[Note]) -> bool
 }
 
 /// Whether a line says that another turn is heard.
-fn hears_other(reign: KingPhase, note: &Note) -> bool
+fn hears_other(reign: Reign, note: &Note) -> bool
     ensures { result ≡ is_other (hears reign note.now) }
 {
     match hears(reign, note) {
@@ -134,7 +134,7 @@ fn hears_other(reign: KingPhase, note: &Note) -> bool
 
 /// Whether no line says that another turn is heard, where columns rise, and lines before a place
 /// stand in earlier columns.
-fn is_heard_from(reign: KingPhase, notes: &[Note], from: usize) -> bool
+fn is_heard_from(reign: Reign, notes: &[Note], from: usize) -> bool
     requires rise { ColumnsRise notes.now }
     requires before { IsBefore reign.column from notes.now }
     ensures { result ≡ true → IsHeardByAll reign notes.now }
@@ -152,7 +152,7 @@ fn is_heard_from(reign: KingPhase, notes: &[Note], from: usize) -> bool
 }
 
 /// Whether no line says that another turn is heard, where columns rise.
-fn is_heard_by_all(reign: KingPhase, notes: &[Note]) -> bool
+fn is_heard_by_all(reign: Reign, notes: &[Note]) -> bool
     requires { ColumnsRise notes.now }
     ensures { result ≡ true → IsHeardByAll reign notes.now }
 {
@@ -161,7 +161,7 @@ fn is_heard_by_all(reign: KingPhase, notes: &[Note]) -> bool
 }
 
 /// Whether a turn's frame is whole where all hear it, and else broken, where columns rise.
-fn is_framed(reign: KingPhase, notes: &[Note], is_common: bool) -> bool
+fn is_framed(reign: Reign, notes: &[Note], is_common: bool) -> bool
     requires { ColumnsRise notes.now }
     ensures { result ≡ true → IsFramed reign notes.now is_common }
 {
@@ -171,18 +171,16 @@ fn is_framed(reign: KingPhase, notes: &[Note], is_common: bool) -> bool
     }
 }
 
-/// Whether a turn is heard by some correct node, and has its frame, where columns rise.
-fn is_turn_said(notes: &[Note], reign: KingPhase) -> bool
-    requires { ColumnsRise notes.now }
-    ensures { result ≡ true → IsTurnSaid notes.now reign }
-{
-    has_hearer(reign, notes, true) && is_framed(reign, notes, reign.is_common)
-}
-
-/// Whether all turns are, where columns rise.
-pub fn are_turns_said(notes: &[Note], reigns: &[KingPhase]) -> bool
+/// Whether all turns are heard by some correct node, and have their frames, where columns rise.
+pub fn are_turns_said(notes: &[Note], reigns: &[Reign]) -> bool
     requires { ColumnsRise notes.now }
     ensures { result ≡ true → All (IsTurnSaid notes.now) reigns.now }
 {
-    reigns.iter().all(|reign| is_turn_said(notes, *reign))
+    for k in 0..reigns.len() {
+        let reign = reigns[k];
+        if !has_hearer(reign, notes, true) || !is_framed(reign, notes, reign.is_common) {
+            return false;
+        }
+    }
+    true
 }

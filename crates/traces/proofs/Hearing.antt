@@ -11,7 +11,7 @@ use Rattle.construction.specs.Votes.{block}
 use Rattle.adversary_script.specs.Scripts.{Script}
 use Rattle.adversary_script.specs.Eras.{faulty_at}
 use Rattle.round_runner.specs.Played.{heard_at}
-use Rattle.traces.specs.declared.headings.Heading.{Heading}
+use Rattle.trace_words.specs.declared.headings.Heading.{Heading}
 use Rattle.traces.specs.LevelTexts.{level_line, level_lines}
 use Rattle.traces.specs.NodeTexts.{state_line, view_text, node_text}
 

@@ -11,8 +11,8 @@ use Rattle.construction.specs.Plans.{Level, group_size, nodes_of}
 use Rattle.construction.specs.Shown.{shown}
 use Rattle.construction.specs.Steps.{state_of}
 use Rattle.construction.specs.Votes.{block, vote, lead, beat_heard}
-use Rattle.traces.specs.declared.headings.Heading.{Heading}
-use Rattle.traces.specs.Words.{number_or_none, faulty_word, turn_word, all_have, mark_word}
+use Rattle.trace_words.specs.declared.headings.Heading.{Heading}
+use Rattle.trace_words.specs.Words.{number_or_none, faulty_word, turn_word, all_have, mark_word}
 
 -- ---- what the node hears of a group, where the blocks have n nodes and stand above l levels
 

@@ -8,9 +8,9 @@ use Rattle.construction.specs.Steps.{state_of}
 use Rattle.adversary_script.specs.Scripts.{Script}
 use Rattle.adversary_script.specs.Eras.{faulty_at}
 use Rattle.round_runner.specs.Played.{heard_at}
-use Rattle.traces.specs.declared.headings.Heading.{Heading}
-use Rattle.traces.specs.Headings.{heading_of}
-use Rattle.traces.specs.Words.{shown_line}
+use Rattle.trace_words.specs.declared.headings.Heading.{Heading}
+use Rattle.trace_words.specs.Headings.{heading_of}
+use Rattle.trace_words.specs.Words.{shown_line}
 use Rattle.traces.specs.LevelTexts.{level_lines}
 
 -- the number of a node; a spare has none

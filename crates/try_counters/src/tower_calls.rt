@@ -5,7 +5,6 @@ ghost use Rattle.plan_numbers.specs.Numbers.{line};
 ghost use Rattle.plan_laws.specs.PlanMeaning.{IsWithin, IsInRange};
 ghost use Rattle.tower.specs.Told.{AreTold};
 
-use crate::plans;
 use counter_core::{Counter, Heard};
 use majority_votes::Steps;
 use plan_numbers::{Plan, PremiseError};
@@ -16,6 +15,7 @@ use std::sync::ledger::{Blank, Ledger};
 use std::test::Fail;
 use sync_types::{FaultSet, NoMemory, NodeState, Reg};
 use tower::{Tower, build};
+use try_states::plans;
 
 /// Four nodes, one of which may be faulty, that count by ten.
 fn four(alloc: Global) -> Result<Tower, PremiseError>
@@ -240,7 +240,7 @@ fn zero_states(alloc: Global, plan: &Plan) -> Result<Packed, NoMemory>
     ensures deep { IfOk result (λ config. config.shape.depth ≡ plan_depth plan.now) }
     ensures range { IfOk result (λ config. All (IsInRange plan.now) config.current) }
 {
-    plan.facts();
+    plan.tell();
     let shape = StateShape::of(alloc, plan)?;
     let config = Packed::new(alloc, shape, plan.nodes())?;
     Ok(config)
@@ -312,10 +312,10 @@ fn shared_step<G: Ledger>(
     let mut steps = Steps::<G>::new(blank);
     let mut shared = tower.shared(alloc)?;
     tower.gather(config, shown.liars, &mut shared, &mut steps);
-    let (from, to) = tower.relevant_liars(node, &shared);
+    let (from, to) = tower.heeded(node, &shared);
     let mut out = NodeState::zero(alloc, tower.depth())?;
     out.set_x(5);
-    tower.advance_shared(node, lies, &mut shared, &mut out, &mut steps);
+    tower.advance_shared(node, config, lies, &mut shared, &mut out, &mut steps);
     Ok((out, from, to))
 }
 
@@ -328,7 +328,7 @@ fn both_steps_are_one(rt: HostRuntime) -> Result<(), Fail> {
     let config = zero_states(rt.alloc(), &plan)?;
     let mut liars = FaultSet::new(rt.alloc(), 9)?;
     liars.push(1);
-    for (value, node, first, relevant_liars) in [
+    for (value, node, first, heeded) in [
         (0, 0, Some(1), (0, 1)),
         (5, 0, None, (0, 1)),
         (5, 3, Some(1), (0, 0)),
@@ -344,7 +344,7 @@ fn both_steps_are_one(rt: HostRuntime) -> Result<(), Fail> {
         };
         let (out, from, to) = shared_step::<Brand>(rt.alloc(), Blank::new(1), &shown, &lies)?;
         assert!(rt; has_both(&out, 1, plain(first), plain(Some(1))));
-        assert!(rt; (from, to) == relevant_liars);
+        assert!(rt; (from, to) == heeded);
     }
     Ok(())
 }

@@ -13,7 +13,7 @@ mod watched;
 
 use crate::memory::try_words;
 use crate::rows::{names_of, parts_of, row_of};
-use crate::sweep::try_row;
+use crate::sweeps::try_row;
 use std::process::ExitCode;
 use std::{env, io};
 

@@ -2,7 +2,7 @@
 
 use crate::endings::{Fault, came_of};
 use crate::rows::Row;
-use crate::sweep::digits;
+use crate::sweeps::digits;
 
 /// A node of a one-node counter modulo 5 in the state 4, and one packet: 43 bytes and 3.
 const NODE: &[u8] = b"plan 1\nbase 5\nend\nnode 1\nid 0\nstate 80\nend\n\x00\x01\x40";

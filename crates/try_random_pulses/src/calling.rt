@@ -2,7 +2,7 @@
 
 use edge_io::{MemSink, PlainSource};
 use node_words::serve_node;
-use pulse_texts::PulseNodes;
+use pulse_nodes::PulseNodes;
 use reference::nodes::put_cell;
 use reference::pulse_groups::Group;
 use reference::pulse_states::{State, written};

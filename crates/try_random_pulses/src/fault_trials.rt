@@ -2,8 +2,9 @@
 
 use edge_io::{MemSink, MemSource};
 use node_words::{HeaderRefusal, NodeError, serve_node};
+use pulse_nodes::PulseNodes;
 use pulse_plan::PulsePremise;
-use pulse_texts::{LinePremise, PulseNodes};
+use pulse_texts::LinePremise;
 use std::alloc::Global;
 use sync_types::Rule;
 

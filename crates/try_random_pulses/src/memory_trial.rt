@@ -4,7 +4,7 @@
 use crate::fault_trials::ONE_PACKET;
 use edge_io::{NullSink, PlainSource};
 use node_words::{NodeError, serve_node};
-use pulse_texts::PulseNodes;
+use pulse_nodes::PulseNodes;
 use std::alloc::Global;
 
 /// Takes memory so many times and gives it back, whether it is refused or not.

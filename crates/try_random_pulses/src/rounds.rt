@@ -90,7 +90,7 @@ impl<'a> Run<'a> {
 
     /// Puts what a node tells another, where it is in a state with these bytes, behind what that
     /// one hears.
-    fn put_heard(
+    fn tell(
         &self,
         draws: &mut Draws,
         sender: u64,
@@ -119,7 +119,7 @@ impl<'a> Run<'a> {
             packet: Vec::new(draws.alloc),
         };
         for (sender, cell) in cells.iter().enumerate() {
-            self.put_heard(draws, sender as u64, cell, node, &mut hearing)?;
+            self.tell(draws, sender as u64, cell, node, &mut hearing)?;
         }
         Ok(hearing)
     }

@@ -17,7 +17,7 @@ fn read(alloc: Global, plan: &str, text: &[u8]) -> Result<Script, ScriptError> {
         Ok(plan) => plan,
         Err(_) => return Err(ScriptError::NoMemory),
     };
-    let shape = StateShape::of(alloc, &plan).map_err(|_| ScriptError::NoMemory)?;
+    let shape = StateShape::of(alloc, &plan)?;
     let text = if text.len() < 100_000 { text } else { &[] };
     read_script(alloc, &plan, &shape, text, 5)
 }
@@ -86,7 +86,7 @@ const TEXTS: [(ScriptError, &str); 2] = [
             line: 6,
             rule: Rule::Faults,
         }),
-        "line 6 fails the rule Faults",
+        "line 6 of the script fails the rule Faults",
     ),
     (ScriptError::NoMemory, "out of memory"),
 ];

@@ -161,7 +161,7 @@ const TEXTS: [(FindError, &str); 2] = [
             line: 2,
             rule: Rule::Range,
         }),
-        "line 2 fails the rule Range",
+        "line 2 of the wants fails the rule Range",
     ),
     (FindError::NoMemory, "out of memory"),
 ];

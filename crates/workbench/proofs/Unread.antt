@@ -1,6 +1,6 @@
 -- What a command did that reads nothing.
 use Rattle.std.proofs.Common.{◌≡◌, ℕ, List, Option, refl}
-use Rattle.texts.specs.Growth.{SinkState, Wrote, Cut}
+use Rattle.texts.specs.Growth.{Told, Wrote, Cut}
 use Rattle.sync_types.specs.declared.status.Status.{Status}
 use Rattle.node_words.proofs.Returns.{left_of, holds_left}
 use Rattle.outcomes.specs.Outcomes.{Outcome}
@@ -8,7 +8,7 @@ use Rattle.outcomes.specs.Commands.{nothing}
 use Rattle.outcomes.specs.Conduct.{Answered, AnswerCut}
 
 module _ (outcome : List ℕ → Outcome) (o : Outcome) (same : (input : List ℕ) → outcome input ≡ o)
-    (left : Option (List ℕ)) (count : ℕ) (old new : SinkState) where
+    (left : Option (List ℕ)) (count : ℕ) (old new : Told) where
   -- its text was written
   pub unread_answered : (s : Status) → s ≡ o.status → Wrote o.text old new
       → Answered nothing outcome s left left count count old new

@@ -1,7 +1,7 @@
 use Rattle.std.proofs.Common.{ℕ, List, ◌++◌, map, subst, ◌∙◌}
 use Rattle.std.specs.Prelude.{string_bytes}
 use Rattle.texts.specs.Growth.{Cut}
-use Rattle.attack.specs.declared.kinds.Kind.{Kind}
+use Rattle.attacks.specs.declared.kinds.Kind.{Kind}
 use Rattle.attack.specs.Found.{Finds}
 use Rattle.attack.specs.PlanTexts.{text_of}
 use Rattle.attack.proofs.WrittenAttacks.{faulted}

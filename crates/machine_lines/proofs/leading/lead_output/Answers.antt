@@ -11,7 +11,7 @@ returns-then-not-is_faulty-clause-shown g c = λ output v shows lt correct.
 
 pub returns-then-not-is_faulty-clause-most : goal.returns-then-not-is_faulty-clause-most
 returns-then-not-is_faulty-clause-most g c =
-    let sound = c.facts.ensures.sound in
+    let sound = c.tell.ensures.sound in
     let most = sound.most_modulus in
     let below = c.output.ensures.below in
     omega (arith, most, below)

@@ -1,9 +1,7 @@
-use Rattle.std.proofs.Common.{ℕ, [], ◌∷◌, Option, ap, ap₂, ◌∙◌}
-use Rattle.std.specs.List.{concat}
-use Rattle.edge_io.proofs.Writing.{writes_is}
+use Rattle.std.proofs.Common.{ap, ◌∙◌}
 use Rattle.adversary_script.specs.Scripts.{Script}
 use Rattle.adversary_script.specs.Eras.{first_of_era}
-use Rattle.machine_runner.specs.RunTexts.{era_front, locked_line}
+use Rattle.run_texts.proofs.LockLines.{puts_era}
 use Rattle.machine_lines.proofs.Counted.{known_at_end}
 use Rattle.machine_lines.proofs.locks.put_era.Goals as goal
 
@@ -12,7 +10,6 @@ returns g c =
     let first = c.era_start-first.ensures
     ∙ ap (λ (s : Script). first_of_era s c.args.era) c.script.ensures in
     let known = c.lock_of.ensures
-    ∙ known_at_end g.M.Machine.machine c.args.runner.now c.facts.ensures.read.whole
-    c.facts.ensures.within c.requires.knows c.args.era in
-    writes_is (ap₂ (λ (f : ℕ) (o : Option ℕ). concat (era_front f ∷ locked_line o ∷ [])) first
-    known) c.put_era.ensures
+    ∙ known_at_end g.M.Machine.machine c.args.runner.now c.tell.ensures.read.whole
+    c.tell.ensures.within c.requires.knows c.args.era in
+    puts_era _ _ _ _ _ _ _ first known c.put_era.ensures

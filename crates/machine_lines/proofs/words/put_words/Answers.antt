@@ -1,27 +1,24 @@
-use Rattle.std.proofs.Common.{◌≡◌, ℕ, ap, arith}
-use Rattle.adversary_script.specs.Eras.{faulty_at}
-use Rattle.edge_io.proofs.Writing.{writes_none, writes_next, writes_is}
-use Rattle.machine_runner.specs.RunTexts.{word_or_star, words_of}
-use Rattle.machine_lines.specs.RunTexts.{word_at}
+use Rattle.std.proofs.Common.{arith}
+use Rattle.texts.proofs.Growth.{wrote_none}
+use Rattle.run_texts.proofs.WordsSoFar.{words_more, words_cut, words_all}
 use Rattle.machine_lines.proofs.words.put_words.Goals as goal
 
 pub loop-v-init : goal.loop-v-init
-loop-v-init g c = writes_none
+loop-v-init g c = wrote_none _
+
+pub returns-in-Err : goal.returns-in-Err
+returns-in-Err g c =
+    words_cut _ (g.M.Machine.machine c.args.runner.now.machine).nodes c.loop-v.v _ _ _
+    (omega (arith, c.loop-v-test.true, c.nodes-v-end.ensures.value)) c.loop-v.invariant
+    c.in-Err.ensures
 
 pub loop-v-preserved : goal.loop-v-preserved
 loop-v-preserved g c =
-    let r = c.args.runner.now in
-    writes_next (word_or_star
-    (word_at (g.L.ShownLines.front c.args.lines.now) (g.L.ShownLines.word c.args.lines.now)
-    (g.M.Machine.machine r.machine) r.script c.args.t) (faulty_at r.script c.args.t)) 0
-    c.loop-v.v c.loop-v.v c.loop-v.invariant c.put_word.ensures (omega arith)
+    words_more _ (g.M.Machine.machine c.args.runner.now.machine).nodes c.loop-v.v _ _ _
+    (omega (arith, c.loop-v-test.true, c.nodes-v-end.ensures.value)) c.loop-v.invariant
+    c.in-Ok.ensures
 
 pub returns : goal.returns
 returns g c =
-    let r = c.args.runner.now in
-    let end : c.loop-v.v ≡ (g.M.Machine.machine r.machine).nodes =
-    omega (arith, c.loop-v.auto.v-end, c.loop-v-test.false, c.nodes-v-end.ensures.value) in
-    writes_is (ap (λ (n : ℕ). words_of n
-    (word_at (g.L.ShownLines.front c.args.lines.now) (g.L.ShownLines.word c.args.lines.now)
-    (g.M.Machine.machine r.machine) r.script c.args.t) (faulty_at r.script c.args.t)) end)
-    c.loop-v.invariant
+    words_all _ (g.M.Machine.machine c.args.runner.now.machine).nodes c.loop-v.v _ _
+    (omega (arith, c.loop-v-test.false, c.nodes-v-end.ensures.value)) c.loop-v.invariant

@@ -1,18 +1,23 @@
 use Rattle.std.proofs.Common.{arith}
-use Rattle.edge_io.proofs.Writing.{writes_none}
+use Rattle.texts.proofs.Growth.{wrote_none}
 use Rattle.plan_reader.specs.PlanTexts.{level_text}
-use Rattle.plan_reader.proofs.LevelTexts.{writes_level, writes_levels}
+use Rattle.plan_reader.proofs.LevelTexts.{wrote_level, cut_level, wrote_levels}
 use Rattle.plan_reader.proofs.plan_texts.put_levels.Goals as goal
 
 pub loop-i-init : goal.loop-i-init
-loop-i-init g c = writes_none
+loop-i-init g c = wrote_none _
+
+pub returns-in-Err : goal.returns-in-Err
+returns-in-Err g c =
+    cut_level (level_text c.args.version) c.args.plan.now c.loop-i.i _ c.level.ensures.value _ _ _
+    c.loop-i.invariant c.in-Err.ensures
 
 pub loop-i-preserved : goal.loop-i-preserved
 loop-i-preserved g c =
-    writes_level (level_text c.args.version) c.args.plan.now c.loop-i.i _ c.level.ensures.value
-    c.loop-i.invariant c.put_level.ensures
+    wrote_level (level_text c.args.version) c.args.plan.now c.loop-i.i _ c.level.ensures.value _ _ _
+    c.loop-i.invariant c.in-Ok.ensures
 
 pub returns : goal.returns
 returns g c =
-    writes_levels (level_text c.args.version) c.args.plan.now c.loop-i.i (omega arith)
+    wrote_levels (level_text c.args.version) c.args.plan.now c.loop-i.i _ _ (omega arith)
     c.loop-i.invariant

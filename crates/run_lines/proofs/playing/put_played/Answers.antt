@@ -6,5 +6,5 @@ use Rattle.run_lines.proofs.playing.put_played.Goals as goal
 pub put_played-requires : goal.put_played-requires
 put_played-requires g c =
     begun_of (position_of g.O.Overlay.layer g.O.Overlay.kept c.args.runner.now)
-    c.facts.ensures.whole c.requires.at
+    c.tell.ensures.whole c.requires.at
     (as_play g.O.Overlay.layer g.O.Overlay.kept _ c.args.runner.now c.requires.plays)

@@ -7,8 +7,8 @@ use Rattle.trace.proofs.Traced.{unwritten}
 use Rattle.trace.proofs.PulsesTraced.{traced}
 use Rattle.trace.proofs.of_pulses.write_pulses_trace.Goals as goal
 
-pub put_pulse_trace-requires-clause-nodes : goal.put_pulse_trace-requires-clause-nodes
-put_pulse_trace-requires-clause-nodes g c =
+pub put_trace-requires-clause-nodes : goal.put_trace-requires-clause-nodes
+put_trace-requires-clause-nodes g c =
     let words = map string_bytes c.args.words.now in
     let n = c.nodes.result in
     let same : n ≡ c.args.runner.now.machine.nodes =
@@ -19,8 +19,8 @@ put_pulse_trace-requires-clause-nodes g c =
     subst (All (λ v. v < c.args.runner.now.machine.nodes))
     (sym (c.deref.ensures.value ∙ naming.1)) all
 
-pub returns-in_err-put_pulse_trace : goal.returns-in_err-put_pulse_trace
-returns-in_err-put_pulse_trace g c =
+pub returns-in_err-put_trace : goal.returns-in_err-put_trace
+returns-in_err-put_trace g c =
     let r = c.args.runner.now in
     let n : c.nodes.result ≡ r.machine.nodes =
     c.nodes.ensures
@@ -36,7 +36,7 @@ returns-in_err-put_pulse_trace g c =
     unwritten _ _ _ _ _
     (traced c.args.want (map string_bytes c.args.words.now) r.machine r.script le
     c.deref.result.now (naming.0, c.deref.ensures.value ∙ naming.1))
-    c.from_residual-in_err-put_pulse_trace.ensures.1 c.in_err-put_pulse_trace.ensures
+    c.from_residual-in_err-put_trace.ensures.1 c.in_err-put_trace.ensures
 
 pub returns : goal.returns
 returns g c =
@@ -56,5 +56,5 @@ returns g c =
       text = _;
       traced = traced c.args.want (map string_bytes c.args.words.now) r.machine r.script le
           c.deref.result.now (naming.0, c.deref.ensures.value ∙ naming.1);
-      has = c.in_ok-put_pulse_trace.ensures;
+      has = c.in_ok-put_trace.ensures;
     }

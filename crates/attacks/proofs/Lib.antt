@@ -1,0 +1,4 @@
+pub mod Ranges
+pub mod BestOfTries
+pub mod FirstLock
+pub mod DrawsWorked

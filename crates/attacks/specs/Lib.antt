@@ -1,0 +1,13 @@
+pub mod Draws
+pub mod DrawsWorked
+pub mod Attacks
+pub mod AttackTexts
+pub mod FaultyIds
+pub mod DrawnLines
+pub mod Kinds
+pub mod Changes
+pub mod Drawings
+pub mod Targets
+pub mod Tried
+pub mod Searches
+pub mod SearchLaws

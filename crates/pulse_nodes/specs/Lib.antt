@@ -1,0 +1,4 @@
+pub mod PulseWords
+pub mod NodePromises
+pub mod PulseShapes
+pub mod HeaderTexts

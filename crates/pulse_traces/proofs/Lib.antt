@@ -1,0 +1,5 @@
+pub mod Around
+pub mod Counts
+pub mod Descent
+pub mod Hearing
+pub mod Traced

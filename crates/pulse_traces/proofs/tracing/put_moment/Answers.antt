@@ -1,0 +1,63 @@
+use Rattle.std.proofs.Common.{◌≡◌, List, refl, sym, ◌∙◌, subst}
+use Rattle.std.specs.Prelude.{slice_index_or}
+use Rattle.std.proofs.lemmas.List.{with_items_is}
+use Rattle.texts.specs.Growth.{Wrote, Cut}
+use Rattle.texts.proofs.Growth.{wrote_none, wrote_at, cut_at}
+use Rattle.sync_types.specs.States.{State}
+use Rattle.machine_runner.specs.Hearing.{HasRoom}
+use Rattle.machine_runner.specs.Runners.{Running, states_of}
+use Rattle.pulse_plan.specs.Laws.{machine_in}
+use Rattle.pulse_plan.specs.Plans.{PulseNumbers}
+use Rattle.pulse_traces.specs.Desks.{IsDeskFor}
+use Rattle.pulse_traces.specs.NodeTexts.{node_text}
+use Rattle.pulse_traces.proofs.tracing.put_moment.Goals as goal
+
+pub loop-i-init : goal.loop-i-init
+loop-i-init g c =
+    let fit = c.requires.desk in
+    let items = with_items_is c.args.desk.now.config c.lay_states.new.config
+    (c.lay_states.auto.config ∙ c.deref_mut.ensures.len) in
+    record {
+      wrote = wrote_none _;
+      same = refl;
+      desk = record {
+        config = subst (λ (xs : List State). HasRoom c.args.runner.now.script xs) (sym items)
+            c.lay_states.ensures.room;
+        heard = fit.heard;
+        values = fit.values;
+      };
+      laid = items ∙ c.lay_states.ensures.states;
+    }
+
+pub returns-in-Err-clause-lines : goal.returns-in-Err-clause-lines
+returns-in-Err-clause-lines g c =
+    let r = c.args.runner.now in
+    let nodes = c.args.nodes.now in
+    let i = c.loop-i.i in
+    let s = g.K.Sink.told c.loop-i.sink in
+    let t = g.K.Sink.told c.put_node_lines.new.sink in
+    cut_at (node_text r.machine r.script r.at (states_of machine_in r)) nodes i 0 _ s t
+    c.loop-i-test.true c.loop-i.invariant.wrote
+    (subst (λ (r : Running PulseNumbers). Cut (node_text r.machine r.script r.at
+    (states_of machine_in r) (slice_index_or nodes i 0)) s t) c.loop-i.invariant.same
+    c.in-Err.ensures.lines)
+
+pub loop-i-preserved : goal.loop-i-preserved
+loop-i-preserved g c =
+    let r = c.args.runner.now in
+    let nodes = c.args.nodes.now in
+    let i = c.loop-i.i in
+    let inv = c.loop-i.invariant in
+    let s = g.K.Sink.told c.loop-i.sink in
+    let t = g.K.Sink.told c.put_node_lines.new.sink in
+    record {
+      wrote = wrote_at (node_text r.machine r.script r.at (states_of machine_in r)) nodes i 0 _ s t
+          c.loop-i-test.true inv.wrote
+          (subst (λ (r : Running PulseNumbers). Wrote (node_text r.machine r.script r.at
+          (states_of machine_in r) (slice_index_or nodes i 0)) s t) inv.same
+          c.in-Ok.ensures.lines);
+      same = c.in-Ok.ensures.same ∙ inv.same;
+      desk = subst (λ (r : Running PulseNumbers). IsDeskFor r.script c.put_node_lines.new.desk)
+          inv.same c.in-Ok.ensures.desk;
+      laid = c.in-Ok.ensures.laid ∙ inv.laid;
+    }

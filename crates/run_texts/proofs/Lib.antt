@@ -1,0 +1,2 @@
+pub mod WordsSoFar
+pub mod LockLines

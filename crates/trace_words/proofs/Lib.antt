@@ -1,0 +1,4 @@
+pub mod GroupRegisters
+pub mod LineParts
+pub mod Reading
+pub mod WordsSoFar
